@@ -19,6 +19,7 @@ use Rattle.xk_module.specs.Faults.{fault_label}
 use Rattle.xk_positions.specs.declared.lines.Position.{Position}
 use Rattle.xk_positions.specs.Lines.{position_of}
 use Rattle.xk_positions.specs.Excerpts.{excerpt}
+use Rattle.xk_explain.specs.Notes.{NoteValue, note_lines, plain_lines}
 use Rattle.xk_explain.specs.Messages.{front_message, front_repair, kind_message, module_message, module_repair, rule_message, rule_repair}
 
 -- ---- lines
@@ -72,19 +73,20 @@ has_place _ = true
 unfoldable pub excerpt_lines : List ℕ → ℕ → List ℕ
 excerpt_lines text at = excerpt text at (marked_from (drop at text)) ++ codes "\n"
 
--- all that is said of a fault of a source text that has a place in it
-abbrev pub placed_explanation : List ℕ → List ℕ → FrontFault → List ℕ
-placed_explanation file text f =
-    (head_at file (position_of text (shown_at text f)) (front_title f.rule) (front_message f.rule) ++ excerpt_lines text (shown_at text f))
-    ++ repair_line (front_repair f.rule)
+-- all that is said of a fault of a source text that has a place in it, with these notes
+abbrev pub placed_explanation : List ℕ → List ℕ → FrontFault → List NoteValue → List ℕ
+placed_explanation file text f notes =
+    ((head_at file (position_of text (shown_at text f)) (front_title f.rule) (front_message f.rule) ++ excerpt_lines text (shown_at text f))
+    ++ note_lines text notes) ++ repair_line (front_repair f.rule)
 
 -- all that is said of one that has none
-abbrev pub unplaced_explanation : List ℕ → FrontRule → List ℕ
-unplaced_explanation file r = head file (front_title r) (front_message r) ++ repair_line (front_repair r)
+abbrev pub unplaced_explanation : List ℕ → List ℕ → FrontRule → List NoteValue → List ℕ
+unplaced_explanation file text r notes = (head file (front_title r) (front_message r) ++ note_lines text notes) ++ repair_line (front_repair r)
 
 -- all that is said of a fault of a source text
-abbrev pub front_explanation : List ℕ → List ℕ → FrontFault → List ℕ
-front_explanation file text f = if has_place f.rule then placed_explanation file text f else unplaced_explanation file f.rule
+abbrev pub front_explanation : List ℕ → List ℕ → FrontFault → List NoteValue → List ℕ
+front_explanation file text f notes =
+    if has_place f.rule then placed_explanation file text f notes else unplaced_explanation file text f.rule notes
 
 -- ---- module texts
 
@@ -121,19 +123,25 @@ ways_line = codes "   = ways go round loops and into both branches, whatever the
 unfoldable pub limit_line : ℕ → List ℕ
 limit_line limit = codes "   = at most " ++ (decimal limit ++ codes " are allowed\n")
 
-abbrev pub shape_explanation : List ℕ → ShapeFault → List ℕ
-shape_explanation file f = head file (title_at f.rule f.unit f.at) (rule_message f.rule) ++ repair_line (rule_repair f.rule)
+-- all that is said of a place that breaks a rule on shape, with these lines of notes
+abbrev pub shape_explanation : List ℕ → ShapeFault → List ℕ → List ℕ
+shape_explanation file f notes = (head file (title_at f.rule f.unit f.at) (rule_message f.rule) ++ notes) ++ repair_line (rule_repair f.rule)
 
-abbrev pub kind_explanation : List ℕ → KindFault → List ℕ
-kind_explanation file f =
-    ((head file (title_at f.rule f.unit f.at) (rule_message f.rule) ++ walk_lines f.slot f.walk.items) ++ ways_line) ++ repair_line (rule_repair f.rule)
+abbrev pub kind_explanation : List ℕ → KindFault → List ℕ → List ℕ
+kind_explanation file f notes =
+    (((head file (title_at f.rule f.unit f.at) (rule_message f.rule) ++ walk_lines f.slot f.walk.items) ++ ways_line) ++ notes)
+    ++ repair_line (rule_repair f.rule)
 
-abbrev pub bound_explanation : List ℕ → BoundFault → List ℕ
-bound_explanation file f = (head file (rule_title f.rule) (rule_message f.rule) ++ limit_line f.limit) ++ repair_line (rule_repair f.rule)
+abbrev pub bound_explanation : List ℕ → BoundFault → List ℕ → List ℕ
+bound_explanation file f notes =
+    ((head file (rule_title f.rule) (rule_message f.rule) ++ limit_line f.limit) ++ notes) ++ repair_line (rule_repair f.rule)
 
--- all that is said of what the verifier has against a program; of want of memory nothing
-abbrev pub refusal_explanation : List ℕ → Refusal → List ℕ
-refusal_explanation file (refusal.Shape f) = shape_explanation file f
-refusal_explanation file (refusal.Kind f) = kind_explanation file f
-refusal_explanation file (refusal.Bound f) = bound_explanation file f
-refusal_explanation file refusal.OutOfMemory = []
+abbrev pub explanation_with : List ℕ → Refusal → List ℕ → List ℕ
+explanation_with file (refusal.Shape f) notes = shape_explanation file f notes
+explanation_with file (refusal.Kind f) notes = kind_explanation file f notes
+explanation_with file (refusal.Bound f) notes = bound_explanation file f notes
+explanation_with file refusal.OutOfMemory notes = []
+
+-- all that is said of what the verifier has against a program, with these notes; of want of memory nothing
+abbrev pub refusal_explanation : List ℕ → Refusal → List NoteValue → List ℕ
+refusal_explanation file r notes = explanation_with file r (plain_lines notes)

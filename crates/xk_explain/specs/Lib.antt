@@ -1,3 +1,4 @@
 pub mod Messages
+pub mod Notes
 pub mod Explanations
 pub mod SourceExplanations

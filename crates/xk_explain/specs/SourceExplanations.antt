@@ -13,6 +13,7 @@ use Rattle.xk_positions.specs.declared.lines.Position.{Position}
 use Rattle.xk_positions.specs.Lines.{line_at, position_of}
 use Rattle.xk_positions.specs.Signs.{signs, shown_signs}
 use Rattle.xk_origins.specs.UnitOrigins.{Head, UnitOrigins}
+use Rattle.xk_explain.specs.Notes.{NoteValue, note_lines, place_title}
 use Rattle.xk_explain.specs.Messages.{kind_message, rule_message, rule_repair}
 use Rattle.xk_explain.specs.Explanations.{bound_explanation, excerpt_lines, head_at, kind_explanation, repair_line, rule_title, shape_explanation, ways_line}
 
@@ -21,10 +22,6 @@ use Rattle.xk_explain.specs.Explanations.{bound_explanation, excerpt_lines, head
 -- the offset that an instruction of a unit comes from, no further than where the text ends
 abbrev pub origin_at : List ℕ → UnitOrigins → ℕ → ℕ
 origin_at text u at = min (unwrap_or (slice_get u.offsets at) 0) (length text)
-
--- `3:5`
-abbrev pub place_title : Position → List ℕ
-place_title p = decimal p.line ++ (codes ":" ++ decimal p.column)
 
 -- `in main`, `in f`, ``in the `async` at 3:5``
 unfoldable pub unit_title : List ℕ → Head → List ℕ
@@ -103,21 +100,27 @@ abbrev pub place_lines : List ℕ → List ℕ → UnitOrigins → Rule → ℕ 
 place_lines file text u r at =
     head_at file (position_of text (origin_at text u at)) (title_in text r u.head) (rule_message r) ++ excerpt_lines text (origin_at text u at)
 
-abbrev pub shape_in_source : List ℕ → List ℕ → ShapeFault → UnitOrigins → List ℕ
-shape_in_source file text f u = place_lines file text u f.rule f.at ++ repair_line (rule_repair f.rule)
+-- all that is said of a place that breaks a rule on shape, with these lines of notes
+abbrev pub shape_in_source : List ℕ → List ℕ → ShapeFault → List ℕ → UnitOrigins → List ℕ
+shape_in_source file text f notes u = (place_lines file text u f.rule f.at ++ notes) ++ repair_line (rule_repair f.rule)
 
 -- what the slot may hold there, and the walk to it
 abbrev pub walk_in_source : List ℕ → KindFault → UnitOrigins → List ℕ
 walk_in_source text f u = (holds_line u.slots f.slot f.kind ++ stops_head u.slots f.slot) ++ stops text u None f.walk.items
 
-abbrev pub kind_in_source : List ℕ → List ℕ → KindFault → UnitOrigins → List ℕ
-kind_in_source file text f u =
-    ((place_lines file text u f.rule f.at ++ walk_in_source text f u) ++ ways_line) ++ repair_line (rule_repair f.rule)
+abbrev pub kind_in_source : List ℕ → List ℕ → KindFault → List ℕ → UnitOrigins → List ℕ
+kind_in_source file text f notes u =
+    (((place_lines file text u f.rule f.at ++ walk_in_source text f u) ++ ways_line) ++ notes) ++ repair_line (rule_repair f.rule)
 
--- All that is said of what the verifier has against the module of a source text, whose units have these origins. (Each unit has some; of one that
--- hadn't, the refusal would be told by its number.)
-abbrev pub source_explanation : List ℕ → List ℕ → List UnitOrigins → Refusal → List ℕ
-source_explanation file text origins (refusal.Shape f) = option_map_or (shape_in_source file text f) (slice_get origins f.unit) (shape_explanation file f)
-source_explanation file text origins (refusal.Kind f) = option_map_or (kind_in_source file text f) (slice_get origins f.unit) (kind_explanation file f)
-source_explanation file text origins (refusal.Bound f) = bound_explanation file f
-source_explanation file text origins refusal.OutOfMemory = []
+-- All of it, where these are the lines of notes. (Each unit has origins; of one that hadn't, the refusal would be told by its number.)
+abbrev pub explanation_in_source : List ℕ → List ℕ → List UnitOrigins → Refusal → List ℕ → List ℕ
+explanation_in_source file text origins (refusal.Shape f) notes =
+    option_map_or (shape_in_source file text f notes) (slice_get origins f.unit) (shape_explanation file f notes)
+explanation_in_source file text origins (refusal.Kind f) notes =
+    option_map_or (kind_in_source file text f notes) (slice_get origins f.unit) (kind_explanation file f notes)
+explanation_in_source file text origins (refusal.Bound f) notes = bound_explanation file f notes
+explanation_in_source file text origins refusal.OutOfMemory notes = []
+
+-- all that is said of what the verifier has against the module of a source text, whose units have these origins, with these notes
+abbrev pub source_explanation : List ℕ → List ℕ → List UnitOrigins → Refusal → List NoteValue → List ℕ
+source_explanation file text origins r notes = explanation_in_source file text origins r (note_lines text notes)

@@ -5,27 +5,29 @@ ghost use Rattle.xk_explain.specs.Explanations.{front_explanation, front_title, 
 
 use crate::lines::{push_head, push_repair};
 use crate::messages::{front_message, front_repair, module_message, module_repair};
+use crate::note::{Note, note_lines};
 use crate::places::{push_excerpt, push_head_at};
 use std::alloc::{AllocError, Global};
 use xk_module::ModuleFault;
 use xk_positions::LineStarts;
 use xk_tree::{FrontFault, FrontRule};
 
-/// All that is said of a fault of the source text in FILE: `FILE:3:5: F2 Syntax: ..`, the line there with carets, and the usual repair. A fault
-/// that is said to lie behind the text's end is shown at that; a text that is too long, and a `main` that isn't there, have no place. Err where
-/// memory was refused.
+/// All that is said of a fault of the source text in FILE: `FILE:3:5: F2 Syntax: ..`, the line there with carets, these notes, and the usual repair.
+/// A fault that is said to lie behind the text's end is shown at that, and so is a note; a text that is too long, and a `main` that isn't there,
+/// have no place. Err where memory was refused.
 pub fn explain_front(
     alloc: Global,
     file: &str,
     text: &[u8],
     fault: FrontFault,
+    notes: &[Note],
 ) -> Result<Vec<u8>, AllocError>
-    ensures { IfOk result (λ v. v.items ≡ front_explanation file.now text.now fault) }
+    ensures { IfOk result (λ v. v.items ≡ front_explanation file.now text.now fault notes.now) }
 {
     if has_place(fault.rule) {
-        return explain_placed(alloc, file, text, fault);
+        return explain_placed(alloc, file, text, fault, notes);
     }
-    explain_unplaced(alloc, file, fault.rule)
+    explain_unplaced(alloc, file, text, fault.rule, notes)
 }
 
 /// The same of a fault that has a place in the text.
@@ -34,8 +36,9 @@ fn explain_placed(
     file: &str,
     text: &[u8],
     fault: FrontFault,
+    notes: &[Note],
 ) -> Result<Vec<u8>, AllocError>
-    ensures { IfOk result (λ v. v.items ≡ placed_explanation file.now text.now fault) }
+    ensures { IfOk result (λ v. v.items ≡ placed_explanation file.now text.now fault notes.now) }
 {
     let lines = LineStarts::new(alloc, text)?;
     let at = shown_at(text, fault);
@@ -50,17 +53,26 @@ fn explain_placed(
         front_message(fault.rule),
     )?;
     push_excerpt(alloc, &mut out, &lines, text, at)?;
+    out.extend_from_slice(&note_lines(alloc, &lines, text, notes)?)?;
     push_repair(alloc, &mut out, front_repair(fault.rule))?;
     Ok(out)
 }
 
 /// The same of a fault that has none.
-fn explain_unplaced(alloc: Global, file: &str, rule: FrontRule) -> Result<Vec<u8>, AllocError>
-    ensures { IfOk result (λ v. v.items ≡ unplaced_explanation file.now rule) }
+fn explain_unplaced(
+    alloc: Global,
+    file: &str,
+    text: &[u8],
+    rule: FrontRule,
+    notes: &[Note],
+) -> Result<Vec<u8>, AllocError>
+    ensures { IfOk result (λ v. v.items ≡ unplaced_explanation file.now text.now rule notes.now) }
 {
+    let lines = LineStarts::new(alloc, text)?;
     let title = front_title(alloc, rule)?;
     let mut out = Vec::new(alloc);
     push_head(alloc, &mut out, file, title.as_str(), front_message(rule))?;
+    out.extend_from_slice(&note_lines(alloc, &lines, text, notes)?)?;
     push_repair(alloc, &mut out, front_repair(rule))?;
     Ok(out)
 }

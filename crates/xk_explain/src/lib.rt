@@ -4,11 +4,14 @@
 mod fronts;
 mod lines;
 mod messages;
+mod note;
 mod places;
 mod refusals;
 mod source_refusals;
 mod walks;
 
 pub use fronts::{explain_front, explain_module};
+pub use note::Note;
 pub use refusals::explain_refusal;
 pub use source_refusals::explain_source;
+pub use walks::slot_title;

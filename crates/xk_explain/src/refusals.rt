@@ -1,10 +1,11 @@
 //! What is said of a program that the verifier refuses.
 
 ghost use Rattle.std.specs.Prelude.{◌≡◌, ◌++◌, IfOk, OnOk};
-ghost use Rattle.xk_explain.specs.Explanations.{bound_explanation, kind_explanation, limit_line, refusal_explanation, shape_explanation, visit_line, walk_head, walk_lines, ways_line};
+ghost use Rattle.xk_explain.specs.Explanations.{bound_explanation, explanation_with, kind_explanation, limit_line, refusal_explanation, shape_explanation, visit_line, walk_head, walk_lines, ways_line};
 
 use crate::lines::{push_head, push_repair, push_text, rule_title, title_at};
 use crate::messages::{kind_message, rule_message, rule_repair};
+use crate::note::{Note, plain_lines};
 use std::alloc::{AllocError, Global};
 use xk_bounds::{BoundFault, Refusal};
 use xk_shape::ShapeFault;
@@ -12,14 +13,33 @@ use xk_types::Visit;
 use xk_typestate::KindFault;
 
 /// All that is said of what the verifier has against the module in FILE, by unit and place: `FILE: V9 Registers, unit 0 at 2: ..`, the walk to
-/// a slot of the wrong kind, and the usual repair. Of want of memory nothing is said. Err where memory was refused.
-pub fn explain_refusal(alloc: Global, file: &str, refusal: &Refusal) -> Result<Vec<u8>, AllocError>
-    ensures { IfOk result (λ v. v.items ≡ refusal_explanation file.now refusal.now) }
+/// a slot of the wrong kind, these notes, whose places aren't told, and the usual repair. Of want of memory nothing is said. Err where memory
+/// was refused.
+pub fn explain_refusal(
+    alloc: Global,
+    file: &str,
+    refusal: &Refusal,
+    notes: &[Note],
+) -> Result<Vec<u8>, AllocError>
+    ensures { IfOk result (λ v. v.items ≡ refusal_explanation file.now refusal.now notes.now) }
+{
+    let notes = plain_lines(alloc, notes)?;
+    explain_with(alloc, file, refusal, &notes)
+}
+
+/// The same with these lines of notes.
+fn explain_with(
+    alloc: Global,
+    file: &str,
+    refusal: &Refusal,
+    notes: &[u8],
+) -> Result<Vec<u8>, AllocError>
+    ensures { IfOk result (λ v. v.items ≡ explanation_with file.now refusal.now notes.now) }
 {
     match refusal {
-        Refusal::Shape(fault) => explain_shape(alloc, file, fault),
-        Refusal::Kind(fault) => explain_kind(alloc, file, fault),
-        Refusal::Bound(fault) => explain_bound(alloc, file, *fault),
+        Refusal::Shape(fault) => explain_shape(alloc, file, fault, notes),
+        Refusal::Kind(fault) => explain_kind(alloc, file, fault, notes),
+        Refusal::Bound(fault) => explain_bound(alloc, file, *fault, notes),
         Refusal::OutOfMemory => Ok(Vec::new(alloc)),
     }
 }
@@ -29,8 +49,9 @@ pub(crate) fn explain_shape(
     alloc: Global,
     file: &str,
     fault: &ShapeFault,
+    notes: &[u8],
 ) -> Result<Vec<u8>, AllocError>
-    ensures { IfOk result (λ v. v.items ≡ shape_explanation file.now fault.now) }
+    ensures { IfOk result (λ v. v.items ≡ shape_explanation file.now fault.now notes.now) }
 {
     let title = title_at(alloc, fault.rule, fault.unit, fault.at)?;
     let mut out = Vec::new(alloc);
@@ -41,6 +62,7 @@ pub(crate) fn explain_shape(
         title.as_str(),
         rule_message(fault.rule),
     )?;
+    out.extend_from_slice(notes)?;
     push_repair(alloc, &mut out, rule_repair(fault.rule))?;
     Ok(out)
 }
@@ -50,8 +72,9 @@ pub(crate) fn explain_kind(
     alloc: Global,
     file: &str,
     fault: &KindFault,
+    notes: &[u8],
 ) -> Result<Vec<u8>, AllocError>
-    ensures { IfOk result (λ v. v.items ≡ kind_explanation file.now fault.now) }
+    ensures { IfOk result (λ v. v.items ≡ kind_explanation file.now fault.now notes.now) }
 {
     let title = title_at(alloc, fault.rule, fault.unit, fault.at)?;
     let mut out = Vec::new(alloc);
@@ -64,6 +87,7 @@ pub(crate) fn explain_kind(
     )?;
     push_walk(alloc, &mut out, fault.slot, &fault.walk)?;
     push_ways(&mut out)?;
+    out.extend_from_slice(notes)?;
     push_repair(alloc, &mut out, rule_repair(fault.rule))?;
     Ok(out)
 }
@@ -73,8 +97,9 @@ pub(crate) fn explain_bound(
     alloc: Global,
     file: &str,
     fault: BoundFault,
+    notes: &[u8],
 ) -> Result<Vec<u8>, AllocError>
-    ensures { IfOk result (λ v. v.items ≡ bound_explanation file.now fault) }
+    ensures { IfOk result (λ v. v.items ≡ bound_explanation file.now fault notes.now) }
 {
     let title = rule_title(alloc, fault.rule)?;
     let mut out = Vec::new(alloc);
@@ -86,6 +111,7 @@ pub(crate) fn explain_bound(
         rule_message(fault.rule),
     )?;
     push_limit(alloc, &mut out, fault.limit)?;
+    out.extend_from_slice(notes)?;
     push_repair(alloc, &mut out, rule_repair(fault.rule))?;
     Ok(out)
 }

@@ -1,10 +1,11 @@
 //! What is said of a source text that the verifier refuses.
 
 ghost use Rattle.std.specs.Prelude.{◌≡◌, ◌++◌, ◌≤◌, length, IfOk, OnOk};
-ghost use Rattle.xk_explain.specs.SourceExplanations.{kind_in_source, origin_at, place_lines, shape_in_source, source_explanation, title_in, walk_in_source};
+ghost use Rattle.xk_explain.specs.SourceExplanations.{explanation_in_source, kind_in_source, origin_at, place_lines, shape_in_source, source_explanation, title_in, walk_in_source};
 
 use crate::lines::{push_repair, push_text, rule_title};
 use crate::messages::{rule_message, rule_repair};
+use crate::note::{Note, note_lines};
 use crate::places::{push_excerpt, push_head_at};
 use crate::refusals::{explain_bound, explain_kind, explain_shape, push_ways};
 use crate::walks::{holds_line, push_stops, stops_head, unit_title};
@@ -17,28 +18,48 @@ use xk_types::Rule;
 use xk_typestate::KindFault;
 
 /// All that is said of what the verifier has against the module of the source text in FILE, whose units have these origins: `FILE:8:9: V11 Use, in main:
-/// ..`, the line there with carets, the walk to a slot of the wrong kind, statement by statement, and the usual repair. Of want of memory nothing is
-/// said. Err where memory was refused.
+/// ..`, the line there with carets, the walk to a slot of the wrong kind, statement by statement, these notes, and the usual repair. Of want of memory
+/// nothing is said. Err where memory was refused.
 pub fn explain_source(
     alloc: Global,
     file: &str,
     text: &[u8],
     units: &[UnitOrigins<'_>],
     refusal: &Refusal,
+    notes: &[Note],
 ) -> Result<Vec<u8>, AllocError>
     ensures { IfOk result
-        (λ v. v.items ≡ source_explanation file.now text.now units.now refusal.now) }
+        (λ v. v.items ≡ source_explanation file.now text.now units.now refusal.now notes.now) }
+{
+    let lines = LineStarts::new(alloc, text)?;
+    let notes = note_lines(alloc, &lines, text, notes)?;
+    explain_in_source(alloc, file, &lines, text, units, refusal, &notes)
+}
+
+/// The same with these lines of notes.
+fn explain_in_source(
+    alloc: Global,
+    file: &str,
+    lines: &LineStarts<'_>,
+    text: &[u8],
+    units: &[UnitOrigins<'_>],
+    refusal: &Refusal,
+    notes: &[u8],
+) -> Result<Vec<u8>, AllocError>
+    requires { lines.now ≡ text.now }
+    ensures { IfOk result (λ v. v.items
+        ≡ explanation_in_source file.now text.now units.now refusal.now notes.now) }
 {
     match refusal {
         Refusal::Shape(fault) => match units.get(fault.unit as usize) {
-            Some(unit) => shape_in_source(alloc, file, text, unit, fault),
-            None => explain_shape(alloc, file, fault),
+            Some(unit) => shape_in_source(alloc, file, lines, text, unit, fault, notes),
+            None => explain_shape(alloc, file, fault, notes),
         },
         Refusal::Kind(fault) => match units.get(fault.unit as usize) {
-            Some(unit) => kind_in_source(alloc, file, text, unit, fault),
-            None => explain_kind(alloc, file, fault),
+            Some(unit) => kind_in_source(alloc, file, lines, text, unit, fault, notes),
+            None => explain_kind(alloc, file, fault, notes),
         },
-        Refusal::Bound(fault) => explain_bound(alloc, file, *fault),
+        Refusal::Bound(fault) => explain_bound(alloc, file, *fault, notes),
         Refusal::OutOfMemory => Ok(Vec::new(alloc)),
     }
 }
@@ -47,18 +68,21 @@ pub fn explain_source(
 fn shape_in_source(
     alloc: Global,
     file: &str,
+    lines: &LineStarts<'_>,
     text: &[u8],
     unit: &UnitOrigins<'_>,
     fault: &ShapeFault,
+    notes: &[u8],
 ) -> Result<Vec<u8>, AllocError>
+    requires { lines.now ≡ text.now }
     ensures { IfOk result
-        (λ v. v.items ≡ shape_in_source file.now text.now fault.now unit.now) }
+        (λ v. v.items ≡ shape_in_source file.now text.now fault.now notes.now unit.now) }
 {
-    let lines = LineStarts::new(alloc, text)?;
     let mut out = Vec::new(alloc);
     push_place_lines(
-        alloc, &mut out, file, &lines, text, unit, fault.rule, fault.at,
+        alloc, &mut out, file, lines, text, unit, fault.rule, fault.at,
     )?;
+    out.extend_from_slice(notes)?;
     push_repair(alloc, &mut out, rule_repair(fault.rule))?;
     Ok(out)
 }
@@ -67,20 +91,23 @@ fn shape_in_source(
 fn kind_in_source(
     alloc: Global,
     file: &str,
+    lines: &LineStarts<'_>,
     text: &[u8],
     unit: &UnitOrigins<'_>,
     fault: &KindFault,
+    notes: &[u8],
 ) -> Result<Vec<u8>, AllocError>
+    requires { lines.now ≡ text.now }
     ensures { IfOk result
-        (λ v. v.items ≡ kind_in_source file.now text.now fault.now unit.now) }
+        (λ v. v.items ≡ kind_in_source file.now text.now fault.now notes.now unit.now) }
 {
-    let lines = LineStarts::new(alloc, text)?;
     let mut out = Vec::new(alloc);
     push_place_lines(
-        alloc, &mut out, file, &lines, text, unit, fault.rule, fault.at,
+        alloc, &mut out, file, lines, text, unit, fault.rule, fault.at,
     )?;
-    push_walk(alloc, &mut out, &lines, text, unit, fault)?;
+    push_walk(alloc, &mut out, lines, text, unit, fault)?;
     push_ways(&mut out)?;
+    out.extend_from_slice(notes)?;
     push_repair(alloc, &mut out, rule_repair(fault.rule))?;
     Ok(out)
 }

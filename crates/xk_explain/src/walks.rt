@@ -2,10 +2,11 @@
 
 ghost use Rattle.std.specs.Prelude.{◌≡◌, ◌++◌, ◌≤◌, length, IfOk, OnOk, None, codes, decimal, string_bytes};
 ghost use Rattle.std.specs.List.{prefix_len};
-ghost use Rattle.xk_explain.specs.SourceExplanations.{goes_back, holds_line, is_blank, is_name, is_told, line_text, one_stop, place_title, quoted, slot_name, slot_title, stop_head, stop_line, stops, stops_head, turn_line, unit_title};
+ghost use Rattle.xk_explain.specs.SourceExplanations.{goes_back, holds_line, is_blank, is_name, is_told, line_text, one_stop, quoted, slot_name, slot_title, stop_head, stop_line, stops, stops_head, turn_line, unit_title};
 
 use crate::lines::push_text;
 use crate::messages::kind_message;
+use crate::note::place_title;
 use crate::source_refusals::origin_at;
 use std::alloc::{AllocError, Global};
 use xk_origins::{Head, UnitOrigins};
@@ -14,15 +15,6 @@ use xk_types::{Kind, Visit};
 
 /// How many signs of a line are told at most.
 const TOLD: usize = 60;
-
-/// `3:5`.
-fn place_title(alloc: Global, position: Position) -> Result<String, AllocError>
-    ensures { IfOk result (λ text. string_bytes text ≡ place_title position) }
-{
-    let line = position.line;
-    let column = position.column;
-    format!(in alloc; "{line}:{column}")
-}
 
 /// `in main`, `in f`, or ``in the `async` at 3:5``.
 #[tactic(auto, unfolding(crate::specs::SourceExplanations::unit_title))]
@@ -89,8 +81,8 @@ fn slot_number(alloc: Global, slot: u16) -> Result<Vec<u8>, AllocError>
     Ok(out)
 }
 
-/// A slot by its name, or by its number where the text has no name for it.
-fn slot_title(alloc: Global, unit: &UnitOrigins<'_>, slot: u16) -> Result<Vec<u8>, AllocError>
+/// A slot by its name, in quotes, or by its number where the text has no name for it. Err where memory was refused.
+pub fn slot_title(alloc: Global, unit: &UnitOrigins<'_>, slot: u16) -> Result<Vec<u8>, AllocError>
     ensures { IfOk result (λ v. v.items ≡ slot_title unit.now.slots slot) }
 {
     let name = slot_name(unit, slot);

@@ -84,11 +84,11 @@ either_way false x y z e = refl
 
 -- of a text that is too long nothing is said that looks at it
 front_kept : (file bytes known : List ℕ) (f : FrontFault) → bytes ≡ kept form.Source known → IsNoSource bytes f
-    → front_explanation file bytes f ≡ front_explanation file known f
+    → front_explanation file bytes f [] ≡ front_explanation file known f []
 front_kept file bytes known f e (inl h) = either_way (has_place f.rule) _ _ _ (ap has_place h.1)
-front_kept file bytes known f e (inr (inl h)) = ap (λ b. front_explanation file b f) (whole longest_source bytes known e h.0)
-front_kept file bytes known f e (inr (inr (inl h))) = ap (λ b. front_explanation file b f) (whole longest_source bytes known e h.0)
-front_kept file bytes known f e (inr (inr (inr h))) = ap (λ b. front_explanation file b f) (whole longest_source bytes known e h.1.1.short)
+front_kept file bytes known f e (inr (inl h)) = ap (λ b. front_explanation file b f []) (whole longest_source bytes known e h.0)
+front_kept file bytes known f e (inr (inr (inl h))) = ap (λ b. front_explanation file b f []) (whole longest_source bytes known e h.0)
+front_kept file bytes known f e (inr (inr (inr h))) = ap (λ b. front_explanation file b f []) (whole longest_source bytes known e h.1.1.short)
 
 -- of a program that is refused the whole text is kept
 refusal_kept : (kind : Form) (file bytes known said : List ℕ) (r : Refusal) (m : ModuleValue) → bytes ≡ kept kind known → Gives kind bytes m

@@ -173,15 +173,15 @@ FailsBy t bytes logged fault.Device = ⊥
 -- What `explain` says of a program that the verifier refuses: of a source text by its lines and names. (Bytes that give a module have a tree, so
 -- the other case is none of a refusal.)
 abbrev pub IsRefusalExplained : Form → List ℕ → List ℕ → Refusal → List ℕ → Type 0
-IsRefusalExplained form.Module file bytes r said = said ≡ refusal_explanation file r
+IsRefusalExplained form.Module file bytes r said = said ≡ refusal_explanation file r []
 IsRefusalExplained form.Source file bytes r said =
-    ((tree : TreeValue) × (origins : List UnitOrigins) × IsSource bytes tree × AreOrigins tree origins × (said ≡ source_explanation file bytes origins r))
-    ⊎ (((f : FrontFault) × IsNoSource bytes f) × (said ≡ refusal_explanation file r))
+    ((tree : TreeValue) × (origins : List UnitOrigins) × IsSource bytes tree × AreOrigins tree origins × (said ≡ source_explanation file bytes origins r []))
+    ⊎ (((f : FrontFault) × IsNoSource bytes f) × (said ≡ refusal_explanation file r []))
 
 -- What `explain` says of a fault on standard output, beside its line: of want of memory and of devices nothing.
 abbrev pub IsExplanation : Form → List ℕ → List ℕ → Fault → List ℕ → Type 0
 IsExplanation kind file bytes (fault.Text f) said = said ≡ option_map_or (λ title. module_explanation file title f) (fault_label f) []
-IsExplanation kind file bytes (fault.Front f) said = said ≡ front_explanation file bytes f
+IsExplanation kind file bytes (fault.Front f) said = said ≡ front_explanation file bytes f []
 IsExplanation kind file bytes (fault.Refused r) said = IsRefusalExplained kind file bytes r said
 IsExplanation kind file bytes _ said = said ≡ []
 

@@ -77,7 +77,7 @@ fn explanation(
             Some(title) => explain_module(alloc, file, title, *fault),
             None => Ok(Vec::new(alloc)),
         },
-        Fault::Front(fault) => explain_front(alloc, file, bytes, *fault),
+        Fault::Front(fault) => explain_front(alloc, file, bytes, *fault, &[]),
         Fault::Refused(refusal) => refusal_explanation(alloc, form, file, bytes, refusal),
         Fault::Arguments { .. }
         | Fault::Grammar(_)
@@ -101,10 +101,10 @@ fn refusal_explanation(
         (λ said. IsRefusalExplained form file.now bytes.now refusal.now said.items) }
 {
     match form {
-        Form::Module => explain_refusal(alloc, file, refusal),
+        Form::Module => explain_refusal(alloc, file, refusal, &[]),
         Form::Source => match origins_in(alloc, bytes) {
-            Ok(origins) => explain_source(alloc, file, bytes, origins.units(), refusal),
-            Err(FrontError::Fault(_)) => explain_refusal(alloc, file, refusal),
+            Ok(origins) => explain_source(alloc, file, bytes, origins.units(), refusal, &[]),
+            Err(FrontError::Fault(_)) => explain_refusal(alloc, file, refusal, &[]),
             Err(FrontError::OutOfMemory) => Err(AllocError),
         },
     }

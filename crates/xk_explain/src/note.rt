@@ -1,0 +1,132 @@
+//! Notes: what is told beside what is wrong.
+
+ghost use Rattle.std.specs.Prelude.{◌≡◌, ◌++◌, IfOk, OnOk, string_bytes};
+ghost use Rattle.xk_explain.specs.Notes.{note_line, note_lines, place_title, placed_line, plain_line, plain_lines};
+
+use crate::lines::push_text;
+use std::alloc::{AllocError, Global};
+use std::marker::Model;
+use xk_positions::{LineStarts, Position};
+
+/// What is told beside the fault itself, and where in the text it stands, if it has a place there.
+#[derive(Debug, Drop)]
+pub struct Note {
+    /// The offset in the text of what it speaks of; none where it speaks of no place.
+    pub at: Option<usize>,
+    /// Its words, without a line feed.
+    pub text: Vec<u8>,
+}
+
+impl Model for Note {
+    ghost use Rattle.xk_explain.specs.Notes.{NoteValue};
+
+    ghost Value = { NoteValue };
+
+    ghost view = { λ n. record {
+      at = n.at;
+      text = n.text.items;
+    } };
+}
+
+/// `3:5`.
+pub(crate) fn place_title(alloc: Global, position: Position) -> Result<String, AllocError>
+    ensures { IfOk result (λ text. string_bytes text ≡ place_title position) }
+{
+    let line = position.line;
+    let column = position.column;
+    format!(in alloc; "{line}:{column}")
+}
+
+/// The line of a note without a place.
+#[tactic(auto, unfolding(crate::specs::Notes::plain_line))]
+fn plain_line(alloc: Global, words: &[u8]) -> Result<Vec<u8>, AllocError>
+    ensures { IfOk result (λ v. v.items ≡ plain_line words.now) }
+{
+    let mut out = Vec::new(alloc);
+    push_text(&mut out, "   = ")?;
+    out.extend_from_slice(words)?;
+    push_text(&mut out, "\n")?;
+    Ok(out)
+}
+
+/// The line of a note on a place.
+#[tactic(auto, unfolding(crate::specs::Notes::placed_line))]
+fn placed_line(alloc: Global, position: Position, words: &[u8]) -> Result<Vec<u8>, AllocError>
+    ensures { IfOk result (λ v. v.items ≡ placed_line position words.now) }
+{
+    let place = place_title(alloc, position)?;
+    let mut out = Vec::new(alloc);
+    push_text(&mut out, "   = ")?;
+    push_text(&mut out, place.as_str())?;
+    push_text(&mut out, ": ")?;
+    out.extend_from_slice(words)?;
+    push_text(&mut out, "\n")?;
+    Ok(out)
+}
+
+/// The line of a note on a text.
+fn note_line(
+    alloc: Global,
+    lines: &LineStarts<'_>,
+    text: &[u8],
+    note: &Note,
+) -> Result<Vec<u8>, AllocError>
+    requires { lines.now ≡ text.now }
+    ensures { IfOk result (λ v. v.items ≡ note_line text.now note.now) }
+{
+    match note.at {
+        Some(at) => placed_line(alloc, lines.position(at.min(text.len())), &note.text),
+        None => plain_line(alloc, &note.text),
+    }
+}
+
+/// Adds the line of a note on a text.
+fn push_note(
+    alloc: Global,
+    out: &mut Vec<u8>,
+    lines: &LineStarts<'_>,
+    text: &[u8],
+    note: &Note,
+) -> Result<(), AllocError>
+    requires { lines.now ≡ text.now }
+    ensures { OnOk result (out.new.items ≡ out.old.items ++ note_line text.now note.now) }
+{
+    let line = note_line(alloc, lines, text, note)?;
+    out.extend_from_slice(&line)
+}
+
+/// The lines of notes on a text.
+pub(crate) fn note_lines(
+    alloc: Global,
+    lines: &LineStarts<'_>,
+    text: &[u8],
+    notes: &[Note],
+) -> Result<Vec<u8>, AllocError>
+    requires { lines.now ≡ text.now }
+    ensures { IfOk result (λ v. v.items ≡ note_lines text.now notes.now) }
+{
+    let mut out = Vec::new(alloc);
+    for note in notes {
+        push_note(alloc, &mut out, lines, text, note)?;
+    }
+    Ok(out)
+}
+
+/// Adds the line of a note whose place isn't told.
+fn push_plain(alloc: Global, out: &mut Vec<u8>, note: &Note) -> Result<(), AllocError>
+    ensures { OnOk result (out.new.items ≡ out.old.items ++ plain_line note.now.text) }
+{
+    let line = plain_line(alloc, &note.text)?;
+    out.extend_from_slice(&line)
+}
+
+/// The lines of notes where there is no text.
+pub(crate) fn plain_lines(alloc: Global, notes: &[Note]) -> Result<Vec<u8>, AllocError>
+    ensures { IfOk result (λ v. v.items ≡ plain_lines notes.now) }
+{
+    let mut out = Vec::new(alloc);
+    for note in notes {
+        push_plain(alloc, &mut out, note)?;
+    }
+    Ok(out)
+}
