@@ -1,0 +1,16 @@
+pub mod ListLemmas
+pub mod AdditionLemmas
+pub mod AwaitIndependenceLemmas
+pub mod StepEffect
+pub mod OneClockLemmas
+pub mod StepPairLemmas
+pub mod PlainStepLaw
+pub mod ViewLemmas
+pub mod ClockLemmas
+pub mod OneClockLaw
+pub mod ChangeSquareLemmas
+pub mod StartSquareLemmas
+pub mod SquareLaw
+pub mod QuietStepLaw
+pub mod ExplorationLaw
+pub mod Examples
