@@ -12,3 +12,4 @@ pub mod WalkBackLemmas
 pub mod ShortestWalkLemmas
 pub mod SuccessorRangeLemmas
 pub mod UnitLemmas
+pub mod KindTableLemmas

@@ -21,6 +21,10 @@ pub record IsKindTable (m : ModuleValue) (u : UnitValue) (ts : List (List KindsV
 abbrev pub kinds_in : List (List KindsValue) → ℕ → ℕ → KindsValue
 kinds_in ts s at = slice_index_or (slice_index_or ts s []) at no_kinds
 
+-- the same of a unit
+abbrev pub kinds_at : List (List (List KindsValue)) → ℕ → ℕ → ℕ → KindsValue
+kinds_at table unit at s = kinds_in (slice_index_or table unit []) s at
+
 -- the tables of all units
 pub record AreKindTables (m : ModuleValue) (table : List (List (List KindsValue))) : Type 0 where
   pub units : length table ≡ length m.units

@@ -68,6 +68,16 @@ impl SlotKinds {
     {
         self.kinds[at as usize]
     }
+
+    /// The same; none where there is no such instruction.
+    fn at_or_none(&self, at: usize) -> KindSet
+        ensures { result ≡ slice_index_or self.now at no_kinds }
+    {
+        match self.kinds.get(at) {
+            Some(kinds) => *kinds,
+            None => KindSet::empty(),
+        }
+    }
 }
 
 impl KindTable {
@@ -97,5 +107,15 @@ impl KindTable {
         ensures { result ≡ kinds_in self.now slot at }
     {
         self.slots[slot as usize].at(at)
+    }
+
+    /// The same; none where there is no such slot or instruction.
+    pub(crate) fn kinds_or_none(&self, at: usize, slot: usize) -> KindSet
+        ensures { result ≡ kinds_in self.now slot at }
+    {
+        match self.slots.get(slot) {
+            Some(kinds) => kinds.at_or_none(at),
+            None => KindSet::empty(),
+        }
     }
 }
