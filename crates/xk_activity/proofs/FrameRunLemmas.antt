@@ -5,7 +5,7 @@ use Rattle.xk_activity.proofs.LocalStepLemmas.{code_now, turn_right, turn_steps}
 use Rattle.xk_activity.proofs.StepSequenceLemmas.{safe_here}
 
 -- the frames whose present one stands so
-abbrev pub standing : FramesValue → Spot → FramesValue
+abbrev standing : FramesValue → Spot → FramesValue
 standing fs s = record fs { frame = frame_on fs.frame.unit s }
 
 one_more : (fs : FramesValue) → IsSafe local fs → (n : ℕ) (s : Spot) (o : Turn) → ran (turn (code_now fs)) (spot_of fs.frame) n ≡ o

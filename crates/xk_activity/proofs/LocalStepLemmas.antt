@@ -21,7 +21,7 @@ use Rattle.xk_activity.proofs.FrameStackLemmas.{code_at, limits_of}
 abbrev pub code_now : FramesValue → List Instr
 code_now fs = code_of fs.module_run fs.frame.unit
 
-abbrev pub turn_now : FramesValue → Turn
+abbrev turn_now : FramesValue → Turn
 turn_now fs = turn (code_now fs) (spot_of fs.frame)
 
 -- there is an instruction, where the step isn't wrong

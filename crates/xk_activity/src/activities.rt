@@ -138,7 +138,7 @@ impl<'m> Activities<'m> {
             ≡ Some result.now }
     {
         let act = &self.list[a];
-        act.next()
+        act.frames().next()
     }
 
     /// The number in a slot of it that holds one.
@@ -248,7 +248,7 @@ impl<'m> Activities<'m> {
             (act_at self.now.list a))) }
     {
         let act = &self.list[a];
-        act.is_local()
+        act.frames().is_local()
     }
 
     /// Whether a ticket's activity is there, and has the ticket's old frames.

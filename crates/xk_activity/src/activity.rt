@@ -2,15 +2,15 @@
 
 ghost use Rattle.std.specs.Prelude.{◌≡◌, ℤ, ℕ, ◌<◌, ◌≤◌, length, Some, slice_set};
 ghost use Rattle.xk_types.specs.declared.world.Value.TheVariants as value;
-ghost use Rattle.xk_types.specs.World.{instruction_at, is_ended, root};
+ghost use Rattle.xk_types.specs.World.{is_ended, root};
 ghost use Rattle.xk_types.specs.Step.{governing, slot_at, onward, with_slots, arrived, ended, past};
-ghost use Rattle.xk_activity.specs.Local.{IsRight, IsSafe, local, is_stepped};
+ghost use Rattle.xk_activity.specs.Local.{IsRight, IsSafe, local};
 ghost use Rattle.xk_activity.specs.StepAgreement.{frames_in, with_frames};
 ghost use Rattle.xk_activity.specs.Activities.{fresh, with_act, Stands, Takes, Runs};
 
 use crate::frames::{Frames, Next};
 use std::marker::Model;
-use xk_types::{ClockId, Instr, Status, Value};
+use xk_types::{ClockId, Status, Value};
 
 /// An activity: its frames, and how it stands. What it has to do with finishes is kept elsewhere; it stands for an activity that
 /// has none open, and is governed by main's.
@@ -89,14 +89,6 @@ impl<'m> Activity<'m> {
         ensures activity { self.new.act ≡ with_frames self.old.act frames.entry }
     {
         self.frames = frames;
-    }
-
-    /// The instruction that it stands at.
-    pub(crate) fn next(&self) -> &'m Instr
-        requires { Stands self.now.module_run self.now.act }
-        ensures { instruction_at self.now.module_run self.now.act.frame ≡ Some result.now }
-    {
-        self.frames.next()
     }
 
     /// The number in a slot that holds one.
@@ -182,13 +174,5 @@ impl<'m> Activity<'m> {
         ensures same { self.new.module_run ≡ self.old.module_run }
     {
         self.frames.run(max)
-    }
-
-    /// Whether nobody else can see the next step.
-    pub(crate) fn is_local(&self) -> bool
-        requires { IsRight (local (frames_in self.now.module_run self.now.act)) }
-        ensures { result ≡ is_stepped (local (frames_in self.now.module_run self.now.act)) }
-    {
-        self.frames.is_local()
     }
 }
