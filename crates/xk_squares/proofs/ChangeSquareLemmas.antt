@@ -5,28 +5,26 @@ use Rattle.std.specs.Int.{w64, int_wrapping_add}
 use Rattle.std.specs.Option.{option_map_or}
 use Rattle.std.proofs.lemmas.Bool.{or_parts}
 use Rattle.std.proofs.lemmas.Option.{none-some, same_Some}
+use Rattle.std.proofs.lemmas.List.{map-set, get_or-set_other}
 use Rattle.xk_types.specs.declared.instr.Instr.{Instr}
 use Rattle.xk_types.specs.declared.instr.Instr.TheVariants as instr
 use Rattle.xk_types.specs.declared.world.Event.{Event}
-use Rattle.xk_types.specs.Code.{ModuleValue, IsWithinLimits}
+use Rattle.xk_types.specs.Code.{ModuleValue}
 use Rattle.xk_types.specs.World.{Activity, Clock, World, standing_of, instruction_at, is_ended}
 use Rattle.xk_types.specs.Step.{Outcome, Blocked, Wrong, Stepped, is_signalled, is_ready, waits, innermost, step, step_of}
-use Rattle.xk_types.specs.Schedule.{IsReached, is_step}
+use Rattle.xk_types.specs.Schedule.{is_step}
 use Rattle.xk_types.proofs.ListLemmas.{get-set_other}
-use Rattle.xk_types.specs.Acceptance.{IsAccepted}
 use Rattle.xk_laws.proofs.Invariant.{Each}
-use Rattle.xk_laws.proofs.ReachabilityLemmas.{reached_sound}
 use Rattle.xk_laws.proofs.StepFormLemmas.{IsNext}
 use Rattle.xk_squares.specs.PlainWorlds.{plain_activity, plain}
 use Rattle.xk_squares.specs.Conflicts.{reads, puts, stores, next_instruction, reads_next, puts_next, stores_next, AreConflictFree}
-use Rattle.xk_squares.specs.Squares.{IsSquare}
 use Rattle.xk_squares.proofs.StepEffect.{Move, Passes, change_by, written, enacted, aged, begins, IsSum, begins_next}
-use Rattle.xk_squares.proofs.ListLemmas.{map_set, set_other, get_or_other, twice_there, some_set}
+use Rattle.xk_squares.proofs.ListLemmas.{set_other, twice_there, some_set}
 use Rattle.xk_squares.proofs.AdditionLemmas.{sums_go}
 use Rattle.xk_squares.proofs.AwaitIndependenceLemmas.{same_or_not}
 use Rattle.xk_squares.proofs.PlainStepLaw.{same_plain}
 use Rattle.xk_squares.proofs.ClockLemmas.{clocks_go, move_beside, unready_still, moved_registers, moved_waits, signals}
-use Rattle.xk_squares.proofs.ViewLemmas.{Sees, Acts, Goes, IsNone, DoesAct, DoesMake, DoesStart, goes, sees_itself, awaits_set}
+use Rattle.xk_squares.proofs.ViewLemmas.{Sees, Acts, Goes, IsNone, DoesAct, DoesMake, DoesStart, awaits_set}
 
 -- ---- small facts
 
@@ -67,10 +65,10 @@ cells_go (Some p) (Some q) cells h = elim (same_or_not p.0 q.0) [
       subst (λ d. written (Some p) (written (Some (d, q.1)) cells) ≡ written (Some (d, q.1)) (written (Some p) cells)) same
       (twice_there p.1 q.1 cells p.0 (pos 0) (h p.0 p.1 q.1 refl (ap (λ d. Some (d, q.1)) (sym same))))
   | inr differs ↦
-      ap (λ z. set (set cells q.0 (q.1 (get_or cells q.0 (pos 0)))) p.0 (p.1 z)) (get_or_other cells q.0 p.0 (q.1 (get_or cells q.0 (pos 0))) (pos 0) differs)
+      ap (λ z. set (set cells q.0 (q.1 (get_or cells q.0 (pos 0)))) p.0 (p.1 z)) (get_or-set_other cells q.0 p.0 (q.1 (get_or cells q.0 (pos 0))) (pos 0) differs)
       ∙ set_other cells q.0 p.0 (q.1 (get_or cells q.0 (pos 0))) (p.1 (get_or cells p.0 (pos 0))) differs
       ∙ ap (λ z. set (set cells p.0 (p.1 (get_or cells p.0 (pos 0)))) q.0 (q.1 z))
-      (sym (get_or_other cells p.0 q.0 (p.1 (get_or cells p.0 (pos 0))) (pos 0) (λ e. differs (sym e))))
+      (sym (get_or-set_other cells p.0 q.0 (p.1 (get_or cells p.0 (pos 0))) (pos 0) (λ e. differs (sym e))))
 ]
 
 -- what two steps make of one number, where neither writes it whatever it was
@@ -131,9 +129,9 @@ module _ (m : ModuleValue) (w : World) (a b : ℕ) (x y : Activity) (found : sli
       let one : World = enacted (enacted w b q g z) a (aged p s) f r in
       let other : World = enacted (enacted w a p f r) b (aged q t) g z in
       same_plain one other
-      (map_set plain_activity (set w.activities b q) a (aged p s) ∙ ap (λ zs. set zs a (plain_activity p)) (map_set plain_activity w.activities b q)
+      (map-set plain_activity (set w.activities b q) a (aged p s) ∙ ap (λ zs. set zs a (plain_activity p)) (map-set plain_activity w.activities b q)
       ∙ set_other (map plain_activity w.activities) b a (plain_activity q) (plain_activity p) turned
-      ∙ sym (map_set plain_activity (set w.activities a p) b (aged q t) ∙ ap (λ zs. set zs b (plain_activity q)) (map_set plain_activity w.activities a p)))
+      ∙ sym (map-set plain_activity (set w.activities a p) b (aged q t) ∙ ap (λ zs. set zs b (plain_activity q)) (map-set plain_activity w.activities a p)))
       (sym (clocks_go (w.steps + 1 + 1) (w.steps + 1) (w.steps + 1 + 1) (w.steps + 1) a b (change_by f) (change_by g) w.clocks differs (record {
         first = λ k c at. move_beside f k (standing_of c a) (λ e. signals_each w.clocks a k c at (f_passes e));
         second = λ k c at. move_beside g k (standing_of c b) (λ e. signals_each w.clocks b k c at (g_passes e));
@@ -189,19 +187,6 @@ only_acts m w v a x s o q u e found begun h (DoesAct A) = A
 only_acts m w v a x s o q u e found begun h (DoesMake M) = absurd (true≢false (sym (begins_is m w a x (instr.Make M.d) found M.next refl) ∙ begun))
 only_acts m w v a x s o q u e found begun h (DoesStart S) = absurd (true≢false (sym (begins_is m w a x (instr.Spawn S.unit S.args) found S.next refl) ∙ begun))
 
-pub square_acts : (m : ModuleValue) (w : World) (a b : ℕ) (x y : Activity) → slice_get w.activities a ≡ Some x → slice_get w.activities b ≡ Some y → (b ≡ a → ⊥)
-    → Each (λ k (c : Clock). is_ready c ≡ false) w.clocks → AreConflictFree m w a b → begins_next m w a ≡ false → begins_next m w b ≡ false → IsSquare m w a b
-square_acts m w a b x y found known differs quiet apart a_begins b_begins u v e f hu hv =
-    let a_alone : Acts m w w a x (step m w a) (step m w a) = only_acts m w w a x x.since _ _ u e found a_begins hu (goes m w w a x x.since (sees_itself m w a x found)) in
-    let b_alone : Acts m w w b y (step m w b) (step m w b) = only_acts m w w b y y.since _ _ v f known b_begins hv (goes m w w b y y.since (sees_itself m w b y known)) in
-    let a_sees = first_sees m w a b x y found known differs quiet apart v _ _ b_alone f hv in
-    let b_sees = second_sees m w a b x y found known differs quiet apart u _ _ a_alone e hu in
-    both_act m w a b x y found known differs quiet apart u v e f hu hv
-    (only_acts m w v a x x.since _ _ u e found a_begins hu (goes m w v a x x.since a_sees))
-    (only_acts m w u b y y.since _ _ v f known b_begins hv (goes m w u b y y.since b_sees))
-
--- ---- worlds that are reached
-
 -- who takes a step is there
 pub found_of : (m : ModuleValue) (w : World) (a : ℕ) (u : World) (e : Event) → step m w a ≡ Stepped u e → (x : Activity) × (slice_get w.activities a ≡ Some x)
 found_of m w a u e h = by (slice_get w.activities a) refl
@@ -209,10 +194,3 @@ found_of m w a u e h = by (slice_get w.activities a) refl
     by : (o : Option Activity) → slice_get w.activities a ≡ o → (x : Activity) × (slice_get w.activities a ≡ Some x)
     by None g = absurd (not_none (step m w a) u e h (ap (λ o. is_step (step_of m w a o)) g))
     by (Some x) g = (x, g)
-
-pub acts_square : (m : ModuleValue) (w : World) → IsWithinLimits m → IsAccepted m → IsReached m w → (a b : ℕ) → (b ≡ a → ⊥)
-    → AreConflictFree m w a b → begins_next m w a ≡ false → begins_next m w b ≡ false → IsSquare m w a b
-acts_square m w limits ok reached a b differs apart a_begins b_begins u v e f hu hv =
-    let x = found_of m w a u e hu in
-    let y = found_of m w b v f hv in
-    square_acts m w a b x.0 y.0 x.1 y.1 differs (λ k c at. ((reached_sound m limits ok w reached).clocks k c at).unready) apart a_begins b_begins u v e f hu hv

@@ -2,6 +2,7 @@
 use Rattle.std.proofs.Common.{◌≡◌, ℕ, suc, zero, ◌+◌, ◌==◌, Bool, true, false, true≢false, cond, ◌<◌, List, [], ◌∷◌, ◌++◌, map, length, set, get_or, Some, inl, inr, refl, sym, ap, ◌∙◌, arith}
 use Rattle.std.specs.List.{list_any}
 use Rattle.std.proofs.lemmas.Bool.{or_parts}
+use Rattle.std.proofs.lemmas.List.{get_or-set_other, set-get_or}
 use Rattle.xk_types.specs.declared.world.Standing.{Standing}
 use Rattle.xk_types.specs.declared.world.Standing.TheVariants as standing
 use Rattle.xk_types.specs.World.{Clock, standing_of}
@@ -10,7 +11,7 @@ use Rattle.xk_laws.proofs.Invariant.{Each}
 use Rattle.xk_squares.specs.PlainWorlds.{plain_clock}
 use Rattle.xk_squares.proofs.StepEffect.{Move, Rests, Resumes, Drops, Arrives, Passes, Ends, change_by}
 use Rattle.xk_squares.proofs.OneClockLemmas.{settle, change_of, join_of, GoesBeside, changes, joins, settle_is, settle_twice}
-use Rattle.xk_squares.proofs.ListLemmas.{get_or_other, get_or_map, get_or_push, set_there}
+use Rattle.xk_squares.proofs.ListLemmas.{get_or_map, get_or_push}
 use Rattle.xk_squares.proofs.StepPairLemmas.{registers}
 
 -- ---- what a move does
@@ -121,7 +122,7 @@ settle_stands xs a P stays goes = rw (settle_is xs) (by (list_any is_pending xs)
 pub other_stands : (n a b : ℕ) (g : Standing → Standing) (c : Clock) → (a ≡ b → ⊥) → (P : Standing → Type 0) → P (standing_of c a) → P (advanced (standing_of c a))
     → P (standing_of (settled_clock n (moved_on b g c)) a)
 other_stands n a b g c differs P stays goes =
-    let same : get_or (change_of b g c.standings) a standing.Apart ≡ standing_of c a = get_or_other c.standings b a (g (standing_of c b)) standing.Apart differs in
+    let same : get_or (change_of b g c.standings) a standing.Apart ≡ standing_of c a = get_or-set_other c.standings b a (g (standing_of c b)) standing.Apart differs in
     rw (settled_standings n (moved_on b g c)) (settle_stands (change_of b g c.standings) a P (rw same stays) (rw same goes))
 
 pub moved_registers : (n a b : ℕ) (g : ℕ → Standing → Standing) (cs : List Clock) (k : ℕ) → (a ≡ b → ⊥) → registers (map (settled_clock n) (moved b g cs)) a k ≡ registers cs a k
@@ -188,7 +189,7 @@ made_go n o p q a f [] new apart still stands fresh =
     let one : plain_clock (settled_clock n (moved_on a (f 0) (settled_clock o new))) ≡ plain_clock (settled_clock p new) =
     plainly (settled_clock n (moved_on a (f 0) (settled_clock o new))) (settled_clock p new)
     (settled_standings n (moved_on a (f 0) (settled_clock o new)) ∙ ap (λ zs. settle (change_of a (f 0) zs)) (settled_standings o new ∙ fresh)
-    ∙ ap (λ s. settle (set new.standings a s)) (ap (f 0) stands ∙ apart 0 ∙ sym stands) ∙ ap settle (set_there new.standings a standing.Apart)
+    ∙ ap (λ s. settle (set new.standings a s)) (ap (f 0) stands ∙ apart 0 ∙ sym stands) ∙ ap settle (set-get_or new.standings a standing.Apart)
     ∙ sym (settled_standings p new)) in
     λ i. one i ∷ []
 made_go n o p q a f (c ∷ cs) new apart still stands fresh =

@@ -2,11 +2,12 @@
 use Rattle.std.proofs.Common.{◌≡◌, ℕ, ◌+◌, ◌<◌, Bool, true, false, true≢false, not, ◌&&◌, cond, List, [], ◌∷◌, ◌++◌, length, map, set, get_or, ◌⊎◌, inl, inr, refl, sym, ap, ◌∙◌, arith}
 use Rattle.std.specs.List.{list_any}
 use Rattle.std.proofs.lemmas.Bool.{or_parts}
+use Rattle.std.proofs.lemmas.List.{set-get_or, set-set, get_or-set_other, map-set}
 use Rattle.xk_types.specs.declared.world.Standing.{Standing}
 use Rattle.xk_types.specs.declared.world.Standing.TheVariants as standing
 use Rattle.xk_types.specs.World.{Clock}
 use Rattle.xk_types.specs.Step.{is_signalled, is_pending, advanced, settled_clock}
-use Rattle.xk_squares.proofs.ListLemmas.{set_other, set_there, set_twice, get_or_other, map_set, get_or_map, none_at, none_set, map_push, set_push, get_or_push, any_push, any_at}
+use Rattle.xk_squares.proofs.ListLemmas.{set_other, get_or_map, none_at, none_set, map_push, set_push, get_or_push, any_push, any_at}
 
 -- where all stand at the end of a step
 abbrev pub settle : List Standing → List Standing
@@ -98,10 +99,10 @@ module _ (a b : ℕ) (f g : Standing → Standing) (xs : List Standing) (differs
   moved_all = map advanced first
 
   quiet : is_pending was ≡ false
-  quiet = ap is_pending (sym (get_or_other xs a b (f (get_or xs a standing.Apart)) standing.Apart differs)) ∙ none_at is_pending first b standing.Apart free refl
+  quiet = ap is_pending (sym (get_or-set_other xs a b (f (get_or xs a standing.Apart)) standing.Apart differs)) ∙ none_at is_pending first b standing.Apart free refl
 
   stands : get_or moved_all b standing.Apart ≡ advanced was
-  stands = get_or_map advanced first b standing.Apart ∙ ap advanced (get_or_other xs a b (f (get_or xs a standing.Apart)) standing.Apart differs)
+  stands = get_or_map advanced first b standing.Apart ∙ ap advanced (get_or-set_other xs a b (f (get_or xs a standing.Apart)) standing.Apart differs)
 
   at_once : settle (change_of b g (settle first)) ≡ settle (set moved_all b (g (advanced was)))
   at_once = ap (λ zs. settle (change_of b g zs)) (settle_free first free) ∙ ap (λ s. settle (set moved_all b (g s))) stands
@@ -109,9 +110,9 @@ module _ (a b : ℕ) (f g : Standing → Standing) (xs : List Standing) (differs
   -- b's change is nothing
   nothing : g was ≡ was → g (advanced was) ≡ advanced was → settle (change_of b g (settle first)) ≡ settle (change_of a f (settle (change_of b g xs)))
   nothing p q =
-      at_once ∙ ap (λ s. settle (set moved_all b s)) (q ∙ sym stands) ∙ ap settle (set_there moved_all b standing.Apart)
+      at_once ∙ ap (λ s. settle (set moved_all b s)) (q ∙ sym stands) ∙ ap settle (set-get_or moved_all b standing.Apart)
       ∙ settle_still moved_all (twice_all first) ∙ sym (settle_free first free)
-      ∙ sym (ap (λ zs. settle (change_of a f zs)) (ap settle (ap (set xs b) p ∙ set_there xs b standing.Apart) ∙ still))
+      ∙ sym (ap (λ zs. settle (change_of a f zs)) (ap settle (ap (set xs b) p ∙ set-get_or xs b standing.Apart) ∙ still))
 
   -- b's registration ends
   abbrev without : List Standing
@@ -120,10 +121,10 @@ module _ (a b : ℕ) (f g : Standing → Standing) (xs : List Standing) (differs
   without_still : (p : Bool) → pends without ≡ p → settle without ≡ without
   without_still true h = settle_kept without h
   without_still false h =
-      let back : set without b was ≡ xs = set_twice xs b standing.Apart was ∙ set_there xs b standing.Apart in
+      let back : set without b was ≡ xs = set-set xs b standing.Apart was ∙ set-get_or xs b standing.Apart in
       let nobody : pends xs ≡ false = ap pends (sym back) ∙ none_set is_pending without b was h quiet in
       let same : map advanced xs ≡ xs = sym (settle_free xs nobody) ∙ still in
-      settle_still without (map_set advanced xs b standing.Apart ∙ ap (λ zs. set zs b standing.Apart) same)
+      settle_still without (map-set advanced xs b standing.Apart ∙ ap (λ zs. set zs b standing.Apart) same)
 
   differs_too : a ≡ b → ⊥
   differs_too e = differs (sym e)
@@ -132,13 +133,13 @@ module _ (a b : ℕ) (f g : Standing → Standing) (xs : List Standing) (differs
   over p q =
       let here : settle (change_of b g (settle first)) ≡ set moved_all b standing.Apart =
       at_once ∙ ap (λ s. settle (set moved_all b s)) q
-      ∙ settle_still (set moved_all b standing.Apart) (map_set advanced moved_all b standing.Apart ∙ ap (λ zs. set zs b standing.Apart) (twice_all first)) in
+      ∙ settle_still (set moved_all b standing.Apart) (map-set advanced moved_all b standing.Apart ∙ ap (λ zs. set zs b standing.Apart) (twice_all first)) in
       let last : List Standing = set first b standing.Apart in
       let there : change_of a f without ≡ last =
-      ap (λ s. set without a (f s)) (get_or_other xs b a standing.Apart standing.Apart differs_too)
+      ap (λ s. set without a (f s)) (get_or-set_other xs b a standing.Apart standing.Apart differs_too)
       ∙ set_other xs b a standing.Apart (f (get_or xs a standing.Apart)) differs_too in
       let gone : settle last ≡ set moved_all b standing.Apart =
-      settle_free last (none_set is_pending first b standing.Apart free refl) ∙ map_set advanced first b standing.Apart in
+      settle_free last (none_set is_pending first b standing.Apart free refl) ∙ map-set advanced first b standing.Apart in
       here ∙ sym gone ∙ sym (ap settle there)
       ∙ sym (ap (λ zs. settle (change_of a f zs)) (ap (λ s. settle (set xs b s)) p ∙ without_still (pends without) refl))
 
@@ -163,9 +164,9 @@ changes a b f g xs differs f_beside g_beside still = by (pends (change_of a f xs
     by true false h k = sym (half b a g f xs turned f_beside still k)
     by true true h k =
         ap (λ zs. settle (change_of b g zs)) (settle_kept (change_of a f xs) h)
-        ∙ ap settle (ap (λ s. set (change_of a f xs) b (g s)) (get_or_other xs a b (f (get_or xs a standing.Apart)) standing.Apart differs)
+        ∙ ap settle (ap (λ s. set (change_of a f xs) b (g s)) (get_or-set_other xs a b (f (get_or xs a standing.Apart)) standing.Apart differs)
         ∙ set_other xs a b (f (get_or xs a standing.Apart)) (g (get_or xs b standing.Apart)) differs
-        ∙ ap (λ s. set (change_of b g xs) a (f s)) (sym (get_or_other xs b a (g (get_or xs b standing.Apart)) standing.Apart turned)))
+        ∙ ap (λ s. set (change_of b g xs) a (f s)) (sym (get_or-set_other xs b a (g (get_or xs b standing.Apart)) standing.Apart turned)))
         ∙ sym (ap (λ zs. settle (change_of a f zs)) (settle_kept (change_of b g xs) k))
 
 -- ---- a join
@@ -193,7 +194,7 @@ change_join : (a b : ℕ) (f : Standing → Standing) (given : Bool) (xs : List 
 change_join a b f given xs differs inside =
     ap (λ s. set (join_of b given xs) a (f s)) (get_or_push xs a (cond given (get_or xs b standing.Apart) standing.Apart) standing.Apart inside)
     ∙ set_push xs a (f (get_or xs a standing.Apart)) (cond given (get_or xs b standing.Apart) standing.Apart) inside
-    ∙ ap (λ s. change_of a f xs ++ cond given s standing.Apart ∷ []) (sym (get_or_other xs a b (f (get_or xs a standing.Apart)) standing.Apart differs))
+    ∙ ap (λ s. change_of a f xs ++ cond given s standing.Apart ∷ []) (sym (get_or-set_other xs a b (f (get_or xs a standing.Apart)) standing.Apart differs))
 
 -- whatever the change is
 pub joins : (a b : ℕ) (f : Standing → Standing) (given : Bool) (xs : List Standing) → (b ≡ a → ⊥) → a < length xs → settle xs ≡ xs

@@ -3,7 +3,8 @@ use Rattle.std.proofs.Common.{◌≡◌, ℕ, ℤ, suc, zero, ◌+◌, ◌||◌,
 use Rattle.std.specs.Prelude.{slice_get}
 use Rattle.std.specs.List.{list_any}
 use Rattle.std.specs.Option.{option_map_or}
-use Rattle.std.proofs.lemmas.List.{length-map}
+use Rattle.std.proofs.lemmas.List.{length-map, map-set}
+use Rattle.std.proofs.lemmas.Option.{slice_get-map}
 use Rattle.xk_types.specs.declared.world.Value.{Value}
 use Rattle.xk_types.specs.declared.world.Value.TheVariants as value
 use Rattle.xk_types.specs.declared.world.Standing.{Standing}
@@ -15,7 +16,7 @@ use Rattle.xk_types.specs.Step.{Outcome, Blocked, Stepped, is_ready, is_signalle
 use Rattle.xk_types.proofs.ListLemmas.{fun_ext}
 use Rattle.xk_squares.specs.PlainWorlds.{plain_activity, plain_clock, plain, plain_outcome}
 use Rattle.xk_squares.proofs.StepEffect.{Move, Rests, Passes, change_by, written, enacted, aged}
-use Rattle.xk_squares.proofs.ListLemmas.{map_set, map_push, get_map}
+use Rattle.xk_squares.proofs.ListLemmas.{map_push}
 use Rattle.xk_squares.proofs.StepPairLemmas.{HoldsOfPairs, registers, step_pair}
 
 -- worlds that are the same but for that
@@ -79,7 +80,7 @@ under_plain : (acts : List Activity) (f : Finish) (n b : ℕ) → under_within (
 unfolding under_within
 under_plain acts f zero b = refl
 under_plain acts f (suc n) b =
-    rw (get_map plain_activity acts b, fun_ext (under_within (map plain_activity acts) f n) (under_within acts f n) (under_plain acts f n)) (by (slice_get acts b))
+    rw (slice_get-map plain_activity acts b, fun_ext (under_within (map plain_activity acts) f n) (under_within acts f n) (under_plain acts f n)) (by (slice_get acts b))
   where
     by : (o : Option Activity)
         → option_map_or (λ (act : Activity). same_finish act.governed f || option_map_or (under_within acts f n) act.governed.owner false) (option_map plain_activity o) false
@@ -102,8 +103,8 @@ AsPlain o q = plain_outcome q ≡ plain_outcome o
 
 module _ (m : ModuleValue) (w : World) (a : ℕ) (act : Activity) where
   set_plain : (next : Activity) (t : ℕ) → map plain_activity (set (map plain_activity w.activities) a (aged next t)) ≡ map plain_activity (set w.activities a next)
-  set_plain next t = map_set plain_activity (map plain_activity w.activities) a (aged next t) ∙ ap (λ zs. set zs a (plain_activity next)) (plain_twice w.activities)
-      ∙ sym (map_set plain_activity w.activities a next)
+  set_plain next t = map-set plain_activity (map plain_activity w.activities) a (aged next t) ∙ ap (λ zs. set zs a (plain_activity next)) (plain_twice w.activities)
+      ∙ sym (map-set plain_activity w.activities a next)
 
   plain_done : (next : Activity) (t : ℕ) (move : Move) (writes : Option (ℕ × (ℤ → ℤ))) (e : Event)
       → AsPlain (Stepped (enacted w a next move writes) e) (Stepped (enacted (plain w) a (aged next t) move writes) e)
@@ -166,5 +167,5 @@ pub plain_steps : (m : ModuleValue) (w : World) (a : ℕ) → plain_outcome (ste
 plain_steps m w a = by (slice_get w.activities a) refl
   where
     by : (o : Option Activity) → slice_get w.activities a ≡ o → plain_outcome (step m (plain w) a) ≡ plain_outcome (step m w a)
-    by None e = rw (get_map plain_activity w.activities a, e)
-    by (Some act) e = step_pair AsPlain m w (plain w) a act 0 (plain_pairs m w a act) e (get_map plain_activity w.activities a ∙ ap (option_map plain_activity) e)
+    by None e = rw (slice_get-map plain_activity w.activities a, e)
+    by (Some act) e = step_pair AsPlain m w (plain w) a act 0 (plain_pairs m w a act) e (slice_get-map plain_activity w.activities a ∙ ap (option_map plain_activity) e)

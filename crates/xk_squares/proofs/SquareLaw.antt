@@ -2,7 +2,7 @@
 use Rattle.std.proofs.Common.{◌≡◌, ℕ, suc, zero, ◌+◌, ◌<◌, Bool, true, false, List, [], ◌∷◌, ◌++◌, map, length, set, replicate, Some, refl, sym, ap, ◌∙◌, arith, length-set}
 use Rattle.std.specs.Prelude.{slice_get}
 use Rattle.std.specs.Option.{option_map_or}
-use Rattle.std.proofs.lemmas.List.{length-map, length_push, length-replicate}
+use Rattle.std.proofs.lemmas.List.{length-map, length_push, length-replicate, map-set}
 use Rattle.std.proofs.lemmas.Option.{slice_get_within}
 use Rattle.xk_types.specs.declared.instr.Instr.TheVariants as instr
 use Rattle.xk_types.specs.declared.world.Value.{Value}
@@ -18,13 +18,13 @@ use Rattle.xk_types.specs.Schedule.{IsReached}
 use Rattle.xk_laws.proofs.Invariant.{Each, IsSound}
 use Rattle.xk_laws.proofs.ReachabilityLemmas.{reached_sound, reached_scoped}
 use Rattle.xk_laws.proofs.ScopeLemmas.FinishOwnerLemmas.{AreOwned}
-use Rattle.xk_laws.proofs.ClockLemmas.StandingLemmas.{new_other}
+use Rattle.xk_laws.proofs.ClockLemmas.StandingLemmas.{new_other, length-joined}
 use Rattle.xk_squares.specs.PlainWorlds.{plain_activity, plain_clock, plain}
 use Rattle.xk_squares.specs.Conflicts.{AreConflictFree}
 use Rattle.xk_squares.specs.Squares.{makes, starts, makes_next, starts_next, IsSquare}
 use Rattle.xk_squares.proofs.StepEffect.{aged}
 use Rattle.xk_squares.proofs.OneClockLemmas.{settle, join_of, settle_twice}
-use Rattle.xk_squares.proofs.ListLemmas.{map_push, map_set, set_other, set_push}
+use Rattle.xk_squares.proofs.ListLemmas.{map_push, set_other, set_push}
 use Rattle.xk_squares.proofs.PlainStepLaw.{same_plain}
 use Rattle.xk_squares.proofs.ClockLemmas.{plainly, settled_standings, unready_still}
 use Rattle.xk_squares.proofs.ViewLemmas.{Makes, Starts, Goes, IsNone, DoesAct, DoesMake, DoesStart, goes}
@@ -65,10 +65,6 @@ clocks_both k o p q n a b given (c ∷ cs) differs inside still =
     clocks_both k o p q n a b (λ j. given (suc j)) cs differs inside (λ j x at. still (suc j) x at) in
     λ i. one i ∷ rest i
 
-joined_length : (a : ℕ) (given : ℕ → Bool) (cs : List Clock) → length (joined a given cs) ≡ length cs
-joined_length a given [] = refl
-joined_length a given (c ∷ cs) = ap suc (joined_length a (λ j. given (suc j)) cs)
-
 module _ (m : ModuleValue) (w : World) (a b : ℕ) (x y : Activity) (found : slice_get w.activities a ≡ Some x) (known : slice_get w.activities b ≡ Some y) (differs : b ≡ a → ⊥)
     (quiet : Each (λ k (c : Clock). is_ready c ≡ false) w.clocks) where
   turned : a ≡ b → ⊥
@@ -86,10 +82,10 @@ module _ (m : ModuleValue) (w : World) (a b : ℕ) (x y : Activity) (found : sli
       same_plain one other
       (map_push plain_activity (set (set w.activities b q) a (onward (aged x s))) (child m a (aged x s) unit values)
       ∙ ap (λ zs. zs ++ plain_activity new ∷ [])
-      (map_set plain_activity (set w.activities b q) a (onward (aged x s)) ∙ ap (λ zs. set zs a (plain_activity p)) (map_set plain_activity w.activities b q)
+      (map-set plain_activity (set w.activities b q) a (onward (aged x s)) ∙ ap (λ zs. set zs a (plain_activity p)) (map-set plain_activity w.activities b q)
       ∙ set_other (map plain_activity w.activities) b a (plain_activity q) (plain_activity p) turned
       ∙ ap (λ g. set (set (map plain_activity w.activities) a (plain_activity p)) b g) same
-      ∙ sym (map_set plain_activity (set w.activities a p) b z ∙ ap (λ zs. set zs b (plain_activity z)) (map_set plain_activity w.activities a p)))
+      ∙ sym (map-set plain_activity (set w.activities a p) b z ∙ ap (λ zs. set zs b (plain_activity z)) (map-set plain_activity w.activities a p)))
       ∙ sym (ap (λ zs. map plain_activity zs) (set_push (set w.activities a p) b z new there) ∙ map_push plain_activity (set (set w.activities a p) b z) new))
       (clocks_both (w.steps + 1 + 1) (w.steps + 1) (w.steps + 1 + 1) (w.steps + 1) (length w.activities) a b (is_given values) w.clocks turned
       (slice_get_within w.activities b y known) (λ k c at. unready_still c (quiet k c at))
@@ -108,7 +104,7 @@ module _ (m : ModuleValue) (w : World) (a b : ℕ) (x y : Activity) (found : sli
       let p : World = started_world m v a (aged x x.since) S.unit S.values in
       let q : World = made_world u b (maker (aged y y.since) M.d (length u.clocks)) in
       let many : length (started_world m w a x S.unit S.values).clocks ≡ length w.clocks =
-      length-map (joined a (is_given S.values) w.clocks) (settled_clock (w.steps + 1)) ∙ joined_length a (is_given S.values) w.clocks in (
+      length-map (joined a (is_given S.values) w.clocks) (settled_clock (w.steps + 1)) ∙ length-joined a (is_given S.values) w.clocks in (
         p,
         q,
         S.there ∙ ap (λ z. Stepped p z) (sym us.1),

@@ -1,7 +1,7 @@
 -- A step that begins nothing, and one that makes a clock or starts an activity, in either order.
 use Rattle.std.proofs.Common.{◌≡◌, ℕ, ℤ, ◌+◌, ◌<◌, false, List, [], ◌∷◌, ◌++◌, map, length, set, Some, Option, refl, sym, ap, ◌∙◌, subst, arith, length-set}
 use Rattle.std.specs.Prelude.{slice_get}
-use Rattle.std.proofs.lemmas.List.{length-map}
+use Rattle.std.proofs.lemmas.List.{length-map, map-set}
 use Rattle.std.proofs.lemmas.Option.{same_Some, slice_get_within}
 use Rattle.xk_types.specs.declared.world.Value.{Value}
 use Rattle.xk_types.specs.declared.world.Value.TheVariants as value
@@ -24,7 +24,7 @@ use Rattle.xk_squares.specs.Conflicts.{AreConflictFree}
 use Rattle.xk_squares.specs.Squares.{IsSquare}
 use Rattle.xk_squares.proofs.StepEffect.{Move, change_by, enacted, aged, begins_next}
 use Rattle.xk_squares.proofs.OneClockLemmas.{settle, settle_is}
-use Rattle.xk_squares.proofs.ListLemmas.{map_set, map_push, set_other, set_push, any_at}
+use Rattle.xk_squares.proofs.ListLemmas.{map_push, set_other, set_push, any_at}
 use Rattle.xk_squares.proofs.PlainStepLaw.{same_plain}
 use Rattle.xk_squares.proofs.ClockLemmas.{unready_still, pushed_registers, pushed_waits, joined_registers, joined_waits, made_go, started_go, move_apart}
 use Rattle.xk_squares.proofs.AwaitIndependenceLemmas.{awaits_push, owned_set}
@@ -92,10 +92,10 @@ module _ (m : ModuleValue) (w : World) (a b : ℕ) (x y : Activity) (found : sli
   acts_go : (p q z : Activity) (s : ℕ) → plain_activity q ≡ plain_activity z
       → map plain_activity (set (set w.activities b q) a (aged p s)) ≡ map plain_activity (set (set w.activities a p) b z)
   acts_go p q z s same =
-      map_set plain_activity (set w.activities b q) a (aged p s) ∙ ap (λ zs. set zs a (plain_activity p)) (map_set plain_activity w.activities b q)
+      map-set plain_activity (set w.activities b q) a (aged p s) ∙ ap (λ zs. set zs a (plain_activity p)) (map-set plain_activity w.activities b q)
       ∙ set_other (map plain_activity w.activities) b a (plain_activity q) (plain_activity p) turned
       ∙ ap (λ g. set (set (map plain_activity w.activities) a (plain_activity p)) b g) same
-      ∙ sym (map_set plain_activity (set w.activities a p) b z ∙ ap (λ zs. set zs b (plain_activity z)) (map_set plain_activity w.activities a p))
+      ∙ sym (map-set plain_activity (set w.activities a p) b z ∙ ap (λ zs. set zs b (plain_activity z)) (map-set plain_activity w.activities a p))
 
   made_worlds : (p q z : Activity) (s : ℕ) (f : Move) (r : Option (ℕ × (ℤ → ℤ))) → plain_activity q ≡ plain_activity z
       → plain (enacted (made_world w b q) a (aged p s) f r) ≡ plain (made_world (enacted w a p f r) b z)

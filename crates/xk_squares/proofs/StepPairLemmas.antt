@@ -1,9 +1,9 @@
 -- Steps of one activity in two worlds that look the same to it: they do the same. The one walk over instructions of this crate.
-use Rattle.std.proofs.Common.{◌≡◌, ℕ, ◌+◌, ◌==◌, ℤ, pos, int_lt, int_le, Bool, true, false, true≢false, cond, List, [], ◌∷◌, length, set, Some, None, Option, option_map, refl, sym, ap, ◌∙◌, subst, inl, inr, ◌⊎◌, is_some, get_or, eq-eqb}
+use Rattle.std.proofs.Common.{◌≡◌, ℕ, ◌+◌, ℤ, pos, int_lt, int_le, Bool, true, false, true≢false, cond, List, [], ◌∷◌, length, set, Some, None, Option, option_map, refl, sym, ap, ◌∙◌, subst, inl, inr, ◌⊎◌, is_some, get_or, eq-eqb}
 use Rattle.std.specs.Prelude.{slice_get, option_and_then}
 use Rattle.std.specs.Int.{w64, int_min, int_wrapping_add, int_wrapping_sub, int_wrapping_mul}
 use Rattle.std.specs.Option.{option_map_or}
-use Rattle.std.proofs.lemmas.Option.{none-some, same_Some}
+use Rattle.std.proofs.lemmas.Option.{none-some, same_Some, get_or_from_slice_get}
 use Rattle.xk_types.specs.declared.instr.Instr.{Instr}
 use Rattle.xk_types.specs.declared.instr.Instr.TheVariants as instr
 use Rattle.xk_types.specs.declared.world.Value.{Value}
@@ -22,7 +22,6 @@ use Rattle.xk_laws.proofs.Invariant.{Names}
 use Rattle.xk_laws.proofs.StepFormLemmas.{IsNext}
 use Rattle.xk_squares.specs.Conflicts.{reads, stores, puts}
 use Rattle.xk_squares.proofs.StepEffect.{Move, Rests, Resumes, Drops, Arrives, Passes, Ends, enacted, aged, prints, IsSum}
-use Rattle.xk_squares.proofs.ListLemmas.{get_there}
 
 -- whether activity a is registered on clock k, if there is one
 abbrev pub registers : List Clock → ℕ → ℕ → Option Bool
@@ -191,8 +190,8 @@ module _ (P : Outcome → Outcome → Type 0) (m : ModuleValue) (w v : World) (a
         by None (Some other) p r same = absurd (true≢false same)
         by (Some old) None p r same = absurd (true≢false (sym same))
         by (Some old) (Some other) p r same =
-            subst (λ z. P (stored w a act c (g z) e) (stored v a (aged act s) c (g other) e)) (get_there w.cells c old (pos 0) p)
-            (subst (λ z. P (stored w a act c (g (get_or w.cells c (pos 0))) e) (stored v a (aged act s) c (g z) e)) (get_there v.cells c other (pos 0) r) done_so)
+            subst (λ z. P (stored w a act c (g z) e) (stored v a (aged act s) c (g other) e)) (get_or_from_slice_get w.cells c old (pos 0) p)
+            (subst (λ z. P (stored w a act c (g (get_or w.cells c (pos 0))) e) (stored v a (aged act s) c (g z) e)) (get_or_from_slice_get v.cells c other (pos 0) r) done_so)
 
   spawning_pair : (t : ℕ) (args : List ℕ) → IsNext m act (instr.Spawn t args) → (o : Option UnitValue) → P (spawning m w a act t args o) (spawning m v a (aged act s) t args o)
   spawning_pair t args at None = h.wrong _
@@ -202,9 +201,6 @@ module _ (P : Outcome → Outcome → Type 0) (m : ModuleValue) (w v : World) (a
           (cond b (arguments_in v a (aged act s) u.params args (spawned m v a (aged act s) t)) (Wrong OutOfRange))
       by true = arguments_pair u.params args _ _ (λ values. h.spawned t args values at)
       by false = h.wrong _
-
-  same_number : (c : ℕ) → (c == c) ≡ true
-  same_number c = eq-eqb c c refl
 
   instruction_pair : (i : Instr) → IsNext m act i → P (carried_out m w a act i) (carried_out m v a (aged act s) i)
   instruction_pair (instr.Lit d n) at = write_pair (instr.Lit d n) at d (value.Number n) event.Local (λ h. refl)
@@ -219,12 +215,12 @@ module _ (P : Outcome → Outcome → Type 0) (m : ModuleValue) (w v : World) (a
   instruction_pair (instr.ForTo k lo x hi e) at =
       limit_pair (instr.ForTo k lo x hi e) at (Some x) hi _ _ (λ top. beginning_pair (instr.ForTo k lo x hi e) at k lo (e + 1) top)
   instruction_pair (instr.Next b) at = turning_pair (instr.Next b) at b (option_and_then (loop_head b) (instruction_at m (record act.frame { place = b })))
-  instruction_pair (instr.Get d c) at = cell_pair (slice_get w.cells c) (slice_get v.cells c) (h.cells (instr.Get d c) at c (same_number c)) _ _
+  instruction_pair (instr.Get d c) at = cell_pair (slice_get w.cells c) (slice_get v.cells c) (h.cells (instr.Get d c) at c (eq-eqb c c refl)) _ _
       (λ n. write_pair (instr.Get d c) at d (value.Number n) event.Got (λ h. refl))
   instruction_pair (instr.Put c x) at = number_pair (slot_at act x) _ _
-      (λ n. put_cell (instr.Put c x) at c (λ old. n) event.Put (λ h. refl) (same_number c) (inl (same_number c)))
+      (λ n. put_cell (instr.Put c x) at c (λ old. n) event.Put (λ h. refl) (eq-eqb c c refl) (inl (eq-eqb c c refl)))
   instruction_pair (instr.AddTo c x) at = number_pair (slot_at act x) _ _
-      (λ n. put_cell (instr.AddTo c x) at c (λ old. int_wrapping_add w64 old n) event.Added (λ h. refl) (same_number c) (inr (n, λ z. refl)))
+      (λ n. put_cell (instr.AddTo c x) at c (λ old. int_wrapping_add w64 old n) event.Added (λ h. refl) (eq-eqb c c refl) (inr (n, λ z. refl)))
   instruction_pair (instr.Finish e) at = rests_pair (instr.Finish e) at (entered act) refl Rests refl event.Opened (λ h. refl)
   instruction_pair (instr.EndFinish b) at = h.closing b at
   instruction_pair (instr.Print x) at = number_pair (slot_at act x) _ _ (λ n. rests_pair (instr.Print x) at (onward act) refl Rests refl (event.Printed n) (λ h. absurd (true≢false h)))
