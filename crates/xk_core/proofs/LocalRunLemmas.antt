@@ -94,7 +94,7 @@ ran_stays fs (suc n) = by (ran local fs n) (ran_stays fs n)
 -- ---- clocks
 
 -- where no clock is ready, and no standing changes, the end of a step leaves all clocks as they are
-clocks_rest : (now a : ℕ) (cs : List Clock) → Each (λ k c. is_ready c ≡ false) cs → map (settled_clock now) (moved a none cs) ≡ cs
+pub clocks_rest : (now a : ℕ) (cs : List Clock) → Each (λ k c. is_ready c ≡ false) cs → map (settled_clock now) (moved a none cs) ≡ cs
 clocks_rest now a [] h = refl
 clocks_rest now a (c ∷ cs) h =
     ap (λ z. z ∷ map (settled_clock now) (moved a none cs))
@@ -104,7 +104,8 @@ clocks_rest now a (c ∷ cs) h =
 
 -- ---- schedules
 
-events_more : (m : ModuleValue) (list : List ℕ) (w v x : World) (a : ℕ) (e : Event) → run m list w ≡ Through v → step m v a ≡ world.Stepped x e
+-- the events of one step more
+pub events_more : (m : ModuleValue) (list : List ℕ) (w v x : World) (a : ℕ) (e : Event) → run m list w ≡ Through v → step m v a ≡ world.Stepped x e
     → events m (list ++ a ∷ []) w ≡ events m list w ++ (a, e) ∷ []
 events_more m [] w v x a e h g = ap (λ o. events_on a o (events m [])) (ap (λ z. step m z a) (same_through w v h) ∙ g)
 events_more m (b ∷ list) w v x a e h g =

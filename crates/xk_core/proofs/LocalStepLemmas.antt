@@ -50,7 +50,7 @@ taken w a x fs (Stepped u e) h k = h
 
 module _ (m : ModuleValue) (ns : List NodeValue) (w : World) (a : ℕ) (h : IsHeld m ns w) where
   -- an activity that runs, and what the tree tells of it
-  pub record Running : Type 0 where
+  record Running : Type 0 where
     pub n : NodeValue
     pub x : Activity
     pub found : slice_get w.activities a ≡ Some x

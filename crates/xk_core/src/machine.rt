@@ -82,7 +82,7 @@ impl<'m> Core<'m> {
         // Its main was given as many numbers as it takes.
         ensures taken { AreArguments self.now.module_run self.now.world.arguments }
     {
-        self.state.verified()
+        self.state.activities().verified()
     }
 
     /// The numbers that main was given, as `open` was given them.
@@ -116,7 +116,7 @@ impl<'m> Core<'m> {
     pub fn ended(&self) -> bool
         ensures { result ≡ all_ended self.now.world }
     {
-        self.state.all_ended()
+        self.state.activities().all_ended()
     }
 
     /// The least enabled activity. There is one unless every activity has ended.
@@ -124,7 +124,7 @@ impl<'m> Core<'m> {
         ensures least { IfSome result (IsLeastEnabled self.now.module_run self.now.world) }
         ensures none { IfNone result (all_ended self.now.world ≡ true) }
     {
-        for a in 0..self.state.activity_count() {
+        for a in 0..self.state.activities().len() {
             let act = Act(a as u32);
             if self.enabled(act) {
                 return Some(act);
@@ -151,14 +151,14 @@ impl<'m> Core<'m> {
         // The module is accepted, and every core is where a legal schedule of it leads.
         ensures core { IsCore self.now.module_run self.now.world }
     {
-        self.state.activity_count() as u32
+        self.state.activities().len() as u32
     }
 
     /// How many clocks were made. They are numbered from 0.
     pub fn clocks(&self) -> u32
         ensures { result ≡ length self.now.world.clocks }
     {
-        self.state.clock_count() as u32
+        self.state.standings().clock_count() as u32
     }
 
     /// The number of the step that was the activity's last pass of an `advance`, counted from 1. Before its first pass it is
@@ -168,7 +168,7 @@ impl<'m> Core<'m> {
         ensures { option_map (λ a. a.since) (slice_get self.now.world.activities act)
             ≡ Some result }
     {
-        self.state.since(act.0 as usize)
+        self.state.activities().since(act.0 as usize)
     }
 
     /// The number of the step in which the clock last advanced, counted from 1; 0 before the first.
@@ -176,7 +176,7 @@ impl<'m> Core<'m> {
         requires { clock < length self.now.world.clocks }
         ensures { option_map (λ c. c.last) (slice_get self.now.world.clocks clock) ≡ Some result }
     {
-        self.state.last(clock)
+        self.state.standings().last(clock)
     }
 
     /// How often the clock has advanced.
@@ -184,7 +184,7 @@ impl<'m> Core<'m> {
         requires { clock < length self.now.world.clocks }
         ensures { option_map (λ c. c.phase) (slice_get self.now.world.clocks clock) ≡ Some result }
     {
-        self.state.phase(clock)
+        self.state.standings().phase(clock)
     }
 
     /// Whether the activity is registered on the clock: it made the clock or was given it, and has neither dropped it nor ended.
@@ -193,7 +193,7 @@ impl<'m> Core<'m> {
         requires clock { clock < length self.now.world.clocks }
         ensures { result ≡ is_registered_on self.now.world act clock }
     {
-        is_registered(self.state.standing(act.0 as usize, clock))
+        is_registered(self.state.standings().standing(act.0 as usize, clock))
     }
 
     /// Whether no clock advanced in the last step.
@@ -201,7 +201,7 @@ impl<'m> Core<'m> {
     pub fn is_quiet(&self) -> bool
         ensures { result ≡ is_quiet self.now.world }
     {
-        self.state.is_quiet()
+        self.state.standings().is_quiet(self.state.steps())
     }
 
     /// Lists the clocks that advanced in the last step, rising, in place of what the list held. What it costs goes by how many these are.
@@ -210,7 +210,9 @@ impl<'m> Core<'m> {
         ensures items { list.new.items ≡ advanced_now self.now.world }
         ensures room { vec_capacity list.old ≤ vec_capacity list.new }
     {
-        self.state.list_advanced(list);
+        self.state
+            .standings()
+            .list_advanced(self.state.steps(), list);
     }
 
     /// Whether the activity exists and waits at an `advance`.
@@ -226,7 +228,7 @@ impl<'m> Core<'m> {
         ensures held { IfSome result (λ c. is_held_back_by self.now.world act c ≡ true) }
         ensures waits { is_some result ≡ waits self.now.world act }
     {
-        self.state.waits_for(act.0 as usize)
+        self.state.standings().held_back_by(act.0 as usize)
     }
 
     /// The activity that opened the finish which governs this one, if one did.
@@ -243,7 +245,7 @@ impl<'m> Core<'m> {
         ensures { result ≡ is_next_local self.now act }
     {
         match self.state.runs(act.0 as usize) {
-            true => self.state.is_local(act.0 as usize),
+            true => self.state.activities().is_local(act.0 as usize),
             false => false,
         }
     }
@@ -254,7 +256,7 @@ impl<'m> Core<'m> {
         ensures { result.now ≡ frames_in self.now.module_run
             (act_at self.now.world.activities act) }
     {
-        self.state.frames(act.0 as usize)
+        self.state.activities().frames(act.0 as usize)
     }
 
     /// Up to max steps of the activity that nobody else can see, and how many they were: max, or as many as there are before one that
@@ -278,7 +280,7 @@ impl<'m> Core<'m> {
     pub fn accepts(&self, ticket: &Ticket<'m>) -> bool
         ensures { Decides result (Accepts self.now ticket.now) }
     {
-        self.state.accepts(ticket)
+        self.state.activities().accepts(ticket)
     }
 
     /// The steps of a ticket, which nobody else can see. Takes no memory.
@@ -371,7 +373,7 @@ impl<'m> Core<'m> {
         requires { is_running self.now.world act ≡ true }
         ensures { Decides result (IsBeyond self.now act) }
     {
-        !self.state.is_local(act.0 as usize)
+        !self.state.activities().is_local(act.0 as usize)
     }
 
     /// One step of a running activity, if nobody else can see it.
@@ -428,7 +430,7 @@ impl<'m> Core<'m> {
         ensures refused { OnErr result (self.new ≡ self.old) }
     {
         let a = act.0 as usize;
-        let most = self.state.verified().room(unit);
+        let most = self.state.activities().verified().room(unit);
         let newcomer = self.state.prepare(a, unit, args.slots())?;
         self.finishes.spawned(act, most.finishes)?;
         Ok(self.state.admit(a, newcomer))

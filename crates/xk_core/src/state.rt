@@ -1,22 +1,22 @@
 //! The world of a running program, but for its finishes, and the arms of its steps.
 
-ghost use Rattle.std.specs.Prelude.{◌≡◌, ℕ, ℤ, ◌+◌, ◌<◌, ◌≤◌, ◌^◌, true, false, List, Some, length, slice_get, slice_set, option_copied, option_map, is_some, vec_capacity, IfOk, IfSome, OnOk, OnErr, All};
-ghost use Rattle.std.specs.Bool.{Decides};
+ghost use Rattle.std.specs.Prelude.{◌≡◌, ℕ, ℤ, ◌+◌, ◌<◌, ◌≤◌, ◌^◌, true, false, List, Some, length, slice_get, slice_set, option_copied, IfOk, OnOk, OnErr, All};
 ghost use Rattle.xk_types.specs.declared.world.Value.TheVariants as value;
 ghost use Rattle.xk_types.specs.declared.instr.Instr.TheVariants as instruction;
 ghost use Rattle.xk_types.specs.Code.{IsWithinLimits};
-ghost use Rattle.xk_types.specs.World.{AreArguments, standing_of, opening};
-ghost use Rattle.xk_types.specs.Step.{Stepped, settled, moved, waits, onward, none};
-ghost use Rattle.xk_types.specs.Schedule.{is_step, all_ended};
+ghost use Rattle.xk_types.specs.World.{AreArguments, opening};
+ghost use Rattle.xk_types.specs.Step.{Stepped, settled, moved, onward, none};
+ghost use Rattle.xk_types.specs.Schedule.{is_step};
 ghost use Rattle.xk_activity.specs.Activities.{act_at, Stands, Takes};
-ghost use Rattle.xk_activity.specs.Local.{IsRight, IsSafe, local, is_stepped};
+ghost use Rattle.xk_activity.specs.Local.{IsRight, IsSafe, local};
+ghost use Rattle.xk_registrations.specs.Standings.{told_of};
 ghost use Rattle.xk_activity.specs.StepAgreement.{frames_in};
 ghost use Rattle.xk_laws.specs.ClockRoom.{HasRoomLeft};
 ghost use Rattle.xk_core.specs.LocalRun.{after_steps, HasRoomForSteps, TakesSteps};
 ghost use Rattle.xk_core.specs.TicketAcceptance.{Accepts};
 ghost use Rattle.xk_core.specs.Enabledness.{is_able};
 ghost use Rattle.xk_core.specs.State.{core_of, IsReady};
-ghost use Rattle.xk_core.specs.Core.{is_quiet, advanced_now, is_held_back_by, is_running, is_waiting, next_instruction, with_world, TakesStep};
+ghost use Rattle.xk_core.specs.Core.{is_running, is_waiting, next_instruction, with_world, TakesStep};
 ghost use Rattle.xk_core.specs.Change.{standing_after_step, AllowsChange};
 ghost use Rattle.xk_core.specs.InstructionEffect.{concerns_finishes, is_visible, carried, CarriesOut, passed_on, IsRoomy, IsLast};
 ghost use Rattle.xk_types.specs.World as world;
@@ -24,10 +24,10 @@ ghost use Rattle.xk_types.specs.World as world;
 use crate::change::{StandingChange, StepChange};
 use std::alloc::{AllocError, Global};
 use std::marker::Model;
-use xk_activity::{Activities, Activity, Frames, Next, Ticket};
+use xk_activity::{Activities, Activity, Next, Ticket};
 use xk_bounds::Verified;
 use xk_registrations::{Registrations, Standings};
-use xk_types::{ClockId, Event, Instr, Standing, Status, Value};
+use xk_types::{Event, Instr, Status, Value};
 
 /// The module that is run, and the world but for its finishes: activities by their numbers, where they stand on clocks, the shared
 /// numbers, and how many steps were taken. It stands for the world in which no activity has a finish open, and main's finish
@@ -130,11 +130,22 @@ impl<'m> State<'m> {
         })
     }
 
-    /// The module.
-    pub fn verified(&self) -> &'m Verified
-        ensures { result.now ≡ self.now.module_run }
+    /// The activities, but for their finishes.
+    #[inline(always)]
+    pub fn activities(&self) -> &Activities<'m>
+        ensures module { result.now.module_run ≡ self.now.module_run }
+        ensures list { result.now.list ≡ self.now.world.activities }
     {
-        self.activities.verified()
+        &self.activities
+    }
+
+    /// Where the activities stand on the clocks.
+    #[inline(always)]
+    pub fn standings(&self) -> &Standings
+        ensures told { told_of result.now ≡ self.now.world.clocks }
+        ensures held { length result.now.held ≡ length self.now.world.activities }
+    {
+        &self.standings
     }
 
     /// What main was given.
@@ -419,71 +430,6 @@ impl<'m> State<'m> {
         self.steps
     }
 
-    /// How many activities there are.
-    pub fn activity_count(&self) -> usize
-        ensures { result ≡ length self.now.world.activities }
-    {
-        self.activities.len()
-    }
-
-    /// How many clocks there are.
-    pub fn clock_count(&self) -> usize
-        ensures { result ≡ length self.now.world.clocks }
-    {
-        self.standings.clock_count()
-    }
-
-    /// The number of the step of activity a's last pass; before the first, what it began with.
-    pub fn since(&self, a: usize) -> u64
-        requires { a < length self.now.world.activities }
-        ensures { result ≡ (act_at self.now.world.activities a).since }
-    {
-        self.activities.since(a)
-    }
-
-    /// How often the clock has advanced.
-    pub fn phase(&self, clock: ClockId) -> u64
-        requires { clock < length self.now.world.clocks }
-        ensures { option_map (λ c. c.phase) (slice_get self.now.world.clocks clock) ≡ Some result }
-    {
-        self.standings.phase(clock)
-    }
-
-    /// The number of the step in which the clock last advanced, 0 before.
-    pub fn last(&self, clock: ClockId) -> u64
-        requires { clock < length self.now.world.clocks }
-        ensures { option_map (λ c. c.last) (slice_get self.now.world.clocks clock) ≡ Some result }
-    {
-        self.standings.last(clock)
-    }
-
-    /// Where activity a stands on the clock.
-    pub fn standing(&self, a: usize, clock: ClockId) -> Standing
-        requires activity { a < length self.now.world.activities }
-        requires clock { clock < length self.now.world.clocks }
-        ensures { option_map (λ c. standing_of c a) (slice_get self.now.world.clocks clock)
-            ≡ Some result }
-    {
-        self.standings.standing(a, clock)
-    }
-
-    /// Whether no clock advanced in the last step.
-    #[inline(always)]
-    pub fn is_quiet(&self) -> bool
-        ensures { result ≡ is_quiet self.now.world }
-    {
-        self.standings.is_quiet(self.steps)
-    }
-
-    /// Lists the clocks that advanced in the last step, rising, in place of what the list held.
-    pub fn list_advanced(&self, list: &mut Vec<u32>)
-        requires { length self.now.world.clocks ≤ vec_capacity list.old }
-        ensures items { list.new.items ≡ advanced_now self.now.world }
-        ensures room { vec_capacity list.old ≤ vec_capacity list.new }
-    {
-        self.standings.list_advanced(self.steps, list);
-    }
-
     /// Whether activity a exists and runs.
     #[inline(always)]
     pub fn runs(&self, a: usize) -> bool
@@ -505,35 +451,11 @@ impl<'m> State<'m> {
         }
     }
 
-    /// Whether every activity has ended.
-    pub fn all_ended(&self) -> bool
-        ensures { result ≡ all_ended self.now.world }
-    {
-        self.activities.all_ended()
-    }
-
-    /// Whether a clock holds activity a back that waits at an `advance`.
-    fn waits(&self, a: usize) -> bool
-        requires { a < length self.now.world.activities }
-        ensures { result ≡ waits self.now.world a }
-    {
-        self.standings.waits(a)
-    }
-
     /// Whether activity a exists and waits at an `advance`.
     pub fn is_waiting(&self, a: usize) -> bool
         ensures { result ≡ is_waiting self.now.world a }
     {
         a < self.activities.len() && matches!(self.activities.status(a), Status::Arrived)
-    }
-
-    /// A clock that holds activity a back, if one does: it is signalled on it.
-    pub fn waits_for(&self, a: usize) -> Option<ClockId>
-        requires { a < length self.now.world.activities }
-        ensures held { IfSome result (λ c. is_held_back_by self.now.world a c ≡ true) }
-        ensures waits { is_some result ≡ waits self.now.world a }
-    {
-        self.standings.held_back_by(a)
     }
 
     /// Whether activity a exists, isn't over, and isn't held back by a clock at an `advance`.
@@ -545,31 +467,10 @@ impl<'m> State<'m> {
             false => false,
             true => match self.activities.status(a) {
                 Status::Running => true,
-                Status::Arrived => !self.waits(a),
+                Status::Arrived => !self.standings.waits(a),
                 Status::Ended => false,
             },
         }
-    }
-
-    /// Whether nobody else can see the next step of running activity a.
-    #[inline(always)]
-    pub fn is_local(&self, a: usize) -> bool
-        requires there { a < length self.now.world.activities }
-        requires right { IsRight (local (frames_in self.now.module_run
-            (act_at self.now.world.activities a))) }
-        ensures { result ≡ is_stepped (local (frames_in self.now.module_run
-            (act_at self.now.world.activities a))) }
-    {
-        self.activities.is_local(a)
-    }
-
-    /// The frames of activity a.
-    pub fn frames(&self, a: usize) -> &Frames<'m>
-        requires { a < length self.now.world.activities }
-        ensures { result.now ≡ frames_in self.now.module_run
-            (act_at self.now.world.activities a) }
-    {
-        self.activities.frames(a)
     }
 
     /// Up to max steps of running activity a that nobody else can see, and how many they were. No clock is ready to advance, and none
@@ -585,13 +486,6 @@ impl<'m> State<'m> {
         let n = self.activities.run(a, max);
         self.steps += n as u64;
         n
-    }
-
-    /// Whether a ticket's activity is there, and has the ticket's old frames.
-    pub fn accepts(&self, ticket: &Ticket<'m>) -> bool
-        ensures { Decides result (Accepts (core_of self.now) ticket.now) }
-    {
-        self.activities.accepts(ticket)
     }
 
     /// The steps of a ticket, whose activity runs. No clock is ready to advance, and none becomes so. Takes no memory.

@@ -13,7 +13,7 @@ frames-requires c =
       subst (λ (v : CoreValue). c.args.act < length v.world.activities) (sym c.self.view_is) c.requires,
       length_told c.self.inside.finishes c.self.inside.state.world.activities c.self.invariant.1.width,
     ) in
-    rw c.act.view_is lt
+    rw (c.activities.ensures.list, c.act.view_is) lt
 
 pub returns : goal.returns
 returns c =
@@ -26,4 +26,5 @@ returns c =
       length_told ns w.activities c.self.invariant.1.width,
     ) in
     subst (λ (v : CoreValue). c.frames.result.now ≡ frames_in v.module_run (act_at v.world.activities c.args.act)) c.self.view_is
-    (c.frames.ensures ∙ ap (λ n. frames_in m (act_at w.activities n)) c.act.view_is ∙ frames_told m ns w c.self.invariant.1.width c.args.act lt)
+    (c.frames.ensures ∙ ap (λ k. frames_in k (act_at c.activities.result.now.list c.act.inside.0)) c.activities.ensures.module ∙ ap (λ l. frames_in m (act_at l c.act.inside.0)) c.activities.ensures.list
+    ∙ ap (λ n. frames_in m (act_at w.activities n)) c.act.view_is ∙ frames_told m ns w c.self.invariant.1.width c.args.act lt)

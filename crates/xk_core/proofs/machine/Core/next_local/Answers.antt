@@ -17,7 +17,7 @@ is_local-requires-clause-right c =
     let h = held m ns w c.self.invariant in
     let runs : is_running (with_finishes ns w) c.args.act ≡ true =
     running_told ns w h.are.width c.args.act ∙ ap (λ n. is_running w n) (sym c.act.view_is) ∙ sym c.runs.ensures ∙ c.in-true.is in
-    rw c.act.view_is (runner_safe m ns w c.args.act h runs 1)
+    rw (c.activities.ensures.module, c.activities.ensures.list, c.act.view_is) (runner_safe m ns w c.args.act h runs 1)
 
 pub returns-in-true : goal.returns-in-true
 returns-in-true c =
@@ -28,7 +28,8 @@ returns-in-true c =
     let runs : is_running (with_finishes ns w) c.args.act ≡ true =
     running_told ns w h.are.width c.args.act ∙ ap (λ n. is_running w n) (sym c.act.view_is) ∙ sym c.runs.ensures ∙ c.in-true.is in
     subst (λ (v : CoreValue). c.is_local.result ≡ is_next_local v c.args.act) c.self.view_is
-    (c.is_local.ensures ∙ ap (λ n. is_stepped (local (frames_in m (act_at w.activities n)))) c.act.view_is ∙ runner_next m ns w c.args.act h runs)
+    (c.is_local.ensures ∙ ap (λ k. is_stepped (local (frames_in k (act_at c.activities.result.now.list c.act.inside.0)))) c.activities.ensures.module
+    ∙ ap (λ l. is_stepped (local (frames_in m (act_at l c.act.inside.0)))) c.activities.ensures.list ∙ ap (λ n. is_stepped (local (frames_in m (act_at w.activities n)))) c.act.view_is ∙ runner_next m ns w c.args.act h runs)
 
 pub returns-in-false : goal.returns-in-false
 returns-in-false c =

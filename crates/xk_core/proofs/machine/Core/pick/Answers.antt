@@ -1,4 +1,4 @@
-use Rattle.std.proofs.Common.{◌≡◌, true, false, sym, subst, arith}
+use Rattle.std.proofs.Common.{◌≡◌, true, false, length, sym, subst, ap, arith}
 use Rattle.xk_types.specs.Schedule.{is_enabled, all_ended}
 use Rattle.xk_core.specs.Core.{CoreValue}
 use Rattle.xk_core.specs.FinishView.{with_finishes}
@@ -10,7 +10,8 @@ pub overflow_cast-act : goal.overflow_cast-act
 overflow_cast-act c = omega (
   arith,
   core_names c.self.inside.state.module_run (with_finishes c.self.inside.finishes c.self.inside.state.world) c.self.invariant.0,
-  c.activity_count-a-end.ensures,
+  c.len-a-end.ensures,
+  ap length c.activities.ensures.list,
   length_told c.self.inside.finishes c.self.inside.state.world.activities c.self.invariant.1.width,
   c.loop-a-test.true,
 )
@@ -22,7 +23,8 @@ returns-clause-none c = subst (λ (v : CoreValue). all_ended v.world ≡ true) c
     (c.loop-a.invariant b (omega (
       arith,
       lt,
-      c.activity_count-a-end.ensures,
+      c.len-a-end.ensures,
+      ap length c.activities.ensures.list,
       length_told c.self.inside.finishes c.self.inside.state.world.activities c.self.invariant.1.width,
       c.loop-a-test.false,
     )))))

@@ -9,4 +9,5 @@ standing-requires-clause-activity c = omega (
   subst (λ (v : CoreValue). c.args.act < length v.world.activities) (sym c.self.view_is) c.requires.activity,
   length_told c.self.inside.finishes c.self.inside.state.world.activities c.self.invariant.1.width,
   c.act.view_is,
+  c.standings.ensures.held,
 )

@@ -15,7 +15,7 @@ since-requires c =
       subst (λ (v : CoreValue). c.args.act < length v.world.activities) (sym c.self.view_is) c.requires,
       length_told c.self.inside.finishes c.self.inside.state.world.activities c.self.invariant.1.width,
     ) in
-    rw c.act.view_is lt
+    rw (c.activities.ensures.list, c.act.view_is) lt
 
 pub returns : goal.returns
 returns c =
@@ -28,4 +28,4 @@ returns c =
     subst (λ (v : CoreValue). option_map (λ (x : Activity). x.since) (slice_get v.world.activities c.args.act) ≡ Some c.since.result) c.self.view_is
     (since_told c.self.inside.finishes c.self.inside.state.world c.self.invariant.1.width c.args.act
     ∙ ap (option_map (λ (x : Activity). x.since)) (slice_get-get_or acts c.args.act nobody lt)
-    ∙ ap Some (ap (λ n. (act_at acts n).since) (sym c.act.view_is) ∙ sym c.since.ensures))
+    ∙ ap Some (ap (λ n. (act_at acts n).since) (sym c.act.view_is) ∙ ap (λ l. (act_at l c.act.inside.0).since) (sym c.activities.ensures.list) ∙ sym c.since.ensures.since))

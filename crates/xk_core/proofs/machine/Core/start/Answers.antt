@@ -84,7 +84,7 @@ invariant_of-self-2 c =
     (subst (λ (v : CoreValue). carried v.module_run v.world c.act.inside.0 (instruction.Spawn c.args.unit c.slots.result.now) ≡ Stepped c.admit.new.self.world c.admit.result)
     c.prepare.ensures.same (c.admit.ensures.started c.args.unit c.slots.result.now c.in_ok-newcomer.ensures.ready))) in
     let both = started_held m ns c.spawned.new.self w c.admit.new.self.world c.args.act c.args.unit c.args.args.now c.room-most.result.finishes c.admit.result h
-    next can (subst (λ k. c.room-most.result.finishes ≡ room_of k c.args.unit) c.verified.ensures c.room-most.ensures.finishes) goes c.in_ok-spawned.ensures.started in
+    next can (subst (λ k. c.room-most.result.finishes ≡ room_of k c.args.unit) (c.verified.ensures ∙ c.activities.ensures.module) c.room-most.ensures.finishes) goes c.in_ok-spawned.ensures.started in
     parts_in m c.admit.new.self.module_run c.spawned.new.self c.admit.new.self.world (c.admit.ensures.same ∙ ap (λ (v : CoreValue). v.module_run) c.prepare.ensures.same) both.0
 
 pub returns-clause-stepped : goal.returns-clause-stepped
@@ -102,5 +102,5 @@ returns-clause-stepped c =
     (subst (λ (v : CoreValue). carried v.module_run v.world c.act.inside.0 (instruction.Spawn c.args.unit c.slots.result.now) ≡ Stepped c.admit.new.self.world c.admit.result)
     c.prepare.ensures.same (c.admit.ensures.started c.args.unit c.slots.result.now c.in_ok-newcomer.ensures.ready))) in
     let both = started_held m ns c.spawned.new.self w c.admit.new.self.world c.args.act c.args.unit c.args.args.now c.room-most.result.finishes c.admit.result h
-    next can (subst (λ k. c.room-most.result.finishes ≡ room_of k c.args.unit) c.verified.ensures c.room-most.ensures.finishes) goes c.in_ok-spawned.ensures.started in
+    next can (subst (λ k. c.room-most.result.finishes ≡ room_of k c.args.unit) (c.verified.ensures ∙ c.activities.ensures.module) c.room-most.ensures.finishes) goes c.in_ok-spawned.ensures.started in
     subst (λ (v : CoreValue). step v.module_run v.world c.args.act ≡ Stepped (with_finishes c.spawned.new.self c.admit.new.self.world) c.admit.result) c.self.view_is both.1
