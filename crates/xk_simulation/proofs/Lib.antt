@@ -3,6 +3,7 @@ pub mod ExpressionLemmas
 pub mod PairwiseLemmas
 pub mod WorldLemmas
 pub mod RunLemmas
+pub mod PlaceLemmas
 pub mod RelationLemmas
 pub mod UnitEntryLemmas
 pub mod StepLemmas

@@ -14,7 +14,7 @@ use Rattle.xk_callgraph.proofs.CallGraphLemmas.{at_mapped}
 use Rattle.xk_emit.specs.CodeOf.{Setting, Body, number_of, body_unit}
 use Rattle.xk_emit.proofs.CoverageLemmas.TableLemmas.{is_same}
 use Rattle.xk_semantics.specs.Parts.{Part, OfMethod, OfBody, Run, Calls, Starts, bodies, bodies_all, runs, runs_all}
-use Rattle.xk_semantics.specs.Compilation.{HasLater, IsCompiled, method_kind, shared_among, unit_of_part, unit_number}
+use Rattle.xk_semantics.specs.Compilation.{HasLater, IsCompiled, shared_among, unit_of_part, unit_number}
 use Rattle.xk_simulation.proofs.UnitLemmas.PartLookupLemmas.{Fits, fits_there}
 use Rattle.xk_simulation.proofs.UnitLemmas.PartUniquenessLemmas.{one_method}
 use Rattle.xk_simulation.proofs.UnitLemmas.BodyScopeLemmas.{part_of}
@@ -100,6 +100,7 @@ module _ (t : TreeValue) (scoped : IsScoped t) (units : List Part) (cx : Setting
         let u = body_unit_of t units cx h at cs s l.number (among (OfBody at cs s) (inl refl)) l.place in
         let number : body_unit cx at ≡ l.number = ap (λ o. option_map_or (λ (b : Body). b.unit) o 0) u.entry ∙ numbered l.number (OfBody at cs s) u.stands in (
           ap (slice_get made.units) number ∙ unit_there l.number (OfBody at cs s) u.stands,
+          ap (slice_get units) number ∙ u.stands,
           body_there t units cx h scoped l.number at cs s u.stands,
           linked l.number s (λ p i. among p (inr i)) (λ r j. h.are_units.closed l.number (OfBody at cs s) r u.stands j),
         )
@@ -128,7 +129,7 @@ module _ (t : TreeValue) (scoped : IsScoped t) (units : List Part) (cx : Setting
 
   method_built : (k : ℕ) (d : MethodValue) → slice_get units k ≡ Some (OfMethod d) → IsBuilt whole k d
   method_built k d e = record {
-    kind = method_kind d;
+    placed = e;
     found = unit_there k (OfMethod d) e;
     covered = method_there t units cx h scoped k d e;
     linked = all_linked k d.body (unit_parts t units cx h k (OfMethod d) e) (λ r j. h.are_units.closed k (OfMethod d) r e j);
@@ -147,10 +148,18 @@ module _ (t : TreeValue) (scoped : IsScoped t) (units : List Part) (cx : Setting
         first = method_built 0 main h.are_units.first;
       }
 
--- the law
-pub compiled_means : (t : TreeValue) (m : ModuleValue) → IsScoped t → HasBodiesApart t → length m.units ≤ 1024 → IsCompiled t m → Means t m
-compiled_means t m scoped apart few c =
+-- the program and its module
+abbrev pub whole_of : (t : TreeValue) (m : ModuleValue) → IsCompiled t m → Whole
+whole_of t m c = record { tree = t; m = m; setting = c.setting; units = c.units }
+
+pub compiled_made : (t : TreeValue) (m : ModuleValue) → IsScoped t → HasBodiesApart t → length m.units ≤ 1024 → (c : IsCompiled t m)
+    → IsMade (whole_of t m c)
+compiled_made t m scoped apart few c =
     let long : length m.units ≡ length c.units = ap length c.code ∙ length-map c.units (unit_of_part c.setting) in
     let h : AreSettled t c.units c.setting = record { apart = apart; are_units = c.are_units; is_setting = c.is_setting } in
     let less : length c.units ≤ 1024 = omega arith in
-    made_means (whole t scoped c.units c.setting h m c.code less) (is_made t scoped c.units c.setting h m c.code less c.shared)
+    is_made t scoped c.units c.setting h m c.code less c.shared
+
+-- the law
+pub compiled_means : (t : TreeValue) (m : ModuleValue) → IsScoped t → HasBodiesApart t → length m.units ≤ 1024 → IsCompiled t m → Means t m
+compiled_means t m scoped apart few c = made_means (whole_of t m c) (compiled_made t m scoped apart few c)

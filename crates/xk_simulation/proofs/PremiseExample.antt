@@ -99,7 +99,7 @@ closed (suc zero) p r e h = absurd (nothing (subst (λ o. Has (runs_of o) r) (sy
     nothing none = none
 closed (suc (suc k)) p r e h = absurd cc
 
-are_units : AreUnits reading (parts reading)
+pub are_units : AreUnits reading (parts reading)
 are_units = record {
   order = order;
   is_order = record { start = 0; begins = refl; first = refl; reached = reached; later = later; once = once; least = least };
@@ -112,11 +112,11 @@ are_units = record {
   closed = closed;
 }
 
-numbered : (b : Bool) → ◌≡◌ {A = Option ℕ} (option_map unit_number (cond b (Some 0) None)) (cond b (Some 0) None)
+pub numbered : (b : Bool) → ◌≡◌ {A = Option ℕ} (option_map unit_number (cond b (Some 0) None)) (cond b (Some 0) None)
 numbered true = refl
 numbered false = refl
 
-reading_compiled : IsCompiled reading reading_code
+abbrev pub reading_compiled : IsCompiled reading reading_code
 reading_compiled = record {
   units = parts reading;
   setting = reading_setting;
@@ -132,16 +132,16 @@ none_listed : name_faults reading ≡ []
 unfolding own
 none_listed = refl
 
-reading_clean : (f : FrontFault) → HasFault reading f → ⊥
+pub reading_clean : (f : FrontFault) → HasFault reading f → ⊥
 reading_clean f (inl h) = absurd (subst (λ fs. Has fs f) none_listed (fault_listed reading f h))
 reading_clean f (inr h) = h.0 refl
 
 -- ---- so the law holds of it
 
-one_body : HasBodiesApart reading
+pub one_body : HasBodiesApart reading
 one_body k less = let short : k + 1 < 1 = less in absurd (omega arith)
 
-few : length reading_code.units ≤ 1024
+pub few : length reading_code.units ≤ 1024
 few = let two : 2 ≤ 1024 = omega arith in two
 
 reading_means : Means reading reading_code

@@ -9,6 +9,7 @@ use Rattle.xk_types.specs.declared.instr.Instr.TheVariants as instr
 use Rattle.xk_types.specs.declared.world.Value.{Value as Held}
 use Rattle.xk_types.specs.Code.{ModuleValue, Loop, loop_head}
 use Rattle.xk_types.proofs.ListLemmas.{get-set_same, get-set_other}
+use Rattle.xk_tree.specs.declared.tree.Number.{Number}
 use Rattle.xk_tree.specs.Tree.{Word, Expression, Make, Value, Bound, UpTo, Least, top, Statement, Block, Empty, Declare, Assign, Atomic, If, IfElse, For, Async, Finish, Call, Print, Statements, Done, More, MethodValue, TreeValue}
 use Rattle.xk_names.specs.Scope.{find, is_text}
 use Rattle.xk_emit.specs.CodeOf.{Setting, Scope, number_of, body_unit, body_params, loop_slots, within_loop, before_into, last_into, before_bound, head_of, before, before_assigned, count, count_all, declared, declared_by_all, code_of, code_of_all}
@@ -16,39 +17,40 @@ use Rattle.xk_emit.specs.Unit.{unit_of_body}
 use Rattle.xk_emit.specs.NameCoverage.{IsNew, IsCovered, AreCovered, IsUnitCovered}
 use Rattle.xk_emit.proofs.CoverageLemmas.TableLemmas.{is_same, found_behind}
 use Rattle.xk_names.proofs.TableAgreementLemmas.{find_behind, or_entry, same_text}
-use Rattle.xk_semantics.specs.Parts.{Part, OfMethod}
+use Rattle.xk_semantics.specs.Parts.{Part, OfMethod, OfBody}
 use Rattle.xk_semantics.specs.Source.{Todo, Do, Turn, Close, Names, unfolded, unfolded_all, method_of}
+use Rattle.xk_simulation.proofs.PlaceLemmas.{code_in, Lies, LieAll, is_block, is_first, are_others}
 use Rattle.xk_simulation.proofs.ExpressionLemmas.{IsBelow, IsMatched, below_more, AreStraight, eval_straight, straight_join, both_straight, args_straight, into_straight, last_straight}
 
--- ---- code at a place
+-- ---- code at a place, or any other list
 
-abbrev pub HoldsAt : List Instr → ℕ → List Instr → Type 0
+abbrev pub HoldsAt : {A : Type 0} → List A → ℕ → List A → Type 0
 HoldsAt code p [] = ⊤
 HoldsAt code p (i ∷ is) = (slice_get code p ≡ Some i) × HoldsAt code (p + 1) is
 
-pub holds_front : (code : List Instr) (p : ℕ) (xs ys : List Instr) → HoldsAt code p (xs ++ ys) → HoldsAt code p xs
+pub holds_front : {A : Type 0} (code : List A) (p : ℕ) (xs ys : List A) → HoldsAt code p (xs ++ ys) → HoldsAt code p xs
 holds_front code p [] ys h = tt
 holds_front code p (i ∷ xs) ys h = (h.0, holds_front code (p + 1) xs ys h.1)
 
-pub holds_back : (code : List Instr) (p : ℕ) (xs ys : List Instr) → HoldsAt code p (xs ++ ys) → HoldsAt code (p + length xs) ys
+pub holds_back : {A : Type 0} (code : List A) (p : ℕ) (xs ys : List A) → HoldsAt code p (xs ++ ys) → HoldsAt code (p + length xs) ys
 holds_back code p [] ys h = let e : p ≡ p + 0 = omega arith in subst (λ n. HoldsAt code n ys) e h
 holds_back code p (i ∷ xs) ys h =
     let e : p + 1 + length xs ≡ p + length (i ∷ xs) = omega arith in
     subst (λ n. HoldsAt code n ys) e (holds_back code (p + 1) xs ys h.1)
 
 -- code holds all of itself
-holds_behind : (xs ys : List Instr) → HoldsAt (xs ++ ys) (length xs) ys
+holds_behind : {A : Type 0} (xs ys : List A) → HoldsAt (xs ++ ys) (length xs) ys
 holds_behind xs [] = tt
-holds_behind xs (y ∷ ys) =
+holds_behind {A} xs (y ∷ ys) =
     let whole : (xs ++ y ∷ []) ++ ys ≡ xs ++ y ∷ ys = append_assoc xs (y ∷ []) ys in
     let long : length (xs ++ y ∷ []) ≡ length xs + 1 = length-append xs (y ∷ []) in
     (at_end xs ys, subst (λ n. HoldsAt (xs ++ y ∷ ys) n ys) long (subst (λ c. HoldsAt c (length (xs ++ y ∷ [])) ys) whole (holds_behind (xs ++ y ∷ []) ys)))
   where
-    at_end : (zs rest : List Instr) → slice_get (zs ++ y ∷ rest) (length zs) ≡ Some y
+    at_end : (zs rest : List A) → slice_get (zs ++ y ∷ rest) (length zs) ≡ Some y
     at_end [] rest = refl
     at_end (z ∷ zs) rest = at_end zs rest
 
-pub holds_all : (code : List Instr) → HoldsAt code 0 code
+pub holds_all : {A : Type 0} (code : List A) → HoldsAt code 0 code
 holds_all code = holds_behind [] code
 
 -- from one place through jumps to another
@@ -133,7 +135,7 @@ abbrev mutual
   IsLinked w (IfElse at l op r s u) = IsLinked w s × IsLinked w u
   IsLinked w (For at i lo b s) = int_le lo.value (top b) ≡ true → IsLinked w s
   IsLinked w (Async at cs s) =
-      (slice_get w.m.units (body_unit w.setting at) ≡ Some (unit_of_body w.setting at cs s)) × IsUnitCovered w.setting (body_params w.setting at cs) s × IsLinked w s
+      (slice_get w.m.units (body_unit w.setting at) ≡ Some (unit_of_body w.setting at cs s)) × (slice_get w.units (body_unit w.setting at) ≡ Some (OfBody at cs s)) × IsUnitCovered w.setting (body_params w.setting at cs) s × IsLinked w s
   IsLinked w (Finish at s) = IsLinked w s
   IsLinked w (Call f at es) = (d : MethodValue) × (method_of w.tree f.text ≡ Some d) × (slice_get w.units (number_of w.setting.methods f) ≡ Some (OfMethod d))
   IsLinked w _ = ⊤
@@ -153,17 +155,19 @@ pub record Ahead (code : List Instr) (scope : Scope) (p : ℕ) (Here : Scope →
   pub within : IsWithin inner scope
   pub here : Here inner place
 
--- the code of a statement stands there, t being the first temporary and n the next slot
-pub record Stands (w : Whole) (t : ℕ) (code : List Instr) (scope : Scope) (n q : ℕ) (s : Statement) : Type 0 where
-  pub holds : HoldsAt code q (code_of w.setting t scope n q s)
+-- the code of a statement of the part stands there, t being the first temporary and n the next slot
+pub record Stands (w : Whole) (t : ℕ) (part : Part) (scope : Scope) (n q : ℕ) (s : Statement) : Type 0 where
+  pub lies : Lies w.setting part q s
+  pub holds : HoldsAt (code_in w.setting part) q (code_of w.setting t scope n q s)
   pub covered : IsCovered w.setting scope n s
   pub linked : IsLinked w s
   pub proper : IsProper scope n
   pub room : n + count s ≤ t
 
 -- and that of statements, one after another
-pub record StandAll (w : Whole) (t : ℕ) (code : List Instr) (scope : Scope) (n q : ℕ) (ss : Statements) : Type 0 where
-  pub holds : HoldsAt code q (code_of_all w.setting t scope n q ss)
+pub record StandAll (w : Whole) (t : ℕ) (part : Part) (scope : Scope) (n q : ℕ) (ss : Statements) : Type 0 where
+  pub lies : LieAll w.setting part q ss
+  pub holds : HoldsAt (code_in w.setting part) q (code_of_all w.setting t scope n q ss)
   pub covered : AreCovered w.setting scope n ss
   pub linked : AreLinked w ss
   pub proper : IsProper scope n
@@ -181,19 +185,35 @@ IsLimit scope None (Some d) = ⊥
 IsLimit scope (Some x) None = ⊥
 IsLimit scope (Some x) (Some d) = find scope x.text ≡ Some d
 
+-- the code of a loop of the part stands before that place
+pub record EndsLoop (cx : Setting) (part : Part) (q : ℕ) (i : Word) (x : Option Word) (hi : ℤ) (s : Statement) : Type 0 where
+  pub at : ℕ
+  pub lo : Number
+  pub bound : Bound
+  pub turns : int_le lo.value (top bound) ≡ true
+  pub limit : limit_of bound ≡ x
+  pub most : top bound ≡ hi
+  pub from : ℕ
+  pub lies : Lies cx part from (For at i lo bound s)
+  pub t : ℕ
+  pub scope : Scope
+  pub n : ℕ
+  pub ends : from + length (code_of cx t scope n from (For at i lo bound s)) ≡ q + 1
+
 -- the end of a loop stands there
-pub record StandsTurn (w : Whole) (t : ℕ) (code : List Instr) (scope : Scope) (q : ℕ) (i : Word) (x : Option Word) (hi : ℤ) (s : Statement) : Type 0 where
+pub record StandsTurn (w : Whole) (t : ℕ) (part : Part) (scope : Scope) (q : ℕ) (i : Word) (x : Option Word) (hi : ℤ) (s : Statement) : Type 0 where
+  pub of_loop : EndsLoop w.setting part q i x hi s
   pub first : ℕ
   pub n : ℕ
   pub head : Instr
   pub loop : Loop
-  pub next : slice_get code q ≡ Some (instr.Next first)
-  pub stands : slice_get code first ≡ Some head
+  pub next : slice_get (code_in w.setting part) q ≡ Some (instr.Next first)
+  pub stands : slice_get (code_in w.setting part) first ≡ Some head
   pub begins : loop_head first head ≡ Some loop
   pub most : loop.hi ≡ hi
   pub counter : find scope i.text ≡ Some loop.slot
   pub limit : IsLimit scope x loop.limit
-  pub body : Stands w t code scope n (first + 1) s
+  pub body : Stands w t part scope n (first + 1) s
   pub ends : first + 1 + length (code_of w.setting t scope n (first + 1) s) ≡ q
 
 -- a statement that is done in one step, and not one that unfolds
@@ -203,21 +223,21 @@ IsSimple Empty = ⊥
 IsSimple (For at i lo b s) = int_le lo.value (top b) ≡ true
 IsSimple _ = ⊤
 
-abbrev pub Here : Whole → ℕ → List Instr → List Todo → Scope → ℕ → Type 0
-Here w t code [] scope q = slice_get code q ≡ Some instr.Ret
-Here w t code (Do s ∷ rest) scope q =
-    (n : ℕ) × IsSimple s × Stands w t code scope n q s × Ahead code (declared scope n s) (q + length (code_of w.setting t scope n q s)) (Here w t code rest)
-Here w t code (Turn i x hi s ∷ rest) scope q = StandsTurn w t code scope q i x hi s × Ahead code scope (q + 1) (Here w t code rest)
-Here w t code (Close ∷ rest) scope q = (b : ℕ) × (slice_get code q ≡ Some (instr.EndFinish b)) × Ahead code scope (q + 1) (Here w t code rest)
+abbrev pub Here : Whole → ℕ → Part → List Todo → Scope → ℕ → Type 0
+Here w t part [] scope q = slice_get (code_in w.setting part) q ≡ Some instr.Ret
+Here w t part (Do s ∷ rest) scope q =
+    (n : ℕ) × IsSimple s × Stands w t part scope n q s × Ahead (code_in w.setting part) (declared scope n s) (q + length (code_of w.setting t scope n q s)) (Here w t part rest)
+Here w t part (Turn i x hi s ∷ rest) scope q = StandsTurn w t part scope q i x hi s × Ahead (code_in w.setting part) scope (q + 1) (Here w t part rest)
+Here w t part (Close ∷ rest) scope q = (b : ℕ) × (slice_get (code_in w.setting part) q ≡ Some (instr.EndFinish b)) × Ahead (code_in w.setting part) scope (q + 1) (Here w t part rest)
 
 -- from place p on, the code does these
-abbrev pub Rest : Whole → ℕ → List Instr → Scope → ℕ → List Todo → Type 0
-Rest w t code scope p todo = Ahead code scope p (Here w t code todo)
+abbrev pub Rest : Whole → ℕ → Part → Scope → ℕ → List Todo → Type 0
+Rest w t part scope p todo = Ahead (code_in w.setting part) scope p (Here w t part todo)
 
-pub rest_wider : (w : Whole) (t : ℕ) (code : List Instr) (scope more : Scope) (p : ℕ) (todo : List Todo) → IsWithin scope more
-    → Rest w t code scope p todo
-    → Rest w t code more p todo
-rest_wider w t code scope more p todo within r = record {
+pub rest_wider : (w : Whole) (t : ℕ) (part : Part) (scope more : Scope) (p : ℕ) (todo : List Todo) → IsWithin scope more
+    → Rest w t part scope p todo
+    → Rest w t part more p todo
+rest_wider w t part scope more p todo within r = record {
   jumps = r.jumps;
   place = r.place;
   inner = r.inner;
@@ -226,65 +246,66 @@ rest_wider w t code scope more p todo within r = record {
   here = r.here;
 }
 
-pub rest_jump : (w : Whole) (t : ℕ) (code : List Instr) (scope : Scope) (p q : ℕ) (todo : List Todo) → slice_get code p ≡ Some (instr.Jump q)
-    → Rest w t code scope q todo → Rest w t code scope p todo
-rest_jump w t code scope p q todo j r = record { jumps = q ∷ r.jumps; place = r.place; inner = r.inner; along = (j, r.along); within = r.within; here = r.here }
+pub rest_jump : (w : Whole) (t : ℕ) (part : Part) (scope : Scope) (p q : ℕ) (todo : List Todo) → slice_get (code_in w.setting part) p ≡ Some (instr.Jump q)
+    → Rest w t part scope q todo → Rest w t part scope p todo
+rest_jump w t part scope p q todo j r = record { jumps = q ∷ r.jumps; place = r.place; inner = r.inner; along = (j, r.along); within = r.within; here = r.here }
 
-pub rest_here : (w : Whole) (t : ℕ) (code : List Instr) (scope : Scope) (p : ℕ) (todo : List Todo) → Here w t code todo scope p
-    → Rest w t code scope p todo
-rest_here w t code scope p todo h = record { jumps = []; place = p; inner = scope; along = refl; within = λ x s f. f; here = h }
+pub rest_here : (w : Whole) (t : ℕ) (part : Part) (scope : Scope) (p : ℕ) (todo : List Todo) → Here w t part todo scope p
+    → Rest w t part scope p todo
+rest_here w t part scope p todo h = record { jumps = []; place = p; inner = scope; along = refl; within = λ x s f. f; here = h }
 
 mutual
   -- what a statement unfolds into is done by its code
-  pub rest_unfolded : (w : Whole) (t : ℕ) (code : List Instr) (scope : Scope) (n p : ℕ) (s : Statement) (rest : List Todo)
-      → Stands w t code scope n p s
-      → Rest w t code (declared scope n s) (p + length (code_of w.setting t scope n p s)) rest → Rest w t code scope p (unfolded s ++ rest)
-  rest_unfolded w t code scope n p Empty rest st r = let e : p + 0 ≡ p = omega arith in subst (λ q. Rest w t code scope q rest) e r
-  rest_unfolded w t code scope n p (Block close ss) rest st r =
-      rest_all w t code scope n p ss rest (record { holds = st.holds; covered = st.covered; linked = st.linked; proper = st.proper; room = st.room })
-      (rest_wider w t code scope (declared_by_all scope n ss) (p + length (code_of_all w.setting t scope n p ss)) rest (all_grow scope n ss) r)
-  rest_unfolded w t code scope n p (For at i lo b s) rest st r = by (int_le lo.value (top b)) refl
+  pub rest_unfolded : (w : Whole) (t : ℕ) (part : Part) (scope : Scope) (n p : ℕ) (s : Statement) (rest : List Todo)
+      → Stands w t part scope n p s
+      → Rest w t part (declared scope n s) (p + length (code_of w.setting t scope n p s)) rest → Rest w t part scope p (unfolded s ++ rest)
+  rest_unfolded w t part scope n p Empty rest st r = let e : p + 0 ≡ p = omega arith in subst (λ q. Rest w t part scope q rest) e r
+  rest_unfolded w t part scope n p (Block close ss) rest st r =
+      rest_all w t part scope n p ss rest (record { lies = is_block p close ss st.lies; holds = st.holds; covered = st.covered; linked = st.linked; proper = st.proper; room = st.room })
+      (rest_wider w t part scope (declared_by_all scope n ss) (p + length (code_of_all w.setting t scope n p ss)) rest (all_grow scope n ss) r)
+  rest_unfolded w t part scope n p (For at i lo b s) rest st r = by (int_le lo.value (top b)) refl
     where
-      by : (c : Bool) → int_le lo.value (top b) ≡ c → Rest w t code scope p (cond c (Do (For at i lo b s) ∷ []) [] ++ rest)
-      by true e = rest_here w t code scope p (Do (For at i lo b s) ∷ rest) (n, e, st, r)
+      by : (c : Bool) → int_le lo.value (top b) ≡ c → Rest w t part scope p (cond c (Do (For at i lo b s) ∷ []) [] ++ rest)
+      by true e = rest_here w t part scope p (Do (For at i lo b s) ∷ rest) (n, e, st, r)
       by false e =
           let q = p + length (before_bound scope t n b) in
           let body = code_of w.setting t (within_loop scope n i b) (n + loop_slots b) (q + 1) s in
           let none : length (code_of w.setting t scope n p (For at i lo b s)) ≡ 0 =
           ap (λ c. length (cond c (before_bound scope t n b ++ head_of n lo.value b (q + 1 + length body) ∷ (body ++ instr.Next q ∷ [])) [])) e in
           let same : p + length (code_of w.setting t scope n p (For at i lo b s)) ≡ p = omega arith in
-          subst (λ q. Rest w t code scope q rest) same r
-  rest_unfolded w t code scope n p s rest st r = rest_here w t code scope p (Do s ∷ rest) (n, tt, st, r)
+          subst (λ q. Rest w t part scope q rest) same r
+  rest_unfolded w t part scope n p s rest st r = rest_here w t part scope p (Do s ∷ rest) (n, tt, st, r)
 
-  rest_all : (w : Whole) (t : ℕ) (code : List Instr) (scope : Scope) (n p : ℕ) (ss : Statements) (rest : List Todo)
-      → StandAll w t code scope n p ss
-      → Rest w t code (declared_by_all scope n ss) (p + length (code_of_all w.setting t scope n p ss)) rest
-      → Rest w t code scope p (unfolded_all ss ++ rest)
-  rest_all w t code scope n p Done rest st r = let e : p + 0 ≡ p = omega arith in subst (λ q. Rest w t code scope q rest) e r
-  rest_all w t code scope n p (More s ss) rest st r =
+  rest_all : (w : Whole) (t : ℕ) (part : Part) (scope : Scope) (n p : ℕ) (ss : Statements) (rest : List Todo)
+      → StandAll w t part scope n p ss
+      → Rest w t part (declared_by_all scope n ss) (p + length (code_of_all w.setting t scope n p ss)) rest
+      → Rest w t part scope p (unfolded_all ss ++ rest)
+  rest_all w t part scope n p Done rest st r = let e : p + 0 ≡ p = omega arith in subst (λ q. Rest w t part scope q rest) e r
+  rest_all w t part scope n p (More s ss) rest st r =
       let first = code_of w.setting t scope n p s in
       let others = code_of_all w.setting t (declared scope n s) (n + count s) (p + length first) ss in
       let room = st.room in
       let e : p + length (first ++ others) ≡ p + length first + length others = omega (arith, length-append first others) in
-      subst (λ todo. Rest w t code scope p todo) (sym (append_assoc (unfolded s) (unfolded_all ss) rest))
-      (rest_unfolded w t code scope n p s (unfolded_all ss ++ rest)
-      (record { holds = holds_front code p first others st.holds; covered = st.covered.0; linked = st.linked.0; proper = st.proper; room = omega arith })
-      (rest_all w t code (declared scope n s) (n + count s) (p + length first) ss rest
+      subst (λ todo. Rest w t part scope p todo) (sym (append_assoc (unfolded s) (unfolded_all ss) rest))
+      (rest_unfolded w t part scope n p s (unfolded_all ss ++ rest)
+      (record { lies = is_first p s ss st.lies; holds = holds_front (code_in w.setting part) p first others st.holds; covered = st.covered.0; linked = st.linked.0; proper = st.proper; room = omega arith })
+      (rest_all w t part (declared scope n s) (n + count s) (p + length first) ss rest
       (record {
-        holds = holds_back code p first others st.holds;
+        lies = are_others t scope n p s ss st.lies;
+        holds = holds_back (code_in w.setting part) p first others st.holds;
         covered = st.covered.1;
         linked = st.linked.1;
         proper = still_proper scope n s st.proper;
         room = omega arith;
       })
-      (subst (λ q. Rest w t code (declared_by_all scope n (More s ss)) q rest) e r)))
+      (subst (λ q. Rest w t part (declared_by_all scope n (More s ss)) q rest) e r)))
 
 -- and that of a statement with a scope of its own
-pub rest_scope : (w : Whole) (t : ℕ) (code : List Instr) (scope : Scope) (n p q : ℕ) (s : Statement) (rest : List Todo) → Stands w t code scope n p s
-    → p + length (code_of w.setting t scope n p s) ≡ q → Rest w t code scope q rest → Rest w t code scope p (unfolded s ++ rest)
-rest_scope w t code scope n p q s rest st e r =
-    rest_unfolded w t code scope n p s rest st (rest_wider w t code scope (declared scope n s) (p + length (code_of w.setting t scope n p s)) rest (grows scope n s)
-    (subst (λ k. Rest w t code scope k rest) (sym e) r))
+pub rest_scope : (w : Whole) (t : ℕ) (part : Part) (scope : Scope) (n p q : ℕ) (s : Statement) (rest : List Todo) → Stands w t part scope n p s
+    → p + length (code_of w.setting t scope n p s) ≡ q → Rest w t part scope q rest → Rest w t part scope p (unfolded s ++ rest)
+rest_scope w t part scope n p q s rest st e r =
+    rest_unfolded w t part scope n p s rest st (rest_wider w t part scope (declared scope n s) (p + length (code_of w.setting t scope n p s)) rest (grows scope n s)
+    (subst (λ k. Rest w t part scope k rest) (sym e) r))
 
 -- ---- the first part of a statement's code is straight
 

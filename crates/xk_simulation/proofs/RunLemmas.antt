@@ -1,5 +1,5 @@
 -- A run of the module is followed by one of the source.
-use Rattle.std.proofs.Common.{◌≡◌, ℕ, Bool, cond, ◌&&◌, List, [], ◌∷◌, map, refl, sym, ap, ◌∙◌, subst, arith, inl, inr}
+use Rattle.std.proofs.Common.{◌≡◌, ℕ, cond, ◌&&◌, List, [], ◌∷◌, map, refl, sym, ap, ◌∙◌, subst, arith, inl, inr}
 use Rattle.std.specs.List.{list_all}
 use Rattle.xk_types.specs.declared.world.Event.{Event}
 use Rattle.xk_types.specs.Code.{ModuleValue}
@@ -44,34 +44,36 @@ first_step w v Blocked go h = absurd (grind arith)
 first_step w v (Wrong c) go h = absurd (grind arith)
 first_step w v (Stepped x e) go h = (x, e, refl, h)
 
--- the source goes on from a world with these moments, and has ended where the module has
-pub record GoesOn (t : TreeValue) (v : SourceWorld) (seen : List Moment) (over : Bool) : Type 0 where
+-- The source goes on from a world with these moments to one that is related to the module's, and has ended where the module has.
+pub record GoesOn (t : TreeValue) (R : Activity → SourceActivity → Type 0) (v : SourceWorld) (seen : List Moment) (after : World) : Type 0 where
   pub list : List ℕ
   pub last : SourceWorld
   pub goes : Goes (source_step t) list v last
   pub same : moments (source_step t) list v ≡ seen
-  pub ends : have_ended last ≡ over
+  pub ends : have_ended last ≡ have_ended after
+  pub related : AreRelated R after last
 
 -- a run from related worlds is followed
 pub run_follows : (t : TreeValue) (R : Activity → SourceActivity → Type 0) (m : ModuleValue)
     → ((w : World) (v : SourceWorld) (a : ℕ) → AreRelated R w v → Follows t R v a (step m w a))
     → ((x : Activity) (y : SourceActivity) → R x y → x.status ≡ y.status)
     → (list : List ℕ) (w after : World) (v : SourceWorld) → AreRelated R w v → run m list w ≡ Through after
-    → GoesOn t v (moments (step m) list w) (have_ended after)
+    → GoesOn t R v (moments (step m) list w) after
 run_follows t R m follows same [] w after v rel h = record {
   list = [];
   last = v;
   goes = refl;
   same = refl;
   ends = sym (ap have_ended (sym (same_through w after h)) ∙ ended_same R same w.activities v.activities rel.activities);
+  related = subst (λ (u : World). AreRelated R u v) (same_through w after h) rel;
 }
 run_follows t R m follows same (a ∷ list) w after v rel h =
     let f = first_step w after (step m w a) (run m list) h in
     by f.0 f.1 f.2 (subst (Follows t R v a) f.2 (follows w v a rel)) (λ u r. run_follows t R m follows same list f.0 after u r f.3)
   where
     by : (next : World) (e : Event) → step m w a ≡ Stepped next e → Follows t R v a (Stepped next e)
-        → ((u : SourceWorld) → AreRelated R next u → GoesOn t u (moments (step m) list next) (have_ended after))
-        → GoesOn t v (moments (step m) (a ∷ list) w) (have_ended after)
+        → ((u : SourceWorld) → AreRelated R next u → GoesOn t R u (moments (step m) list next) after)
+        → GoesOn t R v (moments (step m) (a ∷ list) w) after
     by next e st (inl q) later =
         let r = later v q.1 in
         record {
@@ -82,6 +84,7 @@ run_follows t R m follows same (a ∷ list) w after v rel h =
               ∙ sym (ap (λ o. moments_on a o (moments (step m) list)) st
               ∙ ap (λ b. cond b (moments (step m) list next) (record { activity = a; event = e; after = shown next } ∷ moments (step m) list next)) q.0);
           ends = r.ends;
+          related = r.related;
         }
     by next e st (inr q) later =
         let r = later q.0 q.2 in
@@ -95,4 +98,5 @@ run_follows t R m follows same (a ∷ list) w after v rel h =
               ∙ (ap (λ rest. cond (is_local e) rest (record { activity = a; event = e; after = shown q.0 } ∷ rest)) (sym r.same)
               ∙ ap (λ o. moments_on a o (moments (source_step t) r.list)) (sym q.1))));
           ends = r.ends;
+          related = r.related;
         }

@@ -32,29 +32,32 @@ use Rattle.xk_tree.specs.Tree.{Word, Expression, Literal, Named, Paren, Negation
 use Rattle.xk_names.specs.Scope.{find, is_text, texts}
 use Rattle.xk_names.specs.Uses.{clocks_listed}
 use Rattle.xk_emit.specs.CodeOf.{Scope, number_of, slots_of as slots_among, body_unit, captures_at, body_params, instr_of, slot_for, behind, eval, both, second, before_into, last_into, eval_all, argument_slots, shared_alone, before_assigned, last_assigned, loop_slots, within_loop, before_bound, head_of, count, declared, before, code_of}
-use Rattle.xk_emit.specs.Unit.{scope_from, first_temporary, unit_code, unit_of_method, unit_of_body, names_of_params, kinds_of_params, body_kinds}
+use Rattle.xk_emit.specs.Unit.{scope_from, first_temporary, unit_of_body, names_of_params, kinds_of_params, body_kinds}
 use Rattle.xk_emit.specs.NameCoverage.{IsFound, IsNew, IsKnown, IsKnownUnless, IsAssignable, IsBoundKnown, IsLoopNew}
 use Rattle.xk_emit.proofs.CoverageLemmas.TableLemmas.{is_same}
 use Rattle.xk_emit.proofs.ScopeLemmas.{alone_before}
 use Rattle.xk_names.proofs.TableAgreementLemmas.{find_behind, or_entry}
+use Rattle.xk_semantics.specs.Parts.{Part, OfMethod, OfBody}
+use Rattle.xk_semantics.specs.Compilation.{method_kind, unit_of_part}
 use Rattle.xk_semantics.specs.Source.{Todo, Do, Turn, Close, Names, named, Doing, SourceActivity, SourceWorld, SourceOutcome, alone, value_of, result_of, taken, unfolded, unfolded_all, left_with, knowing, declaring, storing, assigning, adding, limited, looped, given_one, given, invoked, invoking, handed, begun, starting, closed, over, continued, source_by, source_of, source_step}
 use Rattle.xk_simulation.proofs.ExpressionLemmas.{IsStraight, AreStraight, straight_back, last_straight, number_there, number_is, number_held, number_at, then_on, put_by, put_at, exec1, exec, exec_join, exec_parts, exec_one, then_parts, put_parts, op_parts, sub_parts, number_written, other_written, ComesTo, some_there, name_held, IsBelow, IsMatched, below_more, still_matched, eval_keeps, eval_gives, both_keeps, both_gives, args_keep, behind_least, slot_most, slot_behind, into_keeps, into_gives, slot_found}
 use Rattle.xk_simulation.proofs.PairwiseLemmas.{Pairs, pair_at, pairs_length}
 use Rattle.xk_simulation.proofs.WorldLemmas.{IsAlike, AreRelated, Follows, both_move, both_write, both_make, both_start, one_moves, waits_alike, Together, together_at, IsKin, AreKin, awaits_kin, pairs_weaker}
-use Rattle.xk_simulation.proofs.RelationLemmas.{HoldsAt, Along, holds_front, holds_back, IsWithin, push_proper, more_proper, Whole, Stands, StandsTurn, Here, Rest, rest_wider, rest_jump, rest_here, IsSimple, limit_of, IsLimit, IsProper, push_within, push_proper, loop_within, loop_proper, rest_scope, before_straight, code_split, matched_push, matched_name, matched_set}
+use Rattle.xk_simulation.proofs.PlaceLemmas.{code_in, is_then, is_either, is_else, is_turn, is_awaited}
+use Rattle.xk_simulation.proofs.RelationLemmas.{HoldsAt, Along, holds_front, holds_back, IsWithin, push_proper, more_proper, Whole, Stands, EndsLoop, StandsTurn, Here, Rest, rest_wider, rest_jump, rest_here, IsSimple, limit_of, IsLimit, IsProper, push_within, push_proper, loop_within, loop_proper, rest_scope, before_straight, code_split, matched_push, matched_name, matched_set}
 use Rattle.xk_simulation.proofs.UnitEntryLemmas.{AreBuilt, AreKnown, known_named, matched_known, unit_rest}
 
 -- ---- the relation
 
 -- between two statements
-pub record Between (cx : Whole) (code : List Instr) (place : ℕ) (slots : List Held) (todo : List Todo) (names : Names) : Type 0 where
+pub record Between (cx : Whole) (part : Part) (place : ℕ) (slots : List Held) (todo : List Todo) (names : Names) : Type 0 where
   pub t : ℕ
   pub scope : Scope
   pub matched : IsMatched scope names slots
-  pub rest : Rest cx t code scope place todo
+  pub rest : Rest cx t part scope place todo
 
 -- within the first part of a statement's code, of which these instructions are done
-pub record Within (cx : Whole) (code : List Instr) (place : ℕ) (slots : List Held) (s : Statement) (rest : List Todo) (names : Names) : Type 0 where
+pub record Within (cx : Whole) (part : Part) (place : ℕ) (slots : List Held) (s : Statement) (rest : List Todo) (names : Names) : Type 0 where
   pub t : ℕ
   pub scope : Scope
   pub n : ℕ
@@ -62,42 +65,48 @@ pub record Within (cx : Whole) (code : List Instr) (place : ℕ) (slots : List H
   pub start : List Held
   pub past : List Instr
   pub ahead : List Instr
-  pub stands : Stands cx t code scope n first s
+  pub stands : Stands cx t part scope n first s
   pub matched : IsMatched scope names start
   pub simple : IsSimple s
-  pub after : Rest cx t code (declared scope n s) (first + length (code_of cx.setting t scope n first s)) rest
+  pub after : Rest cx t part (declared scope n s) (first + length (code_of cx.setting t scope n first s)) rest
   pub split : before cx.setting scope t n s ≡ past ++ ahead
   pub ran : exec past start ≡ Some slots
   pub at : place ≡ first + length past
 
-abbrev pub WithinFirst : Whole → List Instr → ℕ → List Held → List Todo → Names → Type 0
-WithinFirst cx code place slots [] names = ⊥
-WithinFirst cx code place slots (Do s ∷ rest) names = Within cx code place slots s rest names
-WithinFirst cx code place slots (Turn i x hi s ∷ rest) names = ⊥
-WithinFirst cx code place slots (Close ∷ rest) names = ⊥
+abbrev pub WithinFirst : Whole → Part → ℕ → List Held → List Todo → Names → Type 0
+WithinFirst cx part place slots [] names = ⊥
+WithinFirst cx part place slots (Do s ∷ rest) names = Within cx part place slots s rest names
+WithinFirst cx part place slots (Turn i x hi s ∷ rest) names = ⊥
+WithinFirst cx part place slots (Close ∷ rest) names = ⊥
 
-abbrev pub RunsAs : Whole → List Instr → ℕ → List Held → List Todo → Names → Type 0
-RunsAs cx code place slots todo names = Between cx code place slots todo names ⊎ WithinFirst cx code place slots todo names
+abbrev pub RunsAs : Whole → Part → ℕ → List Held → List Todo → Names → Type 0
+RunsAs cx part place slots todo names = Between cx part place slots todo names ⊎ WithinFirst cx part place slots todo names
 
 -- by status
-abbrev pub Stage : Whole → List Instr → Status → Frame → Doing → Type 0
-Stage cx code status.Running f c = RunsAs cx code f.place f.slots c.todo c.names
-Stage cx code status.Arrived f c = Between cx code (f.place + 1) f.slots c.todo c.names
-Stage cx code status.Ended f c = ⊤
+abbrev pub Stage : Whole → Part → Status → Frame → Doing → Type 0
+Stage cx part status.Running f c = RunsAs cx part f.place f.slots c.todo c.names
+Stage cx part status.Arrived f c =
+    (slice_get (code_in cx.setting part) f.place ≡ Some instr.Advance) × Between cx part (f.place + 1) f.slots c.todo c.names
+Stage cx part status.Ended f c = ⊤
 
 -- a frame that waits for a method to return
 pub record Waits (cx : Whole) (f : Frame) (c : Doing) : Type 0 where
-  pub unit : UnitValue
-  pub found : slice_get cx.m.units f.unit ≡ Some unit
-  pub between : Between cx unit.code (f.place + 1) f.slots c.todo c.names
+  pub part : Part
+  pub placed : slice_get cx.units f.unit ≡ Some part
+  pub found : slice_get cx.m.units f.unit ≡ Some (unit_of_part cx.setting part)
+  pub callee : ℕ
+  pub arguments : List ℕ
+  pub calls : slice_get (code_in cx.setting part) f.place ≡ Some (instr.Call callee arguments)
+  pub between : Between cx part (f.place + 1) f.slots c.todo c.names
 
 pub record IsAs (cx : Whole) (act : Activity) (call : SourceActivity) : Type 0 where
   pub status : act.status ≡ call.status
   pub opened : act.opened ≡ call.opened
   pub governed : act.governed ≡ call.governed
-  pub unit : UnitValue
-  pub found : slice_get cx.m.units act.frame.unit ≡ Some unit
-  pub stage : Stage cx unit.code act.status act.frame call.frame
+  pub part : Part
+  pub placed : slice_get cx.units act.frame.unit ≡ Some part
+  pub found : slice_get cx.m.units act.frame.unit ≡ Some (unit_of_part cx.setting part)
+  pub stage : Stage cx part act.status act.frame call.frame
   pub callers : Pairs (Waits cx) act.callers call.callers
 
 -- ---- one step of an activity that runs
@@ -107,6 +116,10 @@ module _ (cx : Whole) (built : AreBuilt cx) (w : World) (v : SourceWorld) (a : �
   abbrev Good : Outcome → Type 0
   Good o = Follows cx.tree (IsAs cx) v a o
 
+  -- the code that it is in
+  abbrev its_code : List Instr
+  its_code = code_in cx.setting like.part
+
   source_running : call.status ≡ status.Running
   source_running = sym like.status ∙ running
 
@@ -114,25 +127,26 @@ module _ (cx : Whole) (built : AreBuilt cx) (w : World) (v : SourceWorld) (a : �
   source_runs : (todo : List Todo) → call.frame.todo ≡ todo → source_step cx.tree v a ≡ continued cx.tree v a call todo
   source_runs todo e = ap (source_of cx.tree v a) there ∙ (ap (source_by cx.tree v a call) source_running ∙ ap (continued cx.tree v a call) e)
 
-  stage_of : (code : List Instr) (st : Status) (f : Frame) (c : Doing) → st ≡ status.Running → RunsAs cx code f.place f.slots c.todo c.names
-      → Stage cx code st f c
-  stage_of code st f c e r = subst (λ s. Stage cx code s f c) (sym e) r
+  stage_of : (part : Part) (st : Status) (f : Frame) (c : Doing) → st ≡ status.Running → RunsAs cx part f.place f.slots c.todo c.names
+      → Stage cx part st f c
+  stage_of part st f c e r = subst (λ s. Stage cx part s f c) (sym e) r
 
   -- the same but for its frame's place and slots, for what is left and known, and for how many finishes are open
-  goes_open : (place : ℕ) (slots : List Held) (todo : List Todo) (names : Names) (k l : ℕ) → k ≡ l → RunsAs cx like.unit.code place slots todo names
+  goes_open : (place : ℕ) (slots : List Held) (todo : List Todo) (names : Names) (k l : ℕ) → k ≡ l → RunsAs cx like.part place slots todo names
       → IsAs cx (record act { frame = record { unit = act.frame.unit; place = place; slots = slots }; opened = k })
       (record call { frame = record { todo = todo; names = names }; opened = l })
   goes_open place slots todo names k l e r = record {
     status = like.status;
     opened = e;
     governed = like.governed;
-    unit = like.unit;
+    part = like.part;
+    placed = like.placed;
     found = like.found;
-    stage = stage_of like.unit.code act.status (record { unit = act.frame.unit; place = place; slots = slots }) (record { todo = todo; names = names }) running r;
+    stage = stage_of like.part act.status (record { unit = act.frame.unit; place = place; slots = slots }) (record { todo = todo; names = names }) running r;
     callers = like.callers;
   }
 
-  goes : (place : ℕ) (slots : List Held) (todo : List Todo) (names : Names) → RunsAs cx like.unit.code place slots todo names
+  goes : (place : ℕ) (slots : List Held) (todo : List Todo) (names : Names) → RunsAs cx like.part place slots todo names
       → IsAs cx (record act { frame = record { unit = act.frame.unit; place = place; slots = slots } }) (record call { frame = record { todo = todo; names = names } })
   goes place slots todo names r = goes_open place slots todo names act.opened call.opened like.opened r
 
@@ -185,23 +199,23 @@ module _ (cx : Whole) (built : AreBuilt cx) (w : World) (v : SourceWorld) (a : �
 
   -- ---- the instruction that it stands at
 
-  at_place : (i : Instr) → slice_get like.unit.code act.frame.place ≡ Some i → Good (carried_out cx.m w a act i)
+  at_place : (i : Instr) → slice_get its_code act.frame.place ≡ Some i → Good (carried_out cx.m w a act i)
       → Good (run_at cx.m w a act (instruction_at cx.m act.frame))
   at_place i e h =
       subst (λ o. Good (run_at cx.m w a act o)) (sym (ap (option_and_then (λ u. slice_get u.code act.frame.place)) like.found ∙ e)) h
 
   -- the source stays
   waits_here : (todo : List Todo) → call.frame.todo ≡ todo → (place : ℕ) (slots : List Held)
-      → RunsAs cx like.unit.code place slots todo call.frame.names
+      → RunsAs cx like.part place slots todo call.frame.names
       → Good (done w a (record act { frame = record { unit = act.frame.unit; place = place; slots = slots } }) none event.Local)
   waits_here todo e place slots r =
       one_moves cx.tree (IsAs cx) w v a rel _ call there
-      (goes place slots call.frame.todo call.frame.names (subst (λ x. RunsAs cx like.unit.code place slots x call.frame.names) (sym e) r))
+      (goes place slots call.frame.todo call.frame.names (subst (λ x. RunsAs cx like.part place slots x call.frame.names) (sym e) r))
 
   -- both move on
   moves : (place : ℕ) (slots : List Held) (todo : List Todo) (names : Names) (change : ℕ → Standing → Standing) (e : Event)
       → source_step cx.tree v a ≡ done v a (record call { frame = record { todo = todo; names = names } }) change e
-      → Between cx like.unit.code place slots todo names
+      → Between cx like.part place slots todo names
       → Good (done w a (record act { frame = record { unit = act.frame.unit; place = place; slots = slots } }) change e)
   moves place slots todo names change e st b = both_move cx.tree (IsAs cx) w v a rel _ _ change e st (goes place slots todo names (inl b))
 
@@ -379,19 +393,19 @@ module _ (cx : Whole) (built : AreBuilt cx) (w : World) (v : SourceWorld) (a : �
     first : ℕ
     start : List Held
     simple : IsSimple s
-    stands : Stands cx t like.unit.code scope n first s
+    stands : Stands cx t like.part scope n first s
     matched : IsMatched scope call.frame.names start
-    after : Rest cx t like.unit.code (declared scope n s) (first + length (code_of cx.setting t scope n first s)) rest
+    after : Rest cx t like.part (declared scope n s) (first + length (code_of cx.setting t scope n first s)) rest
     ran : exec (before cx.setting scope t n s) start ≡ Some act.frame.slots
     at : act.frame.place ≡ first + length (before cx.setting scope t n s)
 
   -- the instruction behind it
   ready_at : (s : Statement) (rest : List Todo) (r : Ready s rest) (i : Instr) (tail : List Instr)
       → code_of cx.setting r.t r.scope r.n r.first s ≡ before cx.setting r.scope r.t r.n s ++ i ∷ tail
-      → slice_get like.unit.code act.frame.place ≡ Some i
+      → slice_get its_code act.frame.place ≡ Some i
   ready_at s rest r i tail e =
-      let h = holds_back like.unit.code r.first (before cx.setting r.scope r.t r.n s) (i ∷ tail) (subst (HoldsAt like.unit.code r.first) e r.stands.holds) in
-      subst (λ p. slice_get like.unit.code p ≡ Some i) (sym r.at) h.0
+      let h = holds_back its_code r.first (before cx.setting r.scope r.t r.n s) (i ∷ tail) (subst (HoldsAt its_code r.first) e r.stands.holds) in
+      subst (λ p. slice_get its_code p ≡ Some i) (sym r.at) h.0
 
   ready_below : (s : Statement) (rest : List Todo) (r : Ready s rest) → IsBelow r.scope r.t
   ready_below s rest r = below_more r.scope r.n r.t (let room = r.stands.room in omega arith) r.stands.proper.below
@@ -399,12 +413,12 @@ module _ (cx : Whole) (built : AreBuilt cx) (w : World) (v : SourceWorld) (a : �
   -- where that is the last one
   after_one : (s : Statement) (rest : List Todo) (r : Ready s rest) (i : Instr)
       → code_of cx.setting r.t r.scope r.n r.first s ≡ before cx.setting r.scope r.t r.n s ++ i ∷ []
-      → Rest cx r.t like.unit.code (declared r.scope r.n s) (act.frame.place + 1) rest
+      → Rest cx r.t like.part (declared r.scope r.n s) (act.frame.place + 1) rest
   after_one s rest r i e =
       let long = ap length e in
       let same : r.first + length (code_of cx.setting r.t r.scope r.n r.first s) ≡ act.frame.place + 1 =
       omega (arith, long, length-append (before cx.setting r.scope r.t r.n s) (i ∷ []), r.at) in
-      subst (λ p. Rest cx r.t like.unit.code (declared r.scope r.n s) p rest) same r.after
+      subst (λ p. Rest cx r.t like.part (declared r.scope r.n s) p rest) same r.after
 
   ready_matched : (s : Statement) (rest : List Todo) (r : Ready s rest) → ((k : ℕ) → k < r.t → slice_get act.frame.slots k ≡ slice_get r.start k)
       → IsMatched r.scope call.frame.names act.frame.slots
@@ -448,19 +462,19 @@ module _ (cx : Whole) (built : AreBuilt cx) (w : World) (v : SourceWorld) (a : �
   between_after : (s : Statement) (rest : List Todo) (r : Ready s rest) (i : Instr)
       → code_of cx.setting r.t r.scope r.n r.first s ≡ before cx.setting r.scope r.t r.n s ++ i ∷ [] → declared r.scope r.n s ≡ r.scope
       → ((k : ℕ) → k < r.t → slice_get act.frame.slots k ≡ slice_get r.start k)
-      → Between cx like.unit.code (act.frame.place + 1) act.frame.slots rest call.frame.names
+      → Between cx like.part (act.frame.place + 1) act.frame.slots rest call.frame.names
   between_after s rest r i e same keeps = record {
     t = r.t;
     scope = r.scope;
     matched = ready_matched s rest r keeps;
-    rest = subst (λ sc. Rest cx r.t like.unit.code sc (act.frame.place + 1) rest) same (after_one s rest r i e);
+    rest = subst (λ sc. Rest cx r.t like.part sc (act.frame.place + 1) rest) same (after_one s rest r i e);
   }
 
   -- a slot is written with a value that both know
   between_known : (s : Statement) (rest : List Todo) (r : Ready s rest) (i : Instr) (x : List ℕ) (d : ℕ) (known old : Held)
       → code_of cx.setting r.t r.scope r.n r.first s ≡ before cx.setting r.scope r.t r.n s ++ i ∷ []
       → IsMatched (declared r.scope r.n s) ((x, known) ∷ call.frame.names) (slice_set act.frame.slots d known)
-      → Between cx like.unit.code (act.frame.place + 1) (slice_set act.frame.slots d known) rest ((x, known) ∷ call.frame.names)
+      → Between cx like.part (act.frame.place + 1) (slice_set act.frame.slots d known) rest ((x, known) ∷ call.frame.names)
   between_known s rest r i x d known old e match = record { t = r.t; scope = declared r.scope r.n s; matched = match; rest = after_one s rest r i e }
 
   clock_known : (s : Statement) (rest : List Todo) (r : Ready s rest) (c : Word) → IsFound r.scope c.text → exec [] r.start ≡ Some act.frame.slots
@@ -469,8 +483,8 @@ module _ (cx : Whole) (built : AreBuilt cx) (w : World) (v : SourceWorld) (a : �
 
   -- two numbers are compared
   chosen : (b : Bool) (t : ℕ) (then other : List Todo) → source_step cx.tree v a ≡ done v a (left_with call (cond b then other)) none event.Local
-      → Between cx like.unit.code (act.frame.place + 1) act.frame.slots then call.frame.names
-      → Between cx like.unit.code t act.frame.slots other call.frame.names
+      → Between cx like.part (act.frame.place + 1) act.frame.slots then call.frame.names
+      → Between cx like.part t act.frame.slots other call.frame.names
       → Good (done w a (cond b (onward act) (going act t)) none event.Local)
   chosen true t then other src y n = moves (act.frame.place + 1) act.frame.slots then call.frame.names none event.Local src y
   chosen false t then other src y n = moves t act.frame.slots other call.frame.names none event.Local src n
@@ -550,7 +564,7 @@ module _ (cx : Whole) (built : AreBuilt cx) (w : World) (v : SourceWorld) (a : �
       at_place (instr.Make r.n) (ready_at s rest r (instr.Make r.n) [] refl) (put_follows (slot_at act r.n) r.n (value.Clock (length w.clocks)) _ (λ old at.
       both_make cx.tree (IsAs cx) w v a rel _ _ (source_runs (Do s ∷ rest) e)
       (goes (act.frame.place + 1) (slice_set act.frame.slots r.n (value.Clock (length w.clocks))) rest ((x.text, value.Clock (length v.clocks)) ∷ call.frame.names)
-      (inl (subst (λ k. Between cx like.unit.code (act.frame.place + 1) (slice_set act.frame.slots r.n (value.Clock (length w.clocks))) rest
+      (inl (subst (λ k. Between cx like.part (act.frame.place + 1) (slice_set act.frame.slots r.n (value.Clock (length w.clocks))) rest
       ((x.text, value.Clock k) ∷ call.frame.names)) same
       (between_known s rest r (instr.Make r.n) x.text r.n (value.Clock (length w.clocks)) old refl
       (matched_push r.scope call.frame.names act.frame.slots x.text r.n old (value.Clock (length w.clocks)) r.stands.proper r.stands.covered.1
@@ -585,10 +599,11 @@ module _ (cx : Whole) (built : AreBuilt cx) (w : World) (v : SourceWorld) (a : �
       let i = instr.Unless op (slot_for r.scope r.t l) (second r.scope r.t l r') (q + 1 + length body) in
       let held = ready_matched (If at l op r' s) rest r (both_keeps r.scope r.t l r' r.start act.frame.slots r.ran) in
       let behind : r.first + length (both r.scope r.t l r' ++ i ∷ body) ≡ q + 1 + length body = omega (arith, length-append (both r.scope r.t l r') (i ∷ body)) in
-      let last : Rest cx r.t like.unit.code r.scope (q + 1 + length body) rest = subst (λ p. Rest cx r.t like.unit.code r.scope p rest) behind r.after in
+      let last : Rest cx r.t like.part r.scope (q + 1 + length body) rest = subst (λ p. Rest cx r.t like.part r.scope p rest) behind r.after in
       let room = r.stands.room in
-      let stands : Stands cx r.t like.unit.code r.scope r.n (q + 1) s = record {
-        holds = (holds_back like.unit.code r.first (both r.scope r.t l r') (i ∷ body) r.stands.holds).1;
+      let stands : Stands cx r.t like.part r.scope r.n (q + 1) s = record {
+        lies = is_then r.t r.scope r.first at l op r' s r.stands.lies;
+        holds = (holds_back its_code r.first (both r.scope r.t l r') (i ∷ body) r.stands.holds).1;
         covered = r.stands.covered.2;
         linked = r.stands.linked;
         proper = r.stands.proper;
@@ -606,8 +621,8 @@ module _ (cx : Whole) (built : AreBuilt cx) (w : World) (v : SourceWorld) (a : �
         t = r.t;
         scope = r.scope;
         matched = held;
-        rest = subst (λ p. Rest cx r.t like.unit.code r.scope (p + 1) (unfolded s ++ rest)) (sym r.at)
-            (rest_scope cx r.t like.unit.code r.scope r.n (q + 1) (q + 1 + length body) s rest stands refl last);
+        rest = subst (λ p. Rest cx r.t like.part r.scope (p + 1) (unfolded s ++ rest)) (sym r.at)
+            (rest_scope cx r.t like.part r.scope r.n (q + 1) (q + 1 + length body) s rest stands refl last);
       })
       (record { t = r.t; scope = r.scope; matched = held; rest = last }))))
 
@@ -623,18 +638,20 @@ module _ (cx : Whole) (built : AreBuilt cx) (w : World) (v : SourceWorld) (a : �
       let held = ready_matched (IfElse at l op r' s u) rest r (both_keeps r.scope r.t l r' r.start act.frame.slots r.ran) in
       let behind : r.first + length (both r.scope r.t l r' ++ i ∷ (body ++ instr.Jump end ∷ other)) ≡ end =
       omega (arith, length-append (both r.scope r.t l r') (i ∷ (body ++ instr.Jump end ∷ other)), length-append body (instr.Jump end ∷ other)) in
-      let last : Rest cx r.t like.unit.code r.scope end rest = subst (λ p. Rest cx r.t like.unit.code r.scope p rest) behind r.after in
+      let last : Rest cx r.t like.part r.scope end rest = subst (λ p. Rest cx r.t like.part r.scope p rest) behind r.after in
       let room = r.stands.room in
-      let inside = (holds_back like.unit.code r.first (both r.scope r.t l r') (i ∷ (body ++ instr.Jump end ∷ other)) r.stands.holds).1 in
-      let jump = holds_back like.unit.code (q + 1) body (instr.Jump end ∷ other) inside in
-      let stands : Stands cx r.t like.unit.code r.scope r.n (q + 1) s = record {
-        holds = holds_front like.unit.code (q + 1) body (instr.Jump end ∷ other) inside;
+      let inside = (holds_back its_code r.first (both r.scope r.t l r') (i ∷ (body ++ instr.Jump end ∷ other)) r.stands.holds).1 in
+      let jump = holds_back its_code (q + 1) body (instr.Jump end ∷ other) inside in
+      let stands : Stands cx r.t like.part r.scope r.n (q + 1) s = record {
+        lies = is_either r.t r.scope r.first at l op r' s u r.stands.lies;
+        holds = holds_front its_code (q + 1) body (instr.Jump end ∷ other) inside;
         covered = r.stands.covered.2;
         linked = r.stands.linked.0;
         proper = r.stands.proper;
         room = omega arith;
       } in
-      let stands_other : Stands cx r.t like.unit.code r.scope (r.n + count s) (mid + 1) u = record {
+      let stands_other : Stands cx r.t like.part r.scope (r.n + count s) (mid + 1) u = record {
+        lies = is_else r.t r.scope r.n r.first at l op r' s u r.stands.lies;
         holds = jump.1;
         covered = r.stands.covered.3;
         linked = r.stands.linked.1;
@@ -654,14 +671,14 @@ module _ (cx : Whole) (built : AreBuilt cx) (w : World) (v : SourceWorld) (a : �
         t = r.t;
         scope = r.scope;
         matched = held;
-        rest = subst (λ p. Rest cx r.t like.unit.code r.scope (p + 1) (unfolded s ++ rest)) (sym r.at)
-            (rest_scope cx r.t like.unit.code r.scope r.n (q + 1) mid s rest stands refl (rest_jump cx r.t like.unit.code r.scope mid end rest jump.0 last));
+        rest = subst (λ p. Rest cx r.t like.part r.scope (p + 1) (unfolded s ++ rest)) (sym r.at)
+            (rest_scope cx r.t like.part r.scope r.n (q + 1) mid s rest stands refl (rest_jump cx r.t like.part r.scope mid end rest jump.0 last));
       })
       (record {
         t = r.t;
         scope = r.scope;
         matched = held;
-        rest = rest_scope cx r.t like.unit.code r.scope (r.n + count s) (mid + 1) end u rest stands_other refl last;
+        rest = rest_scope cx r.t like.part r.scope (r.n + count s) (mid + 1) end u rest stands_other refl last;
       }))))
 
   -- the number that a loop goes no further than, and what the source takes for it
@@ -683,10 +700,10 @@ module _ (cx : Whole) (built : AreBuilt cx) (w : World) (v : SourceWorld) (a : �
     room : n + loop_slots b ≤ t
     matched : IsMatched scope call.frame.names start
     ran : exec (before_bound scope t n b) start ≡ Some act.frame.slots
-    head : slice_get like.unit.code act.frame.place ≡ Some (head_of n lo b q)
+    head : slice_get its_code act.frame.place ≡ Some (head_of n lo b q)
     -- within, and behind it
-    inside : Rest cx t like.unit.code (within_loop scope n i b) (act.frame.place + 1) (unfolded s ++ Turn i (limit_of b) (top b) s ∷ rest)
-    after : Rest cx t like.unit.code scope (q + 1) rest
+    inside : Rest cx t like.part (within_loop scope n i b) (act.frame.place + 1) (unfolded s ++ Turn i (limit_of b) (top b) s ∷ rest)
+    after : Rest cx t like.part scope (q + 1) rest
 
   -- what the limit comes to is in its slot, and those before it are as they were
   record IsLimited (scope : Scope) (n t : ℕ) (e : Expression) (start : List Held) : Type 0 where
@@ -765,11 +782,13 @@ module _ (cx : Whole) (built : AreBuilt cx) (w : World) (v : SourceWorld) (a : �
 
   -- the end of the loop
   turn_stands : (t : ℕ) (scope : Scope) (n first q : ℕ) (i : Word) (lo : ℤ) (b : Bound) (s : Statement) → IsLoopNew scope n i b
-      → slice_get like.unit.code first ≡ Some (head_of n lo b q) → slice_get like.unit.code q ≡ Some (instr.Next first)
-      → Stands cx t like.unit.code (within_loop scope n i b) (n + loop_slots b) (first + 1) s
+      → slice_get its_code first ≡ Some (head_of n lo b q) → slice_get its_code q ≡ Some (instr.Next first)
+      → Stands cx t like.part (within_loop scope n i b) (n + loop_slots b) (first + 1) s
       → first + 1 + length (code_of cx.setting t (within_loop scope n i b) (n + loop_slots b) (first + 1) s) ≡ q
-      → StandsTurn cx t like.unit.code (within_loop scope n i b) q i (limit_of b) (top b) s
-  turn_stands t scope n first q i lo (UpTo hi) s new head next body ends = record {
+      → EndsLoop cx.setting like.part q i (limit_of b) (top b) s
+      → StandsTurn cx t like.part (within_loop scope n i b) q i (limit_of b) (top b) s
+  turn_stands t scope n first q i lo (UpTo hi) s new head next body ends of_loop = record {
+    of_loop = of_loop;
     first = first;
     n = n + 1;
     head = instr.For n lo hi.value q;
@@ -783,9 +802,10 @@ module _ (cx : Whole) (built : AreBuilt cx) (w : World) (v : SourceWorld) (a : �
     body = body;
     ends = ends;
   }
-  turn_stands t scope n first q i lo (Least x vb e hi) s new head next body ends =
+  turn_stands t scope n first q i lo (Least x vb e hi) s new head next body ends of_loop =
       let inner : Scope = scope ++ (i.text, n) ∷ [] in
       record {
+        of_loop = of_loop;
         first = first;
         n = n + 2;
         head = instr.ForTo n lo (n + 1) hi.value q;
@@ -812,24 +832,39 @@ module _ (cx : Whole) (built : AreBuilt cx) (w : World) (v : SourceWorld) (a : �
       let tail = head_of r.n lo.value b q ∷ (body ++ instr.Next p ∷ []) in
       let code : code_of cx.setting r.t r.scope r.n r.first s' ≡ first ++ tail = ap (λ c. cond c (first ++ tail) []) r.simple in
       let begins : before cx.setting r.scope r.t r.n s' ≡ first = ap (λ c. cond c first []) r.simple in
-      let holds = holds_back like.unit.code r.first first tail (subst (HoldsAt like.unit.code r.first) code r.stands.holds) in
-      let next = holds_back like.unit.code (p + 1) body (instr.Next p ∷ []) holds.1 in
+      let holds = holds_back its_code r.first first tail (subst (HoldsAt its_code r.first) code r.stands.holds) in
+      let next = holds_back its_code (p + 1) body (instr.Next p ∷ []) holds.1 in
       let here_at : p ≡ act.frame.place = (let at = r.at in omega (arith, at, ap length begins)) in
       let behind : r.first + length (code_of cx.setting r.t r.scope r.n r.first s') ≡ q + 1 =
       omega (arith, ap length code, length-append first tail, length-append body (instr.Next p ∷ [])) in
       let fits = r.stands.covered r.simple in
-      let after : Rest cx r.t like.unit.code r.scope (q + 1) rest = subst (λ k. Rest cx r.t like.unit.code r.scope k rest) behind r.after in
-      let last : Rest cx r.t like.unit.code inner (q + 1) rest =
-      rest_wider cx r.t like.unit.code r.scope inner (q + 1) rest (loop_within r.scope r.n i b) after in
+      let after : Rest cx r.t like.part r.scope (q + 1) rest = subst (λ k. Rest cx r.t like.part r.scope k rest) behind r.after in
+      let last : Rest cx r.t like.part inner (q + 1) rest =
+      rest_wider cx r.t like.part r.scope inner (q + 1) rest (loop_within r.scope r.n i b) after in
       let room = r.stands.room in
-      let stands : Stands cx r.t like.unit.code inner (r.n + loop_slots b) (p + 1) s = record {
-        holds = holds_front like.unit.code (p + 1) body (instr.Next p ∷ []) holds.1;
+      let stands : Stands cx r.t like.part inner (r.n + loop_slots b) (p + 1) s = record {
+        lies = is_turn r.t r.scope r.n r.first at i lo b s r.simple r.stands.lies;
+        holds = holds_front its_code (p + 1) body (instr.Next p ∷ []) holds.1;
         covered = fits.2;
         linked = r.stands.linked r.simple;
         proper = loop_proper r.scope r.n i b r.stands.proper;
         room = omega arith;
       } in
-      let turn = turn_stands r.t r.scope r.n p q i lo.value b s fits.1 holds.0 next.0 stands refl in
+      let of_loop : EndsLoop cx.setting like.part q i (limit_of b) (top b) s = record {
+        at = at;
+        lo = lo;
+        bound = b;
+        turns = r.simple;
+        limit = refl;
+        most = refl;
+        from = r.first;
+        lies = r.stands.lies;
+        t = r.t;
+        scope = r.scope;
+        n = r.n;
+        ends = behind;
+      } in
+      let turn = turn_stands r.t r.scope r.n p q i lo.value b s fits.1 holds.0 next.0 stands refl of_loop in
       round_follows i lo.value b s rest r.scope r.n r.t r.start (record {
         q = q;
         proper = r.stands.proper;
@@ -838,10 +873,10 @@ module _ (cx : Whole) (built : AreBuilt cx) (w : World) (v : SourceWorld) (a : �
         room = omega arith;
         matched = r.matched;
         ran = ap (λ is. exec is r.start) (sym begins) ∙ r.ran;
-        head = subst (λ k. slice_get like.unit.code k ≡ Some (head_of r.n lo.value b q)) here_at holds.0;
-        inside = subst (λ k. Rest cx r.t like.unit.code inner (k + 1) (unfolded s ++ Turn i (limit_of b) (top b) s ∷ rest)) here_at
-            (rest_scope cx r.t like.unit.code inner (r.n + loop_slots b) (p + 1) q s (Turn i (limit_of b) (top b) s ∷ rest) stands refl
-            (rest_here cx r.t like.unit.code inner q (Turn i (limit_of b) (top b) s ∷ rest) (turn, last)));
+        head = subst (λ k. slice_get its_code k ≡ Some (head_of r.n lo.value b q)) here_at holds.0;
+        inside = subst (λ k. Rest cx r.t like.part inner (k + 1) (unfolded s ++ Turn i (limit_of b) (top b) s ∷ rest)) here_at
+            (rest_scope cx r.t like.part inner (r.n + loop_slots b) (p + 1) q s (Turn i (limit_of b) (top b) s ∷ rest) stands refl
+            (rest_here cx r.t like.part inner q (Turn i (limit_of b) (top b) s ∷ rest) (turn, last)));
         after = after;
       }) (source_runs (Do s' ∷ rest) e)
 
@@ -852,13 +887,14 @@ module _ (cx : Whole) (built : AreBuilt cx) (w : World) (v : SourceWorld) (a : �
       let q = r.first + 1 + length body in
       let i = instr.Finish q in
       let tail = body ++ instr.EndFinish r.first ∷ [] in
-      let end = holds_back like.unit.code (r.first + 1) body (instr.EndFinish r.first ∷ []) r.stands.holds.1 in
+      let end = holds_back its_code (r.first + 1) body (instr.EndFinish r.first ∷ []) r.stands.holds.1 in
       let here_at : r.first ≡ act.frame.place = (let at = r.at in omega arith) in
       let behind : r.first + length (i ∷ tail) ≡ q + 1 = omega (arith, length-append body (instr.EndFinish r.first ∷ [])) in
-      let last : Rest cx r.t like.unit.code r.scope (q + 1) rest = subst (λ p. Rest cx r.t like.unit.code r.scope p rest) behind r.after in
+      let last : Rest cx r.t like.part r.scope (q + 1) rest = subst (λ p. Rest cx r.t like.part r.scope p rest) behind r.after in
       let room = r.stands.room in
-      let stands : Stands cx r.t like.unit.code r.scope r.n (r.first + 1) s = record {
-        holds = holds_front like.unit.code (r.first + 1) body (instr.EndFinish r.first ∷ []) r.stands.holds.1;
+      let stands : Stands cx r.t like.part r.scope r.n (r.first + 1) s = record {
+        lies = is_awaited r.first at s r.stands.lies;
+        holds = holds_front its_code (r.first + 1) body (instr.EndFinish r.first ∷ []) r.stands.holds.1;
         covered = r.stands.covered;
         linked = r.stands.linked;
         proper = r.stands.proper;
@@ -871,9 +907,9 @@ module _ (cx : Whole) (built : AreBuilt cx) (w : World) (v : SourceWorld) (a : �
         t = r.t;
         scope = r.scope;
         matched = ready_matched (Finish at s) rest r (nothing_ran r.start r.ran r.t);
-        rest = subst (λ p. Rest cx r.t like.unit.code r.scope (p + 1) (unfolded s ++ Close ∷ rest)) here_at
-            (rest_scope cx r.t like.unit.code r.scope r.n (r.first + 1) q s (Close ∷ rest) stands refl
-            (rest_here cx r.t like.unit.code r.scope q (Close ∷ rest) (r.first, end.0, last)));
+        rest = subst (λ p. Rest cx r.t like.part r.scope (p + 1) (unfolded s ++ Close ∷ rest)) here_at
+            (rest_scope cx r.t like.part r.scope r.n (r.first + 1) q s (Close ∷ rest) stands refl
+            (rest_here cx r.t like.part r.scope q (Close ∷ rest) (r.first, end.0, last)));
       }))))
 
   decide_resume : (c : Word) (vb : Verb) (rest : List Todo) → call.frame.todo ≡ Do (Resume c vb) ∷ rest → Ready (Resume c vb) rest
@@ -906,9 +942,13 @@ module _ (cx : Whole) (built : AreBuilt cx) (w : World) (v : SourceWorld) (a : �
         status = refl;
         opened = like.opened;
         governed = like.governed;
-        unit = like.unit;
+        part = like.part;
+        placed = like.placed;
         found = like.found;
-        stage = between_after (AdvanceAll at vb) rest r instr.Advance refl refl (nothing_ran r.start r.ran r.t);
+        stage = (
+          ready_at (AdvanceAll at vb) rest r instr.Advance [] refl,
+          between_after (AdvanceAll at vb) rest r instr.Advance refl refl (nothing_ran r.start r.ran r.t),
+        );
         callers = like.callers;
       }))
 
@@ -935,7 +975,7 @@ module _ (cx : Whole) (built : AreBuilt cx) (w : World) (v : SourceWorld) (a : �
       let back = between_after (Call f at es) rest r i refl refl (args_keep r.scope r.t es r.start act.frame.slots r.ran) in
       at_place i (ready_at (Call f at es) rest r i [] refl)
       (subst (λ o. Good (calling cx.m w a act u args o)) (sym unit.found)
-      (by_kind (unit_of_method cx.setting unit.kind d) (is_method unit.kind) args (kinds_of_params d.params) refl _ (λ vals are.
+      (by_kind (unit_of_part cx.setting (OfMethod d)) (is_method (method_kind d)) args (kinds_of_params d.params) refl _ (λ vals are.
       both_move cx.tree (IsAs cx) w v a rel (called cx.m act u vals) (invoked call rest d.body (named d.params vals)) none event.Local
       (source_runs (Do (Call f at es) ∷ rest) e ∙ (ap (invoking v a call rest es) r.stands.linked.1
       ∙ given_all d.params es r.scope r.t r.start vals (ready_below (Call f at es) rest r) (recursion_from_All (IsKnown r.scope) es r.stands.covered.1)
@@ -944,17 +984,29 @@ module _ (cx : Whole) (built : AreBuilt cx) (w : World) (v : SourceWorld) (a : �
         status = like.status;
         opened = like.opened;
         governed = like.governed;
-        unit = unit_of_method cx.setting unit.kind d;
+        part = OfMethod d;
+        placed = unit.placed;
         found = unit.found;
-        stage = stage_of (unit_code cx.setting xs (Block d.close d.body)) act.status (frame_with cx.m u vals) (record { todo = unfolded_all d.body; names = named d.params vals }) running
+        stage = stage_of (OfMethod d) act.status (frame_with cx.m u vals) (record { todo = unfolded_all d.body; names = named d.params vals }) running
             (inl (record {
               t = first_temporary xs (Block d.close d.body);
               scope = scope_from 0 xs;
               matched = matched_known xs vals (replicate (slots_of cx.m u - length vals) value.Unset) (named d.params vals)
                   (known_named [] 0 d.params vals (args_length d.params args vals are) unit.covered.params);
-              rest = unit_rest cx xs (Block d.close d.body) unit.covered unit.linked;
+              rest = unit_rest cx (OfMethod d) xs refl unit.covered unit.linked;
             }));
-        callers = (record { unit = like.unit; found = like.found; between = back }, like.callers);
+        callers = (
+          record {
+            part = like.part;
+            placed = like.placed;
+            found = like.found;
+            callee = u;
+            arguments = args;
+            calls = ready_at (Call f at es) rest r i [] refl;
+            between = back;
+          },
+          like.callers,
+        );
       }))))
 
   decide_async : (at : ℕ) (cs : Option Clocks) (s : Statement) (rest : List Todo) → call.frame.todo ≡ Do (Async at cs s) ∷ rest → Ready (Async at cs s) rest
@@ -982,13 +1034,14 @@ module _ (cx : Whole) (built : AreBuilt cx) (w : World) (v : SourceWorld) (a : �
         opened = refl;
         governed = ap (λ (n : ℕ). cond (n == 0) act.governed (record { owner = Some a; depth = n })) like.opened
             ∙ ap (λ (f : Governor). cond (call.opened == 0) f (record { owner = Some a; depth = call.opened })) like.governed;
-        unit = unit;
+        part = OfBody at cs s;
+        placed = r.stands.linked.1;
         found = r.stands.linked.0;
         stage = inl (record {
           t = first_temporary ps s;
           scope = scope_from 0 ps;
           matched = matched_known ps vals (replicate (slots_of cx.m u - length vals) value.Unset) call.frame.names h.known;
-          rest = unit_rest cx ps s r.stands.linked.1 r.stands.linked.2;
+          rest = unit_rest cx (OfBody at cs s) ps refl r.stands.linked.2 r.stands.linked.3;
         });
         callers = tt;
       }))))
@@ -1016,7 +1069,7 @@ module _ (cx : Whole) (built : AreBuilt cx) (w : World) (v : SourceWorld) (a : �
 
   turn_follows : (rest : List Todo) (i : Word) (x : Option Word) (hi : ℤ) (s : Statement) → call.frame.todo ≡ Turn i x hi s ∷ rest → (t : ℕ) (scope : Scope)
       → IsMatched scope call.frame.names act.frame.slots
-      → StandsTurn cx t like.unit.code scope act.frame.place i x hi s → Rest cx t like.unit.code scope (act.frame.place + 1) rest
+      → StandsTurn cx t like.part scope act.frame.place i x hi s → Rest cx t like.part scope (act.frame.place + 1) rest
       → Good (run_at cx.m w a act (instruction_at cx.m act.frame))
   turn_follows rest i x hi s e t scope held st last =
       at_place (instr.Next st.first) st.next
@@ -1044,16 +1097,16 @@ module _ (cx : Whole) (built : AreBuilt cx) (w : World) (v : SourceWorld) (a : �
             t = t;
             scope = scope;
             matched = matched_set scope call.frame.names act.frame.slots i.text st.loop.slot st.n was.0 (value.Number (n +ℤ pos 1)) st.body.proper held was.1 st.counter;
-            rest = rest_scope cx t like.unit.code scope st.n (st.first + 1) act.frame.place s (Turn i x hi s ∷ rest) st.body st.ends
-                (rest_here cx t like.unit.code scope act.frame.place (Turn i x hi s ∷ rest) (st, last));
+            rest = rest_scope cx t like.part scope st.n (st.first + 1) act.frame.place s (Turn i x hi s ∷ rest) st.body st.ends
+                (rest_here cx t like.part scope act.frame.place (Turn i x hi s ∷ rest) (st, last));
           })
       by n g false src = moves (act.frame.place + 1) act.frame.slots rest call.frame.names none event.Local src (record { t = t; scope = scope; matched = held; rest = last })
 
   kin : AreKin w.activities v.activities
   kin = pairs_weaker (IsAs cx) IsKin (λ x y h. record { status = h.status; governed = h.governed }) w.activities v.activities rel.activities
 
-  close_follows : (rest : List Todo) → call.frame.todo ≡ Close ∷ rest → (b : ℕ) → slice_get like.unit.code act.frame.place ≡ Some (instr.EndFinish b)
-      → Between cx like.unit.code (act.frame.place + 1) act.frame.slots rest call.frame.names
+  close_follows : (rest : List Todo) → call.frame.todo ≡ Close ∷ rest → (b : ℕ) → slice_get its_code act.frame.place ≡ Some (instr.EndFinish b)
+      → Between cx like.part (act.frame.place + 1) act.frame.slots rest call.frame.names
       → Good (run_at cx.m w a act (instruction_at cx.m act.frame))
   close_follows rest e b i next = at_place (instr.EndFinish b) i (by act.opened refl)
     where
@@ -1075,14 +1128,14 @@ module _ (cx : Whole) (built : AreBuilt cx) (w : World) (v : SourceWorld) (a : �
       by zero o = tt
       by (suc n) o = test n o (awaits w.activities (innermost a act)) refl
 
-  over_follows : call.frame.todo ≡ [] → slice_get like.unit.code act.frame.place ≡ Some instr.Ret
+  over_follows : call.frame.todo ≡ [] → slice_get its_code act.frame.place ≡ Some instr.Ret
       → Good (run_at cx.m w a act (instruction_at cx.m act.frame))
   over_follows e i = at_place instr.Ret i (by act.callers call.callers refl refl like.callers)
     where
       by : (fs : List Frame) (cs : List Doing) → act.callers ≡ fs → call.callers ≡ cs → Pairs (Waits cx) fs cs → Good (returning w a act fs)
       by [] [] f c h =
           both_move cx.tree (IsAs cx) w v a rel (ended act) (ended call) (all dropped) event.Ended (source_runs [] e ∙ ap (over v a call) c)
-          (record { status = refl; opened = like.opened; governed = like.governed; unit = like.unit; found = like.found; stage = tt; callers = like.callers })
+          (record { status = refl; opened = like.opened; governed = like.governed; part = like.part; placed = like.placed; found = like.found; stage = tt; callers = like.callers })
       by [] (d ∷ cs) f c h = absurd h
       by (g ∷ fs) [] f c h = absurd h
       by (g ∷ fs) (d ∷ cs) f c h =
@@ -1090,16 +1143,17 @@ module _ (cx : Whole) (built : AreBuilt cx) (w : World) (v : SourceWorld) (a : �
             status = like.status;
             opened = like.opened;
             governed = like.governed;
-            unit = h.0.unit;
+            part = h.0.part;
+            placed = h.0.placed;
             found = h.0.found;
-            stage = stage_of h.0.unit.code act.status (record g { place = g.place + 1 }) d running (inl h.0.between);
+            stage = stage_of h.0.part act.status (record g { place = g.place + 1 }) d running (inl h.0.between);
             callers = h.1;
           })
 
   -- ---- a step
 
   within_follows : (s : Statement) (rest : List Todo) → call.frame.todo ≡ Do s ∷ rest
-      → Within cx like.unit.code act.frame.place act.frame.slots s rest call.frame.names → Good (run_at cx.m w a act (instruction_at cx.m act.frame))
+      → Within cx like.part act.frame.place act.frame.slots s rest call.frame.names → Good (run_at cx.m w a act (instruction_at cx.m act.frame))
   within_follows s rest e h = by h.ahead h.split
     where
       by : (ahead : List Instr) → before cx.setting h.scope h.t h.n s ≡ h.past ++ ahead → Good (run_at cx.m w a act (instruction_at cx.m act.frame))
@@ -1120,10 +1174,10 @@ module _ (cx : Whole) (built : AreBuilt cx) (w : World) (v : SourceWorld) (a : �
           })
       by (i ∷ ahead) split =
           let sp = code_split cx.setting h.t h.scope h.n h.first s in
-          let held = holds_front like.unit.code h.first (before cx.setting h.scope h.t h.n s) sp.0 (subst (HoldsAt like.unit.code h.first) sp.1 h.stands.holds) in
-          let now = holds_back like.unit.code h.first h.past (i ∷ ahead) (subst (HoldsAt like.unit.code h.first) split held) in
+          let held = holds_front its_code h.first (before cx.setting h.scope h.t h.n s) sp.0 (subst (HoldsAt its_code h.first) sp.1 h.stands.holds) in
+          let now = holds_back its_code h.first h.past (i ∷ ahead) (subst (HoldsAt its_code h.first) split held) in
           let straight = straight_back h.past (i ∷ ahead) (subst AreStraight split (before_straight cx.setting h.scope h.t h.n s)) in
-          at_place i (subst (λ p. slice_get like.unit.code p ≡ Some i) (sym h.at) now.0) (straight_follows i straight.0 (λ out g.
+          at_place i (subst (λ p. slice_get its_code p ≡ Some i) (sym h.at) now.0) (straight_follows i straight.0 (λ out g.
           waits_here (Do s ∷ rest) e (act.frame.place + 1) out (inr (record {
             t = h.t;
             scope = h.scope;
@@ -1143,7 +1197,7 @@ module _ (cx : Whole) (built : AreBuilt cx) (w : World) (v : SourceWorld) (a : �
 
   here_follows : (todo : List Todo) → call.frame.todo ≡ todo → (t : ℕ) (scope inner : Scope) → IsMatched scope call.frame.names act.frame.slots
       → IsWithin inner scope
-      → Here cx t like.unit.code todo inner act.frame.place → Good (run_at cx.m w a act (instruction_at cx.m act.frame))
+      → Here cx t like.part todo inner act.frame.place → Good (run_at cx.m w a act (instruction_at cx.m act.frame))
   here_follows [] e t scope inner held within h = over_follows e h
   here_follows (Do s ∷ rest) e t scope inner held within h = within_follows s rest e (record {
     t = t;
@@ -1165,12 +1219,12 @@ module _ (cx : Whole) (built : AreBuilt cx) (w : World) (v : SourceWorld) (a : �
   here_follows (Close ∷ rest) e t scope inner held within h =
       close_follows rest e h.0 h.1 (record { t = t; scope = inner; matched = λ x k f. held x k (within x k f); rest = h.2 })
 
-  between_follows : (todo : List Todo) → call.frame.todo ≡ todo → Between cx like.unit.code act.frame.place act.frame.slots todo call.frame.names
+  between_follows : (todo : List Todo) → call.frame.todo ≡ todo → Between cx like.part act.frame.place act.frame.slots todo call.frame.names
       → Good (run_at cx.m w a act (instruction_at cx.m act.frame))
   between_follows todo e b = by b.rest.jumps b.rest.along
     where
-      by : (jumps : List ℕ) → Along like.unit.code act.frame.place jumps b.rest.place → Good (run_at cx.m w a act (instruction_at cx.m act.frame))
-      by [] along = here_follows todo e b.t b.scope b.rest.inner b.matched b.rest.within (subst (Here cx b.t like.unit.code todo b.rest.inner) (sym along) b.rest.here)
+      by : (jumps : List ℕ) → Along its_code act.frame.place jumps b.rest.place → Good (run_at cx.m w a act (instruction_at cx.m act.frame))
+      by [] along = here_follows todo e b.t b.scope b.rest.inner b.matched b.rest.within (subst (Here cx b.t like.part todo b.rest.inner) (sym along) b.rest.here)
       by (q ∷ jumps) along =
           at_place (instr.Jump q) along.0 (waits_here todo e q act.frame.slots (inl (record {
             t = b.t;
@@ -1179,7 +1233,7 @@ module _ (cx : Whole) (built : AreBuilt cx) (w : World) (v : SourceWorld) (a : �
             rest = record { jumps = jumps; place = b.rest.place; inner = b.rest.inner; along = along.1; within = b.rest.within; here = b.rest.here };
           })))
 
-  runs_follow : (todo : List Todo) → call.frame.todo ≡ todo → RunsAs cx like.unit.code act.frame.place act.frame.slots todo call.frame.names
+  runs_follow : (todo : List Todo) → call.frame.todo ≡ todo → RunsAs cx like.part act.frame.place act.frame.slots todo call.frame.names
       → Good (run_at cx.m w a act (instruction_at cx.m act.frame))
   runs_follow todo e (inl b) = between_follows todo e b
   runs_follow [] e (inr h) = absurd h
@@ -1205,9 +1259,10 @@ pass_follows cx w v a rel act call there like arrived = by (waits w a) refl
           status = refl;
           opened = like.opened;
           governed = like.governed;
-          unit = like.unit;
+          part = like.part;
+          placed = like.placed;
           found = like.found;
-          stage = inl (subst (λ s. Stage cx like.unit.code s act.frame call.frame) arrived like.stage);
+          stage = inl ((subst (λ s. Stage cx like.part s act.frame call.frame) arrived like.stage).1);
           callers = like.callers;
         })
 
@@ -1220,7 +1275,7 @@ step_follows cx built w v a rel = of (slice_get w.activities a) refl
         → (st : Status) → act.status ≡ st
         → Follows cx.tree (IsAs cx) v a (step_by cx.m w a act st)
     by act call here there like status.Running e =
-        runs_follow cx built w v a rel act call here there like e call.frame.todo refl (subst (λ s. Stage cx like.unit.code s act.frame call.frame) e like.stage)
+        runs_follow cx built w v a rel act call here there like e call.frame.todo refl (subst (λ s. Stage cx like.part s act.frame call.frame) e like.stage)
     by act call here there like status.Arrived e = pass_follows cx w v a rel act call there like e
     by act call here there like status.Ended e = tt
 

@@ -6,25 +6,26 @@ use Rattle.std.proofs.lemmas.Option.{none-some, same_Some}
 use Rattle.xk_names.proofs.TableAgreementLemmas.{same_text}
 use Rattle.xk_types.specs.declared.instr.Instr.TheVariants as instr
 use Rattle.xk_types.specs.declared.world.Value.{Value as Held}
-use Rattle.xk_types.specs.declared.unit.UnitKind.{UnitKind}
 use Rattle.xk_types.proofs.ListLemmas.{get-append_left}
-use Rattle.xk_tree.specs.Tree.{Statement, Block, ParamValue, MethodValue}
+use Rattle.xk_tree.specs.Tree.{Block, ParamValue, MethodValue}
 use Rattle.xk_names.specs.Scope.{find, is_text}
 use Rattle.xk_emit.specs.CodeOf.{Scope, declared, code_of}
-use Rattle.xk_emit.specs.Unit.{scope_from, first_temporary, unit_code, unit_of_method, names_of_params}
+use Rattle.xk_emit.specs.Unit.{scope_from, first_temporary, unit_code, names_of_params}
 use Rattle.xk_emit.specs.NameCoverage.{IsFound, AreNew, IsUnitCovered}
 use Rattle.xk_emit.proofs.CoverageLemmas.TableLemmas.{is_same, still_found, now_found}
-use Rattle.xk_semantics.specs.Parts.{OfMethod}
+use Rattle.xk_semantics.specs.Parts.{Part, OfMethod}
+use Rattle.xk_semantics.specs.Compilation.{unit_of_part}
 use Rattle.xk_semantics.specs.Source.{Names, named, unfolded, shared_from}
 use Rattle.xk_simulation.proofs.ExpressionLemmas.{IsMatched}
-use Rattle.xk_simulation.proofs.RelationLemmas.{holds_front, holds_back, holds_all, IsProper, Whole, IsLinked, AreLinked, Rest, Stands, rest_here, rest_unfolded}
+use Rattle.xk_simulation.proofs.PlaceLemmas.{code_in, body_of, is_whole}
+use Rattle.xk_simulation.proofs.RelationLemmas.{HoldsAt, holds_front, holds_back, holds_all, IsProper, Whole, IsLinked, AreLinked, Rest, Stands, rest_here, rest_unfolded}
 
 -- ---- what a program needs of its module
 
 -- the method has this unit, of which no name is wanting, and what it calls and starts has units
 pub record IsBuilt (cx : Whole) (k : ℕ) (d : MethodValue) : Type 0 where
-  pub kind : UnitKind
-  pub found : slice_get cx.m.units k ≡ Some (unit_of_method cx.setting kind d)
+  pub placed : slice_get cx.units k ≡ Some (OfMethod d)
+  pub found : slice_get cx.m.units k ≡ Some (unit_of_part cx.setting (OfMethod d))
   pub covered : IsUnitCovered cx.setting (names_of_params d.params) (Block d.close d.body)
   pub linked : AreLinked cx d.body
 
@@ -137,16 +138,24 @@ params_proper xs = record {
 }
 
 -- a unit's code does what its statement unfolds into
-pub unit_rest : (cx : Whole) (xs : List (List ℕ)) (s : Statement) → IsUnitCovered cx.setting xs s → IsLinked cx s
-    → Rest cx (first_temporary xs s) (unit_code cx.setting xs s) (scope_from 0 xs) 0 (unfolded s)
-unit_rest cx xs s covered linked =
+pub unit_rest : (cx : Whole) (part : Part) (xs : List (List ℕ)) → code_in cx.setting part ≡ unit_code cx.setting xs (body_of part)
+    → IsUnitCovered cx.setting xs (body_of part) → IsLinked cx (body_of part)
+    → Rest cx (first_temporary xs (body_of part)) part (scope_from 0 xs) 0 (unfolded (body_of part))
+unit_rest cx part xs made covered linked =
+    let s = body_of part in
     let t = first_temporary xs s in
     let scope = scope_from 0 xs in
     let code = code_of cx.setting t scope (length xs) 0 s in
-    let whole = unit_code cx.setting xs s in
-    let holds = holds_all whole in
+    let whole = code_in cx.setting part in
+    let holds = subst (HoldsAt whole 0) made (holds_all whole) in
     let ret = holds_back whole 0 code (instr.Ret ∷ []) holds in
-    let stands : Stands cx t whole scope (length xs) 0 s =
-    record { holds = holds_front whole 0 code (instr.Ret ∷ []) holds; covered = covered.body; linked = linked; proper = params_proper xs; room = omega arith } in
-    subst (λ todo. Rest cx t whole scope 0 todo) (append-nil (unfolded s))
-    (rest_unfolded cx t whole scope (length xs) 0 s [] stands (rest_here cx t whole (declared scope (length xs) s) (0 + length code) [] ret.0))
+    let stands : Stands cx t part scope (length xs) 0 s = record {
+      lies = is_whole;
+      holds = holds_front whole 0 code (instr.Ret ∷ []) holds;
+      covered = covered.body;
+      linked = linked;
+      proper = params_proper xs;
+      room = omega arith;
+    } in
+    subst (λ todo. Rest cx t part scope 0 todo) (append-nil (unfolded s))
+    (rest_unfolded cx t part scope (length xs) 0 s [] stands (rest_here cx t part (declared scope (length xs) s) (0 + length code) [] ret.0))
