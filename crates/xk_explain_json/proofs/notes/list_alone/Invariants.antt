@@ -1,0 +1,8 @@
+use Rattle.std.proofs.Common.{◌≡◌, ◌++◌, map, drop}
+use Rattle.serde_json.specs.View.{view}
+use Rattle.xk_explain_json.specs.Explanations.{note_alone}
+use Rattle.xk_explain_json.proofs.notes.list_alone.Given as goal
+
+-- the values so far and those of what is left are those of all
+abbrev pub invariant-loop-note : goal.invariant-loop-note
+invariant-loop-note l = map view l.values.items ++ map note_alone (drop l.note-index l.notes) ≡ map note_alone l.notes

@@ -1,0 +1,8 @@
+use Rattle.std.proofs.Common.{◌≡◌, ◌++◌, map, drop}
+use Rattle.serde_json.specs.View.{view}
+use Rattle.xk_explain_json.specs.Explanations.{stop_alone}
+use Rattle.xk_explain_json.proofs.walks.list_alone.Given as goal
+
+-- the values so far and those of what is left are those of all
+abbrev pub invariant-loop-visit : goal.invariant-loop-visit
+invariant-loop-visit l = map view l.values.items ++ map stop_alone (drop l.visit-index l.walk) ≡ map stop_alone l.walk

@@ -1,0 +1,129 @@
+//! What is said of bytes that give no program.
+
+ghost use Rattle.std.specs.Prelude.{◌≡◌, ◌≤◌, length, IfOk, OnOk};
+ghost use Rattle.xk_explain.specs.Explanations.{has_place, shown_at};
+ghost use Rattle.xk_explain_json.specs.Explanations.{front_place, front_value, module_rule, module_rule_name, module_value};
+ghost use Rattle.xk_explain_json.specs.Objects.{json_line, Gains, IsReadBack};
+
+use crate::members::{put_position, put_refused, put_refused_by_front};
+use crate::messages::{module_message, module_repair};
+use crate::notes::put_notes_in;
+use crate::object::Object;
+use std::alloc::{AllocError, Global};
+use xk_explain::Note;
+use xk_module::ModuleFault;
+use xk_positions::LineStarts;
+use xk_tree::{FrontFault, FrontRule};
+
+/// All that is said of a fault of the source text in FILE, with these notes: a JSON object in one line, `{"accepted":false,"column":5,"file":"FILE",
+/// "line":3,"message":..,"name":"Syntax","notes":[],"repair":..,"rule":"F2"}`. A fault that is said to lie behind the text's end is shown at that;
+/// a text that is too long, and a `main` that isn't there, have no line and column. Err where memory was refused.
+pub fn front_json(
+    alloc: Global,
+    file: &str,
+    text: &[u8],
+    fault: FrontFault,
+    notes: &[Note],
+) -> Result<Vec<u8>, AllocError>
+    ensures text { IfOk result (λ v. v.items
+        ≡ json_line (front_value file.now text.now fault notes.now)) }
+    ensures reads_back { OnOk result
+        (IsReadBack (front_value file.now text.now fault notes.now)) }
+{
+    let lines = LineStarts::new(alloc, text)?;
+    let mut object = Object::new(alloc);
+    put_notes_in(alloc, &mut object, &lines, text, notes)?;
+    put_refused_by_front(alloc, &mut object, file, fault.rule)?;
+    put_front_place(alloc, &mut object, &lines, text, fault)?;
+    object.line(alloc)
+}
+
+/// Adds where a fault is shown, if it has a place.
+fn put_front_place(
+    alloc: Global,
+    object: &mut Object,
+    lines: &LineStarts<'_>,
+    text: &[u8],
+    fault: FrontFault,
+) -> Result<(), AllocError>
+    requires { lines.now ≡ text.now }
+    ensures { OnOk result (Gains (front_place text.now fault) object.old object.new) }
+{
+    if has_place(fault.rule) {
+        return put_position(alloc, object, lines.position(shown_at(text, fault)));
+    }
+    Ok(())
+}
+
+/// Whether faults of this rule have a place in the text.
+fn has_place(rule: FrontRule) -> bool
+    ensures { result ≡ has_place rule }
+{
+    match rule {
+        FrontRule::TooLong | FrontRule::NoMain => false,
+        FrontRule::Token
+        | FrontRule::Syntax
+        | FrontRule::TooDeep
+        | FrontRule::UnknownName
+        | FrontRule::DuplicateName
+        | FrontRule::WrongKind
+        | FrontRule::NotCaptured
+        | FrontRule::Recursive
+        | FrontRule::Arity
+        | FrontRule::SameClockTwice
+        | FrontRule::Literal
+        | FrontRule::Table
+        | FrontRule::NoHiddenClock => true,
+    }
+}
+
+/// Where a fault is shown.
+fn shown_at(text: &[u8], fault: FrontFault) -> usize
+    ensures at { result ≡ shown_at text.now fault }
+    ensures within { result ≤ length text.now }
+{
+    fault.at.min(text.len())
+}
+
+/// All that is said of the bytes in FILE that are no module: a JSON object in one line, `{"accepted":false,"file":"FILE","message":..,"name":
+/// "NotJson","repair":..,"rule":"M1"}`. Of want of memory rule, name, message and repair are empty. Err where memory was refused.
+pub fn module_json(alloc: Global, file: &str, fault: ModuleFault) -> Result<Vec<u8>, AllocError>
+    ensures text { IfOk result (λ v. v.items ≡ json_line (module_value file.now fault)) }
+    ensures reads_back { OnOk result (IsReadBack (module_value file.now fault)) }
+{
+    let mut object = Object::new(alloc);
+    put_refused(
+        alloc,
+        &mut object,
+        file,
+        module_rule(fault),
+        module_rule_name(fault),
+        module_message(fault),
+        module_repair(fault),
+    )?;
+    object.line(alloc)
+}
+
+/// The number of a rule on module texts.
+fn module_rule(fault: ModuleFault) -> &'static str
+    ensures { result.now ≡ module_rule fault }
+{
+    match fault {
+        ModuleFault::NotJson => "M1",
+        ModuleFault::NotAModule => "M2",
+        ModuleFault::Limit => "M3",
+        ModuleFault::OutOfMemory => "",
+    }
+}
+
+/// Its name.
+fn module_rule_name(fault: ModuleFault) -> &'static str
+    ensures { result.now ≡ module_rule_name fault }
+{
+    match fault {
+        ModuleFault::NotJson => "NotJson",
+        ModuleFault::NotAModule => "NotAModule",
+        ModuleFault::Limit => "Limit",
+        ModuleFault::OutOfMemory => "",
+    }
+}

@@ -1,0 +1,18 @@
+//! What `explain` says of a program, as one JSON value on one line.
+#![tactic(auto)]
+
+mod acceptance;
+mod fronts;
+mod members;
+mod messages;
+mod names;
+mod notes;
+mod object;
+mod refusals;
+mod source_refusals;
+mod walks;
+
+pub use acceptance::accepted_json;
+pub use fronts::{front_json, module_json};
+pub use refusals::refusal_json;
+pub use source_refusals::source_json;

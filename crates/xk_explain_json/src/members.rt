@@ -1,0 +1,137 @@
+//! Groups of members that several values have.
+
+ghost use Rattle.std.specs.Prelude.{[], ◌∷◌, codes, OnOk};
+ghost use Rattle.serde_json.specs.Data.{boolean};
+ghost use Rattle.xk_explain_json.specs.Explanations.{instruction_members, limit_member, position_members, refused, refused_by, refused_by_front, slot_members};
+ghost use Rattle.xk_explain_json.specs.Objects.{Gains};
+
+use crate::messages::{front_message, front_repair, kind_message, rule_message, rule_repair};
+use crate::object::Object;
+use serde_json::Value;
+use std::alloc::{AllocError, Global};
+use xk_positions::Position;
+use xk_tree::FrontRule;
+use xk_types::{Kind, Rule};
+
+/// Adds whether the program is accepted.
+pub(crate) fn put_accepted(
+    alloc: Global,
+    object: &mut Object,
+    accepted: bool,
+) -> Result<(), AllocError>
+    ensures { OnOk result
+        (Gains ((codes "accepted", boolean accepted) ∷ []) object.old object.new) }
+{
+    object.put(alloc, "accepted", Value::from(accepted))
+}
+
+/// Adds a refusal: by which rule, what is wrong, and how it is usually repaired.
+pub(crate) fn put_refused(
+    alloc: Global,
+    object: &mut Object,
+    file: &str,
+    rule: &str,
+    name: &str,
+    message: &str,
+    repair: &str,
+) -> Result<(), AllocError>
+    ensures { OnOk result (Gains
+        (refused file.now rule.now name.now message.now repair.now) object.old object.new) }
+{
+    put_accepted(alloc, object, false)?;
+    object.put_text(alloc, "file", file)?;
+    object.put_text(alloc, "message", message)?;
+    object.put_text(alloc, "name", name)?;
+    object.put_text(alloc, "repair", repair)?;
+    object.put_text(alloc, "rule", rule)
+}
+
+/// Adds a refusal by a rule on source texts.
+pub(crate) fn put_refused_by_front(
+    alloc: Global,
+    object: &mut Object,
+    file: &str,
+    rule: FrontRule,
+) -> Result<(), AllocError>
+    ensures { OnOk result (Gains (refused_by_front file.now rule) object.old object.new) }
+{
+    let number = rule.number();
+    let title = format!(in alloc; "F{number}")?;
+    put_refused(
+        alloc,
+        object,
+        file,
+        title.as_str(),
+        rule.name(),
+        front_message(rule),
+        front_repair(rule),
+    )
+}
+
+/// Adds a refusal by a rule of the verifier.
+pub(crate) fn put_refused_by(
+    alloc: Global,
+    object: &mut Object,
+    file: &str,
+    rule: Rule,
+) -> Result<(), AllocError>
+    ensures { OnOk result (Gains (refused_by file.now rule) object.old object.new) }
+{
+    let number = rule.number();
+    let title = format!(in alloc; "V{number}")?;
+    put_refused(
+        alloc,
+        object,
+        file,
+        title.as_str(),
+        rule.name(),
+        rule_message(rule),
+        rule_repair(rule),
+    )
+}
+
+/// Adds a line and a column.
+pub(crate) fn put_position(
+    alloc: Global,
+    object: &mut Object,
+    position: Position,
+) -> Result<(), AllocError>
+    ensures { OnOk result (Gains (position_members position) object.old object.new) }
+{
+    object.put_number(alloc, "column", position.column as u64)?;
+    object.put_number(alloc, "line", position.line as u64)
+}
+
+/// Adds an instruction, by its unit and place.
+pub(crate) fn put_instruction(
+    alloc: Global,
+    object: &mut Object,
+    unit: u16,
+    at: u16,
+) -> Result<(), AllocError>
+    ensures { OnOk result (Gains (instruction_members unit at) object.old object.new) }
+{
+    object.put_number(alloc, "place", at as u64)?;
+    object.put_number(alloc, "unit", unit as u64)
+}
+
+/// Adds a slot, and what it may hold.
+pub(crate) fn put_slot(
+    alloc: Global,
+    object: &mut Object,
+    slot: u16,
+    kind: Kind,
+) -> Result<(), AllocError>
+    ensures { OnOk result (Gains (slot_members slot kind) object.old object.new) }
+{
+    object.put_text(alloc, "holds", kind_message(kind))?;
+    object.put_text(alloc, "kind", kind.name())?;
+    object.put_number(alloc, "slot", slot as u64)
+}
+
+/// Adds the most that a rule on sums allows.
+pub(crate) fn put_limit(alloc: Global, object: &mut Object, limit: u64) -> Result<(), AllocError>
+    ensures { OnOk result (Gains (limit_member limit) object.old object.new) }
+{
+    object.put_number(alloc, "limit", limit)
+}

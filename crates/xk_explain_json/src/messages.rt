@@ -1,0 +1,168 @@
+//! What is said of each rule that is broken: what is wrong, and how it is usually repaired.
+
+ghost use Rattle.std.specs.Prelude.{◌≡◌};
+ghost use Rattle.xk_explain.specs.Messages.{front_message, front_repair, kind_message, module_message, module_repair, rule_message, rule_repair};
+
+use xk_module::ModuleFault;
+use xk_tree::FrontRule;
+use xk_types::{Kind, Rule};
+
+/// What is wrong with a text.
+pub(crate) fn front_message(rule: FrontRule) -> &'static str
+    ensures { result.now ≡ front_message rule }
+{
+    match rule {
+        FrontRule::Token => "no token begins here, or a comment isn't closed",
+        FrontRule::Syntax => "this can't stand here",
+        FrontRule::TooDeep =>
+            "more than 64 statements, parentheses and negations in one another, or 64 operators in one expression",
+        FrontRule::TooLong => "the text has more than 1048576 bytes",
+        FrontRule::UnknownName => "no such name is visible here, or there is no such method",
+        FrontRule::DuplicateName => "this name is visible here already, or another method has it",
+        FrontRule::WrongKind => "something of another kind is wanted here",
+        FrontRule::NotCaptured => "the body of an `async` doesn't see this name from outside",
+        FrontRule::NoMain => "there is no method `main`, or one of its parameters is a clock",
+        FrontRule::Recursive =>
+            "this call comes back to the method that it stands in, or calls `main`",
+        FrontRule::Arity => "the method has more or fewer parameters than this call has arguments",
+        FrontRule::SameClockTwice => "this clock is given twice",
+        FrontRule::Literal => "this number begins with a needless 0, or has more than 64 bits",
+        FrontRule::Table =>
+            "too many shared numbers (over 256), units (over 1024), or in one unit slots (over 64), instructions (over 4096) or arguments (over 64)",
+        FrontRule::NoHiddenClock => "no `clocked finish` has its clock here",
+    }
+}
+
+/// The usual repair of a text.
+pub(crate) fn front_repair(rule: FrontRule) -> &'static str
+    ensures { result.now ≡ front_repair rule }
+{
+    match rule {
+        FrontRule::Token =>
+            "names and numbers are of letters, digits and `_` of ASCII; a `/*` needs its `*/`",
+        FrontRule::Syntax => "look right before it for what is missing, as a `;`, a `)` or a `}`",
+        FrontRule::TooDeep =>
+            "move a part into a method, or name a part of the expression by a `val`",
+        FrontRule::TooLong =>
+            "write a shorter one: a method is written once, however often it is called",
+        FrontRule::UnknownName =>
+            "look for another spelling, or declare it before it is used, and further out",
+        FrontRule::DuplicateName => "take another name",
+        FrontRule::WrongKind =>
+            "a clock is no number; a shared number is read alone, as in `val x = s;`; a `var` and a shared number alone are assigned to",
+        FrontRule::NotCaptured =>
+            "hand a clock on by `async clocked (c)`; in place of a `var` take a `val` of it before the `async`, or a shared number",
+        FrontRule::NoMain =>
+            "write `def main() { .. }`: it takes numbers alone, and makes its clocks",
+        FrontRule::Recursive =>
+            "say by a `for` how often something is done, or write a method for each level",
+        FrontRule::Arity => "give one argument for each parameter, in their order",
+        FrontRule::SameClockTwice => "name each clock once",
+        FrontRule::Literal =>
+            "write it without the 0, from -9223372036854775808 to 9223372036854775807",
+        FrontRule::Table => "move a part into a method of its own",
+        FrontRule::NoHiddenClock =>
+            "put a `clocked finish` around it, with no `finish` or `async` without a clock between them; or name a clock: `async clocked (c)`",
+    }
+}
+
+/// What is wrong with a program.
+pub(crate) fn rule_message(rule: Rule) -> &'static str
+    ensures { result.now ≡ rule_message rule }
+{
+    match rule {
+        Rule::Target =>
+            "a jump, or the end of a loop or a finish, doesn't lie ahead and inside the code",
+        Rule::Block =>
+            "a loop or a finish isn't paired with its end, overlaps another one in part, or is jumped into or out of",
+        Rule::Slot => "the unit has no such slot",
+        Rule::Unit =>
+            "the unit that is called or started doesn't fit, or another than unit 0 is main, or main takes a clock",
+        Rule::Cell => "there is no such shared number",
+        Rule::Loop =>
+            "the loop's bounds aren't in order, or its slot or its limit is written inside of it",
+        Rule::End => "the last instruction isn't `ret`, or another one is",
+        Rule::Home =>
+            "a method drops a clock that it is lent, or a slot takes its clocks in more than one block",
+        Rule::Registers => "inside a finish a clock is handed on that was made outside of it",
+        Rule::SameClock => "one clock is handed on twice",
+        Rule::Use => "a slot may hold something else here than what is wanted",
+        Rule::Held => "the finish that the clock is made in ends while it is still held",
+        Rule::Leak => "a clock is lost that is still held",
+        Rule::Steps => "a run may take too many steps",
+        Rule::Activities => "a run may start too many activities",
+        Rule::Clocks => "a run may make too many clocks",
+        Rule::Stack => "methods that call one another have too many slots together",
+    }
+}
+
+/// The usual repair of a program.
+pub(crate) fn rule_repair(rule: Rule) -> &'static str
+    ensures { result.now ≡ rule_repair rule }
+{
+    match rule {
+        Rule::Target =>
+            "let it name a place behind the instruction, and before the code's end; where a loop or a finish begins lies before it",
+        Rule::Block =>
+            "let the two name each other, and jumps go no further than to the `next` or the `endfinish`",
+        Rule::Slot => "slots are counted from 0; give the unit more of them",
+        Rule::Unit =>
+            "call a method, start a body, of greater number, with as many arguments as it has parameters",
+        Rule::Cell => "shared numbers are counted from 0; add one",
+        Rule::Loop => "let the lower bound come first, and take another slot inside of the loop",
+        Rule::End => "end the code with `ret`, and jump to it from elsewhere",
+        Rule::Home => "let the caller drop it",
+        Rule::Registers =>
+            "make the clock in the finish and drop it before its end, as `clocked finish` does; or hand it on outside of the finish",
+        Rule::SameClock => "name each clock once",
+        Rule::Use =>
+            "use a clock while it is registered alone: drop it behind the loop, or in both branches or none",
+        Rule::Held =>
+            "drop it before the end of the finish, on every way; or write `clocked finish`",
+        Rule::Leak => "drop it before it is made anew, and before the end of the method",
+        Rule::Steps => "loops in one another multiply their turns: have fewer, or smaller bounds",
+        Rule::Activities =>
+            "start fewer, each with more to do: an `async` in a loop counts in each turn",
+        Rule::Clocks => "make the clock outside of the loop: it can be used in many phases",
+        Rule::Stack => "call them one after another, or give the inner ones fewer names",
+    }
+}
+
+/// What a slot of a kind holds.
+pub(crate) fn kind_message(kind: Kind) -> &'static str
+    ensures { result.now ≡ kind_message kind }
+{
+    match kind {
+        Kind::Unset => "nothing",
+        Kind::Number => "a number",
+        Kind::Live => "a clock, registered",
+        Kind::Resumed => "a clock, registered and resumed",
+        Kind::Out => "a clock, dropped",
+    }
+}
+
+/// What is wrong with the bytes of a module.
+pub(crate) fn module_message(fault: ModuleFault) -> &'static str
+    ensures { result.now ≡ module_message fault }
+{
+    match fault {
+        ModuleFault::NotJson => "this is no JSON text",
+        ModuleFault::NotAModule => "this is JSON, and names no module",
+        ModuleFault::Limit => "the module goes beyond a limit",
+        ModuleFault::OutOfMemory => "",
+    }
+}
+
+/// The usual repair of a module's bytes.
+pub(crate) fn module_repair(fault: ModuleFault) -> &'static str
+    ensures { result.now ≡ module_repair fault }
+{
+    match fault {
+        ModuleFault::NotJson =>
+            "`x10clock compile` prints modules as they are read; without --module a file is a source text",
+        ModuleFault::NotAModule => "`x10clock compile` prints modules as they are read",
+        ModuleFault::Limit =>
+            "it has 1 to 1024 units of 64 slots, 4096 instructions and 64 arguments at most, and 256 shared numbers",
+        ModuleFault::OutOfMemory => "",
+    }
+}

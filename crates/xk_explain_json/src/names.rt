@@ -1,0 +1,110 @@
+//! Places and names of a source text.
+
+ghost use Rattle.std.specs.Prelude.{◌≡◌, ◌≤◌, length, IfOk, OnOk, string_bytes};
+ghost use Rattle.xk_explain.specs.Notes.{place_title};
+ghost use Rattle.xk_explain.specs.SourceExplanations.{is_name, origin_at, slot_name};
+ghost use Rattle.xk_explain_json.specs.Explanations.{origin_members, slot_name_member, unit_name};
+ghost use Rattle.xk_explain_json.specs.Objects.{Gains};
+
+use crate::members::put_position;
+use crate::object::Object;
+use serde_json::Value;
+use std::alloc::{AllocError, Global};
+use xk_origins::{Head, UnitOrigins};
+use xk_positions::{LineStarts, Position};
+
+/// The offset that an instruction of a unit comes from, no further than where the text ends.
+pub(crate) fn origin_at(text: &[u8], unit: &UnitOrigins<'_>, at: u16) -> usize
+    ensures at { result ≡ origin_at text.now unit.now at }
+    ensures within { result ≤ length text.now }
+{
+    match unit.offsets.get(at as usize) {
+        Some(offset) => (*offset).min(text.len()),
+        None => 0,
+    }
+}
+
+/// `3:5`.
+fn place_title(alloc: Global, position: Position) -> Result<String, AllocError>
+    ensures { IfOk result (λ text. string_bytes text ≡ place_title position) }
+{
+    let line = position.line;
+    let column = position.column;
+    format!(in alloc; "{line}:{column}")
+}
+
+/// `main`, `f`, or `async at 3:5`.
+fn unit_name(
+    alloc: Global,
+    lines: &LineStarts<'_>,
+    text: &[u8],
+    head: &Head<'_>,
+) -> Result<Vec<u8>, AllocError>
+    requires { lines.now ≡ text.now }
+    ensures { IfOk result (λ v. v.items ≡ unit_name text.now head.now) }
+{
+    let mut out = Vec::new(alloc);
+    match head.name {
+        Some(name) => {
+            out.extend_from_slice(name)?;
+            Ok(out)
+        }
+        None => {
+            let place = place_title(alloc, lines.position(head.at.min(text.len())))?;
+            out.extend_from_slice(b"async at ")?;
+            out.extend_from_slice(place.as_bytes())?;
+            Ok(out)
+        }
+    }
+}
+
+/// Adds the name of a unit, and the line and column that an instruction of it comes from.
+pub(crate) fn put_origin(
+    alloc: Global,
+    object: &mut Object,
+    lines: &LineStarts<'_>,
+    text: &[u8],
+    unit: &UnitOrigins<'_>,
+    at: u16,
+) -> Result<(), AllocError>
+    requires { lines.now ≡ text.now }
+    ensures { OnOk result
+        (Gains (origin_members text.now unit.now at) object.old object.new) }
+{
+    let name = unit_name(alloc, lines, text, &unit.head)?;
+    object.put_bytes(alloc, "in", &name)?;
+    put_position(alloc, object, lines.position(origin_at(text, unit, at)))
+}
+
+/// Whether a name stands in the text.
+fn is_name(name: &[u8]) -> bool
+    ensures { result ≡ is_name name.now }
+{
+    name.iter().any(|b| *b != b' ')
+}
+
+/// The name of a slot; temporaries have none.
+fn slot_name<'t>(unit: &UnitOrigins<'t>, slot: u16) -> &'t [u8]
+    ensures { result.now ≡ slot_name unit.now.slots slot }
+{
+    match unit.slots.get(slot as usize) {
+        Some(name) => name,
+        None => b"",
+    }
+}
+
+/// Adds the name of a slot, or null where the text has none for it.
+pub(crate) fn put_slot_name(
+    alloc: Global,
+    object: &mut Object,
+    unit: &UnitOrigins<'_>,
+    slot: u16,
+) -> Result<(), AllocError>
+    ensures { OnOk result (Gains (slot_name_member unit.now.slots slot) object.old object.new) }
+{
+    let name = slot_name(unit, slot);
+    if is_name(name) {
+        return object.put_bytes(alloc, "slot_name", name);
+    }
+    object.put(alloc, "slot_name", Value::Null)
+}

@@ -1,0 +1,77 @@
+"""A second telling of what `explain --json` says on standard output, in Python: from docs/EXPLAIN.md, "As JSON" and its tables, and the line of `check`."""
+
+from __future__ import annotations
+
+import json
+import re
+from collections.abc import Iterable
+
+import telling_origins
+from telling_explain import BOUND, FRONT, PLACE, TEXT, WITHOUT_PLACE, place_title, position, tables
+
+ACCEPTED = re.compile(r"accepted steps (?P<steps>\d+) activities (?P<activities>\d+) clocks (?P<clocks>\d+)\n?")
+# A note: its offset in the text, if it has a place there, and its words.
+Note = tuple[int | None, str]
+Members = dict[str, object]
+
+
+def line_of(members: Members) -> str:
+    return json.dumps(members, ensure_ascii=False, separators=(",", ":"), sort_keys=True) + "\n"
+
+
+def place(text: bytes, at: int) -> Members:
+    line, column = position(text, min(at, len(text)))
+    return {"line": line, "column": column}
+
+
+def notes_of(text: bytes | None, notes: Iterable[Note]) -> Members:
+    return {"notes": [{"text": words} | ({} if text is None or at is None else place(text, at)) for at, words in notes]}
+
+
+def refused(file: str, title: str) -> Members:
+    """By a title as `F2 Syntax`."""
+    rule, name = title.split()
+    wrong, repair = tables()[0][rule]
+    return {"accepted": False, "file": file, "rule": rule, "name": name, "message": wrong, "repair": repair}
+
+
+def front(file: str, text: bytes, found: re.Match[str]) -> Members:
+    return refused(file, found["title"]) | ({} if found["rule"] in WITHOUT_PLACE else place(text, int(found["at"])))
+
+
+def by_place(file: str, text: bytes | None, found: re.Match[str], kinds: list[str]) -> Members:
+    """What is said of a place that the verifier refuses; of that of a source text with its lines and names."""
+    number, at = map(int, re.findall(r"\d+", found["place"]))
+    unit = None if text is None else telling_origins.origins(text)[number]
+    said = refused(file, found["title"]) | {"unit": number, "place": at}
+    if unit:
+        said |= {"in": unit.name or f"async at {place_title(text, unit.at)}"} | place(text, unit.offsets[at])
+    if found["walk"]:
+        slot, kind = int(found["slot"]), found["kind"]
+        stops = zip(map(int, found["walk"].split()), kinds, strict=True)
+        walk = [{"place": stop, "kind": held} | (place(text, unit.offsets[stop]) if unit else {}) for stop, held in stops]
+        said |= {"slot": slot, "kind": kind, "holds": tables()[1][kind], "walk": walk}
+        said |= {"slot_name": unit.slots.get(slot)} if unit else {}
+    return said
+
+
+def explained(file: str, text: bytes, line: str, kinds: list[str], is_module: bool, notes: Iterable[Note] = ()) -> str:
+    """What is said where standard error gets this line; the kinds are those of the walk."""
+    said = line.removeprefix("x10clock: ").removesuffix("\n")
+    source = None if is_module else text
+    if found := TEXT.fullmatch(said):
+        return line_of(refused(file, found["title"]))
+    if found := FRONT.fullmatch(said):
+        return line_of(front(file, text, found) | notes_of(text, notes))
+    if found := PLACE.fullmatch(said):
+        return line_of(by_place(file, source, found, kinds) | notes_of(source, notes))
+    if found := BOUND.fullmatch(said):
+        return line_of(refused(file, found["title"]) | {"limit": int(found["limit"])} | notes_of(source, notes))
+    return ""
+
+
+def accepted(file: str, text: bytes, line: str, is_module: bool, notes: Iterable[Note] = ()) -> str:
+    """What is said of a program of which `check` says this line."""
+    found = ACCEPTED.fullmatch(line)
+    numbers = {key: int(number) for key, number in found.groupdict().items()} if found else {}
+    return line_of({"accepted": True, "file": file} | numbers | notes_of(None if is_module else text, notes))
