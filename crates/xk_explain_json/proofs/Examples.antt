@@ -1,5 +1,5 @@
 -- What is said of a source text, a module's text and two programs, byte for byte, by evaluation.
-use Rattle.std.proofs.Common.{◌≡◌, List, [], ◌∷◌, ◌++◌, Some, None, codes, refl}
+use Rattle.std.proofs.Common.{◌≡◌, [], ◌∷◌, Some, None, codes, refl}
 use Rattle.std.specs.Fmt.{digits}
 use Rattle.std.specs.Str.{chars, is_utf8}
 use Rattle.std.specs.Str.Lossy.{utf8_lossy, utf8_valid_len}
@@ -8,7 +8,6 @@ use Rattle.serde_json.proofs.OnLiterals.{serde_json_on_literals}
 use Rattle.xk_types.specs.declared.rules.Rule.TheVariants as rule
 use Rattle.xk_tree.specs.declared.fault.FrontRule.TheVariants as front
 use Rattle.xk_module.specs.declared.fault.ModuleFault.TheVariants as fault
-use Rattle.xk_explain.specs.Notes.{NoteValue}
 use Rattle.xk_explain_json.specs.Explanations.{accepted_value, bound_groups, front_value, module_value, notes_alone}
 use Rattle.xk_explain_json.specs.Objects.{object_of}
 
