@@ -138,7 +138,7 @@ by_some b (k ∷ clocks) (suc c) h = or_true (is_signalled (standing_of k b)) (b
 pub waits_by : (w : World) (b c : ℕ) → is_held_back_by w b c ≡ true → waits w b ≡ true
 waits_by w b c h = by_some b w.clocks c h
 
-pub held_by : (w : World) (b : ℕ) → waits w b ≡ true → (c : ℕ) × (is_held_back_by w b c ≡ true)
+held_by : (w : World) (b : ℕ) → waits w b ≡ true → (c : ℕ) × (is_held_back_by w b c ≡ true)
 held_by w b h = on_some b w.clocks h
 
 -- who doesn't wait goes on so

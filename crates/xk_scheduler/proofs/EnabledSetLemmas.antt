@@ -60,14 +60,14 @@ going m w a h = of (slice_get w.activities a) refl h
     of (Some act) e g = by act e act.status refl g
 
 -- where it has somebody, they haven't
-pub listed_going : (m : ModuleValue) (w : World) → (length (enabled_in m w) ≡ 0 → ⊥) → all_ended w ≡ false
+listed_going : (m : ModuleValue) (w : World) → (length (enabled_in m w) ≡ 0 → ⊥) → all_ended w ≡ false
 listed_going m w some = of (enabled_in m w) refl
   where
     of : (xs : List ℕ) → enabled_in m w ≡ xs → all_ended w ≡ false
     of [] e = absurd (some (ap length e))
     of (a ∷ xs) e = going m w a (listed_enabled m w 0 a (ap (λ l. slice_get l 0) e))
 
-pub listed_none : (xs : List ℕ) → length xs ≡ 0 → xs ≡ []
+listed_none : (xs : List ℕ) → length xs ≡ 0 → xs ≡ []
 listed_none [] e = refl
 listed_none (x ∷ xs) e = absurd (omega (arith, e))
 

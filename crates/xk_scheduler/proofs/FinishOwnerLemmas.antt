@@ -51,7 +51,7 @@ pub record HasOpen (acts : List Activity) (o depth : ℕ) : Type 0 where
   pub within : depth ≤ x.opened
 
 -- an activity that hasn't ended is governed by a finish that its owner has open
-abbrev pub IsOpen : List Activity → Activity → Type 0
+abbrev IsOpen : List Activity → Activity → Type 0
 IsOpen acts act = is_ended act.status ≡ false → (o : ℕ) → act.governed.owner ≡ Some o → HasOpen acts o act.governed.depth
 
 abbrev pub AreOpen : List Activity → Type 0
@@ -86,13 +86,13 @@ module _ (acts : List Activity) (a : ℕ) (act next : Activity) (found : slice_g
       ]
 
   -- and those of the activity itself, which the same finish governs
-  pub open_set : is_ended act.status ≡ false → next.governed ≡ act.governed → Keeps acts a act next → AreOpen acts → AreOpen (slice_set acts a next)
+  open_set : is_ended act.status ≡ false → next.governed ≡ act.governed → Keeps acts a act next → AreOpen acts → AreOpen (slice_set acts a next)
   open_set alive governed keeps each = each_set (λ b x. IsOpen (slice_set acts a next) x) acts a act next found
       (λ going. subst (λ (g : Finish). (o : ℕ) → g.owner ≡ Some o → HasOpen (slice_set acts a next) o g.depth) (sym governed) (open_after keeps each a act found alive))
       (λ b x differs at. open_after keeps each b x at)
 
   -- where it goes on
-  pub open_on : is_ended act.status ≡ false → GoesOn act next → AreOpen acts → AreOpen (slice_set acts a next)
+  open_on : is_ended act.status ≡ false → GoesOn act next → AreOpen acts → AreOpen (slice_set acts a next)
   open_on alive on each = open_set alive on.governed (λ b x at going own some within. (ap is_ended on.runs, omega (arith, on.opened, within))) each
 
 -- one activity more, governed by a finish that its owner has open

@@ -1,14 +1,12 @@
 -- Stretches of local steps: others are left able to step as they were, and a chooser whose state stays names who takes them at each step.
-use Rattle.std.proofs.Common.{◌≡◌, ◌∙◌, ℕ, zero, suc, ◌+◌, ◌<◌, true, false, true≢false, cond, not, ◌==◌, ◌%◌, List, [], ◌∷◌, length, filter, map, replicate, Some, slice_get, refl, sym, ap, subst, arith}
+use Rattle.std.proofs.Common.{◌≡◌, ◌∙◌, ℕ, zero, suc, ◌+◌, ◌<◌, true, false, true≢false, not, ◌==◌, ◌%◌, List, [], ◌∷◌, length, filter, map, replicate, Some, slice_get, refl, sym, ap, subst, arith}
 use Rattle.std.specs.List.{list_all}
 use Rattle.std.proofs.lemmas.Bool.{ne_eqb}
-use Rattle.std.proofs.lemmas.List.{set-get_or}
 use Rattle.xk_types.specs.declared.world.Event.{Event}
 use Rattle.xk_types.specs.declared.world.Event.TheVariants as event
-use Rattle.xk_types.specs.declared.world.Standing.TheVariants as standing
 use Rattle.xk_types.specs.Code.{ModuleValue}
 use Rattle.xk_types.specs.World.{Clock, World}
-use Rattle.xk_types.specs.Step.{Outcome, Blocked, Wrong, Stepped, step, none, moved, is_ready, settled_clock, advanced, waits}
+use Rattle.xk_types.specs.Step.{Outcome, Blocked, Wrong, Stepped, step, none, moved, is_ready, settled_clock, waits}
 use Rattle.xk_types.specs.Schedule.{Through, run, events, events_on, is_local, is_step, is_enabled}
 use Rattle.xk_types.proofs.ListLemmas.{Each}
 use Rattle.xk_laws.proofs.Invariant.{IsClockSound}
@@ -18,6 +16,7 @@ use Rattle.xk_laws.proofs.StepFormLemmas.{step_kind}
 use Rattle.xk_core.specs.Core.{CoreValue, IsCore, is_quiet, is_waiting, is_held_back_by}
 use Rattle.xk_core.specs.LocalRun.{RunsTo, AreLocal, IsUnseen}
 use Rattle.xk_core.proofs.CoreLemmas.{core_stepped}
+use Rattle.xk_core.proofs.LocalRunLemmas.{clocks_rest}
 use Rattle.xk_collections.specs.NumberSets.{numbers_from, with_member}
 use Rattle.xk_collections.proofs.RisingListLemmas.{member_changed}
 use Rattle.xk_collections.specs.WaitingLists.{times, times_in_all, waiters}
@@ -30,15 +29,6 @@ use Rattle.xk_scheduler.proofs.IndependenceLemmas.{untouched, keeps_width, steps
 use Rattle.xk_scheduler.proofs.WakeLemmas.{steps_nowhere}
 
 -- ---- a local step leaves the clocks as they are
-
--- where no clock is ready, and no standing changes, the end of a step leaves all clocks as they are
-clocks_rest : (now a : ℕ) (cs : List Clock) → Each (λ k c. is_ready c ≡ false) cs → map (settled_clock now) (moved a none cs) ≡ cs
-clocks_rest now a [] h = refl
-clocks_rest now a (c ∷ cs) h =
-    ap (λ z. z ∷ map (settled_clock now) (moved a none cs))
-    (ap (λ l. settled_clock now (record c { standings = l })) (set-get_or c.standings a standing.Apart)
-    ∙ ap (λ b. cond b (record { phase = c.phase + 1; last = now; standings = map advanced c.standings }) c) (h 0 c refl))
-    ∙ ap (λ l. c ∷ l) (clocks_rest now a cs (λ k d at. h (suc k) d at))
 
 abbrev Rests : World → Outcome → Type 0
 Rests w Blocked = Unit {0}
@@ -88,14 +78,14 @@ local_same : (m : ModuleValue) (w v : World) (a : ℕ) → IsCore m w → step m
 local_same m w v a core h b inside differs = untouched m w v a event.Local core h b (λ waiting. local_quiet m w v a core h) inside differs (λ e owns. no_end e)
 
 -- so of the list of those who can take a step only this one may be gone
-pub listed_local : (m : ModuleValue) (w v : World) (a : ℕ) → IsCore m w → step m w a ≡ Stepped v event.Local
+listed_local : (m : ModuleValue) (w v : World) (a : ℕ) → IsCore m w → step m w a ≡ Stepped v event.Local
     → enabled_in m v ≡ with_member a (is_enabled m v a) (enabled_in m w)
 listed_local m w v a core h =
     ap (λ n. filter (is_enabled m v) (numbers_from 0 n)) (keeps_width m w v a event.Local h no_start)
     ∙ member_changed (is_enabled m w) (is_enabled m v) (length w.activities) a (steps_within m w v a event.Local h) (local_same m w v a core h)
 
 -- and where it can take another step, the list is as it was
-pub listed_still : (m : ModuleValue) (w v : World) (a : ℕ) → IsCore m w → step m w a ≡ Stepped v event.Local → is_enabled m v a ≡ true → enabled_in m v ≡ enabled_in m w
+listed_still : (m : ModuleValue) (w v : World) (a : ℕ) → IsCore m w → step m w a ≡ Stepped v event.Local → is_enabled m v a ≡ true → enabled_in m v ≡ enabled_in m w
 listed_still m w v a core h can =
     listed_local m w v a core h
     ∙ ap (λ b. with_member a b (enabled_in m w)) (can ∙ sym (ap is_step h))
@@ -122,7 +112,7 @@ no_arrival : event.Local ≡ event.Arrived → ⊥
 no_arrival h = cc
 
 -- a local step leaves them held back by the same clocks
-pub held_local : (m : ModuleValue) (w v : World) (a : ℕ) (lists : List (List ℕ)) → IsCore m w → step m w a ≡ Stepped v event.Local → AreHeld w lists → AreHeld v lists
+held_local : (m : ModuleValue) (w v : World) (a : ℕ) (lists : List (List ℕ)) → IsCore m w → step m w a ≡ Stepped v event.Local → AreHeld w lists → AreHeld v lists
 held_local m w v a lists core h held = record { once = held.once; stands = stands; covers = covers }
   where
     quiet : is_quiet v ≡ true
@@ -214,7 +204,7 @@ alone_held m a (suc n) w v lists core h held =
 -- ---- choosers
 
 -- a chooser whose state stays where it is shown who can step names who takes them at each of these steps
-pub alone_follows : {S : Type 0} (answer : S → List ℕ → ℕ) (after : S → List ℕ → S) (m : ModuleValue) (s : S) (a n : ℕ) (w v : World) → IsSteadyOn after s (enabled_in m w) → IsCore m w
+alone_follows : {S : Type 0} (answer : S → List ℕ → ℕ) (after : S → List ℕ → S) (m : ModuleValue) (s : S) (a n : ℕ) (w v : World) → IsSteadyOn after s (enabled_in m w) → IsCore m w
     → Names answer m s w a → GoesAlone m a n w v → Follows answer after m s w (replicate n a)
 alone_follows answer after m s a zero w v steady core named h = tt
 alone_follows answer after m s a (suc zero) w v steady core named h =
@@ -231,7 +221,7 @@ alone_follows answer after m s a (suc (suc n)) w v steady core named h =
     )
 
 -- and is left in that state
-pub alone_state : {S : Type 0} (after : S → List ℕ → S) (m : ModuleValue) (s : S) (a n : ℕ) (w v : World) → IsSteadyOn after s (enabled_in m w) → IsCore m w
+alone_state : {S : Type 0} (after : S → List ℕ → S) (m : ModuleValue) (s : S) (a n : ℕ) (w v : World) → IsSteadyOn after s (enabled_in m w) → IsCore m w
     → GoesAlone m a n w v → state_after after m s w (replicate n a) ≡ s
 alone_state after m s a zero w v steady core h = refl
 alone_state after m s a (suc zero) w v steady core h =

@@ -91,7 +91,7 @@ room_below c n r core lt h = omega (arith, lt, core_few c.module_run c.world cor
 
 module _ (c : CoreValue) (n : ℕ) (r s : RosterValue) (below : AreListedBelow c n r) (listed : s ≡ record r { members = with_or_without c n r.members }) where
   -- the next is listed if it can take a step
-  abbrev pub test : ℕ → Bool
+  abbrev test : ℕ → Bool
   test = is_enabled c.module_run c.world
 
   list_next : s.members ≡ filter test (numbers_from 0 (n + 1))

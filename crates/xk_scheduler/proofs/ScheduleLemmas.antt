@@ -11,6 +11,7 @@ use Rattle.xk_types.specs.World.{World}
 use Rattle.xk_types.specs.Step.{Stepped, step}
 use Rattle.xk_types.specs.Schedule.{Through, run, is_step, is_enabled, is_local, events, events_on, seen}
 use Rattle.xk_laws.proofs.ReachabilityLemmas.{same_through, first_step, run_more}
+use Rattle.xk_core.proofs.LocalRunLemmas.{events_more}
 use Rattle.xk_scheduler.specs.Schedules.{shown, events_seen, LeadsPart, StopsAt}
 use Rattle.xk_scheduler.proofs.RunSequenceLemmas.{run_then}
 
@@ -25,15 +26,6 @@ events_append m (a ∷ xs) ys w v h =
     ∙ sym (ap (λ o. events_on a o (events m xs) ++ events m ys v) f.2)
 
 -- ---- by a step
-
-pub events_more : (m : ModuleValue) (list : List ℕ) (w v x : World) (a : ℕ) (e : Event) → run m list w ≡ Through v → step m v a ≡ Stepped x e
-    → events m (list ++ a ∷ []) w ≡ events m list w ++ (a, e) ∷ []
-events_more m [] w v x a e h g = ap (λ o. events_on a o (events m [])) (ap (λ z. step m z a) (same_through w v h) ∙ g)
-events_more m (b ∷ list) w v x a e h g =
-    let f = first_step w v (step m w b) (run m list) h in
-    ap (λ o. events_on b o (events m (list ++ a ∷ []))) f.2
-    ∙ ap (λ l. (b, f.1) ∷ l) (events_more m list f.0 v x a e f.3 g)
-    ∙ sym (ap (λ o. events_on b o (events m list) ++ (a, e) ∷ []) f.2)
 
 -- what is seen of one step more
 shown_one : (a : ℕ) (e : Event) → map (λ (p : ℕ × Event). p.1) (filter (λ (p : ℕ × Event). not (is_local p.1)) ((a, e) ∷ [])) ≡ shown e

@@ -69,7 +69,7 @@ module _ (m : ModuleValue) (w : World) (a : ℕ) (fs : FramesValue) (n : ℕ) (r
   alive : is_ended x.status ≡ false
   alive = ap is_ended r.running
 
-  pub width_same : length v.activities ≡ length w.activities
+  width_same : length v.activities ≡ length w.activities
   width_same = length-set w.activities a y
 
   -- others can step as before

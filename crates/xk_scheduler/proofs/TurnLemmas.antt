@@ -98,7 +98,7 @@ pub run_goes_on : {S : Type 0} (answer : S → List ℕ → ℕ) (after : S → 
 run_goes_on answer after m k log numbers c d s t a e r turn is = run_steps m k log numbers c d a e r turn.stepped turn.same_module is
 
 -- and so does what the chooser chose
-pub chosen_goes_on : {S : Type 0} (answer : S → List ℕ → ℕ) (after : S → List ℕ → S) (m : ModuleValue) (log : List Entry) (numbers : List ℤ) (c d : CoreValue)
+chosen_goes_on : {S : Type 0} (answer : S → List ℕ → ℕ) (after : S → List ℕ → S) (m : ModuleValue) (log : List Entry) (numbers : List ℤ) (c d : CoreValue)
     (first s t : S) (a : ℕ) (e : Event)
     → IsRunOf m log numbers c → IsChosen answer after m c.world.arguments first log s → IsTurn answer after c s a e d t
     → IsChosen answer after m c.world.arguments first (log ++ one_step_of a ∷ []) t

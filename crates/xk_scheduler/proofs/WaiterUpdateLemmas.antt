@@ -35,9 +35,6 @@ pub record IsListAsked (w : World) (acts : List ℕ) (p : ℕ → Bool) (n : ℕ
 later_some : (b a : ℕ) (acts : List ℕ) → 0 < times b acts → 0 < times b (a ∷ acts)
 later_some b a acts some = omega (arith, some)
 
-later_none : (b a : ℕ) (acts : List ℕ) → times b (a ∷ acts) ≡ 0 → times b acts ≡ 0
-later_none b a acts none = omega (arith, none)
-
 first_differs : (b a : ℕ) (acts : List ℕ) → times b (a ∷ acts) ≡ 0 → b ≡ a → ⊥
 first_differs b a acts none e = omega (arith, none, ap (λ x. times x (a ∷ acts)) e, first_times a acts)
 
@@ -51,7 +48,7 @@ held_more w a acts p n next on h = record {
     | inr ne ↦ h.free b (omega (arith, some, other_times b a acts ne)) off
   ];
   held = h.held;
-  others = λ b none. h.others b (later_none b a acts none);
+  others = λ b none. h.others b (omega (arith, none));
 }
 
 -- it can take a step
@@ -69,7 +66,7 @@ free_more w a acts p n next off h = record {
     | inr ne ↦ h.free b (omega (arith, some, other_times b a acts (λ e. ne (sym e)))) idle
   ];
   held = λ b on. h.held b on ∙ as_before a p b (λ e. true≢false (sym on ∙ ap (waits w) e ∙ off));
-  others = λ b none. h.others b (later_none b a acts none) ∙ as_before a p b (first_differs b a acts none);
+  others = λ b none. h.others b (omega (arith, none)) ∙ as_before a p b (first_differs b a acts none);
 }
 
 pub list_asked : (w : World) (acts : List ℕ) (p : ℕ → Bool) (n : ℕ) (list : List ℕ) (lists : List (List ℕ)) (next : List ℕ) (later : List (List ℕ))

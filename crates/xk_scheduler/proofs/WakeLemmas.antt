@@ -62,7 +62,7 @@ on_there f [] c h = absurd (true≢false (sym h))
 on_there f (k ∷ clocks) zero h = omega arith
 on_there f (k ∷ clocks) (suc c) h = let later = on_there f clocks c h in omega arith
 
-pub advanced_there : (v : World) (c : ℕ) → 0 < times c (advanced_now v) → c < length v.clocks
+advanced_there : (v : World) (c : ℕ) → 0 < times c (advanced_now v) → c < length v.clocks
 advanced_there v c some = omega (arith, in_row (has_advanced v) c 0 (length v.clocks) some)
 
 -- a clock that isn't among those that advanced didn't
@@ -85,12 +85,12 @@ advanced_none v quiet = none_pass (has_advanced v) (numbers_from 0 (length v.clo
 pub asked_none : (v : World) (list : List ℕ) (lists : List (List ℕ)) → is_quiet v ≡ true → AreAsked v (taken lists (advanced_now v)) list (left lists (advanced_now v)) list lists
 asked_none v list lists quiet = subst (λ (l : List ℕ). AreAsked v (taken lists l) list (left lists l) list lists) (sym (advanced_none v quiet)) (refl, refl)
 
-pub held_there : (w : World) (b c : ℕ) → is_held_back_by w b c ≡ true → c < length w.clocks
+held_there : (w : World) (b c : ℕ) → is_held_back_by w b c ≡ true → c < length w.clocks
 held_there w b c h = on_there _ w.clocks c h
 
 -- ---- who waits at an `advance` can take a step exactly if no clock holds it back
 
-pub waiting_enabled : (m : ModuleValue) (w : World) (b : ℕ) → is_waiting w b ≡ true → is_enabled m w b ≡ not (waits w b)
+waiting_enabled : (m : ModuleValue) (w : World) (b : ℕ) → is_waiting w b ≡ true → is_enabled m w b ≡ not (waits w b)
 waiting_enabled m w b h = of (slice_get w.activities b) h
   where
     tested : (x : Activity) (t : Bool) → waits w b ≡ t → is_step (passing w b x) ≡ not (waits w b)
@@ -262,7 +262,7 @@ covers_it : (v : World) (a : ℕ) (later last : List (List ℕ)) → AreListsAsk
 covers_it v a later last r b e on = r.put b (subst (λ k. 0 < times k (a ∷ [])) e (omega (arith, first_times a []))) on
 
 -- one that waits at an `advance`, and stands in no list, is put into one if a clock holds it back
-pub put_held : (v : World) (a : ℕ) (later last : List (List ℕ)) → length v.clocks ≤ length later → times_in_all a later ≡ 0 → is_waiting v a ≡ true → IsPut v a later last
+put_held : (v : World) (a : ℕ) (later last : List (List ℕ)) → length v.clocks ≤ length later → times_in_all a later ≡ 0 → is_waiting v a ≡ true → IsPut v a later last
     → ((b : ℕ) → times_in_all b later ≤ 1) → ((c b : ℕ) → 0 < times b (waiters later c) → (is_waiting v b ≡ true) × (is_held_back_by v b c ≡ true))
     → ((b : ℕ) → (b ≡ a → ⊥) → is_waiting v b ≡ true → waits v b ≡ true → 0 < times_in_all b later) → AreHeld v last
 put_held v a later last wide nowhere waiting put once stands covers =
@@ -386,7 +386,7 @@ pub from_place : (acts : List ℕ) (i : ℕ) → i < length acts → drop i acts
 from_place acts i lt = drop-cons acts i 0 lt ∙ ap (λ j. get_or acts i 0 ∷ drop j acts) (sym (add-one i))
 
 -- who is asked stands once more at most
-pub few_asked : (v : World) (a : ℕ) (list : List ℕ) (lists : List (List ℕ)) (next : List ℕ) (later : List (List ℕ)) → length v.clocks ≤ length lists
+few_asked : (v : World) (a : ℕ) (list : List ℕ) (lists : List (List ℕ)) (next : List ℕ) (later : List (List ℕ)) → length v.clocks ≤ length lists
     → IsAsked v a list lists next later → (b : ℕ) → times_in_all b later ≤ times b (a ∷ []) + times_in_all b lists
 few_asked v a list lists next later wide asked b =
     (lists_asked v (a ∷ []) list lists next later (λ c k on. omega (arith, held_there v k c on, wide)) (next, later, asked, (refl, refl))).few b
