@@ -1,0 +1,4 @@
+pub mod AmountLemmas
+pub mod UpwardLemmas
+pub mod UnitTotalLemmas
+mod Examples
