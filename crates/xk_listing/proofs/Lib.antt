@@ -1,0 +1,4 @@
+mod Examples
+pub mod LineLemmas
+pub mod ListingLemmas
+pub mod ShapeLemmas

@@ -1,0 +1,97 @@
+#!/usr/bin/env python3
+"""A second telling of what `listing` prints, in Python, from docs/LISTING.md.
+
+    python3 tests/reference/telling_listing.py [--module] FILE
+"""
+
+from __future__ import annotations
+
+import pathlib
+import sys
+
+import telling
+import telling_explain
+import telling_origins
+import telling_source
+from telling import Instr, Kind, Kinds, Module, Role, Unit
+from telling_origins import Origins
+
+# How wide a field is at least: an instruction's place, its words, the clocks, and where it comes from. Two blanks stand between fields.
+PLACE, WORDS, CLOCKS, FROM = 4, 17, 24, 7
+OF_CLOCKS = (Kind.LIVE, Kind.RESUMED, Kind.OUT)
+
+
+def has_shape(module: Module) -> bool:
+    """Whether no place breaks V1 to V10; each is asked where the ones before it aren't broken."""
+    return all(next(breaches(module), None) is None for _, breaches in telling.PLACE_RULES)
+
+
+def words(instr: Instr) -> str:
+    operands = zip(telling.ROLES[instr.name], instr.operands, strict=True)
+    listed = [f"({' '.join(map(str, operand))})" if role is Role.ARGUMENTS else str(operand) for role, operand in operands]
+    return " ".join([instr.name, *listed])
+
+
+def clocks(kinds: Kinds | None, number: int, place: int, names: dict[int, str]) -> str:
+    """The slots that may hold clocks before an instruction, and what they may hold."""
+    said = []
+    for slot, walks in enumerate(kinds.slots[number] if kinds else ()):
+        found = sorted(kind for at, kind in walks.found_from if at == place)
+        if any(kind in OF_CLOCKS for kind in found):
+            said.append(f"{names.get(slot, slot)}:{'|'.join(kind.name.lower() for kind in found)}")
+    return " ".join(said)
+
+
+def front(place: int) -> str:
+    return f"{place:>{PLACE}}  "
+
+
+def module_unit(number: int, unit: Unit, kinds: Kinds | None) -> str:
+    """A unit of a module that comes without its text."""
+    params = f"  params {unit.params}" if unit.params else ""
+    said = f"unit {number}  {unit.kind.value}{params}  slots {unit.slots}\n"
+    for place, instr in enumerate(unit.code):
+        found = clocks(kinds, number, place, {})
+        said += front(place) + (f"{words(instr):<{WORDS}}  {found}" if found else words(instr)) + "\n"
+    return said
+
+
+def source_unit(text: bytes, number: int, unit: Unit, origins: Origins, kinds: Kinds | None) -> str:
+    name = f"def {origins.name}" if origins.name else "async"
+    slots = "".join(f" {slot}:{origins.slots[slot]}" if slot in origins.slots else f" {slot}" for slot in range(unit.slots))
+    said = f"unit {number}  {name}  {telling_explain.place_title(text, origins.at)}  slots{slots}\n"
+    before = None
+    for place, (instr, at) in enumerate(zip(unit.code, origins.offsets, strict=True)):
+        held = f"  {clocks(kinds, number, place, origins.slots):<{CLOCKS}}" if kinds else ""
+        title = telling_explain.place_title(text, at)
+        line = title if at == before else f"{title:<{FROM}}  {telling_explain.line_text(text, at)}"
+        said += f"{front(place)}{words(instr):<{WORDS}}{held}  {line}\n"
+        before = at
+    return said
+
+
+def of_module(module: Module) -> str:
+    kinds = Kinds.of(module) if has_shape(module) else None
+    return "\n".join(module_unit(number, unit, kinds) for number, unit in enumerate(module.units))
+
+
+def of_source(text: bytes) -> str:
+    """Of a text that is compiled."""
+    module = telling.read_module(telling_source.module_text(text).encode())
+    kinds = Kinds.of(module) if has_shape(module) else None
+    units = zip(module.units, telling_origins.origins(text), strict=True)
+    return "\n".join(source_unit(text, number, unit, origins, kinds) for number, (unit, origins) in enumerate(units))
+
+
+def listed(data: bytes, is_module: bool) -> str:
+    return of_module(telling.read_module(data)) if is_module else of_source(data)
+
+
+def main(arguments: list[str]) -> int:
+    *flags, path = arguments
+    sys.stdout.write(listed(pathlib.Path(path).read_bytes(), "--module" in flags))
+    return 0
+
+
+if __name__ == "__main__":
+    sys.exit(main(sys.argv[1:]))
