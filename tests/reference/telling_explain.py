@@ -10,6 +10,7 @@ import telling_origins
 
 PAGE = pathlib.Path(__file__).resolve().parents[2] / "docs/EXPLAIN.md"
 ROW = re.compile(r"\| (?P<rule>[FMV]\d+) \w+ \| (?P<wrong>.*) \| (?P<repair>.*) \|")
+HABIT = re.compile(r"\| (?P<rule>F\d+) \| (?P<where>at|behind|before|line) \| (?P<what>.*?) \| (?P<repair>.*) \|")
 KIND = re.compile(r"\| (?P<kind>unset|number|live|resumed|out) \| (?P<holds>.*) \|")
 FRONT = re.compile(r"(?P<title>(?P<rule>F\d+) \w+) at (?P<at>\d+)")
 TEXT = re.compile(r"(?P<title>(?P<rule>M\d+) \w+)")
@@ -19,6 +20,9 @@ BOUND = re.compile(r"(?P<title>(?P<rule>V\d+) \w+) over (?P<limit>\d+)")
 WINDOW, TOLD = 80, 60
 WAYS = "   = ways go round loops and into both branches, whatever the numbers are\n"
 WORD = re.compile(rb"[0-9A-Za-z_]*")
+LAST_WORD = re.compile(rb"[0-9A-Za-z_]*\Z")
+BLANKS = b" \t\n\r"
+MARK = b"\xef\xbb\xbf"
 WITHOUT_PLACE = ("F4", "F9")
 
 
@@ -28,6 +32,13 @@ def tables() -> tuple[dict[str, tuple[str, str]], dict[str, str]]:
     page = PAGE.read_text().splitlines()
     rules = {found["rule"]: (found["wrong"], found["repair"]) for line in page if (found := ROW.fullmatch(line))}
     return rules, {found["kind"]: found["holds"] for line in page if (found := KIND.fullmatch(line))}
+
+
+@cache
+def habits() -> list[tuple[str, str, str, str]]:
+    """Rule, where, what stands there, and the repair, row by row."""
+    found = (HABIT.fullmatch(line) for line in PAGE.read_text().splitlines())
+    return [(row["rule"], row["where"], *(row[cell].replace("\\|", "|") for cell in ("what", "repair"))) for row in found if row]
 
 
 def signs(line: bytes) -> list[bytes]:
@@ -66,12 +77,17 @@ def position(text: bytes, at: int) -> tuple[int, int]:
     return text.count(b"\n", 0, at) + 1, columns(text[start:at]) + 1
 
 
-def excerpt(text: bytes, at: int, marked: int) -> str:
+def whole_line(text: bytes, at: int) -> bytes:
+    """The line of an offset, without its end."""
     start = text.rfind(b"\n", 0, at) + 1
     end = text.find(b"\n", start)
     line = text[start : end if end >= 0 else len(text)]
-    if end >= 0:
-        line = line.removesuffix(b"\r")
+    return line.removesuffix(b"\r") if end >= 0 else line
+
+
+def excerpt(text: bytes, at: int, marked: int) -> str:
+    start = text.rfind(b"\n", 0, at) + 1
+    line = whole_line(text, at)
     before, behind = signs(line[: at - start]), signs(line[at - start :])
     left = (".." if len(before) > WINDOW else "") + "".join(map(shown, before[-WINDOW:]))
     right = "".join(map(shown, behind[:WINDOW])) + (".." if len(behind) > WINDOW else "")
@@ -82,7 +98,44 @@ def excerpt(text: bytes, at: int, marked: int) -> str:
 
 
 def repair(rule: str) -> str:
-    return f"   = usual repair: {tables()[0][rule][1]}\n"
+    return repair_line(tables()[0][rule][1])
+
+
+def repair_line(said: str) -> str:
+    return f"   = usual repair: {said}\n"
+
+
+def stands(where: str, what: str, text: bytes, at: int) -> bool:
+    """Whether this stands at an offset, before or behind what stands there, or begins its line."""
+    before, rest = text[:at], text[at:]
+    kept = before.rstrip(BLANKS)
+    word, last = WORD.match(rest)[0], LAST_WORD.search(kept)[0]
+    if what == "a byte order mark":
+        return rest.startswith(MARK)
+    if what == "no ASCII":
+        return rest[:1] >= b"\x80"
+    if what == "the text's end":
+        return not rest
+    if what == "a line's end":
+        return b"\n" in before[len(kept) :] and (last != b"" or kept.endswith(b")"))
+    if what == "a number":
+        return LAST_WORD.search(before)[0][:1].isdigit() and (word != b"" or rest.startswith(b"."))
+    if what == "`}`":
+        return kept.endswith(b"}")
+    spelled = [cell.encode() for cell in re.findall(r"`([^`]*)`", what)]
+    if where == "behind":
+        return last in spelled
+    if where == "before":
+        return re.match(rb"[ \t\n\r]*=(?!=)", rest[len(word) :]) is not None
+    if where == "line":
+        return WORD.match(whole_line(text, at).lstrip(BLANKS))[0] in spelled
+    return word in spelled or any(rest.startswith(sign) for sign in spelled if not sign.isalnum())
+
+
+def repair_at(rule: str, text: bytes, at: int) -> str:
+    """The first row that fits, or the usual repair of the rule."""
+    found = (said for of, where, what, said in habits() if of == rule and stands(where, what, text, at))
+    return repair_line(next(found, tables()[0][rule][1]))
 
 
 def front(file: str, text: bytes, found: re.Match[str]) -> str:
@@ -93,7 +146,7 @@ def front(file: str, text: bytes, found: re.Match[str]) -> str:
     word = WORD.match(text, at)
     line, column = position(text, at)
     marked = max(1, len(word[0]) if word else 0)
-    return f"{file}:{line}:{column}: {found['title']}: {wrong}\n{excerpt(text, at, marked)}{repair(rule)}"
+    return f"{file}:{line}:{column}: {found['title']}: {wrong}\n{excerpt(text, at, marked)}{repair_at(rule, text, at)}"
 
 
 def walk(slot: str, kinds: list[str], places: list[str]) -> str:
@@ -103,12 +156,7 @@ def walk(slot: str, kinds: list[str], places: list[str]) -> str:
 
 def line_text(text: bytes, at: int) -> str:
     """The line of an offset as it is shown, without the blanks that it begins with, and no more than 60 signs of it."""
-    start = text.rfind(b"\n", 0, at) + 1
-    end = text.find(b"\n", start)
-    line = text[start : end if end >= 0 else len(text)]
-    if end >= 0:
-        line = line.removesuffix(b"\r")
-    return "".join(map(shown, signs(line.lstrip(b" \t"))[:TOLD]))
+    return "".join(map(shown, signs(whole_line(text, at).lstrip(b" \t"))[:TOLD]))
 
 
 def place_title(text: bytes, at: int) -> str:

@@ -19,6 +19,7 @@ use Rattle.xk_module.specs.Faults.{fault_label}
 use Rattle.xk_positions.specs.declared.lines.Position.{Position}
 use Rattle.xk_positions.specs.Lines.{position_of}
 use Rattle.xk_positions.specs.Excerpts.{excerpt}
+use Rattle.xk_repairs.specs.Repairs.{repair_at}
 use Rattle.xk_explain.specs.Notes.{NoteValue, note_lines, plain_lines}
 use Rattle.xk_explain.specs.Messages.{front_message, front_repair, kind_message, module_message, module_repair, rule_message, rule_repair}
 
@@ -77,7 +78,7 @@ excerpt_lines text at = excerpt text at (marked_from (drop at text)) ++ codes "\
 abbrev pub placed_explanation : List ℕ → List ℕ → FrontFault → List NoteValue → List ℕ
 placed_explanation file text f notes =
     ((head_at file (position_of text (shown_at text f)) (front_title f.rule) (front_message f.rule) ++ excerpt_lines text (shown_at text f))
-    ++ note_lines text notes) ++ repair_line (front_repair f.rule)
+    ++ note_lines text notes) ++ repair_line (repair_at text f.rule (shown_at text f))
 
 -- all that is said of one that has none
 abbrev pub unplaced_explanation : List ℕ → List ℕ → FrontRule → List NoteValue → List ℕ

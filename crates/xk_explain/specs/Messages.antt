@@ -8,6 +8,7 @@ use Rattle.xk_tree.specs.declared.fault.FrontRule.{FrontRule}
 use Rattle.xk_tree.specs.declared.fault.FrontRule.TheVariants as front
 use Rattle.xk_module.specs.declared.fault.ModuleFault.{ModuleFault}
 use Rattle.xk_module.specs.declared.fault.ModuleFault.TheVariants as text
+pub use Rattle.xk_repairs.specs.Rules.{front_repair}
 
 -- ---- source texts
 
@@ -28,24 +29,6 @@ front_message front.SameClockTwice = codes "this clock is given twice"
 front_message front.Literal = codes "this number begins with a needless 0, or has more than 64 bits"
 front_message front.Table = codes "too many shared numbers (over 256), units (over 1024), or in one unit slots (over 64), instructions (over 4096) or arguments (over 64)"
 front_message front.NoHiddenClock = codes "no `clocked finish` has its clock here"
-
--- the usual repair
-abbrev pub front_repair : FrontRule → List ℕ
-front_repair front.Token = codes "names and numbers are of letters, digits and `_` of ASCII; a `/*` needs its `*/`"
-front_repair front.Syntax = codes "look right before it for what is missing, as a `;`, a `)` or a `}`"
-front_repair front.TooDeep = codes "move a part into a method, or name a part of the expression by a `val`"
-front_repair front.TooLong = codes "write a shorter one: a method is written once, however often it is called"
-front_repair front.UnknownName = codes "look for another spelling, or declare it before it is used, and further out"
-front_repair front.DuplicateName = codes "take another name"
-front_repair front.WrongKind = codes "a clock is no number; a shared number is read alone, as in `val x = s;`; a `var` and a shared number alone are assigned to"
-front_repair front.NotCaptured = codes "hand a clock on by `async clocked (c)`; in place of a `var` take a `val` of it before the `async`, or a shared number"
-front_repair front.NoMain = codes "write `def main() { .. }`: it takes numbers alone, and makes its clocks"
-front_repair front.Recursive = codes "say by a `for` how often something is done, or write a method for each level"
-front_repair front.Arity = codes "give one argument for each parameter, in their order"
-front_repair front.SameClockTwice = codes "name each clock once"
-front_repair front.Literal = codes "write it without the 0, from -9223372036854775808 to 9223372036854775807"
-front_repair front.Table = codes "move a part into a method of its own"
-front_repair front.NoHiddenClock = codes "put a `clocked finish` around it, with no `finish` or `async` without a clock between them; or name a clock: `async clocked (c)`"
 
 -- ---- programs that the verifier refuses
 

@@ -4,12 +4,13 @@ ghost use Rattle.std.specs.Prelude.{◌≡◌, ◌≤◌, length, IfOk, string_b
 ghost use Rattle.xk_explain.specs.Explanations.{front_explanation, front_title, has_place, module_explanation, placed_explanation, shown_at, unplaced_explanation};
 
 use crate::lines::{push_head, push_repair};
-use crate::messages::{front_message, front_repair, module_message, module_repair};
+use crate::messages::{front_message, module_message, module_repair};
 use crate::note::{Note, note_lines};
 use crate::places::{push_excerpt, push_head_at};
 use std::alloc::{AllocError, Global};
 use xk_module::ModuleFault;
 use xk_positions::LineStarts;
+use xk_repairs::{front_repair, repair_at};
 use xk_tree::{FrontFault, FrontRule};
 
 /// All that is said of a fault of the source text in FILE: `FILE:3:5: F2 Syntax: ..`, the line there with carets, these notes, and the usual repair.
@@ -54,7 +55,7 @@ fn explain_placed(
     )?;
     push_excerpt(alloc, &mut out, &lines, text, at)?;
     out.extend_from_slice(&note_lines(alloc, &lines, text, notes)?)?;
-    push_repair(alloc, &mut out, front_repair(fault.rule))?;
+    push_repair(alloc, &mut out, repair_at(text, fault.rule, at))?;
     Ok(out)
 }
 

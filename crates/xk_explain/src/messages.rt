@@ -1,7 +1,7 @@
 //! What is said of each rule that is broken: what is wrong, and how it is usually repaired.
 
 ghost use Rattle.std.specs.Prelude.{◌≡◌};
-ghost use Rattle.xk_explain.specs.Messages.{front_message, front_repair, kind_message, module_message, module_repair, rule_message, rule_repair};
+ghost use Rattle.xk_explain.specs.Messages.{front_message, kind_message, module_message, module_repair, rule_message, rule_repair};
 
 use xk_module::ModuleFault;
 use xk_tree::FrontRule;
@@ -30,39 +30,6 @@ pub(crate) fn front_message(rule: FrontRule) -> &'static str
         FrontRule::Table =>
             "too many shared numbers (over 256), units (over 1024), or in one unit slots (over 64), instructions (over 4096) or arguments (over 64)",
         FrontRule::NoHiddenClock => "no `clocked finish` has its clock here",
-    }
-}
-
-/// The usual repair of a text.
-pub(crate) fn front_repair(rule: FrontRule) -> &'static str
-    ensures { result.now ≡ front_repair rule }
-{
-    match rule {
-        FrontRule::Token =>
-            "names and numbers are of letters, digits and `_` of ASCII; a `/*` needs its `*/`",
-        FrontRule::Syntax => "look right before it for what is missing, as a `;`, a `)` or a `}`",
-        FrontRule::TooDeep =>
-            "move a part into a method, or name a part of the expression by a `val`",
-        FrontRule::TooLong =>
-            "write a shorter one: a method is written once, however often it is called",
-        FrontRule::UnknownName =>
-            "look for another spelling, or declare it before it is used, and further out",
-        FrontRule::DuplicateName => "take another name",
-        FrontRule::WrongKind =>
-            "a clock is no number; a shared number is read alone, as in `val x = s;`; a `var` and a shared number alone are assigned to",
-        FrontRule::NotCaptured =>
-            "hand a clock on by `async clocked (c)`; in place of a `var` take a `val` of it before the `async`, or a shared number",
-        FrontRule::NoMain =>
-            "write `def main() { .. }`: it takes numbers alone, and makes its clocks",
-        FrontRule::Recursive =>
-            "say by a `for` how often something is done, or write a method for each level",
-        FrontRule::Arity => "give one argument for each parameter, in their order",
-        FrontRule::SameClockTwice => "name each clock once",
-        FrontRule::Literal =>
-            "write it without the 0, from -9223372036854775808 to 9223372036854775807",
-        FrontRule::Table => "move a part into a method of its own",
-        FrontRule::NoHiddenClock =>
-            "put a `clocked finish` around it, with no `finish` or `async` without a clock between them; or name a clock: `async clocked (c)`",
     }
 }
 

@@ -1,0 +1,2 @@
+mod DeclarationLemmas
+mod Examples

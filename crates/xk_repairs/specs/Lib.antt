@@ -1,0 +1,3 @@
+pub mod Words
+pub mod Rules
+pub mod Repairs
