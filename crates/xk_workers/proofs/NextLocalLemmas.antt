@@ -11,7 +11,7 @@ use Rattle.xk_core.proofs.NextLocalLemmas.{next_is}
 use Rattle.xk_workers.proofs.LocalStepLemmas.{Runs, runs}
 
 -- the frames of activity a
-abbrev pub frames_of : CoreValue → ℕ → frames.FramesValue
+abbrev frames_of : CoreValue → ℕ → frames.FramesValue
 frames_of c a = frames_in c.module_run (act_at c.world.activities a)
 
 ready : (c : CoreValue) (a : ℕ) → IsCore c.module_run c.world → is_next_local c a ≡ true

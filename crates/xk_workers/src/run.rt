@@ -100,6 +100,7 @@ impl<'m> Run<'m> {
         requires { start.world.steps ≡ 0 }
         ensures { result ≡ fresh_run start.entry }
     {
+        // For `core` of `activities`: a legal schedule leads to it, so that without a step it is the opening world.
         let _everybody = start.activities();
         Run {
             alloc,
@@ -188,6 +189,7 @@ impl<'m> Run<'m> {
         ensures core { IsCore self.now.core.module_run self.now.core.world }
     {
         let core = self.core();
+        // For `core`, which is what `activities` says of each core.
         let _everybody = core.activities();
         core.frames(act).copy()
     }
