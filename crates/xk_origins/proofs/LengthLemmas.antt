@@ -40,34 +40,34 @@ module _ {A : Type 0} (o : A) where
       (joined (brings o r) (o ∷ []) (eval scope u r) (_ ∷ []) (brings_length scope u r) refl)
 
   -- with one instruction more
-  brings_then : (scope : Scope) (t : ℕ) (e : Expression) (i : Instr) → Same (brings o e ++ o ∷ []) (eval scope t e ++ i ∷ [])
+  pub brings_then : (scope : Scope) (t : ℕ) (e : Expression) (i : Instr) → Same (brings o e ++ o ∷ []) (eval scope t e ++ i ∷ [])
   brings_then scope t e i = joined (brings o e) (o ∷ []) (eval scope t e) (i ∷ []) (brings_length scope t e) refl
 
-  both_then : (scope : Scope) (t : ℕ) (l r : Expression) (i : Instr) → Same (brings o l ++ (brings o r ++ o ∷ [])) (both scope t l r ++ i ∷ [])
+  pub both_then : (scope : Scope) (t : ℕ) (l r : Expression) (i : Instr) → Same (brings o l ++ (brings o r ++ o ∷ [])) (both scope t l r ++ i ∷ [])
   both_then scope t l r i =
       let u = behind t (slot_for scope t l) in
       joined (brings o l) (brings o r ++ o ∷ []) (eval scope t l) (eval scope u r ++ i ∷ []) (brings_length scope t l) (brings_then scope u r i)
       ∙ sym (ap length (append_assoc (eval scope t l) (eval scope u r) (i ∷ [])))
 
-  puts_length : (scope : Scope) (t : ℕ) (e : Expression) (i : Instr) → Same (puts o e) (before_into scope t e ++ i ∷ [])
+  pub puts_length : (scope : Scope) (t : ℕ) (e : Expression) (i : Instr) → Same (puts o e) (before_into scope t e ++ i ∷ [])
   puts_length scope t (Literal n) i = refl
   puts_length scope t (Named x) i = refl
   puts_length scope t (Paren at e) i = puts_length scope t e i
   puts_length scope t (Negation at e) i = ap suc (brings_then scope (t + 1) e i)
   puts_length scope t (Binary op l at r) i = both_then scope t l r i
 
-  all_length : (scope : Scope) (t : ℕ) (es : List Expression) → Same (brings_all o es) (eval_all scope t es)
+  pub all_length : (scope : Scope) (t : ℕ) (es : List Expression) → Same (brings_all o es) (eval_all scope t es)
   all_length scope t [] = refl
   all_length scope t (e ∷ es) =
       let u = behind t (slot_for scope t e) in
       joined (brings o e) (brings_all o es) (eval scope t e) (eval_all scope u es) (brings_length scope t e) (all_length scope u es)
 
-  limit_length : (scope : Scope) (t n : ℕ) (b : Bound) → Same (puts_limit o b) (before_bound scope t n b)
+  pub limit_length : (scope : Scope) (t n : ℕ) (b : Bound) → Same (puts_limit o b) (before_bound scope t n b)
   limit_length scope t n (UpTo hi) = refl
   limit_length scope t n (Least x v e hi) = puts_length scope t e (last_into scope t e (n + 1))
 
 module _ (cx : Setting) (shared : List (List ℕ)) (known : (x : List ℕ) → has shared x ≡ is_some (find cx.shared x)) (t : ℕ) where
-  assigned_length : {A : Type 0} (o : A) (scope : Scope) (e : Expression) (i : Instr) (s : Option ℕ)
+  pub assigned_length : {A : Type 0} (o : A) (scope : Scope) (e : Expression) (i : Instr) (s : Option ℕ)
       → Same (cond (is_some s) (brings o e ++ o ∷ []) (puts o e)) (before_assigned scope t e s ++ i ∷ [])
   assigned_length o scope e i (Some s) = brings_then o scope t e i
   assigned_length o scope e i None = puts_length o scope t e i

@@ -5,4 +5,8 @@ pub mod NameLemmas
 pub mod TokenLemmas
 pub mod SlotLemmas
 pub mod OwnInstructionLemmas
+pub mod PlaceLemmas
+pub mod DueLemmas
+pub mod DueLaw
 mod Examples
+mod DueExamples

@@ -198,7 +198,7 @@ unit_is_of cx shared known xs s p =
     joined (origins shared s) (Leaves p ∷ []) (code_of cx (first_temporary xs s) (scope_from 0 xs) (length xs) 0 s) (instr.Ret ∷ [])
     (code_is_of cx shared known (first_temporary xs s) (scope_from 0 xs) (length xs) 0 s) (refl, tt)
 
-part_is_of : (cx : Setting) (shared : List (List ℕ)) → ((x : List ℕ) → has shared x ≡ is_some (find cx.shared x)) → (p : Part)
+pub part_is_of : (cx : Setting) (shared : List (List ℕ)) → ((x : List ℕ) → has shared x ≡ is_some (find cx.shared x)) → (p : Part)
     → AreOf (part_origins shared p) (unit_of_part cx p).code
 part_is_of cx shared known (OfMethod m) = unit_is_of cx shared known (names_of_params m.params) (Block m.close m.body) (OfMethod m)
 part_is_of cx shared known (OfBody at cs s) = unit_is_of cx shared known (body_params cx at cs) s (OfBody at cs s)

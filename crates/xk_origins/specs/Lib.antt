@@ -4,3 +4,4 @@ pub mod Offsets
 pub mod VisibleNames
 pub mod OwnInstructions
 pub mod Laws
+pub mod Due

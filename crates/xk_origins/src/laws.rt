@@ -1,15 +1,23 @@
-//! That each instruction has one origin, that a token of the text stands there, and that slots are called as code has them.
+//! That each instruction has one origin, that a token of the text stands there, that slots are called as code has them, and that the source
+//! stands where origins say.
 
-ghost use Rattle.std.specs.Prelude.{◌≡◌, ℕ, List, Some, is_some, length, slice_get};
+ghost use Rattle.std.specs.Prelude.{◌≡◌, ℕ, ◌≤◌, List, Some, is_some, length, slice_get};
 ghost use Rattle.xk_tree.specs.Tree.{Statement, TreeValue};
 ghost use Rattle.xk_tree.specs.AsyncOffsets.{HasBodiesApart};
+ghost use Rattle.xk_tree.specs.declared.fault.FrontFault.{FrontFault};
 ghost use Rattle.xk_types.specs.Code.{ModuleValue};
+ghost use Rattle.xk_types.specs.Schedule.{Leads};
+ghost use Rattle.xk_types.specs.Step.{step};
+ghost use Rattle.xk_types.specs.World.{World, opening};
+ghost use Rattle.xk_names.specs.Faults.{HasFault};
 ghost use Rattle.xk_names.specs.Scope.{find, has};
 ghost use Rattle.xk_names.specs.Captures.{shared_texts};
 ghost use Rattle.xk_emit.specs.CodeOf.{Scope, Setting, code_of};
 ghost use Rattle.xk_syntax.specs.Spelling.{SpellsTree};
 ghost use Rattle.xk_semantics.specs.Parts.{Part};
 ghost use Rattle.xk_semantics.specs.Compilation.{IsCompiled};
+ghost use Rattle.xk_semantics.specs.Meaning.{moments};
+ghost use Rattle.xk_origins.specs.Due.{HasRunBeside};
 ghost use Rattle.xk_origins.specs.Laws.{AreAtTokens, AreOrigins, HasOneForEach, code_at};
 ghost use Rattle.xk_origins.specs.Origin.{origins, part_origins};
 ghost use Rattle.xk_origins.specs.OwnInstructions.{AreOf};
@@ -52,4 +60,17 @@ pub fn slots_have_their_names()
 pub fn a_token_stands_there()
     ensures { (text : List ℕ) (t : TreeValue) (os : List UnitOrigins)
         → (s : SpellsTree text t) → AreOrigins t os → AreAtTokens s.spelled.0 os }
+{}
+
+/// What the origin of an instruction says is what the source has to do there: origins are no hint. For each legal run of a compiled module
+/// there is a run of the tree with the same arguments and the same moments, as `means_its_source` of `xk_simulation` has it, at the end of
+/// which activities are beside each other, one for one, with the same status and as many open `finish`es. What one of the tree has to do
+/// first is what the origin of the place says at which the last frame of the module's stands; where that is a jump over an `else`, of where
+/// it leads. In an `advanceAll` whose first half is done, and in a frame that waits at a call, it is so of the place behind. The call does
+/// nothing; its contract is the law.
+pub fn stands_as_its_source()
+    ensures { (t : TreeValue) (m : ModuleValue) → ((f : FrontFault) → HasFault t f → ⊥)
+        → HasBodiesApart t → length m.units ≤ 1024 → (c : IsCompiled t m)
+        → (list : List ℕ) (w : World) → Leads m list w
+        → HasRunBeside t m c.units (moments (step m) list (opening m w.arguments)) w }
 {}
