@@ -1,6 +1,6 @@
 -- What `explain` says of a source text that the verifier refuses: in the text's own lines and names. This project's own.
-use Rattle.std.specs.Prelude.{ℕ, nat_eq, nat_le, Bool, false, not, ◌||◌, ◌&&◌, List, [], ◌∷◌, ◌++◌, length, take, drop, min, Option, Some, None, slice_get, unwrap_or, codes, decimal, if◌then◌else◌}
-use Rattle.std.specs.List.{list_any, prefix_len}
+use Rattle.std.specs.Prelude.{ℕ, nat_eq, nat_le, Bool, false, not, List, [], ◌∷◌, ◌++◌, length, take, min, Option, Some, None, slice_get, unwrap_or, codes, decimal, if◌then◌else◌}
+use Rattle.std.specs.List.{list_any}
 use Rattle.std.specs.Option.{option_map_or}
 use Rattle.xk_types.specs.declared.rules.Rule.{Rule}
 use Rattle.xk_types.specs.declared.rules.Kind.{Kind}
@@ -10,7 +10,7 @@ use Rattle.xk_typestate.specs.declared.fault.KindFault.{KindFault}
 use Rattle.xk_bounds.specs.declared.refusal.Refusal.{Refusal}
 use Rattle.xk_bounds.specs.declared.refusal.Refusal.TheVariants as refusal
 use Rattle.xk_positions.specs.declared.lines.Position.{Position}
-use Rattle.xk_positions.specs.Lines.{line_at, position_of}
+use Rattle.xk_positions.specs.Lines.{position_of, words_at}
 use Rattle.xk_positions.specs.Signs.{signs, shown_signs}
 use Rattle.xk_origins.specs.UnitOrigins.{Head, UnitOrigins}
 use Rattle.xk_explain.specs.Notes.{NoteValue, note_lines, place_title}
@@ -49,12 +49,9 @@ title_in text r h = (rule_title r ++ codes ", ") ++ unit_title text h
 
 -- ---- walks
 
-abbrev pub is_blank : ℕ → Bool
-is_blank b = nat_eq b 32 || nat_eq b 9
-
 -- the line of an offset as it is shown, without the blanks that it begins with, and no more than 60 signs of it
 unfoldable pub line_text : List ℕ → ℕ → List ℕ
-line_text text at = let line = line_at text at in shown_signs (take 60 (signs (drop (prefix_len is_blank line) line)))
+line_text text at = shown_signs (take 60 (signs (words_at text at)))
 
 -- what is said of one stop: `     8:9  a clock, dropped: c.drop();`
 unfoldable pub stop_head : Position → Kind → List ℕ

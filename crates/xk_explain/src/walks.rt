@@ -1,8 +1,7 @@
 //! Names and walks in the words of a source text.
 
 ghost use Rattle.std.specs.Prelude.{◌≡◌, ◌++◌, ◌≤◌, length, IfOk, OnOk, None, codes, decimal, string_bytes};
-ghost use Rattle.std.specs.List.{prefix_len};
-ghost use Rattle.xk_explain.specs.SourceExplanations.{goes_back, holds_line, is_blank, is_name, is_told, line_text, one_stop, quoted, slot_name, slot_title, stop_head, stop_line, stops, stops_head, turn_line, unit_title};
+ghost use Rattle.xk_explain.specs.SourceExplanations.{goes_back, holds_line, is_name, is_told, line_text, one_stop, quoted, slot_name, slot_title, stop_head, stop_line, stops, stops_head, turn_line, unit_title};
 
 use crate::lines::push_text;
 use crate::messages::kind_message;
@@ -129,24 +128,13 @@ pub(crate) fn holds_line(
     Ok(out)
 }
 
-/// How many blanks stand at the front of a text.
-fn blanks(text: &[u8]) -> usize
-    ensures count { result ≡ prefix_len is_blank text.now }
-    ensures within { result ≤ length text.now }
-{
-    text.iter()
-        .take_while(|&&b| b == b' ' || b == b'\t')
-        .count()
-}
-
 /// The line of an offset as it is shown, without the blanks that it begins with.
 #[tactic(auto, unfolding(crate::specs::SourceExplanations::line_text))]
 fn line_text(alloc: Global, lines: &LineStarts<'_>, at: usize) -> Result<Vec<u8>, AllocError>
     requires { at ≤ length lines.now }
     ensures { IfOk result (λ v. v.items ≡ line_text lines.now at) }
 {
-    let line = lines.text_at(at);
-    shown_front(alloc, &line[blanks(line)..], TOLD)
+    shown_front(alloc, lines.words_at(at), TOLD)
 }
 
 /// What stands before the text of a stop.

@@ -207,3 +207,27 @@ same_read (x ∷ xs) (suc i) d e h = same_read xs i d e (omega (arith, h))
 
 pub read_at : (xs : List ℕ) (i x : ℕ) → x ≡ get_or xs i x → i < length xs → x ≡ get_or xs i 0
 read_at xs i x e h = e ∙ same_read xs i x 0 h
+
+-- ---- lines begin in the text
+
+later_within : (at : ℕ) (bs : List ℕ) (k d : ℕ) → k < length (later_starts at bs) → get_or (later_starts at bs) k d ≤ at + length bs
+later_within at [] k d = λ h. absurd (omega (arith, h))
+later_within at (b ∷ bs) k d =
+    let rest = later_starts (at + 1) bs in
+    cond_both (is_line_feed b) ((at + 1) ∷ rest) rest (λ l. k < length l → get_or l k d ≤ at + length (b ∷ bs))
+    (λ yes. within_next at d (length bs) rest (λ j h. later_within (at + 1) bs j d h) k)
+    (λ no h. let m = later_within (at + 1) bs k d h in omega (arith, m))
+  where
+    within_next : (at d n : ℕ) (rest : List ℕ) → ((j : ℕ) → j < length rest → get_or rest j d ≤ at + 1 + n)
+        → (k : ℕ) → k < length ((at + 1) ∷ rest) → get_or ((at + 1) ∷ rest) k d ≤ at + suc n
+    within_next at d n rest more zero h = omega arith
+    within_next at d n rest more (suc k) h = let m = more k (omega (arith, h)) in omega (arith, m)
+
+starts_within : (text : List ℕ) (k d : ℕ) → k < length (line_starts text) → get_or (line_starts text) k d ≤ length text
+starts_within text zero d h = omega arith
+starts_within text (suc k) d h = let m = later_within 0 text k d (omega (arith, h)) in omega (arith, m)
+
+pub start_within : (text starts : List ℕ) (k : ℕ) → starts ≡ line_starts text → k < length starts → get_or starts k 0 ≤ length text
+start_within text starts k = λ are h.
+    let P : List ℕ → Type 0 = λ s. k < length s → get_or s k 0 ≤ length text in
+    subst P (sym are) (starts_within text k 0) h

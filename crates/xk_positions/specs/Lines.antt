@@ -1,6 +1,6 @@
 -- Lines and columns of a text's bytes, both counted from 1. This project's own.
-use Rattle.std.specs.Prelude.{ℕ, ◌+◌, ◌-◌, ◌==◌, nat_lt, Bool, false, not, ◌&&◌, ◌||◌, List, [], ◌∷◌, take, drop, count_by, slice_range, if◌then◌else◌}
-use Rattle.std.specs.List.{suffix_len}
+use Rattle.std.specs.Prelude.{ℕ, ◌+◌, ◌-◌, ◌==◌, nat_eq, nat_lt, Bool, false, not, ◌&&◌, ◌||◌, List, [], ◌∷◌, take, drop, count_by, slice_range, if◌then◌else◌}
+use Rattle.std.specs.List.{prefix_len, suffix_len}
 use Rattle.xk_positions.specs.declared.lines.Position.{Position}
 
 -- ---- bytes
@@ -67,3 +67,11 @@ later_starts at (b ∷ bs) = if is_line_feed b then (at + 1) ∷ later_starts (a
 -- where the lines of a text begin
 abbrev pub line_starts : List ℕ → List ℕ
 line_starts text = 0 ∷ later_starts 0 text
+
+-- a blank or a tab
+abbrev pub is_blank : ℕ → Bool
+is_blank b = nat_eq b 32 || nat_eq b 9
+
+-- the line of the byte at an offset, without the blanks that it begins with
+abbrev pub words_at : List ℕ → ℕ → List ℕ
+words_at text at = let line = line_at text at in drop (prefix_len is_blank line) line

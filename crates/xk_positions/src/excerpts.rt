@@ -4,7 +4,7 @@ ghost use Rattle.std.specs.Prelude.{◌≡◌, ◌++◌, ◌<◌, ◌^◌, decim
 ghost use Rattle.xk_positions.specs.Excerpts.{caret_count, caret_line, cut, framed, margin, rule_line, shown_before, shown_from, text_line};
 ghost use Rattle.xk_positions.specs.Signs.{signs};
 
-use crate::lines::columns;
+use crate::columns::columns;
 use crate::signs::{count_signs, push_signs, skip_signs};
 use itoa::Buffer;
 use std::alloc::{AllocError, Global};

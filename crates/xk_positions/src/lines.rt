@@ -1,9 +1,12 @@
 //! Lines and columns.
 
-ghost use Rattle.std.specs.Prelude.{◌≡◌, ◌+◌, ◌≤◌, IfOk, length, take, count_by};
+ghost use Rattle.std.specs.Prelude.{◌≡◌, ◌+◌, ◌-◌, ◌≤◌, Some, IfOk, length, map, slice_get, slice_range, take, count_by};
+ghost use Rattle.std.specs.List.{prefix_len};
 ghost use Rattle.xk_positions.specs.Excerpts.{excerpt};
-ghost use Rattle.xk_positions.specs.Lines.{columns, ends_line, first_line, is_line_feed, line_at, line_start, line_starts, position_of};
+ghost use Rattle.xk_positions.specs.Extents.{StandsIn, extent_of};
+ghost use Rattle.xk_positions.specs.Lines.{ends_line, first_line, is_blank, is_line_feed, line_start, line_starts, position_of, words_at};
 
+use crate::columns::ColumnMarks;
 use crate::excerpts::framed;
 use std::alloc::{AllocError, Global};
 use std::marker::Model;
@@ -16,14 +19,6 @@ use std::marker::Model;
 pub struct Position {
     pub line: usize,
     pub column: usize,
-}
-
-/// How many columns the bytes take.
-pub(crate) fn columns(bytes: &[u8]) -> usize
-    ensures count { result ≡ columns bytes.now }
-    ensures within { result ≤ length bytes.now }
-{
-    bytes.iter().filter(|b| **b < 128 || **b > 191).count()
 }
 
 /// How many line feeds there are.
@@ -74,6 +69,55 @@ fn first_line(text: &[u8]) -> &[u8]
     &text[..len]
 }
 
+/// Where the words of a line begin, behind its blanks, and where it ends.
+#[derive(Clone, Copy)]
+pub(crate) struct Extent {
+    words: usize,
+    end: usize,
+}
+
+/// How many blanks stand at the front of a text.
+fn blanks(text: &[u8]) -> usize
+    ensures count { result ≡ prefix_len is_blank text.now }
+    ensures within { result ≤ length text.now }
+{
+    text.iter()
+        .take_while(|&&b| b == b' ' || b == b'\t')
+        .count()
+}
+
+/// Where the words of the line stand that begins at an offset.
+fn extent_of(text: &[u8], start: usize) -> Extent
+    requires { start ≤ length text.now }
+    ensures { result ≡ extent_of text.now start }
+{
+    let rest = &text[start..];
+    Extent {
+        words: start + blanks(rest),
+        end: start + first_line(rest).len(),
+    }
+}
+
+/// Where the words of all lines stand, which begin there.
+fn extents_of(alloc: Global, text: &[u8], starts: &[usize]) -> Result<Vec<Extent>, AllocError>
+    requires { starts.now ≡ line_starts text.now }
+    ensures { IfOk result (λ v. v.items ≡ map (extent_of text.now) (line_starts text.now)) }
+{
+    let mut extents = Vec::with_capacity(alloc, starts.len())?;
+    for start in starts {
+        extents.push(extent_of(text, *start))?;
+    }
+    Ok(extents)
+}
+
+/// What stands there.
+fn part_of(text: &[u8], extent: Extent) -> &[u8]
+    requires { StandsIn text.now extent }
+    ensures { result.now ≡ slice_range text.now extent.words extent.end }
+{
+    &text[extent.words..extent.end]
+}
+
 /// The line in which an offset lies.
 #[derive(Drop)]
 struct Line {
@@ -86,17 +130,22 @@ struct Line {
 pub struct LineStarts<'t> {
     text: &'t [u8],
     starts: Vec<usize>,
+    extents: Vec<Extent>,
+    columns: ColumnMarks<'t>,
 }
 
 impl<'t> Model for LineStarts<'t> {
-    ghost use Rattle.std.specs.Prelude.{◌≡◌, ℕ, List};
+    ghost use Rattle.std.specs.Prelude.{◌≡◌, ℕ, List, map};
+    ghost use Rattle.xk_positions.specs.Extents.{extent_of};
     ghost use Rattle.xk_positions.specs.Lines.{line_starts};
 
     ghost Value = { List ℕ };
 
     ghost view = { λ l. l.text.now };
 
-    ghost invariant = { λ l. l.starts.items ≡ line_starts l.text.now };
+    ghost invariant = { λ l. (l.starts.items ≡ line_starts l.text.now)
+        × (l.extents.items ≡ map (extent_of l.text.now) (line_starts l.text.now))
+        × (l.columns ≡ l.text.now) };
 }
 
 impl<'t> LineStarts<'t> {
@@ -105,7 +154,14 @@ impl<'t> LineStarts<'t> {
         ensures { IfOk result (λ l. l ≡ text.now) }
     {
         let starts = starts_of(alloc, text)?;
-        Ok(LineStarts { text, starts })
+        let extents = extents_of(alloc, text, &starts)?;
+        let columns = ColumnMarks::new(alloc, text)?;
+        Ok(LineStarts {
+            text,
+            starts,
+            extents,
+            columns,
+        })
     }
 
     /// The line of an offset, also of that of the text's end.
@@ -114,6 +170,7 @@ impl<'t> LineStarts<'t> {
         ensures number { result.number ≡ 1 + count_by is_line_feed (take offset self.now) }
         ensures start { result.start ≡ line_start self.now offset }
         ensures before { result.start ≤ offset }
+        ensures listed { slice_get (line_starts self.now) (result.number - 1) ≡ Some result.start }
     {
         let number = self.starts.partition_point(|start| *start <= offset);
         Line {
@@ -130,16 +187,18 @@ impl<'t> LineStarts<'t> {
         let line = self.line(offset);
         Position {
             line: line.number,
-            column: columns(&self.text[line.start..offset]) + 1,
+            column: self.columns.between(line.start, offset) + 1,
         }
     }
 
-    /// The line of an offset, without its end.
-    pub fn text_at(&self, offset: usize) -> &'t [u8]
+    /// The text of the line of an offset, without its end and without the blanks that it begins with.
+    pub fn words_at(&self, offset: usize) -> &'t [u8]
         requires { offset ≤ length self.now }
-        ensures { result.now ≡ line_at self.now offset }
+        ensures { result.now ≡ words_at self.now offset }
     {
-        first_line(&self.text[self.line(offset).start..])
+        let line = self.line(offset);
+        let extent = self.extents[line.number - 1];
+        part_of(self.text, extent)
     }
 
     /// The excerpt of the line of an offset, three lines: `   |`, ` 8 | ` and the line, `   | ` and carets.

@@ -1,0 +1,12 @@
+-- the marks so far
+use Rattle.std.proofs.Common.{◌≡◌, ℕ, ◌*◌, ◌<◌, ◌≤◌, length, take, slice_index}
+use Rattle.xk_positions.specs.Lines.{columns}
+use Rattle.xk_positions.proofs.columns.marks_of.Given as goal
+
+abbrev pub invariant-loop-k : goal.invariant-loop-k
+invariant-loop-k l = record {
+  so_many : length l.marks.items ≡ l.k;
+  each : (k : ℕ) → k < l.k → slice_index l.marks.items k ≡ columns (take (k * 256) l.text);
+  seen : l.seen ≡ columns (take (l.k * 256) l.text);
+  small : l.seen ≤ l.k * 256;
+}
