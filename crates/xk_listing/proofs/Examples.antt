@@ -1,5 +1,5 @@
 -- Small listings.
-use Rattle.std.proofs.Common.{◌≡◌, ℕ, ℤ, pos, true, false, List, [], ◌∷◌, ◌++◌, Some, None, refl}
+use Rattle.std.proofs.Common.{◌≡◌, ℕ, pos, true, false, List, [], ◌∷◌, ◌++◌, Some, refl}
 use Rattle.std.specs.Prelude.{codes}
 use Rattle.std.specs.Fmt.{digits}
 use Rattle.std.specs.Str.{chars, is_utf8}
@@ -11,7 +11,7 @@ use Rattle.xk_types.specs.Code.{ModuleValue}
 use Rattle.xk_typestate.specs.KindSet.{KindsValue}
 use Rattle.xk_origins.specs.UnitOrigins.{UnitOrigins}
 use Rattle.xk_positions.specs.Signs.{signs}
-use Rattle.xk_listing.specs.Words.{one, three, two, unless, forto_loop, next_argument, words}
+use Rattle.xk_listing.specs.Words.{one, three, unless, forto_loop, next_argument, words}
 use Rattle.xk_listing.specs.Fields.{at_left, at_right, clock_at, clock_item, line_text, origin_field, place_title}
 use Rattle.xk_listing.specs.Listing.{head_place, kinds_field, line_front, listing, module_clocks, module_head, module_line, module_unit, slot_count, source_head, source_line, source_unit, unit_front, unit_name, unit_text}
 

@@ -1,10 +1,10 @@
 -- The fields of a listing's lines: slots by their names, the kinds of clocks, places and lines of a text. This project's own.
-use Rattle.std.specs.Prelude.{ℕ, zero, suc, ◌-◌, nat_eq, Bool, true, not, ◌||◌, List, [], ◌∷◌, ◌++◌, length, take, drop, min, flat_map, replicate, slice_get, unwrap_or, codes, decimal, if◌then◌else◌}
-use Rattle.std.specs.List.{list_any, prefix_len}
+use Rattle.std.specs.Prelude.{ℕ, zero, suc, ◌-◌, nat_eq, Bool, true, not, ◌||◌, List, [], ◌∷◌, ◌++◌, length, take, min, flat_map, replicate, slice_get, unwrap_or, codes, decimal, if◌then◌else◌}
+use Rattle.std.specs.List.{list_any}
 use Rattle.xk_types.specs.declared.rules.Kind.{Kind}
 use Rattle.xk_types.specs.declared.rules.Kind.TheVariants as kind
 use Rattle.xk_types.specs.RuleNames.{kind_name}
-use Rattle.xk_positions.specs.Lines.{line_at, position_of}
+use Rattle.xk_positions.specs.Lines.{position_of, words_at}
 use Rattle.xk_positions.specs.declared.lines.Position.{Position}
 use Rattle.xk_positions.specs.Signs.{signs, shown_signs}
 use Rattle.xk_typestate.specs.KindSet.{KindsValue, kinds_have}
@@ -102,12 +102,9 @@ abbrev pub is_first : List ℕ → List ℕ → ℕ → Bool
 is_first text offsets zero = true
 is_first text offsets (suc at) = not (nat_eq (origin_at text offsets at) (origin_at text offsets (suc at)))
 
-abbrev pub is_blank : ℕ → Bool
-is_blank b = nat_eq b 32 || nat_eq b 9
-
 -- the line of an offset as it is shown, without the blanks that it begins with, and no more than 60 signs of it
 unfoldable pub line_text : List ℕ → ℕ → List ℕ
-line_text text at = let line = line_at text at in shown_signs (take 60 (signs (drop (prefix_len is_blank line) line)))
+line_text text at = shown_signs (take 60 (signs (words_at text at)))
 
 -- where an instruction comes from, and the first one of a statement with the line there: `5:13     if (p <= me) c.drop();`
 abbrev pub place_field : List ℕ → ℕ → Bool → List ℕ

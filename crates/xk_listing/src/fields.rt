@@ -1,8 +1,7 @@
 //! Fields of a line.
 
 ghost use Rattle.std.specs.Prelude.{◌≡◌, ◌++◌, ◌≤◌, length, replicate, IfOk, OnOk, string_bytes};
-ghost use Rattle.std.specs.List.{prefix_len};
-ghost use Rattle.xk_listing.specs.Fields.{at_left, at_right, is_blank, is_first, line_text, origin_at, origin_field, place_field, place_title};
+ghost use Rattle.xk_listing.specs.Fields.{at_left, at_right, is_first, line_text, origin_at, origin_field, place_field, place_title};
 
 use std::alloc::{AllocError, Global};
 use xk_positions::{LineStarts, Position, shown_front};
@@ -73,24 +72,13 @@ fn is_first(text: &[u8], offsets: &[usize], at: usize) -> bool
     at == 0 || origin_at(text, offsets, at - 1) != origin_at(text, offsets, at)
 }
 
-/// How many blanks stand at the front of a text.
-fn blanks(text: &[u8]) -> usize
-    ensures count { result ≡ prefix_len is_blank text.now }
-    ensures within { result ≤ length text.now }
-{
-    text.iter()
-        .take_while(|&&b| b == b' ' || b == b'\t')
-        .count()
-}
-
 /// The line of an offset as it is shown, without the blanks that it begins with.
 #[tactic(auto, unfolding(crate::specs::Fields::line_text))]
 fn line_text(alloc: Global, lines: &LineStarts<'_>, at: usize) -> Result<Vec<u8>, AllocError>
     requires { at ≤ length lines.now }
     ensures { IfOk result (λ v. v.items ≡ line_text lines.now at) }
 {
-    let line = lines.text_at(at);
-    shown_front(alloc, &line[blanks(line)..], TOLD)
+    shown_front(alloc, lines.words_at(at), TOLD)
 }
 
 /// Adds where an instruction comes from, with the line there where it is the first one of a statement.

@@ -1,5 +1,4 @@
 use Rattle.std.proofs.Common.{◌≡◌, map}
-use Rattle.xk_typestate.specs.KindTable.{kinds_at}
 use Rattle.xk_listing.specs.Fields.{clocks_field}
 use Rattle.xk_listing.proofs.slots.clocks.Given as goal
 
