@@ -11,7 +11,7 @@ mod source_refusals;
 mod walks;
 
 pub use fronts::{explain_front, explain_module};
-pub use note::Note;
+pub use note::{Note, note_lines, plain_lines};
 pub use refusals::explain_refusal;
 pub use source_refusals::explain_source;
 pub use walks::slot_title;

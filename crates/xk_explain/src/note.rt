@@ -96,7 +96,7 @@ fn push_note(
 }
 
 /// The lines of notes on a text.
-pub(crate) fn note_lines(
+pub fn note_lines(
     alloc: Global,
     lines: &LineStarts<'_>,
     text: &[u8],
@@ -121,7 +121,7 @@ fn push_plain(alloc: Global, out: &mut Vec<u8>, note: &Note) -> Result<(), Alloc
 }
 
 /// The lines of notes where there is no text.
-pub(crate) fn plain_lines(alloc: Global, notes: &[Note]) -> Result<Vec<u8>, AllocError>
+pub fn plain_lines(alloc: Global, notes: &[Note]) -> Result<Vec<u8>, AllocError>
     ensures { IfOk result (λ v. v.items ≡ plain_lines notes.now) }
 {
     let mut out = Vec::new(alloc);
