@@ -86,6 +86,9 @@ def full_devices(tried: Tried) -> None:
     """A device that takes nothing, and a pipe that nobody reads."""
     tried.answers("exec $x run in-step.x10 > /dev/full", 5, err=DEVICE)
     tried.answers("exec $x check in-step.x10 > /dev/full", 5, err=DEVICE)
+    tried.answers("exec $x listing in-step.x10 > /dev/full", 5, err=DEVICE)
+    tried.answers("exec $x explain --json in-step.x10 > /dev/full", 5, err=DEVICE)
+    tried.answers("exec $x explain --json bad.x10 > /dev/full", 5, err=DEVICE)
     tried.answers("exec $x check no.x10 2> /dev/full", 5)
     tried.answers("exec $x run in-step.x10 > /dev/full 2> /dev/full", 5)
     tried.answers("exec $x run --log /dev/full in-step.x10", 5, PRINTED, DEVICE)
@@ -132,7 +135,7 @@ def over_file(tried: Tried) -> None:
 
 
 def strange_files(tried: Tried) -> None:
-    for command in ("check", "explain", "compile", "run", "check --module"):
+    for command in ("check", "explain", "explain --json", "listing", "compile", "run", "check --module"):
         tried.answers(f"exec $x {command} .", 5, err=DEVICE)
         tried.answers(f"exec $x {command} no-such-file", 5, err=DEVICE)
     tried.answers("exec $x check /dev/null", 1, err="x10clock: F9 NoMain at 0\n")
@@ -141,6 +144,9 @@ def strange_files(tried: Tried) -> None:
     tried.answers("exec $x check --module /dev/zero", 1, err="x10clock: M3 Limit\n")
     tried.answers("exec $x explain /dev/zero", 1, TOO_LONG, err="x10clock: F4 TooLong at 0\n")
     tried.answers("exec $x explain /dev/zero > /dev/full", 5, err=DEVICE)
+    tried.answers("exec $x listing /dev/zero", 1, err="x10clock: F4 TooLong at 0\n")
+    tried.answers("exec $x listing --module /dev/zero", 1, err="x10clock: M3 Limit\n")
+    tried.answers("exec $x listing /dev/null", 1, err="x10clock: F9 NoMain at 0\n")
     for command in ("replay", "chart"):
         tried.answers(f"exec $x {command} in-step.x10 .", 5, err=DEVICE)
         tried.answers(f"exec $x {command} in-step.x10 no-such-file", 5, err=DEVICE)
@@ -208,7 +214,7 @@ def small_files(tried: Tried) -> None:
 def little_memory(tried: Tried) -> None:
     """An answer, or none for want of memory; no more than that."""
     many = tried.file("many.x10", "def main() { val c = Clock.make(); for (i in 1..9000) async clocked(c) { Clock.advanceAll(); } Clock.advanceAll(); }")
-    words = [f"check {many}", f"run {many}", f"run --log log {many}", f"run --workers 8 {many}", f"run --workers 64 {many}", "replay in-step.x10 kept.log", "--help"]
+    words = [f"check {many}", f"listing {many}", f"explain --json {many}", f"run {many}", f"run --log log {many}", f"run --workers 8 {many}", f"run --workers 64 {many}", "replay in-step.x10 kept.log", "--help"]
     whole = {word: tried.shell(f"exec $x {word}") for word in words}
     for word, size in ((word, size) for word in words for size in LIMITS_OF_MEMORY):
         ran = tried.shell(f"exec $x {word}", limits=limited(resource.RLIMIT_AS, size << 20))

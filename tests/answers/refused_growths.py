@@ -190,6 +190,8 @@ def each_row(calls: Calls) -> None:
         text = row.read_bytes()
         out, err = (row.with_suffix(end).read_bytes() for end in (".stdout", ".stderr"))
         calls.ask(f"{row.name}, explained", ["explain", *given(row)[:row.suffix == ".json"], "-"], text)
+        calls.ask(f"{row.name}, explained as JSON", ["explain", "--json", *given(row)[:row.suffix == ".json"], "-"], text)
+        calls.ask(f"{row.name}, listed", ["listing", *given(row)[:row.suffix == ".json"], "-"], text)
         calls.ask(f"{row.name}, checked", ["check", *given(row)[:row.suffix == ".json"], "-"], text)
         calls.need(row.name, ["run", *given(row), "-"], text, 1 if err else 0, out, err)
         for order in ("first", "last", "round"):
@@ -258,6 +260,7 @@ def each_mistake(calls: Calls) -> None:
             ("an argument that is no number", ["run", "--arg", "x", "-"],
              "error: invalid value 'x' for '--arg <N>': invalid digit found in string"),
             ("an argument for check", ["check", "--arg", "1", "-"], "error: unexpected argument '--arg' found"),
+            ("JSON for a listing", ["listing", "--json", "-"], "error: unexpected argument '--json' found"),
             ("workers beside an order", ["run", "--module", "--workers", "2", "--order", "first", "-"],
              "x10clock: --workers and --order exclude each other")):
         calls.begins(name, words, 2, "", err)

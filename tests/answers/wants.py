@@ -174,10 +174,16 @@ class Calls:
             verify = 8 * 1_100 * 64 * 41 if "places" in name else 0
             for command in ("check", "compile", "explain"):
                 yield Call(f"{command}, {name}", [command, self.file(text)], to_read(text.encode()) + verify)
+            if name in ("statements of one sign", "clocks at all places"):
+                yield Call(f"listing, {name}", ["listing", self.file(text)], to_read(text.encode()) + verify)
+            if name == "clocks at all places":
+                yield Call(f"explain --json, {name}", ["explain", "--json", self.file(text)], to_read(text.encode()) + verify)
 
     def of_refused_texts(self) -> Iterator[Call]:
         for name, text in refused_texts():
             yield Call(f"explain, {name}", ["explain", self.file(text)], to_read(text.encode()))
+            if name == "a long walk":
+                yield Call(f"explain --json, {name}", ["explain", "--json", self.file(text)], to_read(text.encode()))
 
     def of_modules(self) -> Iterator[Call]:
         for name, value in modules():

@@ -16,6 +16,7 @@ from typing import BinaryIO
 
 import telling
 import telling_explain
+import telling_explain_json
 import telling_log
 import telling_source
 from telling import Accepted, Arguments, Order, Refused
@@ -70,8 +71,9 @@ OPTIONS = {"order": Option("--order <ORDER>"), "workers": Option("--workers <N>"
 # For each command its options, those that take no value, and its places.
 COMMANDS: dict[str, tuple[set[str], set[str], list[str]]] = {
     "check": (set(), {"module"}, ["FILE"]),
-    "explain": (set(), {"module"}, ["FILE"]),
+    "explain": (set(), {"module", "json"}, ["FILE"]),
     "compile": (set(), set(), ["FILE"]),
+    "listing": (set(), {"module"}, ["FILE"]),
     "run": (set(OPTIONS), {"module"}, ["FILE"]),
     "replay": ({"arg"}, {"module"}, ["FILE", "LOG"]),
     "chart": ({"arg"}, {"module"}, ["FILE", "LOG"]),
@@ -304,6 +306,19 @@ def is_same(path: str, file: BinaryIO | None) -> bool:
     return os.path.samestat(os.stat(path), os.fstat(file.fileno()))
 
 
+# Standard output where it isn't told a second time: a listing.
+UNTOLD = "(some text)"
+
+
+def listed(job: Job, data: bytes) -> Told:
+    """A listing isn't told, but whether there is one: of each text that is compiled, and of each module's."""
+    try:
+        telling.read_module(data) if "module" in job.flags else telling_source.module_text(data)
+    except (telling.Unread, telling_source.Fault) as fault:
+        return Told(1, "", f"x10clock: {fault}")
+    return Told(0, UNTOLD)
+
+
 def judge(job: Job, data: bytes) -> Accepted | Refused:
     return telling.judge(data) if "module" in job.flags else telling_source.judge(data)
 
@@ -318,7 +333,15 @@ def compiled(data: bytes) -> Told:
 def explained(job: Job, data: bytes, judged: Refused) -> str:
     """What is said of a program that is refused."""
     kinds = [kind.name.lower() for kind in judged.by_kind.kinds] if judged.by_kind else []
-    return telling_explain.explained(job.values["FILE"], data, judged.line, kinds, "module" in job.flags)
+    teller = telling_explain_json if "json" in job.flags else telling_explain
+    return teller.explained(job.values["FILE"], data, judged.line, kinds, "module" in job.flags)
+
+
+def accepted(job: Job, data: bytes, line: str) -> str:
+    """What is said of a program that is accepted; notes aren't told."""
+    if "json" not in job.flags:
+        return line
+    return telling_explain_json.accepted(job.values["FILE"], data, line, "module" in job.flags)
 
 
 def ran(job: Job, judged: Accepted, log: BinaryIO | None) -> Told:
@@ -339,14 +362,14 @@ def is_too_long(judged: Accepted, order: Order, arguments: Arguments) -> bool:
 
 def answered(job: Job, data: bytes, log_in: BinaryIO | None, log_out: BinaryIO | None) -> Told:
     """What is said of a program's bytes."""
-    if job.command == "compile":
-        return compiled(data)
+    if job.command in ("compile", "listing"):
+        return compiled(data) if job.command == "compile" else listed(job, data)
     judged = judge(job, data)
     line = telling.refusal(job.command, judged, tuple(job.numbers))
     if line:
         return Told(1, explained(job, data, judged) if job.command == "explain" else "", f"x10clock: {line}")
     if job.command in ("check", "explain"):
-        return Told(0, judged.bounds.line() + "\n")
+        return Told(0, accepted(job, data, judged.bounds.line() + "\n"))
     if job.command == "run":
         return ran(job, judged, log_out)
     status, out, err = telling_log.answer(judged, contents(log_in), job.command, tuple(job.numbers))

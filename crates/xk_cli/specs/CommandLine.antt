@@ -40,9 +40,17 @@ option name long = record (new_rule name) { long = Some long; action = Some acti
 abbrev pub file_place : Rule
 file_place = place (codes "FILE")
 
+-- a flag of a name, which is its long name too
+abbrev pub flag : Text → Rule
+flag name = record (new_rule name) { long = Some name; action = Some action.SetTrue }
+
 -- `--module`
 abbrev pub module_flag : Rule
-module_flag = record (new_rule (codes "module")) { long = Some (codes "module"); action = Some action.SetTrue }
+module_flag = flag (codes "module")
+
+-- `--json`
+abbrev pub json_flag : Rule
+json_flag = flag (codes "json")
 
 -- a command on FILE
 abbrev pub on_file : Text → App
@@ -51,6 +59,10 @@ on_file name = with_rule (new_app name) file_place
 -- a command on FILE that may be a module text
 abbrev pub on_either : Text → App
 on_either name = with_rule (on_file name) module_flag
+
+-- the command that explains, maybe as a JSON value
+abbrev pub explain_line : App
+explain_line = with_rule (on_either (codes "explain")) json_flag
 
 -- LOG, which has to be there
 abbrev pub log_place : Rule
@@ -111,8 +123,8 @@ program = record (new_app (codes "x10clock")) { top = record (new_app (codes "x1
 
 abbrev pub command_line : Names → App
 command_line names =
-    with_subcommand (with_subcommand (with_subcommand (with_subcommand (with_subcommand (with_subcommand program
-    (on_either (codes "check")).top) (on_either (codes "explain")).top) (on_file (codes "compile")).top)
+    with_subcommand (with_subcommand (with_subcommand (with_subcommand (with_subcommand (with_subcommand (with_subcommand program
+    (on_either (codes "check")).top) explain_line.top) (on_file (codes "compile")).top) (on_either (codes "listing")).top)
     (run_line names).top) (on_run (codes "replay")).top) (on_run (codes "chart")).top
 
 -- no argument of the command is one of its subcommands too
@@ -147,12 +159,13 @@ abbrev pub way_value : Drive → Way
 way_value (drive.Order o) = In o
 way_value (drive.Workers w) = By w.count
 
--- A command without where its texts lie in memory. A run has who takes its steps, and the log's path, where they were given; the others on
--- a log have its path.
+-- A command without where its texts lie in memory. What is explained may be a JSON value. A run has who takes its steps, and the log's path, where
+-- they were given; the others on a log have its path.
 pub data Task : Type 0 where
   Check : Task
   Compile : Task
-  Explain : Task
+  Explain : Bool → Task
+  Listing : Task
   Run : Option Way → Option Text → Task
   Replay : Text → Task
   Chart : Text → Task
@@ -160,7 +173,8 @@ pub data Task : Type 0 where
 abbrev pub task_value : Command → Task
 task_value command.Check = Check
 task_value command.Compile = Compile
-task_value command.Explain = Explain
+task_value (command.Explain json) = Explain json
+task_value command.Listing = Listing
 task_value (command.Run given log) = Run (option_map way_value given) (option_map (λ s. s.now) log)
 task_value (command.Replay log) = Replay log.now
 task_value (command.Chart log) = Chart log.now
@@ -175,13 +189,21 @@ pub record Asked : Type 0 where
 abbrev pub asked_value : Job → Asked
 asked_value job = record { task = task_value job.command; form = job.form; file = job.file.now; arguments = job.arguments.items }
 
--- the value of `--module` is `true` where it was given
+-- the value of a flag is `true` where it was given
+abbrev pub is_true : Text → Bool
+is_true value = bytes_eq value (codes "true")
+
+-- by `--module`
 abbrev pub form_named : Text → Form
-form_named value = if bytes_eq value (codes "true") then form.Module else form.Source
+form_named value = if is_true value then form.Module else form.Source
 
 -- what stands in FILE
 abbrev pub form_in : List Row → Form
 form_in given = option_map_or form_named (first_of (codes "module") given) form.Source
+
+-- whether `--json` was given
+abbrev pub is_json : List Row → Bool
+is_json given = option_map_or is_true (first_of (codes "json") given) false
 
 abbrev pub order_named : Text → Option Order
 order_named name =
@@ -226,10 +248,11 @@ abbrev pub command_by : Text → List Row → Option Task
 command_by name given =
     if bytes_eq name (codes "check") then Some Check
     else (if bytes_eq name (codes "compile") then Some Compile
-    else (if bytes_eq name (codes "explain") then Some Explain
+    else (if bytes_eq name (codes "explain") then Some (Explain (is_json given))
+    else (if bytes_eq name (codes "listing") then Some Listing
     else (if bytes_eq name (codes "run") then run_by given
     else (if bytes_eq name (codes "replay") then option_map Replay (first_of (codes "LOG") given)
-    else (if bytes_eq name (codes "chart") then option_map Chart (first_of (codes "LOG") given) else None)))))
+    else (if bytes_eq name (codes "chart") then option_map Chart (first_of (codes "LOG") given) else None))))))
 
 -- this command on this file, with what else was given to it
 abbrev pub asked_of : Task → Text → List Row → Option Asked

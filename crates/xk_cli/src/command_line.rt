@@ -2,7 +2,7 @@
 
 ghost use Rattle.std.specs.Prelude.{◌≡◌, [], false, Some, None, IfOk, OnOk, IfErr, IsOkAnd, option_map};
 ghost use Rattle.clap.specs.Words.{app_of, first_of, found_of, kind_of, rows_of, rule_of, subcommand_rows_of, with_subcommand};
-ghost use Rattle.xk_cli.specs.CommandLine.{FitsKind, HasNoGlobals, IsRefused, WithOrders, arg_option, arguments_in, asked_by, asked_in, asked_of, asked_value, by_order, by_workers, command_by, command_line, drive_in, excludes_by, excludes_in, faults_in, form_in, form_named, is_both, job_of, log_option, module_flag, on_either, on_file, on_log, on_run, option, order_in, order_named, order_option, place, program, run_by, run_line, task_value, texts, way_value, with_log, workers_in, workers_named, workers_option};
+ghost use Rattle.xk_cli.specs.CommandLine.{FitsKind, HasNoGlobals, IsRefused, WithOrders, arg_option, arguments_in, asked_by, asked_in, asked_of, asked_value, by_order, by_workers, command_by, command_line, drive_in, excludes_by, excludes_in, explain_line, faults_in, flag, form_in, form_named, is_both, is_json, is_true, job_of, json_flag, log_option, module_flag, on_either, on_file, on_log, on_run, option, order_in, order_named, order_option, place, program, run_by, run_line, task_value, texts, way_value, with_log, workers_in, workers_named, workers_option};
 
 use crate::job::{Command, Drive, Form, Job, MOST_WORKERS, Order, Workers};
 use crate::numbers::numbers_named;
@@ -42,15 +42,20 @@ fn line<'a>(alloc: Global) -> Result<clap::Command<'a>, AllocError>
 {
     let check = on_either(alloc, "check", "Says whether a program is accepted.");
     let checks = add(program(alloc), check)?;
-    let explain = on_either(alloc, "explain", "Says where and why a program is refused.");
-    let explains = add(checks, explain)?;
+    let explains = add(checks, explain_line(alloc))?;
     let compile = on_file(
         alloc,
         "compile",
         "Compiles a program and prints its module.",
     );
     let compiles = add(explains, compile)?;
-    let runs = add(compiles, run_line(alloc))?;
+    let listing = on_either(
+        alloc,
+        "listing",
+        "Prints the instructions of a program's module, and where they come from.",
+    );
+    let listings = add(compiles, listing)?;
+    let runs = add(listings, run_line(alloc))?;
     let replay = on_run(
         alloc,
         "replay",
@@ -87,6 +92,15 @@ fn add<'a>(
         Ok(command) => line.subcommand(command),
         Err(error) => Err(error),
     }
+}
+
+/// The command `explain`.
+fn explain_line<'a>(alloc: Global) -> Result<clap::Command<'a>, AllocError>
+    ensures shape { IfOk result (λ c. app_of c ≡ explain_line) }
+    ensures local { IfOk result HasNoGlobals }
+{
+    let command = on_either(alloc, "explain", "Says where and why a program is refused.")?;
+    command.arg(json_flag(alloc))
 }
 
 /// The command `run`.
@@ -228,9 +242,25 @@ fn module_flag<'a>(alloc: Global) -> Arg<'a>
     ensures rule { rule_of result ≡ module_flag }
     ensures local { result.global ≡ false }
 {
-    Arg::new(alloc, "module")
-        .long("module")
-        .help("FILE is a module text")
+    flag(alloc, "module", "FILE is a module text")
+}
+
+/// `--json`.
+fn json_flag<'a>(alloc: Global) -> Arg<'a>
+    ensures rule { rule_of result ≡ json_flag }
+    ensures local { result.global ≡ false }
+{
+    flag(alloc, "json", "Says it as a JSON value on one line")
+}
+
+/// A flag of this name, which is its long name too.
+fn flag<'a>(alloc: Global, name: &'a str, help: &'a str) -> Arg<'a>
+    ensures rule { rule_of result ≡ flag name.entry.now }
+    ensures local { result.global ≡ false }
+{
+    Arg::new(alloc, name)
+        .long(name)
+        .help(help)
         .action(ArgAction::SetTrue)
 }
 
@@ -337,7 +367,10 @@ fn command_by<'a>(name: &str, given: &ArgMatches<'a>) -> Option<Command<'a>>
     match name {
         "check" => Some(Command::Check),
         "compile" => Some(Command::Compile),
-        "explain" => Some(Command::Explain),
+        "explain" => Some(Command::Explain {
+            json: is_json(given),
+        }),
+        "listing" => Some(Command::Listing),
         "run" => run_by(given),
         "replay" => Some(Command::Replay {
             log: given_in(given, "LOG")?,
@@ -402,6 +435,23 @@ fn given_in<'a>(given: &ArgMatches<'a>, name: &str) -> Option<&'a str>
     ensures { option_map (λ s. s.now) result ≡ first_of name.now (rows_of (found_of given.now)) }
 {
     given.get_str(name)
+}
+
+/// Whether `--json` was given.
+fn is_json(given: &ArgMatches<'_>) -> bool
+    ensures { result ≡ is_json (rows_of (found_of given.now)) }
+{
+    match given_in(given, "json") {
+        Some(value) => is_true(value),
+        None => false,
+    }
+}
+
+/// Whether this value of a flag says that it was given.
+fn is_true(value: &str) -> bool
+    ensures { result ≡ is_true value.now }
+{
+    value == "true"
 }
 
 /// What stands in FILE.

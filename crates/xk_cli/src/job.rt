@@ -10,8 +10,13 @@ pub enum Command<'a> {
     Check,
     /// `compile`: print the text of the module that FILE gives, accepted or not.
     Compile,
-    /// `explain`: say whether FILE is accepted, and else where and why it isn't, and how that is usually repaired.
-    Explain,
+    /// `explain`: say whether FILE is accepted, and what its bounds are made of, and else where and why it isn't, and how that is usually repaired.
+    Explain {
+        /// `--json`: as a JSON value.
+        json: bool,
+    },
+    /// `listing`: print the instructions of the module that FILE gives, accepted or not, and where each comes from.
+    Listing,
     /// `run`: run FILE, and print what it prints.
     Run {
         /// Who takes the run's steps, where that was given.
@@ -99,6 +104,6 @@ pub struct Job<'a> {
     pub form: Form,
     /// The file's path; `-` is standard input.
     pub file: &'a str,
-    /// `--arg`: the numbers that main is given, in order. `check`, `compile` and `explain` are given none.
+    /// `--arg`: the numbers that main is given, in order. `check`, `compile`, `explain` and `listing` are given none.
     pub arguments: Vec<i64>,
 }

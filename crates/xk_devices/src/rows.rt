@@ -48,6 +48,31 @@ const TRUNCATED: &str = "x10clock: L2 Truncated\n";
 const EXPLAINED: &str =
     "-:1:1: F2 Syntax: this can't stand here\n   |\n 1 | main\n   | ^^^^\n   = usual repair: look right before it for what is missing, as a `;`, a `)` or a `}`\n";
 
+/// The same, as a JSON value.
+const EXPLAINED_JSON: &str =
+    r#"{"accepted":false,"column":1,"file":"-","line":1,"message":"this can't stand here","name":"Syntax","notes":[],"repair":"look right before it for what is missing, as a `;`, a `)` or a `}`","rule":"F2"}
+"#;
+
+/// What is said of the program in step.
+const ACCEPTED: &str =
+    "accepted steps 12 activities 2 clocks 1\n   = 1:18: a clock is made here 1 time in one run of main\n   = 1:36: this `async` is started 1 time in one run of main\n";
+
+/// Its listing.
+const LISTED: &str = r"unit 0  def main  1:5  slots 0:c 1
+   0  make 0                                       1:18     def main() { val c = Clock.make(); async clocked(c) { Clock.
+   1  spawn 1 (0)        c:live                    1:36     def main() { val c = Clock.make(); async clocked(c) { Clock.
+   2  advance            c:live                    1:101    def main() { val c = Clock.make(); async clocked(c) { Clock.
+   3  lit 1 1            c:live                    1:129    def main() { val c = Clock.make(); async clocked(c) { Clock.
+   4  print 1            c:live                    1:129
+   5  ret                c:live                    1:145    def main() { val c = Clock.make(); async clocked(c) { Clock.
+
+unit 1  async  1:36  slots 0:c 1
+   0  advance            c:live|resumed            1:55     def main() { val c = Clock.make(); async clocked(c) { Clock.
+   1  lit 1 2            c:live                    1:83     def main() { val c = Clock.make(); async clocked(c) { Clock.
+   2  print 1            c:live                    1:83
+   3  ret                c:live                    1:99     def main() { val c = Clock.make(); async clocked(c) { Clock.
+";
+
 /// A row of the program in step, which is accepted.
 fn done(
     name: &'static str,
@@ -90,7 +115,7 @@ fn refused(
 }
 
 /// Each command, and texts and a log that are refused.
-pub fn rows() -> [Row; 12] {
+pub fn rows() -> [Row; 14] {
     let run = Command::Run {
         drive: None,
         log: Some("log"),
@@ -110,6 +135,7 @@ pub fn rows() -> [Row; 12] {
             "",
         ),
         done("compile", Command::Compile, "", MODULE, ""),
+        done("listing", Command::Listing, "", LISTED, ""),
         done("run", run, "", PRINTED, LOG),
         done("run by a worker", by_worker, "", PRINTED, LOG),
         done("replay", replay, LOG, PRINTED, ""),
@@ -124,16 +150,27 @@ pub fn rows() -> [Row; 12] {
         ),
         done(
             "explain",
-            Command::Explain,
+            Command::Explain { json: false },
             "",
-            "accepted steps 12 activities 2 clocks 1\n",
+            ACCEPTED,
             "",
         ),
         Row {
             out: EXPLAINED,
             ..refused(
                 "explain of no program",
-                Command::Explain,
+                Command::Explain { json: false },
+                "main",
+                "",
+                1,
+                "x10clock: F2 Syntax at 0\n",
+            )
+        },
+        Row {
+            out: EXPLAINED_JSON,
+            ..refused(
+                "explain of no program, as JSON",
+                Command::Explain { json: true },
                 "main",
                 "",
                 1,

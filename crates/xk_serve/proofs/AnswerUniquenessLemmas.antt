@@ -28,7 +28,7 @@ use Rattle.xk_serve.specs.declared.job_result.Done.{Done}
 use Rattle.xk_serve.specs.declared.job_result.Done.TheVariants as done
 use Rattle.xk_serve.specs.declared.fault.Fault.{Fault}
 use Rattle.xk_serve.specs.declared.fault.Fault.TheVariants as fault
-use Rattle.xk_serve.specs.Answer.{Answers, Chart, Check, ComesTo, Compile, Doing, Explain, IsLogText, IsMisfit, IsNoRun, IsSaidBy, IsSaidOf, Replay, Reply, Run, Task, fault_reply, reads_log, runs}
+use Rattle.xk_serve.specs.Answer.{Answers, Chart, Check, ComesTo, Compile, Doing, Explain, IsLogText, IsMisfit, IsNoRun, IsSaidBy, IsSaidOf, IsTelling, IsText, Listing, Replay, Reply, Run, Task, asks_verifier, done_reply, fault_reply, reads_log, runs}
 use Rattle.xk_output.specs.Lines.{number_lines}
 use Rattle.xk_serve.specs.Lines.{accepted_line, arguments_line, done_log, done_text, ended_line, fault_line, refusal_status, status_of}
 use Rattle.xk_serve.specs.OneAnswer.{IsDetermined, IsLeftOpen, IsSameLine, IsSameReply, IsWithoutWorkers, TellFaults}
@@ -37,6 +37,7 @@ use Rattle.xk_serve.specs.Programs.{Gives, IsCompiledTo, IsNoModule, IsNoSource,
 use Rattle.xk_serve.proofs.LogUniquenessLemmas.{no_run_once, text_once, whole_not_refused}
 use Rattle.xk_serve.proofs.RefusalUniquenessLemmas.{not_accepted, refusal_once, refused_status}
 use Rattle.xk_serve.proofs.RunUniquenessLemmas.{list_once, logged_once, ordered_once, run_taken}
+use Rattle.xk_serve.proofs.TellingUniquenessLemmas.{telling_once}
 use Rattle.xk_serve.proofs.TextUniquenessLemmas.{one_text, unfit_none, unfit_once}
 
 -- ---- what is printed where nothing stands against the job
@@ -45,7 +46,8 @@ use Rattle.xk_serve.proofs.TextUniquenessLemmas.{one_text, unfit_none, unfit_onc
 abbrev pub Prints : Doing → ModuleValue → List ℤ → List ℕ → List ℕ → List ℕ → Type 0
 Prints Compile m args logged out log = (out ≡ compact_text (module_value m) ++ codes "\n") × (log ≡ [])
 Prints Check m args logged out log = IsAccepted m × (out ≡ accepted_line (steps_bound m) (activities_bound m) (clocks_bound m)) × (log ≡ [])
-Prints Explain m args logged out log = IsAccepted m × (out ≡ accepted_line (steps_bound m) (activities_bound m) (clocks_bound m)) × (log ≡ [])
+Prints (Explain json) m args logged out log = ⊥
+Prints Listing m args logged out log = ⊥
 Prints (Run (In o) false) m args logged out log =
     IsAccepted m × (numbers : List ℤ) × (steps : ℕ) × IsOrderedRun o m args numbers steps × (out ≡ number_lines numbers ++ ended_line steps) × (log ≡ [])
 Prints (Run (In o) true) m args logged out log =
@@ -61,9 +63,8 @@ prints Compile m args logged _ h = absurd h
 prints Check m args logged (done.Accepted steps activities clocks) h =
     (h.0, ap (λ n. accepted_line n activities clocks) h.1 ∙ ap (λ n. accepted_line (steps_bound m) n clocks) h.2 ∙ ap (accepted_line (steps_bound m) (activities_bound m)) h.3, refl)
 prints Check m args logged _ h = absurd h
-prints Explain m args logged (done.Accepted steps activities clocks) h =
-    (h.0, ap (λ n. accepted_line n activities clocks) h.1 ∙ ap (λ n. accepted_line (steps_bound m) n clocks) h.2 ∙ ap (accepted_line (steps_bound m) (activities_bound m)) h.3, refl)
-prints Explain m args logged _ h = absurd h
+prints (Explain json) m args logged d h = absurd h
+prints Listing m args logged d h = absurd h
 prints (Run (In o) false) m args logged (done.Ended numbers steps None) h = (h.0, numbers.items, steps, h.1, refl, refl)
 prints (Run (In o) false) m args logged _ h = absurd h
 prints (Run (In o) true) m args logged (done.Ended numbers steps (Some es)) h = (h.0, numbers.items, steps, es.items, h.1, refl, refl)
@@ -77,11 +78,12 @@ prints Replay m args logged _ h = absurd h
 prints Chart m args logged (done.Charted t) h = (h.0, h.1.0, h.1.1, h.1.2, h.1.3, refl)
 prints Chart m args logged _ h = absurd h
 
--- all but `compile` asks the verifier
-prints_accepted : (what : Doing) (m : ModuleValue) (args : List ℤ) (logged out log : List ℕ) → what ≢ Compile → Prints what m args logged out log → IsAccepted m
-prints_accepted Compile m args logged out log asks h = absurd (asks refl)
+-- what asks the verifier prints nothing of another module than one that is accepted
+prints_accepted : (what : Doing) (m : ModuleValue) (args : List ℤ) (logged out log : List ℕ) → asks_verifier what ≡ true → Prints what m args logged out log → IsAccepted m
+prints_accepted Compile m args logged out log asks h = absurd (false≢true asks)
 prints_accepted Check m args logged out log asks h = h.0
-prints_accepted Explain m args logged out log asks h = h.0
+prints_accepted (Explain json) m args logged out log asks h = absurd h
+prints_accepted Listing m args logged out log asks h = absurd h
 prints_accepted (Run (In o) false) m args logged out log asks h = h.0
 prints_accepted (Run (In o) true) m args logged out log asks h = h.0
 prints_accepted (Run (By n) kept) m args logged out log asks h = h.0
@@ -92,7 +94,8 @@ prints_accepted Chart m args logged out log asks h = h.0
 prints_taken : (what : Doing) (m : ModuleValue) (args : List ℤ) (logged out log : List ℕ) → runs what ≡ true → Prints what m args logged out log → AreArguments m args
 prints_taken Compile m args logged out log run h = absurd (false≢true run)
 prints_taken Check m args logged out log run h = absurd (false≢true run)
-prints_taken Explain m args logged out log run h = absurd (false≢true run)
+prints_taken (Explain json) m args logged out log run h = absurd h
+prints_taken Listing m args logged out log run h = absurd h
 prints_taken (Run (In o) false) m args logged out log run h = run_taken _ m args h.1 h.2 h.3
 prints_taken (Run (In o) true) m args logged out log run h = run_taken _ m args h.1 h.2 h.4
 prints_taken (Run (By n) kept) m args logged out log run h = h.1
@@ -107,7 +110,8 @@ prints_whole : (what : Doing) (m : ModuleValue) (args : List ℤ) (logged out lo
     → (es : List Entry) × IsLogText logged es × IsWhole m args es
 prints_whole Compile m args logged out log reads h = absurd (false≢true reads)
 prints_whole Check m args logged out log reads h = absurd (false≢true reads)
-prints_whole Explain m args logged out log reads h = absurd (false≢true reads)
+prints_whole (Explain json) m args logged out log reads h = absurd h
+prints_whole Listing m args logged out log reads h = absurd h
 prints_whole (Run way kept) m args logged out log reads h = absurd (false≢true reads)
 prints_whole Replay m args logged out log reads h = (h.3, h.4, replay_whole m args h.1 h.2 h.3 h.5)
 prints_whole Chart m args logged out log reads h = (h.1, h.2, record { last = h.3.last; leads = h.3.leads; given = h.3.given; over = h.3.over })
@@ -121,7 +125,8 @@ pub prints_once : (what : Doing) (m : ModuleValue) (args : List ℤ) (logged out
     → Prints what m args logged other kept → (out ≡ other) × (log ≡ kept)
 prints_once Compile m args logged out log other kept none p q = (p.0 ∙ sym q.0, p.1 ∙ sym q.1)
 prints_once Check m args logged out log other kept none p q = (p.1 ∙ sym q.1, p.2 ∙ sym q.2)
-prints_once Explain m args logged out log other kept none p q = (p.1 ∙ sym q.1, p.2 ∙ sym q.2)
+prints_once (Explain json) m args logged out log other kept none p q = absurd p
+prints_once Listing m args logged out log other kept none p q = absurd p
 prints_once (Run (In o) false) m args logged out log other kept none p q =
     let same = ordered_once o m args p.1 q.1 p.2 q.2 p.3 q.3 in
     (p.4 ∙ same_lines p.1 q.1 p.2 q.2 same.0 same.1 ∙ sym q.4, p.5 ∙ sym q.5)
@@ -140,7 +145,7 @@ pub done_once : (what : Doing) (m : ModuleValue) (args : List ℤ) (logged : Lis
 done_once what m args logged d e none p q =
     prints_once what m args logged (done_text d) (done_log d) (done_text e) (done_log e) none (prints what m args logged d p) (prints what m args logged e q)
 
--- ---- what is said of a module
+-- ---- what is said of a fault
 
 -- The reply is that of a fault. Of a task whose standard output is determined nothing is said there.
 abbrev IsFaultReply : Doing → Fault → Reply → Type 0
@@ -148,9 +153,10 @@ IsFaultReply what f r = (said : List ℕ) × (IsDetermined what → said ≡ [])
 
 -- what is said of a fault
 said_determined : (what : Doing) (kind : Form) (file bytes said : List ℕ) (f : Fault) → IsSaidBy what kind file bytes f said → IsDetermined what → said ≡ []
-said_determined Explain kind file bytes said f h one = absurd one
+said_determined (Explain json) kind file bytes said f h one = absurd one
 said_determined Check kind file bytes said f h one = h
 said_determined Compile kind file bytes said f h one = h
+said_determined Listing kind file bytes said f h one = h
 said_determined (Run way kept) kind file bytes said f h one = h
 said_determined Replay kind file bytes said f h one = h
 said_determined Chart kind file bytes said f h one = h
@@ -162,12 +168,70 @@ IsReplyOf t bytes f r = (said : List ℕ) × IsSaidOf t bytes f said × (r ≡ f
 reply_of : (t : Task) (bytes : List ℕ) (r : Reply) (f : Fault) → IsReplyOf t bytes f r → IsFaultReply t.doing f r
 reply_of t bytes r f e = (e.0, said_determined t.doing t.form t.file bytes e.0 f e.1, e.2)
 
--- The reply is that of a refusal, of arguments that aren't as many as main takes, of a log of no run, or of what the job comes to.
-data Said (what : Doing) (m : ModuleValue) (args : List ℤ) (logged : List ℕ) (r : Reply) : Type 0 where
-  Refusing : (f : Refusal) → what ≢ Compile → Refuses m f → refusal_status f ≢ 4 → IsFaultReply what (fault.Refused f) r → Said what m args logged r
-  Misfit : (wants has : ℕ) → runs what ≡ true → IsAccepted m → IsMisfit m args wants has → IsFaultReply what (fault.Arguments wants has) r → Said what m args logged r
-  NoRun : (f : Fault) → reads_log what ≡ true → IsAccepted m → AreArguments m args → IsNoRun m args logged f → status_of f ≢ 4 → IsFaultReply what f r → Said what m args logged r
-  Does : r.status ≡ 0 → r.err ≡ [] → Prints what m args logged r.out r.log → Said what m args logged r
+-- ---- what is told of it
+
+-- nothing is told of it by what is run, and what is told isn't printed
+telling_runs : (what : Doing) (kind : Form) (file bytes : List ℕ) (m : ModuleValue) (told : List ℕ) → runs what ≡ true → IsTelling what kind file bytes m told → ⊥
+telling_runs (Explain json) kind file bytes m told run h = false≢true run
+telling_runs Listing kind file bytes m told run h = false≢true run
+telling_runs Check kind file bytes m told run h = h
+telling_runs Compile kind file bytes m told run h = h
+telling_runs (Run way kept) kind file bytes m told run h = h
+telling_runs Replay kind file bytes m told run h = h
+telling_runs Chart kind file bytes m told run h = h
+
+telling_reads : (what : Doing) (kind : Form) (file bytes : List ℕ) (m : ModuleValue) (told : List ℕ) → reads_log what ≡ true → IsTelling what kind file bytes m told → ⊥
+telling_reads (Explain json) kind file bytes m told reads h = false≢true reads
+telling_reads Listing kind file bytes m told reads h = false≢true reads
+telling_reads Check kind file bytes m told reads h = h
+telling_reads Compile kind file bytes m told reads h = h
+telling_reads (Run way kept) kind file bytes m told reads h = h
+telling_reads Replay kind file bytes m told reads h = h
+telling_reads Chart kind file bytes m told reads h = h
+
+telling_unprinted : (what : Doing) (kind : Form) (file bytes : List ℕ) (m : ModuleValue) (told : List ℕ) (args : List ℤ) (logged out log : List ℕ)
+    → IsTelling what kind file bytes m told → Prints what m args logged out log → ⊥
+telling_unprinted (Explain json) kind file bytes m told args logged out log h p = p
+telling_unprinted Listing kind file bytes m told args logged out log h p = p
+telling_unprinted Check kind file bytes m told args logged out log h p = h
+telling_unprinted Compile kind file bytes m told args logged out log h p = h
+telling_unprinted (Run way kept) kind file bytes m told args logged out log h p = h
+telling_unprinted Replay kind file bytes m told args logged out log h p = h
+telling_unprinted Chart kind file bytes m told args logged out log h p = h
+
+telling_accepted : (what : Doing) (kind : Form) (file bytes : List ℕ) (m : ModuleValue) (told : List ℕ) → asks_verifier what ≡ true → IsTelling what kind file bytes m told
+    → IsAccepted m
+telling_accepted (Explain json) kind file bytes m told asks h = h.0
+telling_accepted Listing kind file bytes m told asks h = absurd (false≢true asks)
+telling_accepted Check kind file bytes m told asks h = absurd h
+telling_accepted Compile kind file bytes m told asks h = absurd h
+telling_accepted (Run way kept) kind file bytes m told asks h = absurd h
+telling_accepted Replay kind file bytes m told asks h = absurd h
+telling_accepted Chart kind file bytes m told asks h = absurd h
+
+-- it goes to standard output, and nothing to the log
+text_told : (P : List ℕ → Type 0) (d : Done) → IsText P d → P (done_text d) × (done_log d ≡ [])
+text_told P (done.Told text) h = (h, refl)
+text_told P _ h = absurd h
+
+-- what is told of the same bytes is one
+pub told_once : (t : Task) (bytes : List ℕ) (m : ModuleValue) (d e : Done) → Gives t.form bytes m → IsText (IsTelling t.doing t.form t.file bytes m) d
+    → IsText (IsTelling t.doing t.form t.file bytes m) e → (done_text d ≡ done_text e) × (done_log d ≡ done_log e)
+told_once t bytes m d e given p q =
+    let a = text_told (IsTelling t.doing t.form t.file bytes m) d p in
+    let b = text_told (IsTelling t.doing t.form t.file bytes m) e q in
+    (telling_once t.doing t.form t.file bytes m (done_text d) (done_text e) given a.0 b.0, a.1 ∙ sym b.1)
+
+-- ---- what is said of a module
+
+-- The reply is that of a refusal, of arguments that aren't as many as main takes, of a log of no run, of what the job comes to, or of what it tells.
+data Said (t : Task) (bytes : List ℕ) (m : ModuleValue) (logged : List ℕ) (r : Reply) : Type 0 where
+  Refusing : (f : Refusal) → asks_verifier t.doing ≡ true → Refuses m f → refusal_status f ≢ 4 → IsFaultReply t.doing (fault.Refused f) r → Said t bytes m logged r
+  Misfit : (wants has : ℕ) → runs t.doing ≡ true → IsAccepted m → IsMisfit m t.arguments wants has → IsFaultReply t.doing (fault.Arguments wants has) r → Said t bytes m logged r
+  NoRun : (f : Fault) → reads_log t.doing ≡ true → IsAccepted m → AreArguments m t.arguments → IsNoRun m t.arguments logged f → status_of f ≢ 4 → IsFaultReply t.doing f r
+      → Said t bytes m logged r
+  Does : r.status ≡ 0 → r.err ≡ [] → Prints t.doing m t.arguments logged r.out r.log → Said t bytes m logged r
+  Telling : r.status ≡ 0 → r.err ≡ [] → IsTelling t.doing t.form t.file bytes m r.out → r.log ≡ [] → Said t bytes m logged r
 
 -- the replies of two faults that have one line, but for a walk
 same_faults : (what : Doing) (r s : Reply) (f g : Fault) → IsFaultReply what f r → IsFaultReply what g s → status_of f ≡ status_of g → IsSameLine (fault_line f) (fault_line g)
@@ -186,42 +250,58 @@ same_misfits m args wants has other given p q =
 
 -- what is determined isn't run by workers
 determined : (what : Doing) → IsDetermined what → IsWithoutWorkers what
-determined Explain one = absurd one
+determined (Explain json) one = absurd one
 determined Check one = tt
 determined Compile one = tt
+determined Listing one = tt
 determined (Run (In o) kept) one = tt
 determined (Run (By n) kept) one = absurd one
 determined Replay one = tt
 determined Chart one = tt
 
-same_said : (what : Doing) (m : ModuleValue) (args : List ℤ) (logged : List ℕ) (r s : Reply) → Said what m args logged r → Said what m args logged s → IsSameReply what r s
-same_said what m args logged r s (Refusing f asks p n e) (Refusing g again q k d) =
-    same_faults what r s (fault.Refused f) (fault.Refused g) e d (refused_status f n ∙ sym (refused_status g k)) (refusal_once m f g p q n k)
-same_said what m args logged r s (Refusing f asks p n e) (Misfit wants has run ok q d) = absurd (not_accepted m f ok p n)
-same_said what m args logged r s (Refusing f asks p n e) (NoRun g reads ok taken q k d) = absurd (not_accepted m f ok p n)
-same_said what m args logged r s (Refusing f asks p n e) (Does zero quiet q) = absurd (not_accepted m f (prints_accepted what m args logged s.out s.log asks q) p n)
-same_said what m args logged r s (Misfit wants has run ok p e) (Refusing g again q k d) = absurd (not_accepted m g ok q k)
-same_said what m args logged r s (Misfit wants has run ok p e) (Misfit other given again fine q d) =
-    same_faults what r s (fault.Arguments wants has) (fault.Arguments other given) e d refl (inl (same_misfits m args wants has other given p q))
-same_said what m args logged r s (Misfit wants has run ok p e) (NoRun g reads fine taken q k d) = absurd (p.misfit taken)
-same_said what m args logged r s (Misfit wants has run ok p e) (Does zero quiet q) = absurd (p.misfit (prints_taken what m args logged s.out s.log run q))
-same_said what m args logged r s (NoRun f reads ok taken p n e) (Refusing g again q k d) = absurd (not_accepted m g ok q k)
-same_said what m args logged r s (NoRun f reads ok taken p n e) (Misfit wants has run fine q d) = absurd (q.misfit taken)
-same_said what m args logged r s (NoRun f reads ok taken p n e) (NoRun g again fine fits q k d) =
-    let same = no_run_once m args logged f g p q n k in
-    same_faults what r s f g e d (ap status_of same) (inl (ap fault_line same))
-same_said what m args logged r s (NoRun f reads ok taken p n e) (Does zero quiet q) =
-    let whole = prints_whole what m args logged s.out s.log reads q in absurd (whole_not_refused m args logged f whole.0 p n whole.1 whole.2)
-same_said what m args logged r s (Does zero quiet p) (Refusing g again q k d) = absurd (not_accepted m g (prints_accepted what m args logged r.out r.log again p) q k)
-same_said what m args logged r s (Does zero quiet p) (Misfit wants has run ok q d) = absurd (q.misfit (prints_taken what m args logged r.out r.log run p))
-same_said what m args logged r s (Does zero quiet p) (NoRun g reads ok taken q k d) =
-    let whole = prints_whole what m args logged r.out r.log reads p in absurd (whole_not_refused m args logged g whole.0 q k whole.1 whole.2)
-same_said what m args logged r s (Does zero quiet p) (Does none silent q) = record {
-  status = zero ∙ sym none;
-  err = inl (quiet ∙ sym silent);
-  out = λ one. (prints_once what m args logged r.out r.log s.out s.log (determined what one) p q).0;
-  log = λ orders. (prints_once what m args logged r.out r.log s.out s.log orders p q).1;
-}
+module _ (t : Task) (bytes : List ℕ) (m : ModuleValue) (logged : List ℕ) (r s : Reply) (given : Gives t.form bytes m) where
+  same_said : Said t bytes m logged r → Said t bytes m logged s → IsSameReply t.doing r s
+  same_said (Refusing f asks p n e) (Refusing g again q k d) =
+      same_faults t.doing r s (fault.Refused f) (fault.Refused g) e d (refused_status f n ∙ sym (refused_status g k)) (refusal_once m f g p q n k)
+  same_said (Refusing f asks p n e) (Misfit wants has run ok q d) = absurd (not_accepted m f ok p n)
+  same_said (Refusing f asks p n e) (NoRun g reads ok taken q k d) = absurd (not_accepted m f ok p n)
+  same_said (Refusing f asks p n e) (Does zero quiet q) = absurd (not_accepted m f (prints_accepted t.doing m t.arguments logged s.out s.log asks q) p n)
+  same_said (Refusing f asks p n e) (Telling zero quiet q none) = absurd (not_accepted m f (telling_accepted t.doing t.form t.file bytes m s.out asks q) p n)
+  same_said (Misfit wants has run ok p e) (Refusing g again q k d) = absurd (not_accepted m g ok q k)
+  same_said (Misfit wants has run ok p e) (Misfit other given again fine q d) =
+      same_faults t.doing r s (fault.Arguments wants has) (fault.Arguments other given) e d refl (inl (same_misfits m t.arguments wants has other given p q))
+  same_said (Misfit wants has run ok p e) (NoRun g reads fine taken q k d) = absurd (p.misfit taken)
+  same_said (Misfit wants has run ok p e) (Does zero quiet q) = absurd (p.misfit (prints_taken t.doing m t.arguments logged s.out s.log run q))
+  same_said (Misfit wants has run ok p e) (Telling zero quiet q none) = absurd (telling_runs t.doing t.form t.file bytes m s.out run q)
+  same_said (NoRun f reads ok taken p n e) (Refusing g again q k d) = absurd (not_accepted m g ok q k)
+  same_said (NoRun f reads ok taken p n e) (Misfit wants has run fine q d) = absurd (q.misfit taken)
+  same_said (NoRun f reads ok taken p n e) (NoRun g again fine fits q k d) =
+      let same = no_run_once m t.arguments logged f g p q n k in
+      same_faults t.doing r s f g e d (ap status_of same) (inl (ap fault_line same))
+  same_said (NoRun f reads ok taken p n e) (Does zero quiet q) =
+      let whole = prints_whole t.doing m t.arguments logged s.out s.log reads q in absurd (whole_not_refused m t.arguments logged f whole.0 p n whole.1 whole.2)
+  same_said (NoRun f reads ok taken p n e) (Telling zero quiet q none) = absurd (telling_reads t.doing t.form t.file bytes m s.out reads q)
+  same_said (Does zero quiet p) (Refusing g again q k d) = absurd (not_accepted m g (prints_accepted t.doing m t.arguments logged r.out r.log again p) q k)
+  same_said (Does zero quiet p) (Misfit wants has run ok q d) = absurd (q.misfit (prints_taken t.doing m t.arguments logged r.out r.log run p))
+  same_said (Does zero quiet p) (NoRun g reads ok taken q k d) =
+      let whole = prints_whole t.doing m t.arguments logged r.out r.log reads p in absurd (whole_not_refused m t.arguments logged g whole.0 q k whole.1 whole.2)
+  same_said (Does zero quiet p) (Does none silent q) = record {
+    status = zero ∙ sym none;
+    err = inl (quiet ∙ sym silent);
+    out = λ one. (prints_once t.doing m t.arguments logged r.out r.log s.out s.log (determined t.doing one) p q).0;
+    log = λ orders. (prints_once t.doing m t.arguments logged r.out r.log s.out s.log orders p q).1;
+  }
+  same_said (Does zero quiet p) (Telling none silent q log) = absurd (telling_unprinted t.doing t.form t.file bytes m s.out t.arguments logged r.out r.log q p)
+  same_said (Telling zero quiet p log) (Refusing g again q k d) = absurd (not_accepted m g (telling_accepted t.doing t.form t.file bytes m r.out again p) q k)
+  same_said (Telling zero quiet p log) (Misfit wants has run ok q d) = absurd (telling_runs t.doing t.form t.file bytes m r.out run p)
+  same_said (Telling zero quiet p log) (NoRun g reads ok taken q k d) = absurd (telling_reads t.doing t.form t.file bytes m r.out reads p)
+  same_said (Telling zero quiet p log) (Does none silent q) = absurd (telling_unprinted t.doing t.form t.file bytes m r.out t.arguments logged s.out s.log p q)
+  same_said (Telling zero quiet p log) (Telling none silent q unlogged) = record {
+    status = zero ∙ sym none;
+    err = inl (quiet ∙ sym silent);
+    out = λ one. telling_once t.doing t.form t.file bytes m r.out s.out given p q;
+    log = λ orders. log ∙ sym unlogged;
+  }
 
 -- ---- what is said of bytes
 
@@ -229,7 +309,7 @@ same_said what m args logged r s (Does zero quiet p) (Does none silent q) = reco
 data Case (t : Task) (bytes logged : List ℕ) (r : Reply) : Type 0 where
   Unread : (f : ModuleFault) → t.form ≡ form.Module → IsNoModule bytes f → IsReplyOf t bytes (fault.Text f) r → Case t bytes logged r
   Unfit : (f : FrontFault) → t.form ≡ form.Source → IsNoSource bytes f → IsReplyOf t bytes (fault.Front f) r → Case t bytes logged r
-  Read : (m : ModuleValue) → Gives t.form bytes m → Said t.doing m t.arguments logged r → Case t bytes logged r
+  Read : (m : ModuleValue) → Gives t.form bytes m → Said t bytes m logged r → Case t bytes logged r
 
 -- of a fault that is told where a module is given
 status_not : (r : Reply) (f : Fault) (said : List ℕ) → r ≡ fault_reply said f → r.status ≢ 4 → status_of f ≢ 4
@@ -238,9 +318,17 @@ status_not r f said e not4 = λ is. not4 (ap (λ (z : Reply). z.status) e ∙ is
 no_source : (t : Task) → t.form ≡ form.Module → t.form ≡ form.Source → ⊥
 no_source t e d = let both : form.Module ≡ form.Source = sym e ∙ d in cc
 
+done_said : (t : Task) (bytes : List ℕ) (m : ModuleValue) (logged : List ℕ) (r : Reply) (d : Done) → r ≡ done_reply d
+    → ComesTo t.doing m t.arguments logged d ⊎ IsText (IsTelling t.doing t.form t.file bytes m) d → Said t bytes m logged r
+done_said t bytes m logged r d e (inl h) = Does (ap (λ (z : Reply). z.status) e) (ap (λ (z : Reply). z.err) e)
+    (subst (λ (z : Reply). Prints t.doing m t.arguments logged z.out z.log) (sym e) (prints t.doing m t.arguments logged d h))
+done_said t bytes m logged r d e (inr h) =
+    let told = text_told (IsTelling t.doing t.form t.file bytes m) d h in
+    Telling (ap (λ (z : Reply). z.status) e) (ap (λ (z : Reply). z.err) e)
+    (subst (λ (z : Reply). IsTelling t.doing t.form t.file bytes m z.out) (sym e) told.0) (ap (λ (z : Reply). z.log) e ∙ told.1)
+
 case_of : (t : Task) (bytes logged : List ℕ) (r : Reply) → r.status ≢ 4 → Answers t bytes logged r → Case t bytes logged r
-case_of t bytes logged r not4 (inl (d, s, e)) = Read s.of s.given (Does (ap (λ (z : Reply). z.status) e) (ap (λ (z : Reply). z.err) e)
-    (subst (λ (z : Reply). Prints t.doing s.of t.arguments logged z.out z.log) (sym e) (prints t.doing s.of t.arguments logged d s.done)))
+case_of t bytes logged r not4 (inl (d, s, e)) = Read s.of s.given (done_said t bytes s.of logged r d e s.done)
 case_of t bytes logged r not4 (inr (fault.Text f, h, e)) = Unread f h.0 h.1 e
 case_of t bytes logged r not4 (inr (fault.Front f, h, e)) = Unfit f h.0 h.1 e
 case_of t bytes logged r not4 (inr (fault.Refused (refusal.Shape f), h, e)) =
@@ -313,11 +401,11 @@ given_once form.Module bytes m n p q = one_module bytes m n p.1 q.1
 given_once form.Source bytes m n p q = one_text bytes m n p q
 
 -- an answer, where the bytes give this module
-said_of : (t : Task) (bytes logged : List ℕ) (r : Reply) (m : ModuleValue) → Gives t.form bytes m → Case t bytes logged r → Said t.doing m t.arguments logged r
+said_of : (t : Task) (bytes logged : List ℕ) (r : Reply) (m : ModuleValue) → Gives t.form bytes m → Case t bytes logged r → Said t bytes m logged r
 said_of t bytes logged r m given (Unread f of p e) = absurd (unread_none bytes f m p (given_text t bytes m of given))
 said_of t bytes logged r m given (Unfit f of p e) = absurd (unfit_none bytes f m p (given_source t bytes m of given))
 said_of t bytes logged r m given (Read n found told) =
-    subst (λ k. Said t.doing k t.arguments logged r) (given_once t.form bytes n m found given) told
+    subst (λ k. Said t bytes k logged r) (given_once t.form bytes n m found given) told
 
 same_case : (t : Task) (bytes logged : List ℕ) (r s : Reply) → t.form ≡ form.Module → Case t bytes logged r → Case t bytes logged s → IsSameReply t.doing r s
 same_case t bytes logged r s of (Unread f is p e) (Unread g text q d) =
@@ -326,7 +414,7 @@ same_case t bytes logged r s of (Unread f is p e) (Unread g text q d) =
 same_case t bytes logged r s of (Unread f is p e) (Unfit g source q d) = absurd (no_source t of source)
 same_case t bytes logged r s of (Unread f is p e) (Read m given said) = absurd (unread_none bytes f m p (given_text t bytes m of given))
 same_case t bytes logged r s of (Unfit f source p e) other = absurd (no_source t of source)
-same_case t bytes logged r s of (Read m given said) other = same_said t.doing m t.arguments logged r s said (said_of t bytes logged s m given other)
+same_case t bytes logged r s of (Read m given said) other = same_said t bytes m logged r s given said (said_of t bytes logged s m given other)
 
 pub one_answer : (t : Task) (bytes logged : List ℕ) (r s : Reply) → t.form ≡ form.Module → Answers t bytes logged r → Answers t bytes logged s → r.status ≢ 4 → s.status ≢ 4
     → IsSameReply t.doing r s
@@ -356,7 +444,7 @@ same_source t bytes logged r s of (Unread f text p e) other = absurd (no_source 
 same_source t bytes logged r s of (Unfit f is p e) (Unread g text q d) = absurd (no_source t text of)
 same_source t bytes logged r s of (Unfit f is p e) (Unfit g source q d) = same_unfit t bytes r s f g e d (unfit_once bytes f g p q)
 same_source t bytes logged r s of (Unfit f is p e) (Read m given said) = absurd (unfit_none bytes f m p (given_source t bytes m of given))
-same_source t bytes logged r s of (Read m given said) other = inl (same_said t.doing m t.arguments logged r s said (said_of t bytes logged s m given other))
+same_source t bytes logged r s of (Read m given said) other = inl (same_said t bytes m logged r s given said (said_of t bytes logged s m given other))
 
 pub one_source_answer : (t : Task) (bytes logged : List ℕ) (r s : Reply) → t.form ≡ form.Source → Answers t bytes logged r → Answers t bytes logged s
     → r.status ≢ 4 → s.status ≢ 4 → IsSameReply t.doing r s ⊎ TellFaults t bytes r s
@@ -365,16 +453,18 @@ one_source_answer t bytes logged r s of p q n k = same_source t bytes logged r s
 -- ---- logs of whole runs
 
 -- where the log that is read is that of a whole run, nothing stands against the job
-whole_does : (what : Doing) (m : ModuleValue) (args : List ℤ) (logged : List ℕ) (es : List Entry) (s : Reply) → IsAccepted m → AreArguments m args → IsLogText logged es
-    → IsWhole m args es → Said what m args logged s → (s.status ≡ 0) × (s.err ≡ []) × Prints what m args logged s.out s.log
-whole_does what m args logged es s ok taken text whole (Refusing f asks p n e) = absurd (not_accepted m f ok p n)
-whole_does what m args logged es s ok taken text whole (Misfit wants has run fine p e) = absurd (p.misfit taken)
-whole_does what m args logged es s ok taken text whole (NoRun f reads fine fits p n e) = absurd (whole_not_refused m args logged f es p n text whole)
-whole_does what m args logged es s ok taken text whole (Does zero quiet p) = (zero, quiet, p)
+whole_does : (t : Task) (bytes : List ℕ) (m : ModuleValue) (logged : List ℕ) (es : List Entry) (s : Reply) → reads_log t.doing ≡ true → IsAccepted m
+    → AreArguments m t.arguments → IsLogText logged es → IsWhole m t.arguments es → Said t bytes m logged s
+    → (s.status ≡ 0) × (s.err ≡ []) × Prints t.doing m t.arguments logged s.out s.log
+whole_does t bytes m logged es s is ok taken text whole (Refusing f asks p n e) = absurd (not_accepted m f ok p n)
+whole_does t bytes m logged es s is ok taken text whole (Misfit wants has run fine p e) = absurd (p.misfit taken)
+whole_does t bytes m logged es s is ok taken text whole (NoRun f reads fine fits p n e) = absurd (whole_not_refused m t.arguments logged f es p n text whole)
+whole_does t bytes m logged es s is ok taken text whole (Does zero quiet p) = (zero, quiet, p)
+whole_does t bytes m logged es s is ok taken text whole (Telling zero quiet p none) = absurd (telling_reads t.doing t.form t.file bytes m s.out is p)
 
-pub whole_prints : (t : Task) (bytes logged : List ℕ) (s : Reply) (m : ModuleValue) (out log : List ℕ) → Gives t.form bytes m
+pub whole_prints : (t : Task) (bytes logged : List ℕ) (s : Reply) (m : ModuleValue) (out log : List ℕ) → reads_log t.doing ≡ true → Gives t.form bytes m
     → Prints Replay m t.arguments logged out log → s.status ≢ 4 → Answers t bytes logged s → (s.status ≡ 0) × (s.err ≡ []) × Prints t.doing m t.arguments logged s.out s.log
-whole_prints t bytes logged s m out log given p not4 answers =
+whole_prints t bytes logged s m out log is given p not4 answers =
     let whole = prints_whole Replay m t.arguments logged out log refl p in
-    whole_does t.doing m t.arguments logged whole.0 s (prints_accepted Replay m t.arguments logged out log (λ e. cc) p)
+    whole_does t bytes m logged whole.0 s is (prints_accepted Replay m t.arguments logged out log refl p)
     (prints_taken Replay m t.arguments logged out log refl p) whole.1 whole.2 (said_of t bytes logged s m given (case_of t bytes logged s not4 answers))

@@ -7,6 +7,8 @@ pub mod OrderedRunLemmas
 pub mod ReplyLemmas
 pub mod RunLogLemmas
 pub mod TaskLemmas
+pub mod TellingUniquenessLemmas
 pub mod TextUniquenessLemmas
 pub mod ExplanationLemmas
+pub mod UnfitModuleLemmas
 pub mod UnfitTextLemmas

@@ -1,8 +1,8 @@
 -- Of a text that is too long no more than one byte too many is kept: what stands against that stands against the whole text.
-use Rattle.std.proofs.Common.{◌≡◌, ◌≢◌, ◌+◌, ◌<◌, ◌≤◌, ℕ, Bool, true, false, if◌then◌else◌, List, [], length, take, min, Option, Some, None, inl, inr, refl, sym, arith, ap, ◌∙◌, subst}
+use Rattle.std.proofs.Common.{◌≡◌, ◌≢◌, ◌+◌, ◌<◌, ◌≤◌, ℕ, Bool, true, false, if◌then◌else◌, List, [], ◌∷◌, length, take, min, Option, Some, None, inl, inr, refl, sym, arith, ap, ◌∙◌, subst}
 use Rattle.std.proofs.lemmas.Bool.{false≢true}
 use Rattle.std.proofs.lemmas.List.{length-take, take_all}
-use Rattle.std.specs.Prelude.{IfSome}
+use Rattle.std.specs.Prelude.{◌⊎◌, IfSome}
 use Rattle.xk_types.specs.Code.{ModuleValue}
 use Rattle.xk_tree.specs.declared.fault.FrontFault.{FrontFault}
 use Rattle.xk_cli.specs.declared.job.Form.{Form}
@@ -13,11 +13,16 @@ use Rattle.xk_serve.specs.declared.job_result.Done.{Done}
 use Rattle.xk_serve.specs.declared.fault.Fault.{Fault}
 use Rattle.xk_serve.specs.declared.fault.Fault.TheVariants as fault
 use Rattle.xk_module.specs.declared.fault.ModuleFault.{ModuleFault}
-use Rattle.xk_serve.specs.Programs.{Gives, IsNoModule, IsNoSource, longest_module, longest_source}
+use Rattle.xk_serve.specs.Programs.{Gives, IsNoModule, IsNoSource, IsNoText, IsTooLong, longest_module, longest_source}
 use Rattle.xk_serve.specs.Bytes.{kept}
-use Rattle.xk_serve.specs.Answer.{Chart, Check, Compile, Doing, Explain, FailsBy, GivesAccepted, IsExplanation, IsRefusalExplained, IsSaidBy, IsSaidOf, Replay, Run, Succeeds, Task}
+use Rattle.xk_serve.specs.Answer.{Chart, Check, ComesTo, Compile, Doing, Explain, FailsBy, GivesAccepted, IsSaidBy, IsSaidOf, IsTelling, IsText, Listing, Replay, Run, Succeeds, Task}
+use Rattle.xk_serve.specs.Explanation.{IsByProgram, IsByTree, IsExplanation, fault_said, front_said, refusal_said}
+use Rattle.xk_tree.specs.declared.fault.FrontRule.TheVariants as rule
 use Rattle.xk_serve.specs.Devices.{AgainstLog, IfKnown, IsRead, IsSaid, Reads, StandsAgainst, read_of}
-use Rattle.xk_explain.specs.Explanations.{front_explanation, has_place}
+use Rattle.xk_positions.specs.Lines.{position_of}
+use Rattle.xk_explain.specs.Explanations.{has_place, shown_at}
+use Rattle.xk_explain_json.specs.Objects.{json_line, object_of}
+use Rattle.xk_explain_json.specs.Explanations.{notes_in, position_members, refused_by_front}
 use Rattle.xk_serve.proofs.ReplyLemmas.{of_known}
 use Rattle.xk_serve.proofs.TaskLemmas.{of_each}
 
@@ -34,9 +39,13 @@ longer n bytes known e long =
     let front : length bytes ≡ min (n + 1) (length known) = ap length e ∙ length-take (n + 1) known in
     omega arith
 
+-- bytes that give a module are all of them
+kept_whole : (what : Form) (bytes known : List ℕ) (m : ModuleValue) → bytes ≡ kept what known → Gives what bytes m → bytes ≡ known
+kept_whole form.Module bytes known m e h = whole longest_module bytes known e h.0
+kept_whole form.Source bytes known m e h = whole longest_source bytes known e h.spelled.1.short
+
 kept_gives : (what : Form) (bytes known : List ℕ) (m : ModuleValue) → bytes ≡ kept what known → Gives what bytes m → Gives what known m
-kept_gives form.Module bytes known m e h = subst (λ b. Gives form.Module b m) (whole longest_module bytes known e h.0) h
-kept_gives form.Source bytes known m e h = subst (λ b. Gives form.Source b m) (whole longest_source bytes known e h.spelled.1.short) h
+kept_gives what bytes known m e h = subst (λ b. Gives what b m) (kept_whole what bytes known m e h) h
 
 kept_source : (bytes known : List ℕ) (f : FrontFault) → bytes ≡ kept form.Source known → IsNoSource bytes f → IsNoSource known f
 kept_source bytes known f e (inl h) = inl (longer longest_source bytes known e h.0, h.1, h.2)
@@ -68,7 +77,11 @@ kept_fails t bytes known logged fault.OutOfMemory e h = tt
 kept_fails t bytes known logged fault.Device e h = absurd h
 
 kept_succeeds : (t : Task) (bytes known logged : List ℕ) (d : Done) → bytes ≡ kept t.form known → Succeeds t bytes logged d → Succeeds t known logged d
-kept_succeeds t bytes known logged d e h = record { of = h.of; given = kept_gives t.form bytes known h.of e h.given; done = h.done }
+kept_succeeds t bytes known logged d e h = record {
+  of = h.of;
+  given = kept_gives t.form bytes known h.of e h.given;
+  done = subst (λ b. ComesTo t.doing h.of t.arguments logged d ⊎ IsText (IsTelling t.doing t.form t.file b h.of) d) (kept_whole t.form bytes known h.of e h.given) h.done;
+}
 
 -- a success with the bytes kept is one with those that are known
 pub kept_done : (t : Task) (known logged : Option (List ℕ)) (bytes : List ℕ) (d : Done) → IfSome known (λ k. bytes ≡ kept t.form k)
@@ -78,71 +91,98 @@ kept_done t (Some k) logged bytes d e h = of_each _ _ (read_of t logged) (λ log
 
 -- ---- what is said of a fault
 
-either_way : (b : Bool) (x y z : List ℕ) → b ≡ false → (if b then x else z) ≡ (if b then y else z)
+either_way : {A : Type 0} (b : Bool) (x y z : A) → b ≡ false → (if b then x else z) ≡ (if b then y else z)
 either_way true x y z e = absurd (false≢true (sym e))
 either_way false x y z e = refl
 
 -- of a text that is too long nothing is said that looks at it
-front_kept : (file bytes known : List ℕ) (f : FrontFault) → bytes ≡ kept form.Source known → IsNoSource bytes f
-    → front_explanation file bytes f [] ≡ front_explanation file known f []
-front_kept file bytes known f e (inl h) = either_way (has_place f.rule) _ _ _ (ap has_place h.1)
-front_kept file bytes known f e (inr (inl h)) = ap (λ b. front_explanation file b f []) (whole longest_source bytes known e h.0)
-front_kept file bytes known f e (inr (inr (inl h))) = ap (λ b. front_explanation file b f []) (whole longest_source bytes known e h.0)
-front_kept file bytes known f e (inr (inr (inr h))) = ap (λ b. front_explanation file b f []) (whole longest_source bytes known e h.1.1.short)
+long_kept : (json : Bool) (file bytes known : List ℕ) (f : FrontFault) → f.rule ≡ rule.TooLong → front_said json file bytes f [] ≡ front_said json file known f []
+long_kept false file bytes known f long = either_way (has_place f.rule) _ _ _ (ap has_place long)
+long_kept true file bytes known f long = ap (λ place. json_line (object_of (notes_in known [] ∷ refused_by_front file f.rule ∷ place ∷ [])))
+    (either_way (has_place f.rule) (position_members (position_of bytes (shown_at bytes f))) (position_members (position_of known (shown_at known f))) [] (ap has_place long))
+
+-- bytes that spell no tree are all of them, or too many
+no_text_kept : (bytes known : List ℕ) (f : FrontFault) → bytes ≡ kept form.Source known → IsNoText bytes f → IsNoText known f
+no_text_kept bytes known f e (inl h) = inl (longer longest_source bytes known e h.0, h.1, h.2)
+no_text_kept bytes known f e (inr (inl h)) = subst (λ b. IsNoText b f) (whole longest_source bytes known e h.0) (inr (inl h))
+no_text_kept bytes known f e (inr (inr h)) = subst (λ b. IsNoText b f) (whole longest_source bytes known e h.0) (inr (inr h))
+
+many_not_few : (bytes : List ℕ) → longest_source < length bytes → length bytes ≤ longest_source → ⊥
+many_not_few bytes more few = omega (arith, more, few)
+
+-- too many spell none
+long_fault : (json : Bool) (file bytes known said : List ℕ) (f : FrontFault) → bytes ≡ kept form.Source known → IsTooLong bytes f
+    → IsByTree bytes (fault_said json file bytes f) said → IsByTree known (fault_said json file known f) said
+long_fault json file bytes known said f e h (Some tree, is, told) = absurd (many_not_few bytes h.0 is.1.short)
+long_fault json file bytes known said f e h (None, is, told) = (None, (is.0, no_text_kept bytes known is.0 e is.1), told ∙ long_kept json file bytes known f h.1)
+
+front_kept : (json : Bool) (file bytes known said : List ℕ) (f : FrontFault) → bytes ≡ kept form.Source known → IsNoSource bytes f
+    → IsByTree bytes (fault_said json file bytes f) said → IsByTree known (fault_said json file known f) said
+front_kept json file bytes known said f e (inl h) is = long_fault json file bytes known said f e h is
+front_kept json file bytes known said f e (inr (inl h)) is =
+    subst (λ b. IsByTree b (fault_said json file b f) said) (whole longest_source bytes known e h.0) is
+front_kept json file bytes known said f e (inr (inr (inl h))) is =
+    subst (λ b. IsByTree b (fault_said json file b f) said) (whole longest_source bytes known e h.0) is
+front_kept json file bytes known said f e (inr (inr (inr h))) is =
+    subst (λ b. IsByTree b (fault_said json file b f) said) (whole longest_source bytes known e h.1.1.short) is
 
 -- of a program that is refused the whole text is kept
-refusal_kept : (kind : Form) (file bytes known said : List ℕ) (r : Refusal) (m : ModuleValue) → bytes ≡ kept kind known → Gives kind bytes m
-    → IsRefusalExplained kind file bytes r said → IsRefusalExplained kind file known r said
-refusal_kept form.Module file bytes known said r m e given is = is
-refusal_kept form.Source file bytes known said r m e given is =
-    subst (λ b. IsRefusalExplained form.Source file b r said) (whole longest_source bytes known e given.spelled.1.short) is
+refusal_kept : (json : Bool) (kind : Form) (file bytes known said : List ℕ) (r : Refusal) (m : ModuleValue) → bytes ≡ kept kind known → Gives kind bytes m
+    → IsByProgram kind bytes (refusal_said json file bytes r) said → IsByProgram kind known (refusal_said json file known r) said
+refusal_kept json kind file bytes known said r m e given is =
+    subst (λ b. IsByProgram kind b (refusal_said json file b r) said) (kept_whole kind bytes known m e given) is
 
-explanation_kept : (t : Task) (bytes known logged said : List ℕ) (f : Fault) → bytes ≡ kept t.form known → FailsBy t bytes logged f
-    → IsExplanation t.form t.file bytes f said → IsExplanation t.form t.file known f said
-explanation_kept t bytes known logged said (fault.Text f) e h is = is
-explanation_kept t bytes known logged said (fault.Front f) e h is =
-    is ∙ front_kept t.file bytes known f (subst (λ what. bytes ≡ kept what known) h.0 e) h.1
-explanation_kept t bytes known logged said (fault.Refused (refusal.Shape r)) e h is =
-    refusal_kept t.form t.file bytes known said (refusal.Shape r) h.1.0 e h.1.1 is
-explanation_kept t bytes known logged said (fault.Refused (refusal.Kind r)) e h is =
-    refusal_kept t.form t.file bytes known said (refusal.Kind r) h.1.0 e h.1.1 is
-explanation_kept t bytes known logged said (fault.Refused (refusal.Bound r)) e h is =
-    refusal_kept t.form t.file bytes known said (refusal.Bound r) h.1.0 e h.1.1 is
-explanation_kept t bytes known logged said (fault.Refused refusal.OutOfMemory) e h is = absurd h
-explanation_kept t bytes known logged said (fault.Arguments wants has) e h is = is
-explanation_kept t bytes known logged said (fault.Grammar line) e h is = is
-explanation_kept t bytes known logged said fault.Truncated e h is = is
-explanation_kept t bytes known logged said (fault.NotEnabled i) e h is = is
-explanation_kept t bytes known logged said fault.NotEnded e h is = is
-explanation_kept t bytes known logged said fault.OutOfMemory e h is = is
-explanation_kept t bytes known logged said fault.Device e h is = is
+explanation_kept : (json : Bool) (t : Task) (bytes known logged said : List ℕ) (f : Fault) → bytes ≡ kept t.form known → FailsBy t bytes logged f
+    → IsExplanation json t.form t.file bytes f said → IsExplanation json t.form t.file known f said
+explanation_kept json t bytes known logged said (fault.Text f) e h is = is
+explanation_kept json t bytes known logged said (fault.Front f) e h is =
+    front_kept json t.file bytes known said f (subst (λ what. bytes ≡ kept what known) h.0 e) h.1 is
+explanation_kept json t bytes known logged said (fault.Refused (refusal.Shape r)) e h is =
+    refusal_kept json t.form t.file bytes known said (refusal.Shape r) h.1.0 e h.1.1 is
+explanation_kept json t bytes known logged said (fault.Refused (refusal.Kind r)) e h is =
+    refusal_kept json t.form t.file bytes known said (refusal.Kind r) h.1.0 e h.1.1 is
+explanation_kept json t bytes known logged said (fault.Refused (refusal.Bound r)) e h is =
+    refusal_kept json t.form t.file bytes known said (refusal.Bound r) h.1.0 e h.1.1 is
+explanation_kept json t bytes known logged said (fault.Refused refusal.OutOfMemory) e h is = absurd h
+explanation_kept json t bytes known logged said (fault.Arguments wants has) e h is = is
+explanation_kept json t bytes known logged said (fault.Grammar line) e h is = is
+explanation_kept json t bytes known logged said fault.Truncated e h is = is
+explanation_kept json t bytes known logged said (fault.NotEnabled i) e h is = is
+explanation_kept json t bytes known logged said fault.NotEnded e h is = is
+explanation_kept json t bytes known logged said fault.OutOfMemory e h is = is
+explanation_kept json t bytes known logged said fault.Device e h is = is
 
 same_said : (what : Doing) (kind : Form) (file bytes known said : List ℕ) (f : Fault)
-    → (IsExplanation kind file bytes f said → IsExplanation kind file known f said) → IsSaidBy what kind file bytes f said → IsSaidBy what kind file known f said
-same_said Explain kind file bytes known said f e h = e h
+    → ((json : Bool) → IsExplanation json kind file bytes f said → IsExplanation json kind file known f said) → IsSaidBy what kind file bytes f said
+    → IsSaidBy what kind file known f said
+same_said (Explain json) kind file bytes known said f e h = e json h
 same_said Check kind file bytes known said f e h = h
 same_said Compile kind file bytes known said f e h = h
+same_said Listing kind file bytes known said f e h = h
 same_said (Run way kept) kind file bytes known said f e h = h
 same_said Replay kind file bytes known said f e h = h
 same_said Chart kind file bytes known said f e h = h
 
 said_kept : (t : Task) (bytes known logged said : List ℕ) (f : Fault) → bytes ≡ kept t.form known → FailsBy t bytes logged f → IsSaidOf t bytes f said → IsSaidOf t known f said
-said_kept t bytes known logged said f e h = same_said t.doing t.form t.file bytes known said f (explanation_kept t bytes known logged said f e h)
+said_kept t bytes known logged said f e h =
+    same_said t.doing t.form t.file bytes known said f (λ json. explanation_kept json t bytes known logged said f e h)
 
 -- of want of memory nothing is said
 memory_unsaid : (what : Doing) (kind : Form) (file bytes : List ℕ) → IsSaidBy what kind file bytes fault.OutOfMemory []
-memory_unsaid Explain kind file bytes = refl
+memory_unsaid (Explain json) kind file bytes = refl
 memory_unsaid Check kind file bytes = refl
 memory_unsaid Compile kind file bytes = refl
+memory_unsaid Listing kind file bytes = refl
 memory_unsaid (Run way kept) kind file bytes = refl
 memory_unsaid Replay kind file bytes = refl
 memory_unsaid Chart kind file bytes = refl
 
 -- of devices nothing is said
 device_unsaid : (what : Doing) (kind : Form) (file bytes said : List ℕ) → IsSaidBy what kind file bytes fault.Device said → said ≡ []
-device_unsaid Explain kind file bytes said h = h
+device_unsaid (Explain json) kind file bytes said h = h
 device_unsaid Check kind file bytes said h = h
 device_unsaid Compile kind file bytes said h = h
+device_unsaid Listing kind file bytes said h = h
 device_unsaid (Run way kept) kind file bytes said h = h
 device_unsaid Replay kind file bytes said h = h
 device_unsaid Chart kind file bytes said h = h

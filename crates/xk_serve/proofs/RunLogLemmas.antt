@@ -1,5 +1,6 @@
 -- The log that a run has written tells that run: `replay` and `chart` take it.
 use Rattle.std.proofs.Common.{◌≡◌, ◌≢◌, ◌∙◌, ℕ, ℤ, true, List, [], Some, None, inl, inr, refl, sym, ap, subst}
+use Rattle.std.specs.Prelude.{◌⊎◌}
 use Rattle.xk_types.specs.declared.world.Entry.{Entry}
 use Rattle.xk_types.specs.Acceptance.{IsAccepted}
 use Rattle.xk_types.specs.Code.{ModuleValue, IsWithinLimits}
@@ -17,7 +18,7 @@ use Rattle.xk_serve.specs.declared.job_result.Done.{Done}
 use Rattle.xk_serve.specs.declared.job_result.Done.TheVariants as done
 use Rattle.xk_serve.specs.declared.fault.Fault.{Fault}
 use Rattle.xk_serve.specs.declared.fault.Fault.TheVariants as fault
-use Rattle.xk_serve.specs.Answer.{Answers, ComesTo, IsLogText, Replay, Replays, Reply, Run, Task, done_reply}
+use Rattle.xk_serve.specs.Answer.{Answers, ComesTo, IsLogText, IsTelling, IsText, Replay, Replays, Reply, Run, Task, done_reply}
 use Rattle.xk_serve.specs.Lines.{done_log, done_text, status_of}
 use Rattle.xk_serve.specs.OneAnswer.{IsChartOf, IsCharted, MayChart, charting, done_with, replaying}
 use Rattle.xk_serve.specs.OrderedRun.{IsReplay, IsWholeRun}
@@ -87,9 +88,19 @@ never_done fault.NotEnded e = cc
 never_done fault.OutOfMemory e = cc
 never_done fault.Device e = cc
 
+-- what is run comes to something
+ran : (t : Task) (way : Way) (bytes logged : List ℕ) (m : ModuleValue) (d : Done) → t.doing ≡ Run way true
+    → ComesTo t.doing m t.arguments logged d ⊎ IsText (IsTelling t.doing t.form t.file bytes m) d → ComesTo (Run way true) m t.arguments logged d
+ran t way bytes logged m d is (inl h) = subst (λ what. ComesTo what m t.arguments logged d) is h
+ran t way bytes logged m d is (inr h) = absurd (untold d (subst (λ what. IsText (IsTelling what t.form t.file bytes m) d) is h))
+  where
+    untold : (d : Done) → IsText (λ text. ⊥) d → ⊥
+    untold (done.Told text) h = h
+    untold _ h = h
+
 written_of : (t : Task) (way : Way) (bytes logged : List ℕ) (r : Reply) → t.doing ≡ Run way true → Answers t bytes logged r → r.status ≡ 0 → IsWritten t bytes r
 written_of t way bytes logged r is (inl (d, s, e)) zero =
-    written t way bytes logged r d s.of s.given (subst (λ what. ComesTo what s.of t.arguments logged d) is s.done) e
+    written t way bytes logged r d s.of s.given (ran t way bytes logged s.of d is s.done) e
 written_of t way bytes logged r is (inr (f, h, e)) zero = absurd (never_done f (sym (ap (λ (z : Reply). z.status) e.2) ∙ zero))
 
 -- ---- and read again
@@ -108,7 +119,7 @@ whole_run m args numbers steps es r = record { last = r.last; leads = subst (λ 
 charts : (t : Task) (bytes logged : List ℕ) (m : ModuleValue) (es : List Entry) → Gives t.form bytes m → IsAccepted m → IsLogText logged es → IsWholeRun m t.arguments es
     → (d : Done) → IsChartOf (chart_text m t.arguments es) d → Answers (charting t) bytes logged (done_reply d)
 charts t bytes logged m es given accepted log whole (done.Charted found) is =
-    inl (done.Charted found, record { of = m; given = given; done = (accepted, (es, log, whole, is)) }, refl)
+    inl (done.Charted found, record { of = m; given = given; done = inl (accepted, (es, log, whole, is)) }, refl)
 charts t bytes logged m es given accepted log whole _ is = absurd is
 
 module _ (t : Task) (way : Way) (bytes logged : List ℕ) (r : Reply) (is : t.doing ≡ Run way true) (answers : Answers t bytes logged r) (zero : r.status ≡ 0) where
@@ -119,7 +130,7 @@ module _ (t : Task) (way : Way) (bytes logged : List ℕ) (r : Reply) (is : t.do
       let p = prints Replay w.of t.arguments r.log w.again w.comes in
       inl (
         w.again,
-        record { of = w.of; given = w.given; done = w.comes },
+        record { of = w.of; given = w.given; done = inl w.comes },
         ap (λ o. done_with o) w.out ∙ ap (λ l. reply 0 (done_text w.again) [] l) (sym p.7),
       )
 
@@ -128,7 +139,7 @@ module _ (t : Task) (way : Way) (bytes logged : List ℕ) (r : Reply) (is : t.do
   replayed_alone s again not4 =
       let w = written_of t way bytes logged r is answers zero in
       let p = prints Replay w.of t.arguments r.log w.again w.comes in
-      let q = whole_prints (replaying t) bytes r.log s w.of (done_text w.again) (done_log w.again) w.given p not4 again in
+      let q = whole_prints (replaying t) bytes r.log s w.of (done_text w.again) (done_log w.again) refl w.given p not4 again in
       let same = prints_once Replay w.of t.arguments r.log s.out s.log (done_text w.again) (done_log w.again) tt q.2 p in
       reply_is s r.out q.0 (same.0 ∙ sym w.out) q.1 (same.1 ∙ p.7)
 
@@ -144,6 +155,6 @@ module _ (t : Task) (way : Way) (bytes logged : List ℕ) (r : Reply) (is : t.do
   charted_alone s again not4 =
       let w = written_of t way bytes logged r is answers zero in
       let p = prints Replay w.of t.arguments r.log w.again w.comes in
-      let q = whole_prints (charting t) bytes r.log s w.of (done_text w.again) (done_log w.again) w.given p not4 again in
+      let q = whole_prints (charting t) bytes r.log s w.of (done_text w.again) (done_log w.again) refl w.given p not4 again in
       let c = q.2 in
       (w.of, c.1, w.given, c.2, reply_is s _ q.0 c.4 q.1 c.5)

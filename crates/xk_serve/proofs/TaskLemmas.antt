@@ -17,7 +17,7 @@ use Rattle.xk_bounds.specs.declared.refusal.Refusal.TheVariants as refusal
 use Rattle.xk_serve.specs.declared.job_result.Done.{Done}
 use Rattle.xk_serve.specs.declared.fault.Fault.{Fault}
 use Rattle.xk_serve.specs.declared.fault.Fault.TheVariants as fault
-use Rattle.xk_serve.specs.Answer.{Chart, Check, ComesTo, Compile, Doing, Explain, FailsBy, IsLogText, IsNoRun, IsNotRun, IsRefusal, Replay, Run, Succeeds, Task, reads_log, runs}
+use Rattle.xk_serve.specs.Answer.{Chart, Check, ComesTo, Compile, Doing, Explain, FailsBy, IsLogText, IsNoRun, IsNotRun, IsRefusal, IsTelling, IsText, Listing, Replay, Run, Succeeds, Task, asks_verifier, reads_log, runs}
 use Rattle.xk_serve.specs.Faults.{of_log, of_refusal, of_replay}
 use Rattle.xk_serve.specs.Lines.{status_of}
 use Rattle.std.proofs.lemmas.Result.{IfOk-weaker}
@@ -50,7 +50,7 @@ of_read t P Q known reads f h = subst (λ o. IfSome o Q) (sym (read_known t know
 succeeds : (t : Task) (bytes logged : List ℕ) (m : ModuleValue) (what : Doing) (args : List ℤ) (d : Done) → t.doing ≡ what → args ≡ t.arguments → Gives t.form bytes m
     → ComesTo what m args logged d → Succeeds t bytes logged d
 succeeds t bytes logged m what args d is told given done =
-    record { of = m; given = given; done = subst (λ x. ComesTo x m t.arguments logged d) (sym is) (subst (λ xs. ComesTo what m xs logged d) told done) }
+    record { of = m; given = given; done = inl (subst (λ x. ComesTo x m t.arguments logged d) (sym is) (subst (λ xs. ComesTo what m xs logged d) told done)) }
 
 -- whatever log there is
 pub done_of_any : (t : Task) (bytes : List ℕ) (known : Option (List ℕ)) (m : ModuleValue) (what : Doing) (args : List ℤ) (r : Result Done Fault) → t.doing ≡ what
@@ -73,6 +73,13 @@ pub done_of_log : (t : Task) (bytes : List ℕ) (known : Option (List ℕ)) (m :
 done_of_log t bytes known m what args (Ok d) is told reads given h =
     of_read t _ _ known (ap reads_log is ∙ reads) (λ logged done. succeeds t bytes logged m what args d is told given done) h
 done_of_log t bytes known m what args (Err f) is told reads given h = tt
+
+-- what is told of it, whatever log there is
+pub done_of_text : (t : Task) (bytes : List ℕ) (known : Option (List ℕ)) (m : ModuleValue) (what : Doing) (r : Result Done Fault) → t.doing ≡ what
+    → Gives t.form bytes m → IfOk r (IsText (IsTelling what t.form t.file bytes m)) → IfOk r (λ d. IfSome (read_of t known) (λ logged. Succeeds t bytes logged d))
+done_of_text t bytes known m what (Ok d) is given h = of_any _ (read_of t known)
+    (λ logged. record { of = m; given = given; done = inr (subst (λ x. IsText (IsTelling x t.form t.file bytes m) d) (sym is) h) })
+done_of_text t bytes known m what (Err f) is given h = tt
 
 -- ---- what stands against it
 
@@ -97,12 +104,7 @@ against_memory t bytes known n (Ok d) h = tt
 against_memory t bytes known n (Err f) h =
     subst (AgainstLog t bytes known n n) (sym h) (against_any t bytes known n n fault.OutOfMemory refl (λ logged. tt))
 
--- all but `compile` asks the verifier
-abbrev AsksVerifier : Doing → Type 0
-AsksVerifier Compile = ⊥
-AsksVerifier _ = Unit {0}
-
-refusal_fails : (t : Task) (bytes logged : List ℕ) (m : ModuleValue) (f : Fault) → t.doing ≢ Compile → Gives t.form bytes m → IsRefusal m f → FailsBy t bytes logged f
+refusal_fails : (t : Task) (bytes logged : List ℕ) (m : ModuleValue) (f : Fault) → asks_verifier t.doing ≡ true → Gives t.form bytes m → IsRefusal m f → FailsBy t bytes logged f
 refusal_fails t bytes logged m (fault.Text f) asks given h = absurd h
 refusal_fails t bytes logged m (fault.Front f) asks given h = absurd h
 refusal_fails t bytes logged m (fault.Refused (refusal.Shape r)) asks given h = (asks, (m, given, h))
@@ -117,18 +119,15 @@ refusal_fails t bytes logged m fault.NotEnded asks given h = absurd h
 refusal_fails t bytes logged m fault.OutOfMemory asks given h = tt
 refusal_fails t bytes logged m fault.Device asks given h = absurd h
 
-asks_verifier : (t : Task) (what : Doing) → t.doing ≡ what → AsksVerifier what → t.doing ≢ Compile
-asks_verifier t what is asks = λ e. subst AsksVerifier (sym is ∙ e) asks
-
 -- a refusal
 pub against_refused : (t : Task) (bytes : List ℕ) (known : Option (List ℕ)) (n : ℕ) (m : ModuleValue) (what : Doing) (r : Result Done Fault) → t.doing ≡ what
-    → AsksVerifier what → Gives t.form bytes m → IfErr r (IsRefusal m) → IfErr r (AgainstLog t bytes known n n)
+    → asks_verifier what ≡ true → Gives t.form bytes m → IfErr r (IsRefusal m) → IfErr r (AgainstLog t bytes known n n)
 against_refused t bytes known n m what (Ok d) is asks given h = tt
 against_refused t bytes known n m what (Err f) is asks given h =
-    against_any t bytes known n n f refl (λ logged. refusal_fails t bytes logged m f (asks_verifier t what is asks) given h)
+    against_any t bytes known n n f refl (λ logged. refusal_fails t bytes logged m f (ap asks_verifier is ∙ asks) given h)
 
 -- a module that isn't run
-not_run_fails : (t : Task) (bytes logged : List ℕ) (m : ModuleValue) (f : Fault) → runs t.doing ≡ true → t.doing ≢ Compile → Gives t.form bytes m → IsNotRun m t.arguments f
+not_run_fails : (t : Task) (bytes logged : List ℕ) (m : ModuleValue) (f : Fault) → runs t.doing ≡ true → asks_verifier t.doing ≡ true → Gives t.form bytes m → IsNotRun m t.arguments f
     → FailsBy t bytes logged f
 not_run_fails t bytes logged m (fault.Text f) runs asks given h = absurd h
 not_run_fails t bytes logged m (fault.Front f) runs asks given h = absurd h
@@ -142,8 +141,14 @@ not_run_fails t bytes logged m fault.OutOfMemory runs asks given h = tt
 not_run_fails t bytes logged m fault.Device runs asks given h = absurd h
 
 -- what is run asks the verifier
-runs_asks : (what : Doing) → runs what ≡ true → what ≢ Compile
-runs_asks what h = λ e. false≢true (sym (ap runs e) ∙ h)
+runs_asks : (what : Doing) → runs what ≡ true → asks_verifier what ≡ true
+runs_asks Check h = refl
+runs_asks (Explain json) h = refl
+runs_asks Compile h = absurd (false≢true h)
+runs_asks Listing h = absurd (false≢true h)
+runs_asks (Run way kept) h = refl
+runs_asks Replay h = refl
+runs_asks Chart h = refl
 
 against_not_run : (t : Task) (bytes : List ℕ) (known : Option (List ℕ)) (old new : ℕ) (m : ModuleValue) (f : Fault) → new ≡ old → runs t.doing ≡ true
     → Gives t.form bytes m → IsNotRun m t.arguments f → AgainstLog t bytes known old new f
@@ -193,8 +198,9 @@ against_run t bytes known old new m fault.Device reads given accepted taken h = 
 -- what reads a log is run
 reads_runs : (what : Doing) → reads_log what ≡ true → runs what ≡ true
 reads_runs Check h = absurd (false≢true h)
-reads_runs Explain h = absurd (false≢true h)
+reads_runs (Explain json) h = absurd (false≢true h)
 reads_runs Compile h = absurd (false≢true h)
+reads_runs Listing h = absurd (false≢true h)
 reads_runs (Run way kept) h = refl
 reads_runs Replay h = refl
 reads_runs Chart h = refl

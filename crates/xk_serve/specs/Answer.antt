@@ -1,5 +1,5 @@
 -- What the program answers: which status and texts a job and the bytes of its file may have. This project's own.
-use Rattle.std.specs.Prelude.{◌≡◌, ◌≢◌, ℕ, ⊤, ◌⊎◌, ℤ, Bool, true, false, List, [], length, Option, Some, None, is_some, option_map, unwrap_or, string_bytes}
+use Rattle.std.specs.Prelude.{◌≡◌, ℕ, ⊤, ◌⊎◌, ℤ, Bool, true, false, List, [], length, Option, Some, None, is_some, option_map, unwrap_or, string_bytes}
 use Rattle.serde_json.specs.Written.{compact_text}
 use Rattle.xk_types.specs.Code.{ModuleValue, params_of}
 use Rattle.xk_types.specs.World.{AreArguments}
@@ -27,22 +27,15 @@ use Rattle.xk_replay.specs.Chart.{chart_text}
 use Rattle.xk_replay.specs.Replay.{IsStoppedAt, IsUnfinished}
 use Rattle.xk_serve.specs.OrderedRun.{IsLoggedRun, IsOrderedRun, IsReplay, IsSomeRun, IsWholeRun}
 use Rattle.xk_serve.specs.Lines.{done_log, done_text, fault_line, status_of}
-use Rattle.xk_serve.specs.Programs.{Gives, IsNoModule, IsNoSource, IsSource}
-use Rattle.xk_module.specs.Faults.{fault_label}
-use Rattle.xk_bounds.specs.declared.refusal.Refusal.{Refusal}
-use Rattle.xk_tree.specs.Tree.{TreeValue}
-use Rattle.xk_tree.specs.declared.fault.FrontFault.{FrontFault}
-use Rattle.xk_origins.specs.UnitOrigins.{UnitOrigins}
-use Rattle.xk_origins.specs.Laws.{AreOrigins}
-use Rattle.xk_explain.specs.Explanations.{front_explanation, module_explanation, refusal_explanation}
-use Rattle.xk_explain.specs.SourceExplanations.{source_explanation}
-use Rattle.std.specs.Option.{option_map_or}
+use Rattle.xk_serve.specs.Programs.{Gives, IsNoModule, IsNoSource}
+use Rattle.xk_serve.specs.Explanation.{IsByOrigins, IsExplanation, IsProgramListed, accepted_said}
 
--- what is to be done with a module; a run is in an order, or by workers, and has its log kept or not
+-- what is to be done with a module; what is explained is a JSON value or not; a run is in an order, or by workers, and has its log kept or not
 pub data Doing : Type 0 where
   Check : Doing
-  Explain : Doing
+  Explain : Bool → Doing
   Compile : Doing
+  Listing : Doing
   Run : Way → Bool → Doing
   Replay : Doing
   Chart : Doing
@@ -50,9 +43,16 @@ pub data Doing : Type 0 where
 -- whether the module is run, and main given its arguments
 abbrev pub runs : Doing → Bool
 runs Check = false
-runs Explain = false
+runs (Explain json) = false
 runs Compile = false
+runs Listing = false
 runs _ = true
+
+-- whether the verifier is asked
+abbrev pub asks_verifier : Doing → Bool
+asks_verifier Compile = false
+asks_verifier Listing = false
+asks_verifier _ = true
 
 -- whether a log is read
 abbrev pub reads_log : Doing → Bool
@@ -67,7 +67,8 @@ way_given given = unwrap_or (option_map way_value given) (In order.First)
 -- a run's log is kept where there is a path for it
 abbrev pub doing_of : Command → Doing
 doing_of command.Check = Check
-doing_of command.Explain = Explain
+doing_of (command.Explain json) = Explain json
+doing_of command.Listing = Listing
 doing_of command.Compile = Compile
 doing_of (command.Run given path) = Run (way_given given) (is_some path)
 doing_of (command.Replay log) = Replay
@@ -96,13 +97,11 @@ abbrev pub Charts : ModuleValue → List ℤ → List ℕ → List ℕ → Type 
 Charts m args logged text = (es : List Entry) × IsLogText logged es × IsWholeRun m args es × (text ≡ chart_text m args es)
 
 -- What is to be done with a module, whose main is given these arguments where it is run, and with the bytes of a log where one is read, comes
--- to this: for `compile` the text of the module; where the module is accepted, for `check` and `explain` its bounds, for `run` its run in the order, or, by
--- workers, some run of it, for `replay` and `chart` the run that the log has.
+-- to this: for `compile` the text of the module; where the module is accepted, for `check` its bounds, for `run` its run in the order, or, by workers,
+-- some run of it, for `replay` and `chart` the run that the log has.
 abbrev pub ComesTo : Doing → ModuleValue → List ℤ → List ℕ → Done → Type 0
 ComesTo Compile m args logged (done.Compiled text) = string_bytes text ≡ compact_text (module_value m)
 ComesTo Check m args logged (done.Accepted steps activities clocks) =
-    IsAccepted m × (steps ≡ steps_bound m) × (activities ≡ activities_bound m) × (clocks ≡ clocks_bound m)
-ComesTo Explain m args logged (done.Accepted steps activities clocks) =
     IsAccepted m × (steps ≡ steps_bound m) × (activities ≡ activities_bound m) × (clocks ≡ clocks_bound m)
 ComesTo (Run (In o) false) m args logged (done.Ended numbers steps None) = IsAccepted m × IsOrderedRun o m args numbers.items steps
 ComesTo (Run (In o) true) m args logged (done.Ended numbers steps (Some log)) = IsAccepted m × IsLoggedRun o m args numbers.items steps log.items
@@ -112,11 +111,23 @@ ComesTo Replay m args logged (done.Ended numbers steps None) = IsAccepted m × R
 ComesTo Chart m args logged (done.Charted text) = IsAccepted m × Charts m args logged (string_bytes text)
 ComesTo _ m args logged _ = ⊥
 
--- the bytes give a module, and the task on it, and on the log, comes to that
+-- What is told of the module that the bytes give, by their lines and names where they are a source text: for `explain`, where the module is accepted,
+-- its bounds, and for `listing` its instructions.
+abbrev pub IsTelling : Doing → Form → List ℕ → List ℕ → ModuleValue → List ℕ → Type 0
+IsTelling (Explain json) kind file bytes m told = IsAccepted m × IsByOrigins kind bytes (accepted_said json file bytes m) told
+IsTelling Listing kind file bytes m told = IsProgramListed kind bytes m told
+IsTelling _ kind file bytes m told = ⊥
+
+-- it is a text of which this holds
+abbrev pub IsText : (List ℕ → Type 0) → Done → Type 0
+IsText P (done.Told text) = P text.items
+IsText P _ = ⊥
+
+-- the bytes give a module, and the task on it, and on the log, comes to that, or tells that of it
 pub record Succeeds (t : Task) (bytes logged : List ℕ) (d : Done) : Type 0 where
   pub of : ModuleValue
   pub given : Gives t.form bytes of
-  pub done : ComesTo t.doing of t.arguments logged d
+  pub done : ComesTo t.doing of t.arguments logged d ⊎ IsText (IsTelling t.doing t.form t.file bytes of) d
 
 -- What stands against a log of a run of the module with these arguments. Of want of memory nothing is claimed.
 abbrev pub IsNoRun : ModuleValue → List ℤ → List ℕ → Fault → Type 0
@@ -155,13 +166,13 @@ FailsByLog t bytes logged f =
     (reads_log t.doing ≡ true) × GivesAccepted t bytes (λ m. AreArguments m t.arguments × IsNoRun m t.arguments logged f)
 
 -- The fault is one of the bytes, or of main's arguments where the module is run, or of the log's bytes where a log is read, or want of
--- memory, of which nothing is claimed. `compile` asks nothing of the verifier. The arguments are looked at only where the module is accepted,
+-- memory, of which nothing is claimed. `compile` and `listing` ask nothing of the verifier. The arguments are looked at only where the module is accepted,
 -- and a log only where they are as many as main takes.
 abbrev pub FailsBy : Task → List ℕ → List ℕ → Fault → Type 0
 FailsBy t bytes logged (fault.Text f) = (t.form ≡ form.Module) × IsNoModule bytes f
 FailsBy t bytes logged (fault.Front f) = (t.form ≡ form.Source) × IsNoSource bytes f
 FailsBy t bytes logged (fault.Refused refusal.OutOfMemory) = ⊥
-FailsBy t bytes logged (fault.Refused r) = (t.doing ≢ Compile) × ((m : ModuleValue) × Gives t.form bytes m × Refuses m r)
+FailsBy t bytes logged (fault.Refused r) = (asks_verifier t.doing ≡ true) × ((m : ModuleValue) × Gives t.form bytes m × Refuses m r)
 FailsBy t bytes logged (fault.Arguments wants has) = (runs t.doing ≡ true) × GivesAccepted t bytes (λ m. IsMisfit m t.arguments wants has)
 FailsBy t bytes logged (fault.Grammar line) = FailsByLog t bytes logged (fault.Grammar line)
 FailsBy t bytes logged fault.Truncated = FailsByLog t bytes logged fault.Truncated
@@ -170,24 +181,9 @@ FailsBy t bytes logged fault.NotEnded = FailsByLog t bytes logged fault.NotEnded
 FailsBy t bytes logged fault.OutOfMemory = ⊤
 FailsBy t bytes logged fault.Device = ⊥
 
--- What `explain` says of a program that the verifier refuses: of a source text by its lines and names. (Bytes that give a module have a tree, so
--- the other case is none of a refusal.)
-abbrev pub IsRefusalExplained : Form → List ℕ → List ℕ → Refusal → List ℕ → Type 0
-IsRefusalExplained form.Module file bytes r said = said ≡ refusal_explanation file r []
-IsRefusalExplained form.Source file bytes r said =
-    ((tree : TreeValue) × (origins : List UnitOrigins) × IsSource bytes tree × AreOrigins tree origins × (said ≡ source_explanation file bytes origins r []))
-    ⊎ (((f : FrontFault) × IsNoSource bytes f) × (said ≡ refusal_explanation file r []))
-
--- What `explain` says of a fault on standard output, beside its line: of want of memory and of devices nothing.
-abbrev pub IsExplanation : Form → List ℕ → List ℕ → Fault → List ℕ → Type 0
-IsExplanation kind file bytes (fault.Text f) said = said ≡ option_map_or (λ title. module_explanation file title f) (fault_label f) []
-IsExplanation kind file bytes (fault.Front f) said = said ≡ front_explanation file bytes f []
-IsExplanation kind file bytes (fault.Refused r) said = IsRefusalExplained kind file bytes r said
-IsExplanation kind file bytes _ said = said ≡ []
-
--- the same of any task: only `explain` says more than the line
+-- What a task says of a fault on standard output: only `explain` says more than the line.
 abbrev pub IsSaidBy : Doing → Form → List ℕ → List ℕ → Fault → List ℕ → Type 0
-IsSaidBy Explain kind file bytes f said = IsExplanation kind file bytes f said
+IsSaidBy (Explain json) kind file bytes f said = IsExplanation json kind file bytes f said
 IsSaidBy _ kind file bytes f said = said ≡ []
 
 abbrev pub IsSaidOf : Task → List ℕ → Fault → List ℕ → Type 0

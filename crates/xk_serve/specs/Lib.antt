@@ -4,6 +4,7 @@ pub mod OneAnswer
 pub mod Programs
 pub mod Bytes
 pub mod OrderedRun
+pub mod Explanation
 pub mod Answer
 pub mod Devices
 pub mod EveryRun

@@ -46,7 +46,7 @@ IsWithoutWorkers _ = ⊤
 -- what goes to standard output is one: no workers take the steps, and no refusal is explained, to which there may be several walks
 abbrev pub IsDetermined : Doing → Type 0
 IsDetermined (Run (By n) kept) = ⊥
-IsDetermined Explain = ⊥
+IsDetermined (Explain json) = ⊥
 IsDetermined _ = ⊤
 
 -- Two replies to a job are one, but for the walk to a refusal of kinds; where workers take the steps, but for the numbers and the log of the run.

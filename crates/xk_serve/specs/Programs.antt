@@ -34,6 +34,11 @@ IsUnread bytes text.OutOfMemory = ⊥
 abbrev pub IsNoModule : List ℕ → ModuleFault → Type 0
 IsNoModule bytes f = ((longest_module < length bytes) × (f ≡ text.Limit)) ⊎ ((length bytes ≤ longest_module) × IsUnread bytes f)
 
+-- bytes give no module, but for want of memory
+abbrev pub IsUnfitModule : List ℕ → ModuleFault → Type 0
+IsUnfitModule bytes text.OutOfMemory = ⊤
+IsUnfitModule bytes f = IsNoModule bytes f
+
 -- ---- source texts
 
 -- the most bytes that a source text has
@@ -61,6 +66,15 @@ SpellsNone bytes f =
 abbrev pub SpellsFaulty : List ℕ → FrontFault → Type 0
 SpellsFaulty bytes f = (tree : TreeValue) × IsSource bytes tree × IsFaultOf tree f
 
+-- why they spell no tree
+abbrev pub IsNoText : List ℕ → FrontFault → Type 0
+IsNoText bytes f = IsTooLong bytes f ⊎ (IsNotUtf8 bytes f ⊎ SpellsNone bytes f)
+
+-- they spell none, but for want of memory
+abbrev pub IsUnspelled : List ℕ → FrontError → Type 0
+IsUnspelled bytes (error.Fault f) = IsNoText bytes f
+IsUnspelled bytes error.OutOfMemory = ⊤
+
 -- why the bytes of a source text give no module
 abbrev pub IsNoSource : List ℕ → FrontFault → Type 0
 IsNoSource bytes f = IsTooLong bytes f ⊎ (IsNotUtf8 bytes f ⊎ (SpellsNone bytes f ⊎ SpellsFaulty bytes f))
@@ -86,3 +100,8 @@ pub record IsCompiledTo (bytes : List ℕ) (m : ModuleValue) : Type 0 where
 abbrev pub Gives : Form → List ℕ → ModuleValue → Type 0
 Gives form.Module bytes m = (length bytes ≤ longest_module) × IsModuleText bytes m × IsWithinLimits m
 Gives form.Source bytes m = IsCompiledTo bytes m
+
+-- they give none
+abbrev pub GiveNone : Form → List ℕ → Type 0
+GiveNone form.Module bytes = (f : ModuleFault) × IsNoModule bytes f
+GiveNone form.Source bytes = (f : FrontFault) × IsNoSource bytes f

@@ -3,13 +3,14 @@
 ghost use Rattle.std.specs.Prelude.{◌≡◌, ◌≢◌, ℕ, ℤ, List, false, IfOk, IfErr, IfSome, OnOk};
 ghost use Rattle.xk_types.specs.Acceptance.{IsAccepted};
 ghost use Rattle.xk_types.specs.World.{AreArguments};
-ghost use Rattle.xk_serve.specs.Answer.{Chart, Check, ComesTo, Compile, Explain, IsLogText, IsNotRun, IsRefusal, Replay, Run, Succeeds, reads_log, task_of, way_given};
+ghost use Rattle.xk_serve.specs.Answer.{Chart, Check, ComesTo, Compile, Explain, IsLogText, IsNotRun, IsRefusal, IsTelling, IsText, Listing, Replay, Run, Succeeds, reads_log, task_of, way_given};
 ghost use Rattle.xk_cli.specs.CommandLine.{By, In};
 ghost use Rattle.xk_cli.specs.Status.{status_program};
 ghost use Rattle.xk_serve.specs.Lines.{status_of};
 ghost use Rattle.xk_serve.specs.Devices.{AgainstLog, AgainstModule, AgainstRun, read_of};
 ghost use Rattle.xk_serve.specs.declared.fault.Fault.TheVariants.{OutOfMemory};
 
+use crate::explanation::{acceptance, listing};
 use crate::fault::Fault;
 use crate::job_result::Done;
 use crate::logged_run::{run_by_workers, run_with_log, steps_of};
@@ -19,7 +20,7 @@ use std::alloc::{AllocError, Global};
 use std::sync::Wait;
 use std::thread::Threads;
 use xk_bounds::{Verified, verify};
-use xk_cli::{Command, Drive, Job, Order, Workers};
+use xk_cli::{Command, Drive, Form, Job, Order, Workers};
 use xk_log::read_log;
 use xk_module::write_module;
 use xk_replay::{chart, replay};
@@ -49,8 +50,9 @@ pub(crate) fn answer<R: Threads + Wait + Sync, L: Source>(
     let arguments = job.arguments.as_slice();
     match job.command {
         Command::Compile => compiled(alloc, &module),
+        Command::Listing => listed(alloc, job.form, bytes, module),
         Command::Check => checked(alloc, module),
-        Command::Explain => checked(alloc, module),
+        Command::Explain { json } => explained(alloc, json, job.form, job.file, bytes, module),
         Command::Run { drive, log } => {
             run_driven(rt, alloc, drive, log.is_some(), module, arguments)
         }
@@ -68,12 +70,35 @@ fn compiled(alloc: Global, m: &Module) -> Result<Done, Fault>
     Ok(Done::Compiled(write_module(alloc, m)?))
 }
 
+/// The listing of a module that these bytes give, which are such a text.
+fn listed(alloc: Global, form: Form, bytes: &[u8], m: Module) -> Result<Done, Fault>
+    ensures done { (file : List ℕ) → IfOk result
+        (IsText (IsTelling Listing form file bytes.now m)) }
+    ensures fault { IfErr result (λ f. f ≡ OutOfMemory) }
+{
+    Ok(Done::Told(listing(alloc, form, bytes, m)?))
+}
+
+/// What `explain` says of a module that these bytes give, which are such a text, if it is accepted.
+fn explained(
+    alloc: Global,
+    json: bool,
+    form: Form,
+    file: &str,
+    bytes: &[u8],
+    m: Module,
+) -> Result<Done, Fault>
+    ensures done { IfOk result (IsText (IsTelling (Explain json) form file.now bytes.now m)) }
+    ensures fault { IfErr result (IsRefusal m) }
+{
+    let verified = accepted(alloc, m)?;
+    Ok(Done::Told(acceptance(alloc, json, form, file, bytes, &verified)?))
+}
+
 /// The bounds on the runs of a module, if it is accepted.
 fn checked(alloc: Global, m: Module) -> Result<Done, Fault>
     ensures done { IfOk result
         (λ d. (args : List ℤ) (logged : List ℕ) → ComesTo Check m args logged d) }
-    ensures explained { IfOk result
-        (λ d. (args : List ℤ) (logged : List ℕ) → ComesTo Explain m args logged d) }
     ensures fault { IfErr result (IsRefusal m) }
 {
     let verified = accepted(alloc, m)?;

@@ -1,17 +1,32 @@
-//! What is said of a fault on standard output, beside its line on standard error.
+//! What is told of a program on standard output: of a fault beside its line on standard error, of one that is accepted, and its listing.
 
-ghost use Rattle.std.specs.Prelude.{◌≡◌, [], IfOk, IsOk};
-ghost use Rattle.xk_serve.specs.Answer.{IsExplanation, IsRefusalExplained, IsSaidOf, task_of};
+ghost use Rattle.std.specs.Prelude.{◌≡◌, [], Some, option_map, IfOk, IsOk};
+ghost use Rattle.xk_serve.specs.Answer.{IsSaidOf, task_of};
+ghost use Rattle.xk_types.specs.Acceptance.{IsAccepted};
+ghost use Rattle.xk_tree.specs.Program.{tree_value};
+ghost use Rattle.xk_sums.specs.Notes.{module_notes, refusal_notes};
+ghost use Rattle.xk_serve.specs.Explanation.{IsByOrigins, IsByProgram, IsByTree, IsExplanation, IsProgramListed, accepted_said, acceptance_said, fault_said, front_said, lines_of, module_said, plain_said, refusal_said, source_said};
 ghost use Rattle.xk_serve.specs.Devices.{IsQuiet, IsSaid};
 ghost use Rattle.xk_serve.specs.declared.fault.Fault.TheVariants as found;
 
 use crate::fault::Fault;
-use crate::program_loader::origins_in;
+use crate::job_result::accepted_line;
+use crate::program_loader::{origins_in, program_in, tree_of};
 use std::alloc::{AllocError, Global};
-use xk_bounds::Refusal;
+use xk_bounds::{Refusal, Verified};
 use xk_cli::{Command, Form, Job};
-use xk_explain::{explain_front, explain_module, explain_refusal, explain_source};
-use xk_tree::FrontError;
+use xk_declarations::front_notes;
+use xk_explain::{
+    Note, explain_front, explain_module, explain_refusal, explain_source, note_lines, plain_lines,
+};
+use xk_explain_json::{accepted_json, front_json, module_json, refusal_json, source_json};
+use xk_listing::{list_module, list_source};
+use xk_module::ModuleFault;
+use xk_origins::Origins;
+use xk_positions::LineStarts;
+use xk_sums::{accepted_notes, module_notes, refusal_notes};
+use xk_tree::{FrontError, FrontFault, Tree};
+use xk_types::Module;
 
 /// What stands against a job, and what is said of it on standard output.
 #[derive(Drop)]
@@ -51,34 +66,36 @@ fn said_of(alloc: Global, job: &Job<'_>, bytes: &[u8], fault: &Fault) -> Result<
     ensures device { fault.now ≡ found.Device → IsOk result }
 {
     match job.command {
-        Command::Explain => explanation(alloc, job.form, job.file, bytes, fault),
+        Command::Explain { json } => explanation(alloc, json, job.form, job.file, bytes, fault),
         Command::Check
         | Command::Compile
+        | Command::Listing
         | Command::Run { .. }
         | Command::Replay { .. }
         | Command::Chart { .. } => Ok(Vec::new(alloc)),
     }
 }
 
-/// What `explain` says of a fault of a file of this name and these bytes, which are to be such a text.
+/// What `explain` says of a fault of a file of this name and these bytes, which are to be such a text: as a text, or as a JSON value.
 fn explanation(
     alloc: Global,
+    json: bool,
     form: Form,
     file: &str,
     bytes: &[u8],
     fault: &Fault,
 ) -> Result<Vec<u8>, AllocError>
     ensures said { IfOk result
-        (λ said. IsExplanation form file.now bytes.now fault.now said.items) }
+        (λ said. IsExplanation json form file.now bytes.now fault.now said.items) }
     ensures device { fault.now ≡ found.Device → IsOk result }
 {
     match fault {
         Fault::Text(fault) => match fault.label() {
-            Some(title) => explain_module(alloc, file, title, *fault),
+            Some(title) => module_said(alloc, json, file, title, *fault),
             None => Ok(Vec::new(alloc)),
         },
-        Fault::Front(fault) => explain_front(alloc, file, bytes, *fault, &[]),
-        Fault::Refused(refusal) => refusal_explanation(alloc, form, file, bytes, refusal),
+        Fault::Front(fault) => fault_said(alloc, json, file, bytes, *fault),
+        Fault::Refused(refusal) => refusal_explanation(alloc, json, form, file, bytes, refusal),
         Fault::Arguments { .. }
         | Fault::Grammar(_)
         | Fault::Truncated
@@ -89,23 +106,246 @@ fn explanation(
     }
 }
 
+/// What it says of a file that is no module text.
+fn module_said(
+    alloc: Global,
+    json: bool,
+    file: &str,
+    title: &str,
+    fault: ModuleFault,
+) -> Result<Vec<u8>, AllocError>
+    ensures { IfOk result (λ said. said.items ≡ module_said json file.now title.now fault) }
+{
+    if json {
+        return module_json(alloc, file, fault);
+    }
+    explain_module(alloc, file, title, fault)
+}
+
+/// What it says of a file that is no source text of a module: with what the text declares by the name that stands there, if it spells a tree.
+fn fault_said(
+    alloc: Global,
+    json: bool,
+    file: &str,
+    bytes: &[u8],
+    fault: FrontFault,
+) -> Result<Vec<u8>, AllocError>
+    ensures { IfOk result (λ said. IsByTree bytes.now
+        (fault_said json file.now bytes.now fault) said.items) }
+{
+    match tree_of(alloc, bytes) {
+        Ok(tree) => fault_of_tree(alloc, json, file, bytes, &tree, fault),
+        Err(FrontError::Fault(_)) => front_said(alloc, json, file, bytes, fault, &[]),
+        Err(FrontError::OutOfMemory) => Err(AllocError),
+    }
+}
+
+/// The same of a text that spells this tree.
+fn fault_of_tree(
+    alloc: Global,
+    json: bool,
+    file: &str,
+    bytes: &[u8],
+    tree: &Tree<'_>,
+    fault: FrontFault,
+) -> Result<Vec<u8>, AllocError>
+    ensures { IfOk result (λ said. said.items ≡ fault_said json file.now bytes.now fault
+        (Some (tree_value tree.now))) }
+{
+    let notes = front_notes(alloc, tree, bytes, fault)?;
+    front_said(alloc, json, file, bytes, fault, &notes)
+}
+
+/// The same with these notes.
+fn front_said(
+    alloc: Global,
+    json: bool,
+    file: &str,
+    bytes: &[u8],
+    fault: FrontFault,
+    notes: &[Note],
+) -> Result<Vec<u8>, AllocError>
+    ensures { IfOk result
+        (λ said. said.items ≡ front_said json file.now bytes.now fault notes.now) }
+{
+    if json {
+        return front_json(alloc, file, bytes, fault, notes);
+    }
+    explain_front(alloc, file, bytes, fault, notes)
+}
+
 /// What it says of a program in such a file that the verifier refuses.
 fn refusal_explanation(
     alloc: Global,
+    json: bool,
     form: Form,
     file: &str,
     bytes: &[u8],
     refusal: &Refusal,
 ) -> Result<Vec<u8>, AllocError>
-    ensures { IfOk result
-        (λ said. IsRefusalExplained form file.now bytes.now refusal.now said.items) }
+    ensures { IfOk result (λ said. IsByProgram form bytes.now
+        (refusal_said json file.now bytes.now refusal.now) said.items) }
 {
-    match form {
-        Form::Module => explain_refusal(alloc, file, refusal, &[]),
-        Form::Source => match origins_in(alloc, bytes) {
-            Ok(origins) => explain_source(alloc, file, bytes, origins.units(), refusal, &[]),
-            Err(FrontError::Fault(_)) => explain_refusal(alloc, file, refusal, &[]),
-            Err(FrontError::OutOfMemory) => Err(AllocError),
-        },
+    match program_in(alloc, form, bytes)? {
+        Some((m, origins)) => {
+            refusal_of_module(alloc, json, file, bytes, &m, origins.as_ref(), refusal)
+        }
+        None => refusal_by_numbers(alloc, json, file, refusal, &[]),
+    }
+}
+
+/// The same of a module, with where its instructions come from, if that is known.
+fn refusal_of_module(
+    alloc: Global,
+    json: bool,
+    file: &str,
+    bytes: &[u8],
+    m: &Module,
+    origins: Option<&Origins<'_>>,
+    refusal: &Refusal,
+) -> Result<Vec<u8>, AllocError>
+    ensures { IfOk result (λ said. said.items ≡ refusal_said json file.now bytes.now refusal.now
+        (Some (m.now, option_map (λ o. o.now) origins.entry))) }
+{
+    match origins {
+        Some(origins) => refusal_in_source(alloc, json, file, bytes, m, origins, refusal),
+        None => refusal_in_module(alloc, json, file, m, refusal),
+    }
+}
+
+/// The same of a module whose instructions have these origins in a source text.
+fn refusal_in_source(
+    alloc: Global,
+    json: bool,
+    file: &str,
+    bytes: &[u8],
+    m: &Module,
+    origins: &Origins<'_>,
+    refusal: &Refusal,
+) -> Result<Vec<u8>, AllocError>
+    ensures { IfOk result (λ said. said.items ≡ source_said json file.now bytes.now refusal.now
+        origins.now (refusal_notes m.now origins.now refusal.now)) }
+{
+    let notes = refusal_notes(alloc, m, origins.units(), refusal)?;
+    if json {
+        return source_json(alloc, file, bytes, origins.units(), refusal, &notes);
+    }
+    explain_source(alloc, file, bytes, origins.units(), refusal, &notes)
+}
+
+/// The same of a module that has no source text.
+fn refusal_in_module(
+    alloc: Global,
+    json: bool,
+    file: &str,
+    m: &Module,
+    refusal: &Refusal,
+) -> Result<Vec<u8>, AllocError>
+    ensures { IfOk result (λ said. said.items
+        ≡ plain_said json file.now refusal.now (module_notes m.now refusal.now)) }
+{
+    let notes = module_notes(alloc, m, refusal)?;
+    refusal_by_numbers(alloc, json, file, refusal, &notes)
+}
+
+/// The same by units and places, with these notes.
+fn refusal_by_numbers(
+    alloc: Global,
+    json: bool,
+    file: &str,
+    refusal: &Refusal,
+    notes: &[Note],
+) -> Result<Vec<u8>, AllocError>
+    ensures { IfOk result (λ said. said.items ≡ plain_said json file.now refusal.now notes.now) }
+{
+    if json {
+        return refusal_json(alloc, file, refusal, notes);
+    }
+    explain_refusal(alloc, file, refusal, notes)
+}
+
+/// What `explain` says of an accepted module that these bytes give, which are such a text: its bounds, and what they are made of.
+pub(crate) fn acceptance(
+    alloc: Global,
+    json: bool,
+    form: Form,
+    file: &str,
+    bytes: &[u8],
+    verified: &Verified,
+) -> Result<Vec<u8>, AllocError>
+    requires { IsAccepted verified.now }
+    ensures { IfOk result (λ said. IsByOrigins form bytes.now
+        (accepted_said json file.now bytes.now verified.now) said.items) }
+{
+    match origins_in(alloc, form, bytes)? {
+        Some(origins) => {
+            let notes = accepted_notes(alloc, verified.module(), origins.units())?;
+            accepted_said(alloc, json, file, Some(bytes), verified, &notes)
+        }
+        None => {
+            let notes = accepted_notes(alloc, verified.module(), &[])?;
+            accepted_said(alloc, json, file, None, verified, &notes)
+        }
+    }
+}
+
+/// The same with these notes, which have their places in this text, if there is one.
+fn accepted_said(
+    alloc: Global,
+    json: bool,
+    file: &str,
+    text: Option<&[u8]>,
+    verified: &Verified,
+    notes: &[Note],
+) -> Result<Vec<u8>, AllocError>
+    requires { IsAccepted verified.now }
+    ensures { IfOk result (λ said. said.items ≡ acceptance_said json file.now
+        (option_map (λ t. t.now) text.entry) verified.now notes.now) }
+{
+    if json {
+        return accepted_json(
+            alloc,
+            file,
+            text,
+            verified.steps(),
+            verified.activities(),
+            verified.clocks(),
+            notes,
+        );
+    }
+    let line = accepted_line(
+        alloc,
+        verified.steps(),
+        verified.activities(),
+        verified.clocks(),
+    )?;
+    let mut said = line.into_bytes();
+    said.extend_from_slice(&lines_of(alloc, text, notes)?)?;
+    Ok(said)
+}
+
+/// The lines of notes, which have their places in this text, if there is one.
+fn lines_of(alloc: Global, text: Option<&[u8]>, notes: &[Note]) -> Result<Vec<u8>, AllocError>
+    ensures { IfOk result
+        (λ said. said.items ≡ lines_of (option_map (λ t. t.now) text.entry) notes.now) }
+{
+    match text {
+        Some(text) => note_lines(alloc, &LineStarts::new(alloc, text)?, text, notes),
+        None => plain_lines(alloc, notes),
+    }
+}
+
+/// The listing of a module that these bytes give, which are such a text.
+pub(crate) fn listing(
+    alloc: Global,
+    form: Form,
+    bytes: &[u8],
+    m: Module,
+) -> Result<Vec<u8>, AllocError>
+    ensures { IfOk result (λ said. IsProgramListed form bytes.now m said.items) }
+{
+    match origins_in(alloc, form, bytes)? {
+        Some(origins) => list_source(alloc, bytes, origins.units(), m),
+        None => list_module(alloc, m),
     }
 }

@@ -24,6 +24,8 @@ pub(crate) enum Done {
         activities: u32,
         clocks: u32,
     },
+    /// `explain`, `listing`: this is told of the module.
+    Told(Vec<u8>),
     /// `run`, `replay`: the module ran to its end, and printed these numbers.
     Ended {
         printed: Vec<i64>,
@@ -45,6 +47,7 @@ impl Done {
             Done::Ended { log: None, .. }
             | Done::Compiled(_)
             | Done::Accepted { .. }
+            | Done::Told(_)
             | Done::Charted(_) => None,
         }
     }
@@ -60,7 +63,7 @@ impl Done {
                 activities,
                 clocks,
             } => accepted_line(alloc, *steps, *activities, *clocks),
-            Done::Charted(_) => Ok(String::new(alloc)),
+            Done::Told(_) | Done::Charted(_) => Ok(String::new(alloc)),
             Done::Ended { steps, .. } => ended_line(alloc, *steps),
         }
     }
@@ -92,6 +95,7 @@ impl Done {
         match self {
             Done::Compiled(text) => write_all(out, text.as_bytes()),
             Done::Accepted { .. } => Ok(()),
+            Done::Told(text) => write_all(out, text),
             Done::Charted(text) => write_all(out, text.as_bytes()),
             Done::Ended { printed, .. } => write_numbers(printed, out),
         }
@@ -99,7 +103,7 @@ impl Done {
 }
 
 /// `accepted steps 8 activities 1 clocks 1`.
-fn accepted_line(
+pub(crate) fn accepted_line(
     alloc: Global,
     steps: u64,
     activities: u32,

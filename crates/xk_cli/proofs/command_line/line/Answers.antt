@@ -25,18 +25,20 @@ returns c =
     let with_check =
     added_shape c.on_either-check.result _ _ _ _ c.in_ok-checks.ensures c.on_either-check.ensures.local c.on_either-check.ensures.shape c.program.ensures in
     let with_explain =
-    added_shape c.on_either-explain.result _ _ _ _ c.in_ok-explains.ensures c.on_either-explain.ensures.local c.on_either-explain.ensures.shape with_check in
+    added_shape c.explain_line.result _ _ _ _ c.in_ok-explains.ensures c.explain_line.ensures.local c.explain_line.ensures.shape with_check in
     let with_compile =
     added_shape c.on_file-compile.result _ _ _ _ c.in_ok-compiles.ensures c.on_file-compile.ensures.local c.on_file-compile.ensures.shape with_explain in
-    let run = added c.run_line.result (app_of c.in_ok-compiles.compiles) _ (λ a. WithOrders (λ names. a ≡ run_line names)) c.in_ok-runs.ensures c.run_line.ensures.local c.run_line.ensures.shape in
+    let with_listing =
+    added_shape c.on_either-listing.result _ _ _ _ c.in_ok-listings.ensures c.on_either-listing.ensures.local c.on_either-listing.ensures.shape with_compile in
+    let run = added c.run_line.result (app_of c.in_ok-listings.listings) _ (λ a. WithOrders (λ names. a ≡ run_line names)) c.in_ok-runs.ensures c.run_line.ensures.local c.run_line.ensures.shape in
     let orders = run.1 in
-    let with_run = run.2 ∙ ap₂ with_subcommand with_compile (ap (λ (a : App). a.top) orders.2) in
+    let with_run = run.2 ∙ ap₂ with_subcommand with_listing (ap (λ (a : App). a.top) orders.2) in
     let with_replay =
     added_shape c.on_run-replay.result _ _ _ _ c.in_ok-replays.ensures c.on_run-replay.ensures.local c.on_run-replay.ensures.shape with_run in
-    IfOk-weaker c.add-6.result _ _
+    IfOk-weaker c.add-7.result _ _
     (λ r h. (
       orders.0,
       orders.1,
       added_shape c.on_run-chart.result _ _ _ _ h c.on_run-chart.ensures.local c.on_run-chart.ensures.shape with_replay,
     ))
-    c.add-6.ensures
+    c.add-7.ensures

@@ -1,7 +1,7 @@
 use Rattle.std.proofs.Common.{◌∙◌, refl, ap, sym}
 use Rattle.std.proofs.lemmas.Result.{err_from_is_err_and}
-use Rattle.xk_serve.specs.Answer.{Chart, Check, Compile, Explain, Replay, Run, doing_of, task_of, way_given}
-use Rattle.xk_serve.proofs.TaskLemmas.{against_any, against_log, against_memory, against_refused, against_run_of, done_of_any, done_of_log, done_of_none}
+use Rattle.xk_serve.specs.Answer.{Chart, Check, Compile, Replay, Run, doing_of, task_of, way_given}
+use Rattle.xk_serve.proofs.TaskLemmas.{against_any, against_log, against_memory, against_refused, against_run_of, done_of_any, done_of_log, done_of_none, done_of_text}
 use Rattle.xk_serve.proofs.commands.answer.Goals as goal
 
 pub returns-in_err-module-clause-fault : goal.returns-in_err-module-clause-fault
@@ -24,15 +24,23 @@ returns-in-Check-clause-done g c =
 
 pub returns-in-Check-clause-fault : goal.returns-in-Check-clause-fault
 returns-in-Check-clause-fault g c =
-    against_refused (task_of c.args.job.now) c.args.bytes.now (g.L.Source.remaining c.args.log_in.now) _ _ Check c.checked.result (ap doing_of c.in-Check.is) tt c.in_ok-module.ensures.module c.checked.ensures.fault
+    against_refused (task_of c.args.job.now) c.args.bytes.now (g.L.Source.remaining c.args.log_in.now) _ _ Check c.checked.result (ap doing_of c.in-Check.is) refl c.in_ok-module.ensures.module c.checked.ensures.fault
 
 pub returns-in-Explain-clause-done : goal.returns-in-Explain-clause-done
 returns-in-Explain-clause-done g c =
-    done_of_none (task_of c.args.job.now) c.args.bytes.now (g.L.Source.remaining c.args.log_in.now) _ Explain c.checked-in-Explain.result (ap doing_of c.in-Explain.is) c.in_ok-module.ensures.module c.checked-in-Explain.ensures.explained
+    done_of_text (task_of c.args.job.now) c.args.bytes.now (g.L.Source.remaining c.args.log_in.now) _ _ c.explained.result (ap doing_of c.in-Explain.is) c.in_ok-module.ensures.module c.explained.ensures.done
 
 pub returns-in-Explain-clause-fault : goal.returns-in-Explain-clause-fault
 returns-in-Explain-clause-fault g c =
-    against_refused (task_of c.args.job.now) c.args.bytes.now (g.L.Source.remaining c.args.log_in.now) _ _ Explain c.checked-in-Explain.result (ap doing_of c.in-Explain.is) tt c.in_ok-module.ensures.module c.checked-in-Explain.ensures.fault
+    against_refused (task_of c.args.job.now) c.args.bytes.now (g.L.Source.remaining c.args.log_in.now) _ _ _ c.explained.result (ap doing_of c.in-Explain.is) refl c.in_ok-module.ensures.module c.explained.ensures.fault
+
+pub returns-in-Listing-clause-done : goal.returns-in-Listing-clause-done
+returns-in-Listing-clause-done g c =
+    done_of_text (task_of c.args.job.now) c.args.bytes.now (g.L.Source.remaining c.args.log_in.now) _ _ c.listed.result (ap doing_of c.in-Listing.is) c.in_ok-module.ensures.module (c.listed.ensures.done c.args.job.now.file.now)
+
+pub returns-in-Listing-clause-fault : goal.returns-in-Listing-clause-fault
+returns-in-Listing-clause-fault g c =
+    against_memory (task_of c.args.job.now) c.args.bytes.now (g.L.Source.remaining c.args.log_in.now) _ c.listed.result c.listed.ensures.fault
 
 pub returns-in-Run-clause-done : goal.returns-in-Run-clause-done
 returns-in-Run-clause-done g c =

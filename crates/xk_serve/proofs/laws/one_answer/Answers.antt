@@ -1,4 +1,4 @@
-use Rattle.xk_serve.proofs.AnswerUniquenessLemmas.{done_once, one_answer, one_source_answer}
+use Rattle.xk_serve.proofs.AnswerUniquenessLemmas.{done_once, one_answer, one_source_answer, told_once}
 use Rattle.xk_serve.proofs.laws.one_answer.Goals as goal
 
 pub returns-clause-answer : goal.returns-clause-answer
@@ -9,3 +9,6 @@ returns-clause-source c = one_source_answer
 
 pub returns-clause-done : goal.returns-clause-done
 returns-clause-done c = done_once
+
+pub returns-clause-told : goal.returns-clause-told
+returns-clause-told c = told_once

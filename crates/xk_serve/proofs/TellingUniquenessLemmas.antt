@@ -1,0 +1,48 @@
+-- What is told of a program is one.
+use Rattle.std.proofs.Common.{◌≡◌, ◌∙◌, ℕ, List, [], map, Option, Some, None, sym, ap, subst}
+use Rattle.xk_types.specs.Code.{ModuleValue}
+use Rattle.xk_tree.specs.Tree.{TreeValue}
+use Rattle.xk_syntax.proofs.TextLemmas.{one_tree}
+use Rattle.xk_simulation.proofs.CompiledOnceLaw.{one_units}
+use Rattle.xk_origins.specs.UnitOrigins.{UnitOrigins, unit_origins}
+use Rattle.xk_origins.specs.Laws.{AreOrigins}
+use Rattle.xk_listing.proofs.ListingLemmas.{one_listing}
+use Rattle.xk_cli.specs.declared.job.Form.{Form}
+use Rattle.xk_cli.specs.declared.job.Form.TheVariants as form
+use Rattle.xk_serve.specs.Answer.{Chart, Check, Compile, Doing, Explain, IsTelling, Listing, Replay, Run}
+use Rattle.xk_serve.specs.Explanation.{HaveOrigins, IsByOrigins, IsListed, accepted_said}
+use Rattle.xk_serve.specs.Programs.{Gives}
+use Rattle.xk_serve.proofs.TextUniquenessLemmas.{unfit_none}
+
+-- a tree has one list of origins
+same_origins : (t : TreeValue) (o p : List UnitOrigins) → AreOrigins t o → AreOrigins t p → o ≡ p
+same_origins t o p h k = h.are ∙ ap (map (unit_origins t)) (one_units t h.units k.units h.are_units k.are_units) ∙ sym k.are
+
+-- bytes that give a module have one, if any
+origins_once : (kind : Form) (bytes : List ℕ) (m : ModuleValue) (o p : Option (List UnitOrigins)) → Gives kind bytes m → HaveOrigins kind bytes o
+    → HaveOrigins kind bytes p → o ≡ p
+origins_once form.Module bytes m o p given h k = h ∙ sym k
+origins_once form.Source bytes m None p given h k = absurd (unfit_none bytes h.0 m h.1 given)
+origins_once form.Source bytes m (Some o) None given h k = absurd (unfit_none bytes k.0 m k.1 given)
+origins_once form.Source bytes m (Some o) (Some p) given h k =
+    let same = one_tree bytes k.0 h.0 k.1.1 h.1.1 in ap Some (same_origins h.0 o p h.2 (subst (λ (t : TreeValue). AreOrigins t p) same k.2))
+
+-- what is told by them is one text
+by_origins_once : (kind : Form) (bytes : List ℕ) (m : ModuleValue) (text : Option (List UnitOrigins) → List ℕ) (a b : List ℕ) → Gives kind bytes m
+    → IsByOrigins kind bytes text a → IsByOrigins kind bytes text b → a ≡ b
+by_origins_once kind bytes m text a b given h k = h.2 ∙ ap text (origins_once kind bytes m h.0 k.0 given h.1 k.1) ∙ sym k.2
+
+listed_once : (text : List ℕ) (m : ModuleValue) (o : Option (List UnitOrigins)) (a b : List ℕ) → IsListed text m o a → IsListed text m o b → a ≡ b
+listed_once text m (Some o) a b h k = one_listing text o m a b h k
+listed_once text m None a b h k = one_listing [] [] m a b h k
+
+pub telling_once : (what : Doing) (kind : Form) (file bytes : List ℕ) (m : ModuleValue) (a b : List ℕ) → Gives kind bytes m
+    → IsTelling what kind file bytes m a → IsTelling what kind file bytes m b → a ≡ b
+telling_once (Explain json) kind file bytes m a b given h k = by_origins_once kind bytes m (accepted_said json file bytes m) a b given h.1 k.1
+telling_once Listing kind file bytes m a b given h k =
+    let same = origins_once kind bytes m h.0 k.0 given h.1 k.1 in listed_once bytes m h.0 a b h.2 (subst (λ o. IsListed bytes m o b) (sym same) k.2)
+telling_once Check kind file bytes m a b given h k = absurd h
+telling_once Compile kind file bytes m a b given h k = absurd h
+telling_once (Run way kept) kind file bytes m a b given h k = absurd h
+telling_once Replay kind file bytes m a b given h k = absurd h
+telling_once Chart kind file bytes m a b given h k = absurd h

@@ -1,0 +1,126 @@
+-- What is told of a program by its lines and names: what `explain` says of what stands against it and of one that is accepted, and its listing. This
+-- project's own.
+use Rattle.std.specs.Prelude.{◌≡◌, ℕ, Bool, true, false, List, [], ◌++◌, Option, Some, None}
+use Rattle.std.specs.Option.{option_map_or}
+use Rattle.xk_types.specs.Code.{ModuleValue}
+use Rattle.xk_types.specs.Bound.{steps_bound, activities_bound, clocks_bound}
+use Rattle.xk_tree.specs.Tree.{TreeValue}
+use Rattle.xk_tree.specs.declared.fault.FrontFault.{FrontFault}
+use Rattle.xk_bounds.specs.declared.refusal.Refusal.{Refusal}
+use Rattle.xk_module.specs.declared.fault.ModuleFault.{ModuleFault}
+use Rattle.xk_module.specs.Faults.{fault_label}
+use Rattle.xk_origins.specs.UnitOrigins.{UnitOrigins}
+use Rattle.xk_origins.specs.Laws.{AreOrigins}
+use Rattle.xk_explain.specs.Explanations.{front_explanation, module_explanation, refusal_explanation}
+use Rattle.xk_explain.specs.Notes.{NoteValue, note_lines, plain_lines}
+use Rattle.xk_explain.specs.SourceExplanations.{source_explanation}
+use Rattle.xk_explain_json.specs.Objects.{json_line, text_of}
+use Rattle.xk_explain_json.specs.Explanations.{accepted_value, front_value, module_value, refusal_value, source_value}
+use Rattle.xk_declarations.specs.Notes.{front_notes}
+use Rattle.xk_sums.specs.Notes.{accepted_notes, module_notes, refusal_notes}
+use Rattle.xk_listing.specs.Listing.{IsListing}
+use Rattle.xk_cli.specs.declared.job.Form.{Form}
+use Rattle.xk_cli.specs.declared.job.Form.TheVariants as form
+use Rattle.xk_serve.specs.declared.fault.Fault.{Fault}
+use Rattle.xk_serve.specs.declared.fault.Fault.TheVariants as fault
+use Rattle.xk_serve.specs.Lines.{accepted_line}
+use Rattle.xk_serve.specs.Programs.{GiveNone, Gives, IsNoSource, IsNoText, IsSource}
+
+-- ---- where instructions come from
+
+-- Where the instructions come from of the module that the bytes give: of a source text by the tree that it spells. A module text says nothing of that.
+-- (Nor do bytes that are no source text of a module, but those give none.)
+abbrev pub HaveOrigins : Form → List ℕ → Option (List UnitOrigins) → Type 0
+HaveOrigins form.Module bytes origins = origins ≡ None
+HaveOrigins form.Source bytes (Some origins) = (tree : TreeValue) × IsSource bytes tree × AreOrigins tree origins
+HaveOrigins form.Source bytes None = (f : FrontFault) × IsNoSource bytes f
+
+-- what is told is a function of these
+abbrev pub IsByOrigins : Form → List ℕ → (Option (List UnitOrigins) → List ℕ) → List ℕ → Type 0
+IsByOrigins kind bytes text told = (origins : Option (List UnitOrigins)) × HaveOrigins kind bytes origins × (told ≡ text origins)
+
+-- A program: its module, and where its instructions come from.
+abbrev pub Program : Type 0
+Program = ModuleValue × Option (List UnitOrigins)
+
+-- the bytes give this program, or none
+abbrev pub GiveProgram : Form → List ℕ → Option Program → Type 0
+GiveProgram kind bytes (Some p) = Gives kind bytes p.0 × HaveOrigins kind bytes p.1
+GiveProgram kind bytes None = GiveNone kind bytes
+
+-- what is told is a function of that
+abbrev pub IsByProgram : Form → List ℕ → (Option Program → List ℕ) → List ℕ → Type 0
+IsByProgram kind bytes text told = (p : Option Program) × GiveProgram kind bytes p × (told ≡ text p)
+
+-- the bytes are a source text of this tree, or spell none
+abbrev pub HaveTree : List ℕ → Option TreeValue → Type 0
+HaveTree bytes (Some tree) = IsSource bytes tree
+HaveTree bytes None = (f : FrontFault) × IsNoText bytes f
+
+-- what is told is a function of the tree
+abbrev pub IsByTree : List ℕ → (Option TreeValue → List ℕ) → List ℕ → Type 0
+IsByTree bytes text told = (tree : Option TreeValue) × HaveTree bytes tree × (told ≡ text tree)
+
+-- ---- what stands against a program: as a text, or as a JSON value on a line
+
+abbrev pub module_said : Bool → List ℕ → List ℕ → ModuleFault → List ℕ
+module_said false file title f = module_explanation file title f
+module_said true file title f = json_line (module_value file f)
+
+abbrev pub front_said : Bool → List ℕ → List ℕ → FrontFault → List NoteValue → List ℕ
+front_said false file text f notes = front_explanation file text f notes
+front_said true file text f notes = json_line (front_value file text f notes)
+
+-- with what its tree declares by the name that stands there, if the text spells one
+abbrev pub fault_said : Bool → List ℕ → List ℕ → FrontFault → Option TreeValue → List ℕ
+fault_said json file text f tree = front_said json file text f (option_map_or (λ t. front_notes t text f) tree [])
+
+-- by numbers
+abbrev pub plain_said : Bool → List ℕ → Refusal → List NoteValue → List ℕ
+plain_said false file r notes = refusal_explanation file r notes
+plain_said true file r notes = text_of (refusal_value file r notes)
+
+-- by the lines and names of the text whose instructions have these origins
+abbrev pub source_said : Bool → List ℕ → List ℕ → Refusal → List UnitOrigins → List NoteValue → List ℕ
+source_said false file text r origins notes = source_explanation file text origins r notes
+source_said true file text r origins notes = text_of (source_value file text origins r notes)
+
+-- of a refused program, with what its code says of that. (Bytes that give none aren't refused so.)
+abbrev pub refusal_said : Bool → List ℕ → List ℕ → Refusal → Option Program → List ℕ
+refusal_said json file text r None = plain_said json file r []
+refusal_said json file text r (Some (m, None)) = plain_said json file r (module_notes m r)
+refusal_said json file text r (Some (m, Some origins)) = source_said json file text r origins (refusal_notes m origins r)
+
+-- What `explain` says of a fault on standard output, beside its line: of want of memory and of devices nothing.
+abbrev pub IsExplanation : Bool → Form → List ℕ → List ℕ → Fault → List ℕ → Type 0
+IsExplanation json kind file bytes (fault.Text f) said = said ≡ option_map_or (λ title. module_said json file title f) (fault_label f) []
+IsExplanation json kind file bytes (fault.Front f) said = IsByTree bytes (fault_said json file bytes f) said
+IsExplanation json kind file bytes (fault.Refused r) said = IsByProgram kind bytes (refusal_said json file bytes r) said
+IsExplanation json kind file bytes _ said = said ≡ []
+
+-- ---- a program that is accepted
+
+-- the lines of notes, which have their places in this text, if there is one
+abbrev pub lines_of : Option (List ℕ) → List NoteValue → List ℕ
+lines_of (Some text) notes = note_lines text notes
+lines_of None notes = plain_lines notes
+
+-- its bounds, with these notes
+abbrev pub acceptance_said : Bool → List ℕ → Option (List ℕ) → ModuleValue → List NoteValue → List ℕ
+acceptance_said false file text m notes = accepted_line (steps_bound m) (activities_bound m) (clocks_bound m) ++ lines_of text notes
+acceptance_said true file text m notes = json_line (accepted_value file text (steps_bound m) (activities_bound m) (clocks_bound m) notes)
+
+-- its bounds, with what they are made of
+abbrev pub accepted_said : Bool → List ℕ → List ℕ → ModuleValue → Option (List UnitOrigins) → List ℕ
+accepted_said json file text m None = acceptance_said json file None m (accepted_notes m [])
+accepted_said json file text m (Some origins) = acceptance_said json file (Some text) m (accepted_notes m origins)
+
+-- ---- listings
+
+-- the module's instructions, and of a source text where they come from
+abbrev pub IsListed : List ℕ → ModuleValue → Option (List UnitOrigins) → List ℕ → Type 0
+IsListed text m (Some origins) told = IsListing text origins m told
+IsListed text m None told = IsListing [] [] m told
+
+abbrev pub IsProgramListed : Form → List ℕ → ModuleValue → List ℕ → Type 0
+IsProgramListed kind bytes m told = (origins : Option (List UnitOrigins)) × HaveOrigins kind bytes origins × IsListed bytes m origins told
