@@ -1,61 +1,22 @@
 -- Who owns the finish that governs an activity that hasn't ended, hasn't ended.
-use Rattle.std.proofs.Common.{◌≡◌, ℕ, ℤ, zero, suc, ◌+◌, ◌<◌, ◌≤◌, ◌==◌, ◌&&◌, not, Bool, true, false, List, [], ◌∷◌, ◌++◌, length, Some, inl, inr, ◌⊎◌, refl, sym, ap, ◌∙◌, subst, arith, slice_get, slice_set, option_and_then, eqb-true}
-use Rattle.std.proofs.lemmas.Bool.{false≢true, eqb-false, or_left, or_right, and_from}
+use Rattle.std.proofs.Common.{◌≡◌, ℕ, ℤ, zero, suc, ◌+◌, ◌<◌, ◌≤◌, true, false, List, [], ◌∷◌, ◌++◌, length, Some, inl, inr, refl, sym, ap, ◌∙◌, subst, arith, slice_get, slice_set, option_and_then}
+use Rattle.std.proofs.lemmas.Bool.{false≢true}
 use Rattle.std.proofs.lemmas.Option.{none-some, same_Some}
 use Rattle.xk_types.specs.declared.instr.Instr.TheVariants as instr
 use Rattle.xk_types.specs.Code.{ModuleValue}
 use Rattle.xk_types.specs.World.{Finish, Activity, World, instruction_at, is_ended, opening}
-use Rattle.xk_types.specs.Step.{Outcome, Blocked, Wrong, Stepped, step, onward, left, ended, arrived, child, governing, innermost, is_under, awaits, awaits_from}
+use Rattle.xk_types.specs.Step.{Outcome, Blocked, Wrong, Stepped, step, onward, left, ended, arrived, child, governing, innermost, awaits}
 use Rattle.xk_types.specs.Schedule.{Through, run}
 use Rattle.xk_laws.proofs.Invariant.{IsActivitySound, IsSound, looks}
-use Rattle.xk_types.proofs.ListLemmas.{Each, each_set, each_push, get-set_same, get-set_other, get_once, get-append_left}
+use Rattle.xk_types.proofs.ListLemmas.{each_set, each_push, get-set_same, get-set_other, get_once, get-append_left}
 use Rattle.xk_laws.proofs.StepFormLemmas.{GoesOn, step_kind}
 use Rattle.xk_laws.proofs.ReachabilityLemmas.{same_through, first_step, opening_reached, reached_sound, reached_scoped}
 use Rattle.xk_laws.proofs.SafetyLemmas.StepLemmas.{closed_at_end}
 use Rattle.xk_laws.proofs.ScopeLemmas.Invariant.{IsScoped, finish_at, governing_at}
-use Rattle.xk_laws.proofs.ScopeLemmas.FinishOwnerLemmas.{AreOwned, under_governed, IsAwaited}
+use Rattle.xk_laws.proofs.ScopeLemmas.FinishOwnerLemmas.{AreOwned, under_governed}
+use Rattle.xk_squares.proofs.AwaitIndependenceLemmas.{same_or_not, awaits_given, HasOpen, IsOpen, AreOpen}
 use Rattle.xk_core.specs.Core.{IsCore}
 use Rattle.xk_core.proofs.CoreLemmas.{core_stepped}
-
--- two numbers are one, or they aren't
-pub same_or_not : (x y : ℕ) → (x ≡ y) ⊎ (x ≡ y → ⊥)
-same_or_not x y = cases (x == y) refl
-  where
-    cases : (b : Bool) → (x == y) ≡ b → (x ≡ y) ⊎ (x ≡ y → ⊥)
-    cases true e = inl (eqb-true x y e)
-    cases false e = inr (eqb-false x y e)
-
--- whoever is under the finish and hasn't ended is awaited
-pub awaits_given : (acts : List Activity) (f : Finish) → IsAwaited acts f → awaits acts f ≡ true
-awaits_given acts f i = (let same : i.b ≡ 0 + i.b = omega arith in from 0 acts i.b i.act i.found (subst (λ z. is_under acts f z ≡ true) same i.under) i.alive)
-  where
-    from : (n : ℕ) (xs : List Activity) (k : ℕ) (x : Activity) → slice_get xs k ≡ Some x → is_under acts f (n + k) ≡ true → is_ended x.status ≡ false
-        → awaits_from acts f n xs ≡ true
-    from n [] k x found under alive = absurd (none-some x found)
-    from n (y ∷ ys) zero x found under alive =
-        let same : n + 0 ≡ n = omega arith in
-        or_left (is_under acts f n && not (is_ended y.status)) (awaits_from acts f (suc n) ys)
-        (and_from (is_under acts f n) (not (is_ended y.status)) (subst (λ z. is_under acts f z ≡ true) same under)
-        (ap (λ (z : Activity). not (is_ended z.status)) (same_Some y x found) ∙ ap not alive))
-    from n (y ∷ ys) (suc k) x found under alive =
-        let same : n + suc k ≡ suc n + k = omega arith in
-        or_right (is_under acts f n && not (is_ended y.status)) (awaits_from acts f (suc n) ys)
-        (from (suc n) ys k x found (subst (λ z. is_under acts f z ≡ true) same under) alive)
-
--- activity o hasn't ended, and has a finish open at this depth
-pub record HasOpen (acts : List Activity) (o depth : ℕ) : Type 0 where
-  pub x : Activity
-  pub found : slice_get acts o ≡ Some x
-  pub alive : is_ended x.status ≡ false
-  pub some : 0 < depth
-  pub within : depth ≤ x.opened
-
--- an activity that hasn't ended is governed by a finish that its owner has open
-abbrev IsOpen : List Activity → Activity → Type 0
-IsOpen acts act = is_ended act.status ≡ false → (o : ℕ) → act.governed.owner ≡ Some o → HasOpen acts o act.governed.depth
-
-abbrev pub AreOpen : List Activity → Type 0
-AreOpen acts = Each (λ b act. IsOpen acts act) acts
 
 -- what a step comes to
 abbrev Opens : Outcome → Type 0

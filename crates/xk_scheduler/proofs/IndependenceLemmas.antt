@@ -25,7 +25,7 @@ use Rattle.xk_core.proofs.CoreLemmas.{core_able, core_stepped}
 use Rattle.xk_core.specs.Core.{is_arrived, is_waiting}
 use Rattle.xk_scheduler.proofs.BlockingClockLemmas.{waits_same}
 use Rattle.xk_scheduler.proofs.FinishOwnerLemmas.{core_owned, core_open}
-use Rattle.xk_scheduler.proofs.AwaitIndependenceLemmas.{owned_set, awaits_on, awaits_end, awaits_push}
+use Rattle.xk_squares.proofs.AwaitIndependenceLemmas.{owned_set, awaits_on, awaits_end, awaits_push}
 
 -- ---- who is enabled
 

@@ -1,6 +1,5 @@
 pub mod ScheduleLemmas
 pub mod FinishOwnerLemmas
-pub mod AwaitIndependenceLemmas
 pub mod IndependenceLemmas
 pub mod EnabledSetLemmas
 pub mod TicketLemmas
