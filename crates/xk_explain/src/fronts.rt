@@ -103,7 +103,7 @@ fn front_title(alloc: Global, rule: FrontRule) -> Result<String, AllocError>
 }
 
 /// Whether faults of this rule have a place in the text.
-fn has_place(rule: FrontRule) -> bool
+pub fn has_place(rule: FrontRule) -> bool
     ensures { result ≡ has_place rule }
 {
     match rule {
@@ -125,7 +125,7 @@ fn has_place(rule: FrontRule) -> bool
 }
 
 /// Where a fault is shown.
-fn shown_at(text: &[u8], fault: FrontFault) -> usize
+pub fn shown_at(text: &[u8], fault: FrontFault) -> usize
     ensures at { result ≡ shown_at text.now fault }
     ensures within { result ≤ length text.now }
 {

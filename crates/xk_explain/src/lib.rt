@@ -10,8 +10,11 @@ mod refusals;
 mod source_refusals;
 mod walks;
 
-pub use fronts::{explain_front, explain_module};
-pub use note::{Note, note_lines, plain_lines};
+pub use fronts::{explain_front, explain_module, has_place, shown_at};
+pub use messages::{
+    front_message, kind_message, module_message, module_repair, rule_message, rule_repair,
+};
+pub use note::{Note, note_lines, place_title, plain_lines};
 pub use refusals::explain_refusal;
-pub use source_refusals::explain_source;
-pub use walks::slot_title;
+pub use source_refusals::{explain_source, origin_at};
+pub use walks::{is_name, slot_name, slot_title};

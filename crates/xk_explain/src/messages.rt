@@ -8,7 +8,7 @@ use xk_tree::FrontRule;
 use xk_types::{Kind, Rule};
 
 /// What is wrong with a text.
-pub(crate) fn front_message(rule: FrontRule) -> &'static str
+pub fn front_message(rule: FrontRule) -> &'static str
     ensures { result.now ≡ front_message rule }
 {
     match rule {
@@ -34,7 +34,7 @@ pub(crate) fn front_message(rule: FrontRule) -> &'static str
 }
 
 /// What is wrong with a program.
-pub(crate) fn rule_message(rule: Rule) -> &'static str
+pub fn rule_message(rule: Rule) -> &'static str
     ensures { result.now ≡ rule_message rule }
 {
     match rule {
@@ -64,7 +64,7 @@ pub(crate) fn rule_message(rule: Rule) -> &'static str
 }
 
 /// The usual repair of a program.
-pub(crate) fn rule_repair(rule: Rule) -> &'static str
+pub fn rule_repair(rule: Rule) -> &'static str
     ensures { result.now ≡ rule_repair rule }
 {
     match rule {
@@ -96,7 +96,7 @@ pub(crate) fn rule_repair(rule: Rule) -> &'static str
 }
 
 /// What a slot of a kind holds.
-pub(crate) fn kind_message(kind: Kind) -> &'static str
+pub fn kind_message(kind: Kind) -> &'static str
     ensures { result.now ≡ kind_message kind }
 {
     match kind {
@@ -109,7 +109,7 @@ pub(crate) fn kind_message(kind: Kind) -> &'static str
 }
 
 /// What is wrong with the bytes of a module.
-pub(crate) fn module_message(fault: ModuleFault) -> &'static str
+pub fn module_message(fault: ModuleFault) -> &'static str
     ensures { result.now ≡ module_message fault }
 {
     match fault {
@@ -121,7 +121,7 @@ pub(crate) fn module_message(fault: ModuleFault) -> &'static str
 }
 
 /// The usual repair of a module's bytes.
-pub(crate) fn module_repair(fault: ModuleFault) -> &'static str
+pub fn module_repair(fault: ModuleFault) -> &'static str
     ensures { result.now ≡ module_repair fault }
 {
     match fault {

@@ -29,7 +29,7 @@ impl Model for Note {
 }
 
 /// `3:5`.
-pub(crate) fn place_title(alloc: Global, position: Position) -> Result<String, AllocError>
+pub fn place_title(alloc: Global, position: Position) -> Result<String, AllocError>
     ensures { IfOk result (λ text. string_bytes text ≡ place_title position) }
 {
     let line = position.line;

@@ -135,7 +135,7 @@ fn push_walk(
 }
 
 /// The offset that an instruction of a unit comes from, no further than where the text ends.
-pub(crate) fn origin_at(text: &[u8], unit: &UnitOrigins<'_>, at: u16) -> usize
+pub fn origin_at(text: &[u8], unit: &UnitOrigins<'_>, at: u16) -> usize
     ensures at { result ≡ origin_at text.now unit.now at }
     ensures within { result ≤ length text.now }
 {

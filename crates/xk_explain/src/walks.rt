@@ -43,14 +43,14 @@ pub(crate) fn unit_title(
 }
 
 /// Whether a name stands in the text.
-fn is_name(name: &[u8]) -> bool
+pub fn is_name(name: &[u8]) -> bool
     ensures { result ≡ is_name name.now }
 {
     name.iter().any(|b| *b != b' ')
 }
 
 /// The name of a slot; temporaries have none.
-fn slot_name<'t>(unit: &UnitOrigins<'t>, slot: u16) -> &'t [u8]
+pub fn slot_name<'t>(unit: &UnitOrigins<'t>, slot: u16) -> &'t [u8]
     ensures { result.now ≡ slot_name unit.now.slots slot }
 {
     match unit.slots.get(slot as usize) {

@@ -7,7 +7,6 @@ use Rattle.xk_types.specs.declared.rules.Kind.{Kind}
 use Rattle.xk_types.specs.declared.rules.Visit.{Visit}
 use Rattle.xk_types.specs.RuleNames.{rule_number, rule_name, kind_name}
 use Rattle.xk_tree.specs.declared.fault.FrontFault.{FrontFault}
-use Rattle.xk_tree.specs.declared.fault.FrontRule.{FrontRule}
 use Rattle.xk_tree.specs.Fault.{front_number, front_name}
 use Rattle.xk_shape.specs.declared.fault.ShapeFault.{ShapeFault}
 use Rattle.xk_typestate.specs.declared.fault.KindFault.{KindFault}
@@ -19,7 +18,8 @@ use Rattle.xk_module.specs.declared.fault.ModuleFault.TheVariants as fault
 use Rattle.xk_positions.specs.declared.lines.Position.{Position}
 use Rattle.xk_positions.specs.Lines.{position_of}
 use Rattle.xk_origins.specs.UnitOrigins.{Head, UnitOrigins}
-use Rattle.xk_explain.specs.Messages.{front_message, front_repair, kind_message, module_message, module_repair, rule_message, rule_repair}
+use Rattle.xk_explain.specs.Messages.{front_message, kind_message, module_message, module_repair, rule_message, rule_repair}
+use Rattle.xk_repairs.specs.Repairs.{repair_at}
 use Rattle.xk_explain.specs.Explanations.{has_place, shown_at}
 use Rattle.xk_explain.specs.SourceExplanations.{is_name, origin_at, slot_name}
 use Rattle.xk_explain.specs.Notes.{NoteValue, place_title}
@@ -38,9 +38,10 @@ refused file rule name message repair =
     ∷ (codes "rule", string rule)
     ∷ []
 
--- by a rule on source texts
-abbrev pub refused_by_front : List ℕ → FrontRule → Group
-refused_by_front file r = refused file (codes "F" ++ decimal (front_number r)) (front_name r) (front_message r) (front_repair r)
+-- by a rule on source texts, with the repair for what stands there
+abbrev pub refused_by_front : List ℕ → List ℕ → FrontFault → Group
+refused_by_front file text f =
+    refused file (codes "F" ++ decimal (front_number f.rule)) (front_name f.rule) (front_message f.rule) (repair_at text f.rule (shown_at text f))
 
 -- by a rule of the verifier
 abbrev pub refused_by : List ℕ → Rule → Group
@@ -80,7 +81,7 @@ front_place text f = if has_place f.rule then position_members (position_of text
 
 -- all that is said of a fault of a source text
 abbrev pub front_value : List ℕ → List ℕ → FrontFault → List NoteValue → Data
-front_value file text f notes = object_of (notes_in text notes ∷ refused_by_front file f.rule ∷ front_place text f ∷ [])
+front_value file text f notes = object_of (notes_in text notes ∷ refused_by_front file text f ∷ front_place text f ∷ [])
 
 -- ---- module texts
 

@@ -1,19 +1,17 @@
 //! What is said of bytes that give no program.
 
-ghost use Rattle.std.specs.Prelude.{◌≡◌, ◌≤◌, length, IfOk, OnOk};
-ghost use Rattle.xk_explain.specs.Explanations.{has_place, shown_at};
+ghost use Rattle.std.specs.Prelude.{◌≡◌, IfOk, OnOk};
 ghost use Rattle.xk_explain_json.specs.Explanations.{front_place, front_value, module_rule, module_rule_name, module_value};
 ghost use Rattle.xk_explain_json.specs.Objects.{json_line, Gains, IsReadBack};
 
 use crate::members::{put_position, put_refused, put_refused_by_front};
-use crate::messages::{module_message, module_repair};
 use crate::notes::put_notes_in;
 use crate::object::Object;
 use std::alloc::{AllocError, Global};
-use xk_explain::Note;
+use xk_explain::{Note, has_place, module_message, module_repair, shown_at};
 use xk_module::ModuleFault;
 use xk_positions::LineStarts;
-use xk_tree::{FrontFault, FrontRule};
+use xk_tree::FrontFault;
 
 /// All that is said of a fault of the source text in FILE, with these notes: a JSON object in one line, `{"accepted":false,"column":5,"file":"FILE",
 /// "line":3,"message":..,"name":"Syntax","notes":[],"repair":..,"rule":"F2"}`. A fault that is said to lie behind the text's end is shown at that;
@@ -33,7 +31,7 @@ pub fn front_json(
     let lines = LineStarts::new(alloc, text)?;
     let mut object = Object::new(alloc);
     put_notes_in(alloc, &mut object, &lines, text, notes)?;
-    put_refused_by_front(alloc, &mut object, file, fault.rule)?;
+    put_refused_by_front(alloc, &mut object, file, text, fault)?;
     put_front_place(alloc, &mut object, &lines, text, fault)?;
     object.line(alloc)
 }
@@ -53,36 +51,6 @@ fn put_front_place(
         return put_position(alloc, object, lines.position(shown_at(text, fault)));
     }
     Ok(())
-}
-
-/// Whether faults of this rule have a place in the text.
-fn has_place(rule: FrontRule) -> bool
-    ensures { result ≡ has_place rule }
-{
-    match rule {
-        FrontRule::TooLong | FrontRule::NoMain => false,
-        FrontRule::Token
-        | FrontRule::Syntax
-        | FrontRule::TooDeep
-        | FrontRule::UnknownName
-        | FrontRule::DuplicateName
-        | FrontRule::WrongKind
-        | FrontRule::NotCaptured
-        | FrontRule::Recursive
-        | FrontRule::Arity
-        | FrontRule::SameClockTwice
-        | FrontRule::Literal
-        | FrontRule::Table
-        | FrontRule::NoHiddenClock => true,
-    }
-}
-
-/// Where a fault is shown.
-fn shown_at(text: &[u8], fault: FrontFault) -> usize
-    ensures at { result ≡ shown_at text.now fault }
-    ensures within { result ≤ length text.now }
-{
-    fault.at.min(text.len())
 }
 
 /// All that is said of the bytes in FILE that are no module: a JSON object in one line, `{"accepted":false,"file":"FILE","message":..,"name":

@@ -4,7 +4,6 @@
 mod acceptance;
 mod fronts;
 mod members;
-mod messages;
 mod names;
 mod notes;
 mod object;

@@ -5,12 +5,13 @@ ghost use Rattle.serde_json.specs.Data.{boolean};
 ghost use Rattle.xk_explain_json.specs.Explanations.{instruction_members, limit_member, position_members, refused, refused_by, refused_by_front, slot_members};
 ghost use Rattle.xk_explain_json.specs.Objects.{Gains};
 
-use crate::messages::{front_message, front_repair, kind_message, rule_message, rule_repair};
 use crate::object::Object;
 use serde_json::Value;
 use std::alloc::{AllocError, Global};
+use xk_explain::{front_message, kind_message, rule_message, rule_repair, shown_at};
 use xk_positions::Position;
-use xk_tree::FrontRule;
+use xk_repairs::repair_at;
+use xk_tree::FrontFault;
 use xk_types::{Kind, Rule};
 
 /// Adds whether the program is accepted.
@@ -46,15 +47,18 @@ pub(crate) fn put_refused(
     object.put_text(alloc, "rule", rule)
 }
 
-/// Adds a refusal by a rule on source texts.
+/// Adds a fault of a source text, with the repair for what stands there.
 pub(crate) fn put_refused_by_front(
     alloc: Global,
     object: &mut Object,
     file: &str,
-    rule: FrontRule,
+    text: &[u8],
+    fault: FrontFault,
 ) -> Result<(), AllocError>
-    ensures { OnOk result (Gains (refused_by_front file.now rule) object.old object.new) }
+    ensures { OnOk result
+        (Gains (refused_by_front file.now text.now fault) object.old object.new) }
 {
+    let rule = fault.rule;
     let number = rule.number();
     let title = format!(in alloc; "F{number}")?;
     put_refused(
@@ -64,7 +68,7 @@ pub(crate) fn put_refused_by_front(
         title.as_str(),
         rule.name(),
         front_message(rule),
-        front_repair(rule),
+        repair_at(text, rule, shown_at(text, fault)),
     )
 }
 

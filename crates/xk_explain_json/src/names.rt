@@ -1,8 +1,6 @@
 //! Places and names of a source text.
 
-ghost use Rattle.std.specs.Prelude.{◌≡◌, ◌≤◌, length, IfOk, OnOk, string_bytes};
-ghost use Rattle.xk_explain.specs.Notes.{place_title};
-ghost use Rattle.xk_explain.specs.SourceExplanations.{is_name, origin_at, slot_name};
+ghost use Rattle.std.specs.Prelude.{◌≡◌, IfOk, OnOk};
 ghost use Rattle.xk_explain_json.specs.Explanations.{origin_members, slot_name_member, unit_name};
 ghost use Rattle.xk_explain_json.specs.Objects.{Gains};
 
@@ -10,28 +8,9 @@ use crate::members::put_position;
 use crate::object::Object;
 use serde_json::Value;
 use std::alloc::{AllocError, Global};
+use xk_explain::{is_name, origin_at, place_title, slot_name};
 use xk_origins::{Head, UnitOrigins};
-use xk_positions::{LineStarts, Position};
-
-/// The offset that an instruction of a unit comes from, no further than where the text ends.
-pub(crate) fn origin_at(text: &[u8], unit: &UnitOrigins<'_>, at: u16) -> usize
-    ensures at { result ≡ origin_at text.now unit.now at }
-    ensures within { result ≤ length text.now }
-{
-    match unit.offsets.get(at as usize) {
-        Some(offset) => (*offset).min(text.len()),
-        None => 0,
-    }
-}
-
-/// `3:5`.
-fn place_title(alloc: Global, position: Position) -> Result<String, AllocError>
-    ensures { IfOk result (λ text. string_bytes text ≡ place_title position) }
-{
-    let line = position.line;
-    let column = position.column;
-    format!(in alloc; "{line}:{column}")
-}
+use xk_positions::LineStarts;
 
 /// `main`, `f`, or `async at 3:5`.
 fn unit_name(
@@ -74,23 +53,6 @@ pub(crate) fn put_origin(
     let name = unit_name(alloc, lines, text, &unit.head)?;
     object.put_bytes(alloc, "in", &name)?;
     put_position(alloc, object, lines.position(origin_at(text, unit, at)))
-}
-
-/// Whether a name stands in the text.
-fn is_name(name: &[u8]) -> bool
-    ensures { result ≡ is_name name.now }
-{
-    name.iter().any(|b| *b != b' ')
-}
-
-/// The name of a slot; temporaries have none.
-fn slot_name<'t>(unit: &UnitOrigins<'t>, slot: u16) -> &'t [u8]
-    ensures { result.now ≡ slot_name unit.now.slots slot }
-{
-    match unit.slots.get(slot as usize) {
-        Some(name) => name,
-        None => b"",
-    }
 }
 
 /// Adds the name of a slot, or null where the text has none for it.

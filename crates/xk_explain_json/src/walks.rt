@@ -6,10 +6,10 @@ ghost use Rattle.xk_explain_json.specs.Explanations.{stop_alone, stop_in, stop_m
 ghost use Rattle.xk_explain_json.specs.Objects.{array_of, Gains};
 
 use crate::members::put_position;
-use crate::names::origin_at;
 use crate::object::Object;
 use serde_json::Value;
 use std::alloc::{AllocError, Global};
+use xk_explain::origin_at;
 use xk_origins::UnitOrigins;
 use xk_positions::LineStarts;
 use xk_types::Visit;
