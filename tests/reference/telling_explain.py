@@ -6,6 +6,7 @@ import pathlib
 import re
 from functools import cache
 
+import telling_declarations
 import telling_origins
 
 PAGE = pathlib.Path(__file__).resolve().parents[2] / "docs/EXPLAIN.md"
@@ -138,6 +139,12 @@ def repair_at(rule: str, text: bytes, at: int) -> str:
     return repair_line(next(found, tables()[0][rule][1]))
 
 
+def front_notes(text: bytes, rule: str, at: int) -> str:
+    """A line for each note beside a fault of names."""
+    said = telling_declarations.notes(text, rule, at)
+    return "".join(f"   = {words}\n" if place is None else f"   = {place_title(text, place)}: {words}\n" for place, words in said)
+
+
 def front(file: str, text: bytes, found: re.Match[str]) -> str:
     rule, wrong = found["rule"], tables()[0][found["rule"]][0]
     if rule in WITHOUT_PLACE:
@@ -146,7 +153,7 @@ def front(file: str, text: bytes, found: re.Match[str]) -> str:
     word = WORD.match(text, at)
     line, column = position(text, at)
     marked = max(1, len(word[0]) if word else 0)
-    return f"{file}:{line}:{column}: {found['title']}: {wrong}\n{excerpt(text, at, marked)}{repair_at(rule, text, at)}"
+    return f"{file}:{line}:{column}: {found['title']}: {wrong}\n{excerpt(text, at, marked)}{front_notes(text, rule, at)}{repair_at(rule, text, at)}"
 
 
 def walk(slot: str, kinds: list[str], places: list[str]) -> str:
