@@ -3,8 +3,9 @@
 
 The modules are those of tests/answers/rows and whole programs that are made up here, as they are, with a rule broken, or changed operand by
 operand and byte by byte (tests/generated/generated.py). `check` and `run`, the latter in each order and with numbers by chance where main takes
-some, and `explain` of what is refused, have to answer what the telling answers, byte for byte; where there are several walks to what is refused, another shortest one is taken
-too, and counted. Of an accepted module with few worlds the telling goes through all schedules, and looks whether the promises hold.
+some, and `explain`, have to answer what the telling answers, byte for byte, and so have `explain --json` and `listing` of one text in ten; where there
+are several walks to what is refused, another shortest one is taken too, and counted. Of an accepted module with few worlds the telling goes through all
+schedules, and looks whether the promises hold.
 With `--source` the texts are programs in the language (tests/generated/generated_source.py) and those of tests/answers/programs/sources*.rows
 and of examples, and `compile` is compared too, with what tests/reference/telling_source.py makes of them. Some runs of the module are compared
 with what the text means (tests/reference/meaning.py).
@@ -30,7 +31,7 @@ import subprocess
 import sys
 import zlib
 from collections.abc import Iterable, Iterator
-from dataclasses import dataclass, field
+from dataclasses import dataclass, field, replace
 from functools import cached_property
 
 TOP = pathlib.Path(__file__).resolve().parents[2]
@@ -42,6 +43,8 @@ import meaning
 import tally
 import telling
 import telling_explain
+import telling_explain_json
+import telling_listing
 import telling_log
 import telling_source
 from telling import Accepted, Arguments, Order, Refused
@@ -52,6 +55,8 @@ SECONDS = 60
 LONGEST_RUN, LONGEST_COMPARED, MOST_WORK, MOST_ACTIVITIES = 2_000_000, 20_000, 2_000_000, 64
 # Runs that may be longer, by loops with a limit, are compared where they aren't longer than this.
 SHORT = 500
+# One text in so many is listed, and explained as JSON.
+LISTED = 10
 # So many runs of each text are compared with what it means.
 RUNS_MEANT = 3
 CHUNK = 100
@@ -165,9 +170,9 @@ def is_short(text: bytes, judged: Accepted) -> bool:
     return all(next(itertools.islice(run, SHORT, None), None) is None for run in runs)
 
 
-def is_sampled(text: bytes) -> bool:
-    """One text in four, in which `run` is tried too where it has to say what is known already."""
-    return zlib.crc32(text) % 4 == 0
+def is_sampled(text: bytes, one_in: int = 4) -> bool:
+    """One text in so many; in four, where `run` is tried too that has to say what is known already."""
+    return zlib.crc32(text) % one_in == 0
 
 
 @dataclass(frozen=True)
@@ -195,7 +200,20 @@ class Comparer:
         outcome = self.of_refused(text, judged) if isinstance(judged, Refused) else self.of_accepted(text, judged)
         if self.source:
             self.compiles(text, outcome)
+        if is_sampled(text, LISTED):
+            self.lists(text, outcome)
         return outcome
+
+    def lists(self, text: bytes, outcome: Outcome) -> None:
+        """`listing` tells of each text that gives a module, and answers of another one as `check` does."""
+        try:
+            told = done(telling_listing.listed(text, not self.source))
+            outcome.counts["modules listed"] += 1
+        except (telling.Unread, telling_source.Fault) as fault:
+            told = refused(str(fault))
+        answer = self.ask(text, "listing")
+        if answer != told:
+            outcome.differ("listing", told, answer)
 
     def compiles(self, text: bytes, outcome: Outcome) -> None:
         try:
@@ -231,6 +249,7 @@ class Comparer:
             outcome.counts["accepted modules that were not run"] += 1
         if is_sampled(text):
             self.misgiven(text, judged, outcome)
+        self.explains_accepted(text, told, outcome)
         self.schedules(text, judged, outcome)
         return outcome
 
@@ -253,13 +272,31 @@ class Comparer:
         return outcome
 
     def explains(self, text: bytes, judged: Refused, checked: Answer, outcome: Outcome) -> None:
-        """`explain` has to give the line of `check`, and beside it what the telling says of that."""
-        answer = self.ask(text, "explain")
+        """`explain` has to give the line of `check`, and beside it what the telling says of that, where the line is the telling's."""
         kinds = [kind.name.lower() for kind in judged.by_kind.kinds] if judged.by_kind else []
-        said = telling_explain.explained("-", text, judged.line, kinds, not self.source) if checked == refused(judged.line) else answer.out
+        said = ("-", text, judged.line, kinds, not self.source)
+        is_told = checked == refused(judged.line)
         outcome.counts["refusals explained"] += 1
-        if answer != Answer(checked.status, said, checked.err):
-            outcome.differ("explain", Answer(checked.status, said, checked.err), answer)
+        self.explained(text, [], checked, telling_explain.explained(*said) if is_told else None, outcome)
+        if is_sampled(text, LISTED):
+            outcome.counts["refusals explained as JSON"] += 1
+            self.explained(text, ["--json"], checked, telling_explain_json.explained(*said) if is_told else None, outcome)
+
+    def explains_accepted(self, text: bytes, checked: Answer, outcome: Outcome) -> None:
+        """`explain` has to give the line of `check`, and what its numbers come from."""
+        said = (text, checked.out, not self.source)
+        outcome.counts["accepted modules explained"] += 1
+        self.explained(text, [], checked, telling_explain.accepted(*said), outcome)
+        if is_sampled(text, LISTED):
+            outcome.counts["accepted modules explained as JSON"] += 1
+            self.explained(text, ["--json"], checked, telling_explain_json.accepted("-", *said), outcome)
+
+    def explained(self, text: bytes, flags: list[str], checked: Answer, said: str | None, outcome: Outcome) -> None:
+        """`explain` has to answer as `check` did, but for standard output, which has to be this, if it is told."""
+        answer = self.ask(text, "explain", *flags)
+        told = replace(checked, out=answer.out if said is None else said)
+        if answer != told:
+            outcome.differ(" ".join(["explain", *flags]), told, answer)
 
     def is_other_walk(self, judged: Refused, told: Answer, answer: Answer) -> bool:
         """Whether the answer is the telling's, but for the walk, which is another shortest one."""

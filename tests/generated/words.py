@@ -6,8 +6,8 @@
 2,000 cases, seed 1, 2 jobs and crates/x10clock/out/x10clock where nothing else is said. The words are the program's own commands and options, such as it doesn't know, numbers at
 the ends of what may be given, and names of small files, of which some are texts, modules or logs, one is a folder, and some aren't there; mostly they make a call that could be meant,
 with a word left out, doubled, put in or replaced. Each call is made in a folder of its own, and told in another: the status, standard output, the first
-line of standard error and what is in the folder then have to be the same. What a run by workers prints is compared in any order, and its log is played again; of a listing it is looked at alone that there is one, and notes are left out. `--tally`
-tells how often each answer was given; `--only` prints the words of one case.
+line of standard error and what is in the folder then have to be the same. What a run by workers prints is compared in any order, and its log is
+played again. `--tally` tells how often each answer was given; `--only` prints the words of one case.
 """
 
 from __future__ import annotations
@@ -16,7 +16,6 @@ import argparse
 import collections
 import concurrent.futures
 import contextlib
-import json
 import os
 import pathlib
 import random
@@ -181,9 +180,6 @@ class Caller:
                 return got, f"its log is that of {played}, and it answers {got}"
             right, got = in_any_order(right), in_any_order(got)
             left = left if played is None else there
-        right, got = without_notes(right), without_notes(got)
-        if right.out == telling_words.UNTOLD and got.out.endswith("\n"):
-            got = Told(got.status, right.out, got.err)
         if (right, left) == (got, there):
             return got, None
         files = {name for name in {*left, *there} if left.get(name) != there.get(name)}
@@ -196,18 +192,6 @@ def is_by_workers(words: list[str]) -> bool:
         return "workers" in telling_words.read(words).values
     except (telling_words.Mistake, telling_words.Help, telling_words.Version):
         return False
-
-
-def without_notes(answer: Told) -> Told:
-    """The same without what is told beside the bounds of an accepted program, and beside what a JSON value says."""
-    out = answer.out
-    if out.startswith("accepted "):
-        out = "".join(line for line in out.splitlines(keepends=True) if not line.startswith("   = "))
-    elif out.startswith("{") and out.endswith("}\n") and '"accepted":' in out:
-        value = json.loads(out)
-        value.pop("notes", None)
-        out = json.dumps(value, separators=(",", ":")) + "\n"
-    return Told(answer.status, out, answer.err)
 
 
 def in_any_order(answer: Told) -> Told:

@@ -1,4 +1,4 @@
-"""A second telling of what `explain` says on standard output, in Python, from docs/EXPLAIN.md: its rules in words, and its tables."""
+"""A second telling of what `explain` says on standard output, in Python, from docs/EXPLAIN.md: its rules in words, its tables and its notes."""
 
 from __future__ import annotations
 
@@ -8,6 +8,8 @@ from functools import cache
 
 import telling_declarations
 import telling_origins
+import telling_sums
+from telling_sums import Note
 
 PAGE = pathlib.Path(__file__).resolve().parents[2] / "docs/EXPLAIN.md"
 ROW = re.compile(r"\| (?P<rule>[FMV]\d+) \w+ \| (?P<wrong>.*) \| (?P<repair>.*) \|")
@@ -134,18 +136,24 @@ def stands(where: str, what: str, text: bytes, at: int) -> bool:
 
 
 def repair_at(rule: str, text: bytes, at: int) -> str:
-    """The first row that fits, or the usual repair of the rule."""
+    """What the first row says that fits, or the usual repair of the rule."""
     found = (said for of, where, what, said in habits() if of == rule and stands(where, what, text, at))
-    return repair_line(next(found, tables()[0][rule][1]))
+    return next(found, tables()[0][rule][1])
 
 
-def front_notes(text: bytes, rule: str, at: int) -> str:
-    """A line for each note beside a fault of names."""
-    said = telling_declarations.notes(text, rule, at)
-    return "".join(f"   = {words}\n" if place is None else f"   = {place_title(text, place)}: {words}\n" for place, words in said)
+def notes_on(data: bytes, said: str, is_module: bool) -> list[Note]:
+    """The notes beside a line of `check` on what is refused, without `x10clock: `."""
+    if found := FRONT.fullmatch(said):
+        return telling_declarations.notes(data, found["rule"], int(found["at"]))
+    return telling_sums.of_refused(data, said, is_module)
 
 
-def front(file: str, text: bytes, found: re.Match[str]) -> str:
+def note_lines(data: bytes, notes: list[Note]) -> str:
+    """A line for each note."""
+    return "".join(f"   = {words}\n" if at is None else f"   = {place_title(data, at)}: {words}\n" for at, words in notes)
+
+
+def front(file: str, text: bytes, found: re.Match[str], notes: str) -> str:
     rule, wrong = found["rule"], tables()[0][found["rule"]][0]
     if rule in WITHOUT_PLACE:
         return f"{file}: {found['title']}: {wrong}\n{repair(rule)}"
@@ -153,7 +161,8 @@ def front(file: str, text: bytes, found: re.Match[str]) -> str:
     word = WORD.match(text, at)
     line, column = position(text, at)
     marked = max(1, len(word[0]) if word else 0)
-    return f"{file}:{line}:{column}: {found['title']}: {wrong}\n{excerpt(text, at, marked)}{front_notes(text, rule, at)}{repair_at(rule, text, at)}"
+    head = f"{file}:{line}:{column}: {found['title']}: {wrong}\n{excerpt(text, at, marked)}"
+    return head + notes + repair_line(repair_at(rule, text, at))
 
 
 def walk(slot: str, kinds: list[str], places: list[str]) -> str:
@@ -183,7 +192,7 @@ def stops(text: bytes, offsets: list[int], places: list[int], kinds: list[str]) 
     return said
 
 
-def in_source(file: str, text: bytes, found: re.Match[str], kinds: list[str]) -> str:
+def in_source(file: str, text: bytes, found: re.Match[str], kinds: list[str], notes: str) -> str:
     """What is said of a place of a source text that the verifier refuses."""
     rule, number, place = found["rule"], *map(int, re.findall(r"\d+", found["place"]))
     unit = telling_origins.origins(text)[number]
@@ -196,23 +205,29 @@ def in_source(file: str, text: bytes, found: re.Match[str], kinds: list[str]) ->
         name = f"`{unit.slots[slot]}`" if slot in unit.slots else f"slot {slot}"
         said += f"   = {name} may hold here: {tables()[1][found['kind']]}\n   = a way to it, and what {name} holds before each statement:\n"
         said += stops(text, unit.offsets, list(map(int, found["walk"].split())), kinds) + WAYS
-    return said + repair(rule)
+    return said + notes + repair(rule)
 
 
 def explained(file: str, text: bytes, line: str, kinds: list[str], is_module: bool) -> str:
     """What is said where standard error gets this line; the kinds are those of the walk."""
     said = line.removeprefix("x10clock: ").removesuffix("\n")
+    notes = note_lines(text, notes_on(text, said, is_module))
     if found := FRONT.fullmatch(said):
-        return front(file, text, found)
+        return front(file, text, found, notes)
     if (found := PLACE.fullmatch(said)) and not is_module:
-        return in_source(file, text, found, kinds)
+        return in_source(file, text, found, kinds, notes)
     if found := PLACE.fullmatch(said):
         rule = found["rule"]
         head = f"{file}: {found['title']}, {found['place']}: {tables()[0][rule][0]}\n"
-        return head + (walk(found["slot"], kinds, found["walk"].split()) if found["walk"] else "") + repair(rule)
+        return head + (walk(found["slot"], kinds, found["walk"].split()) if found["walk"] else "") + notes + repair(rule)
     if found := BOUND.fullmatch(said):
         rule = found["rule"]
-        return f"{file}: {found['title']}: {tables()[0][rule][0]}\n   = at most {found['limit']} are allowed\n{repair(rule)}"
+        return f"{file}: {found['title']}: {tables()[0][rule][0]}\n   = at most {found['limit']} are allowed\n{notes}{repair(rule)}"
     if found := TEXT.fullmatch(said):
         return f"{file}: {found['title']}: {tables()[0][found['rule']][0]}\n{repair(found['rule'])}"
     return ""
+
+
+def accepted(text: bytes, line: str, is_module: bool) -> str:
+    """What is said of a program of which `check` says this line."""
+    return line + note_lines(text, telling_sums.of_accepted(text, is_module))

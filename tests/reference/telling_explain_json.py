@@ -7,11 +7,11 @@ import re
 from collections.abc import Iterable
 
 import telling_origins
-from telling_explain import BOUND, FRONT, PLACE, TEXT, WITHOUT_PLACE, place_title, position, tables
+import telling_sums
+from telling_explain import BOUND, FRONT, PLACE, TEXT, WITHOUT_PLACE, notes_on, place_title, position, repair_at, tables
+from telling_sums import Note
 
 ACCEPTED = re.compile(r"accepted steps (?P<steps>\d+) activities (?P<activities>\d+) clocks (?P<clocks>\d+)\n?")
-# A note: its offset in the text, if it has a place there, and its words.
-Note = tuple[int | None, str]
 Members = dict[str, object]
 
 
@@ -36,7 +36,8 @@ def refused(file: str, title: str) -> Members:
 
 
 def front(file: str, text: bytes, found: re.Match[str]) -> Members:
-    return refused(file, found["title"]) | ({} if found["rule"] in WITHOUT_PLACE else place(text, int(found["at"])))
+    said, at = refused(file, found["title"]), min(int(found["at"]), len(text))
+    return said if found["rule"] in WITHOUT_PLACE else said | place(text, at) | {"repair": repair_at(found["rule"], text, at)}
 
 
 def by_place(file: str, text: bytes | None, found: re.Match[str], kinds: list[str]) -> Members:
@@ -55,10 +56,10 @@ def by_place(file: str, text: bytes | None, found: re.Match[str], kinds: list[st
     return said
 
 
-def explained(file: str, text: bytes, line: str, kinds: list[str], is_module: bool, notes: Iterable[Note] = ()) -> str:
+def explained(file: str, text: bytes, line: str, kinds: list[str], is_module: bool) -> str:
     """What is said where standard error gets this line; the kinds are those of the walk."""
     said = line.removeprefix("x10clock: ").removesuffix("\n")
-    source = None if is_module else text
+    source, notes = None if is_module else text, notes_on(text, said, is_module)
     if found := TEXT.fullmatch(said):
         return line_of(refused(file, found["title"]))
     if found := FRONT.fullmatch(said):
@@ -70,8 +71,8 @@ def explained(file: str, text: bytes, line: str, kinds: list[str], is_module: bo
     return ""
 
 
-def accepted(file: str, text: bytes, line: str, is_module: bool, notes: Iterable[Note] = ()) -> str:
+def accepted(file: str, text: bytes, line: str, is_module: bool) -> str:
     """What is said of a program of which `check` says this line."""
     found = ACCEPTED.fullmatch(line)
     numbers = {key: int(number) for key, number in found.groupdict().items()} if found else {}
-    return line_of({"accepted": True, "file": file} | numbers | notes_of(None if is_module else text, notes))
+    return line_of({"accepted": True, "file": file} | numbers | notes_of(None if is_module else text, telling_sums.of_accepted(text, is_module)))

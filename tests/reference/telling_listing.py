@@ -12,7 +12,6 @@ import sys
 import telling
 import telling_explain
 import telling_origins
-import telling_source
 from telling import Instr, Kind, Kinds, Module, Role, Unit
 from telling_origins import Origins
 
@@ -70,21 +69,14 @@ def source_unit(text: bytes, number: int, unit: Unit, origins: Origins, kinds: K
     return said
 
 
-def of_module(module: Module) -> str:
-    kinds = Kinds.of(module) if has_shape(module) else None
-    return "\n".join(module_unit(number, unit, kinds) for number, unit in enumerate(module.units))
-
-
-def of_source(text: bytes) -> str:
-    """Of a text that is compiled."""
-    module = telling.read_module(telling_source.module_text(text).encode())
-    kinds = Kinds.of(module) if has_shape(module) else None
-    units = zip(module.units, telling_origins.origins(text), strict=True)
-    return "\n".join(source_unit(text, number, unit, origins, kinds) for number, (unit, origins) in enumerate(units))
-
-
 def listed(data: bytes, is_module: bool) -> str:
-    return of_module(telling.read_module(data)) if is_module else of_source(data)
+    """Of bytes that give a module; of others the fault is raised."""
+    module, origins = telling_origins.program(data, is_module)
+    kinds = Kinds.of(module) if has_shape(module) else None
+    if origins is None:
+        return "\n".join(module_unit(number, unit, kinds) for number, unit in enumerate(module.units))
+    units = zip(module.units, origins, strict=True)
+    return "\n".join(source_unit(data, number, unit, comes_from, kinds) for number, (unit, comes_from) in enumerate(units))
 
 
 def main(arguments: list[str]) -> int:

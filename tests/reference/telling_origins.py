@@ -3,8 +3,11 @@
 from __future__ import annotations
 
 from dataclasses import dataclass
+from functools import lru_cache
 
+import telling
 import telling_source
+from telling import Module
 from telling_source import Async, Between, Block, Coder, Finish, Loop, Name, Names, Parser, Sort, Stmt, Tree, UnitForm
 
 CLOSERS = ("next", "endfinish")
@@ -91,6 +94,7 @@ def slot_names(data: bytes, names: Names, unit: UnitForm) -> dict[int, str]:
     return {slot: texts[declared] for declared, slot in unit.named.items() if declared in texts}
 
 
+@lru_cache(maxsize=4)
 def origins(data: bytes) -> list[Origins]:
     """Of each unit of a text that is compiled, in the order of their numbers."""
     parser = PlacedParser(data)
@@ -110,3 +114,11 @@ def origins(data: bytes) -> list[Origins]:
         offsets = [made.offsets[at] for at in range(len(made.code))]
         told.append(Origins(method_names.get(id(unit)), unit.at, offsets, slot_names(data, names, unit)))
     return told
+
+
+@lru_cache(maxsize=4)
+def program(data: bytes, is_module: bool) -> tuple[Module, list[Origins] | None]:
+    """The module of bytes that give one, and where its instructions come from, if the bytes are a source text."""
+    if is_module:
+        return telling.read_module(data), None
+    return telling.read_module(telling_source.module_text(data).encode()), origins(data)

@@ -17,6 +17,7 @@ from typing import BinaryIO
 import telling
 import telling_explain
 import telling_explain_json
+import telling_listing
 import telling_log
 import telling_source
 from telling import Accepted, Arguments, Order, Refused
@@ -306,17 +307,11 @@ def is_same(path: str, file: BinaryIO | None) -> bool:
     return os.path.samestat(os.stat(path), os.fstat(file.fileno()))
 
 
-# Standard output where it isn't told a second time: a listing.
-UNTOLD = "(some text)"
-
-
 def listed(job: Job, data: bytes) -> Told:
-    """A listing isn't told, but whether there is one: of each text that is compiled, and of each module's."""
     try:
-        telling.read_module(data) if "module" in job.flags else telling_source.module_text(data)
+        return Told(0, telling_listing.listed(data, "module" in job.flags))
     except (telling.Unread, telling_source.Fault) as fault:
         return Told(1, "", f"x10clock: {fault}")
-    return Told(0, UNTOLD)
 
 
 def judge(job: Job, data: bytes) -> Accepted | Refused:
@@ -338,10 +333,13 @@ def explained(job: Job, data: bytes, judged: Refused) -> str:
 
 
 def accepted(job: Job, data: bytes, line: str) -> str:
-    """What is said of a program that is accepted; notes aren't told."""
-    if "json" not in job.flags:
+    """What is said of a program that is accepted."""
+    is_module = "module" in job.flags
+    if job.command == "check":
         return line
-    return telling_explain_json.accepted(job.values["FILE"], data, line, "module" in job.flags)
+    if "json" in job.flags:
+        return telling_explain_json.accepted(job.values["FILE"], data, line, is_module)
+    return telling_explain.accepted(data, line, is_module)
 
 
 def ran(job: Job, judged: Accepted, log: BinaryIO | None) -> Told:

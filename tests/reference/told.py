@@ -3,7 +3,7 @@
 
     X10CLOCK=tests/reference/told.py sh tests/answers/answers.sh tests/answers/programs/sources.rows
 
-Of clap's texts it knows the help, and of each other the first line. It tells no listing, but whether there is one, and no notes.
+Of clap's texts it knows the help, and of each other the first line.
 """
 
 from __future__ import annotations

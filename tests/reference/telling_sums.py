@@ -1,0 +1,204 @@
+"""A second telling of the notes of `explain` on what the verifier says (docs/EXPLAIN.md, "Notes"), from the module and where its instructions come from.
+
+Beside V8, V9 and V12 stands the other place that the rule speaks of, beside V14 to V17 the sum by its parts, and of a program that is accepted what its
+numbers come from.
+"""
+
+from __future__ import annotations
+
+import re
+from collections.abc import Callable, Iterable, Iterator
+from dataclasses import dataclass
+
+import telling
+from telling import WHOLE_UNIT, Instr, Module, Role, Unit
+from telling_origins import Origins, program
+
+# A note: its offset in the text, if it has a place there, and its words.
+Note = tuple[int | None, str]
+
+# Numbers up to this one are told in digits.
+MOST_TOLD = 10**18
+FAULT = re.compile(r"(?P<rule>V\d+) \w+ (?:unit (?P<unit>\d+) at (?P<at>\d+)|over \d+)")
+LOOPS = ("for", "forto")
+
+
+# Words.
+
+
+def counted(number: int, one: str, many: str) -> str:
+    return f"{amount(number)} {one if number == 1 else many}"
+
+
+def amount(number: int) -> str:
+    return str(number) if number <= MOST_TOLD else f"over {MOST_TOLD}"
+
+
+@dataclass(frozen=True)
+class Speaker:
+    """Speaks of the units and slots of a module: in the names of its text, or by their numbers."""
+
+    origins: list[Origins] | None
+
+    def unit(self, number: int, nameless: str = "this `async`") -> str:
+        return f"unit {number}" if self.origins is None else self.origins[number].name or nameless
+
+    def around(self, number: int) -> str:
+        """The unit, spoken of at a place in it."""
+        return self.unit(number, "the `async` around it")
+
+    def slot(self, number: int, slot: int) -> str:
+        names = self.origins[number].slots if self.origins else {}
+        return f"`{names[slot]}`" if slot in names else f"slot {slot}"
+
+    def times(self, number: int, times: int) -> str:
+        return f"{counted(times, 'time', 'times')} in one run of {self.around(number)}"
+
+    def at(self, number: int, place: int, words: str) -> Note:
+        """A note on an instruction."""
+        if self.origins is None:
+            return None, f"unit {number} at {place}: {words}"
+        return self.origins[number].offsets[place], words
+
+    def of(self, number: int, words: str) -> Note:
+        """A note on a whole unit, which stands at its name, or at its `async`."""
+        return None if self.origins is None else self.origins[number].at, words
+
+
+# The other places.
+
+
+def elsewhere(unit: Unit, slot: int, place: int, places: Iterable[int]) -> int | None:
+    """The first of these places that makes a slot's clock in another block than that of a place."""
+    return next((at for at in places if unit.code[at] == Instr("make", (slot,)) and unit.blocks[at] != unit.blocks[place]), None)
+
+
+def beside_home(number: int, unit: Unit, place: int, speaker: Speaker) -> Iterator[Note]:
+    """V8: the clock that is dropped is lent; the slot of one that is made is a parameter's, or takes a clock of another block before."""
+    name, (slot, *_) = unit.code[place].name, unit.code[place].operands
+    if name == "drop" or slot < len(unit.params):
+        yield speaker.of(number, f"{speaker.slot(number, slot)} comes from outside")
+    elif (made := elsewhere(unit, slot, place, range(place))) is not None:
+        yield speaker.at(number, made, f"{speaker.slot(number, slot)} is made here")
+
+
+def beside_registers(module: Module, number: int, place: int, speaker: Speaker) -> Iterator[Note]:
+    """V9: where the first clock comes from that is handed on in another block than its own, and the finish that is open."""
+    unit = module.units[number]
+    block = unit.blocks[place]
+    for slot in module.arguments(unit.code[place], "c"):
+        made = elsewhere(unit, slot, place, range(len(unit.code)))
+        if unit.is_clock_param(slot) and block != WHOLE_UNIT:
+            yield speaker.of(number, f"{speaker.slot(number, slot)} comes from outside")
+            break
+        if made is not None:
+            yield speaker.at(number, made, f"{speaker.slot(number, slot)} is made here")
+            break
+    if block != WHOLE_UNIT:
+        yield speaker.at(number, block, "this finish is open")
+
+
+def beside_held(number: int, unit: Unit, place: int, speaker: Speaker) -> Iterator[Note]:
+    """V12: where the finish begins that ends."""
+    for begin in unit.code[place].of(Role.BEGIN):
+        yield speaker.at(number, begin, "the finish begins here")
+
+
+# Sums.
+
+
+def totals(module: Module, own: Callable[[Instr], int]) -> list[int]:
+    """What a run of each unit comes to, with all that it calls and starts: such have greater numbers."""
+    found = [0] * len(module.units)
+    for number in reversed(range(len(module.units))):
+        unit = module.units[number]
+        below = [sum(found[callee] for callee in instr.of(Role.UNIT)) for instr in unit.code]
+        found[number] = sum(times * (own(instr) + more) for times, instr, more in zip(telling.turns(unit), unit.code, below, strict=True))
+    return found
+
+
+def stacks(module: Module) -> list[int]:
+    """The slots of each unit, with the most of those that it calls."""
+    found = [0] * len(module.units)
+    for number in reversed(range(len(module.units))):
+        unit = module.units[number]
+        found[number] = unit.slots + max((found[instr.callee] for instr in unit.code if instr.name == "call"), default=0)
+    return found
+
+
+@dataclass(frozen=True)
+class Sum:
+    """What is told of a sum: which instructions, by their names, and loops from how many turns on; and of each unit, in words."""
+
+    names: tuple[str, ...]
+    least_turns: int
+    wholes: Callable[[Module], list[str]] | None = None
+
+
+def takes(does: str, one: str, many: str, own: Callable[[Instr], int]) -> Callable[[Module], list[str]]:
+    return lambda module: [f"{does} {counted(total, one, many)} at most" for total in totals(module, own)]
+
+
+def has(module: Module) -> list[str]:
+    found = zip(module.units, stacks(module), strict=True)
+    return [f"has {counted(unit.slots, 'slot', 'slots')}, at most {amount(most)} with those that it calls" for unit, most in found]
+
+
+SUMS = {
+    "V14": Sum((*LOOPS, "call", "spawn"), 0, takes("takes", "step", "steps", lambda instr: 2 if instr.name == "advance" else 1)),
+    "V15": Sum((*LOOPS, "call", "spawn"), 0, takes("starts", "activity", "activities", lambda instr: instr.name == "spawn")),
+    "V16": Sum((*LOOPS, "call", "spawn", "make"), 0, takes("makes", "clock", "clocks", lambda instr: instr.name == "make")),
+    "V17": Sum(("call",), 0, has),
+}
+ACCEPTED = Sum((*LOOPS, "spawn", "make"), 2)
+
+
+def part(told: Sum, number: int, unit: Unit, place: int, times: int, speaker: Speaker) -> str | None:
+    """What is told of an instruction that is carried out so often, if anything."""
+    instr = unit.code[place]
+    if instr.name not in told.names:
+        return None
+    if instr.name in LOOPS:
+        turns = unit.head(place).turns
+        words = f"this loop has {counted(turns, 'turn', 'turns')} each time, {amount(times * turns)} in one run of {speaker.around(number)}"
+        return words if turns >= told.least_turns else None
+    if instr.name == "make":
+        return f"a clock is made here {speaker.times(number, times)}"
+    does = "is called here" if instr.name == "call" else "is started"
+    return f"{speaker.unit(instr.callee)} {does} {speaker.times(number, times)}"
+
+
+def parts(told: Sum, module: Module, speaker: Speaker) -> Iterator[Note]:
+    """Unit by unit what its instructions add, and then what it comes to."""
+    wholes = told.wholes(module) if told.wholes else []
+    for number, unit in enumerate(module.units):
+        for place, times in enumerate(telling.turns(unit)):
+            if words := part(told, number, unit, place, times, speaker):
+                yield speaker.at(number, place, words)
+        for words in wholes[number : number + 1]:
+            yield speaker.of(number, f"{speaker.unit(number)} {words}")
+
+
+# Notes.
+
+
+def of_refused(data: bytes, said: str, is_module: bool) -> list[Note]:
+    """The notes beside a line of the verifier's, as `V9 Registers unit 0 at 3`."""
+    found = FAULT.match(said)
+    if not found or found["rule"] not in ("V8", "V9", "V12", *SUMS):
+        return []
+    module, origins = program(data, is_module)
+    speaker, rule = Speaker(origins), found["rule"]
+    if rule in SUMS:
+        return list(parts(SUMS[rule], module, speaker))
+    number, place = int(found["unit"]), int(found["at"])
+    if rule == "V9":
+        return list(beside_registers(module, number, place, speaker))
+    beside = beside_home if rule == "V8" else beside_held
+    return list(beside(number, module.units[number], place, speaker))
+
+
+def of_accepted(data: bytes, is_module: bool) -> list[Note]:
+    """The notes on a program that is accepted."""
+    module, origins = program(data, is_module)
+    return list(parts(ACCEPTED, module, Speaker(origins)))
