@@ -19,10 +19,7 @@ use Rattle.xk_serve.specs.Answer.{Chart, Check, ComesTo, Compile, Doing, Explain
 use Rattle.xk_serve.specs.Explanation.{IsByProgram, IsByTree, IsExplanation, fault_said, front_said, refusal_said}
 use Rattle.xk_tree.specs.declared.fault.FrontRule.TheVariants as rule
 use Rattle.xk_serve.specs.Devices.{AgainstLog, IfKnown, IsRead, IsSaid, Reads, StandsAgainst, read_of}
-use Rattle.xk_positions.specs.Lines.{position_of}
-use Rattle.xk_explain.specs.Explanations.{has_place, shown_at}
-use Rattle.xk_explain_json.specs.Objects.{json_line, object_of}
-use Rattle.xk_explain_json.specs.Explanations.{notes_in, position_members, refused_by_front}
+use Rattle.xk_explain.specs.Explanations.{has_place}
 use Rattle.xk_serve.proofs.ReplyLemmas.{of_known}
 use Rattle.xk_serve.proofs.TaskLemmas.{of_each}
 
@@ -98,8 +95,9 @@ either_way false x y z e = refl
 -- of a text that is too long nothing is said that looks at it
 long_kept : (json : Bool) (file bytes known : List ℕ) (f : FrontFault) → f.rule ≡ rule.TooLong → front_said json file bytes f [] ≡ front_said json file known f []
 long_kept false file bytes known f long = either_way (has_place f.rule) _ _ _ (ap has_place long)
-long_kept true file bytes known f long = ap (λ place. json_line (object_of (notes_in known [] ∷ refused_by_front file f.rule ∷ place ∷ [])))
-    (either_way (has_place f.rule) (position_members (position_of bytes (shown_at bytes f))) (position_members (position_of known (shown_at known f))) [] (ap has_place long))
+long_kept true file bytes known f long =
+    subst (λ r. front_said true file bytes (record { rule = r; at = f.at }) [] ≡ front_said true file known (record { rule = r; at = f.at }) [])
+    (sym long) refl
 
 -- bytes that spell no tree are all of them, or too many
 no_text_kept : (bytes known : List ℕ) (f : FrontFault) → bytes ≡ kept form.Source known → IsNoText bytes f → IsNoText known f
