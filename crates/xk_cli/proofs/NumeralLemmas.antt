@@ -1,15 +1,15 @@
 -- Numbers as they are parsed.
-use Rattle.std.proofs.Common.{◌≡◌, ℕ, ℤ, pos, negsuc, ◌&&◌, nat_lt, Bool, true, false, if◌then◌else◌, List, [], ◌∷◌, ◌++◌, length, Option, Some, None, option_map, append_assoc, refl, sym, subst, ap, ◌∙◌}
+use Rattle.std.proofs.Common.{◌≡◌, ℕ, ℤ, pos, negsuc, ◌<◌, ◌^◌, ◌&&◌, nat_lt, Bool, true, false, if◌then◌else◌, List, [], ◌∷◌, ◌++◌, length, Option, Some, None, option_map, append_assoc, refl, sym, subst, ap, ◌∙◌}
 use Rattle.std.specs.Prelude.{FitsSigned, option_and_then, unwrap_or}
 use mir.Syntax.{w64}
 use Rattle.std.specs.Bool.{Decides}
 use Rattle.std.specs.Char.{digit_value, is_digit}
 use Rattle.std.specs.List.{list_all}
-use Rattle.std.specs.Str.Parse.{AllDigits, IsNumeral, signed_digits_value, without_leading_sign}
+use Rattle.std.specs.Str.Parse.{AllDigits, IsNumeral, digits_value, signed_digits_value, without_leading_plus, without_leading_sign}
 use Rattle.std.proofs.lemmas.Bool.{ltb-true, lt-ltb}
 use Rattle.std.proofs.lemmas.Bool.Decides.{Decides-and, Decides-ltb}
 use Rattle.clap.specs.ValueTests.{fits_i64}
-use Rattle.xk_cli.specs.Numbers.{is_numeral, number_named, numbers_named}
+use Rattle.xk_cli.specs.Numbers.{count_named, is_numeral, number_named, numbers_named}
 
 all_digits : (ds : List ℕ) → Decides (list_all (λ c. is_digit c 10) ds) (AllDigits 10 ds)
 all_digits [] = (λ e. tt, λ p. refl)
@@ -58,3 +58,27 @@ named_fits false n z P d h = cc
 -- the number that a text names has 64 bits
 pub number_fits : (text : List ℕ) (n : ℤ) → Some n ≡ number_named text → FitsSigned w64 n
 number_fits text n h = named_fits _ n (signed_digits_value 10 text) _ (number text) h
+
+-- ---- whole numbers
+
+counts : (text : List ℕ) → Decides (is_numeral (without_leading_plus text) && nat_lt (digits_value 10 (without_leading_plus text)) (2 ^ 64))
+    (IsNumeral 10 (without_leading_plus text) × (digits_value 10 (without_leading_plus text) < 2 ^ 64))
+counts text = Decides-and (is_numeral (without_leading_plus text)) (nat_lt (digits_value 10 (without_leading_plus text)) (2 ^ 64)) (numeral (without_leading_plus text))
+    (Decides-ltb (digits_value 10 (without_leading_plus text)) (2 ^ 64))
+
+some_count : (b : Bool) (n : ℕ) (P : Type 0) → Decides b P → P → Some n ≡ (if b then Some n else None)
+some_count b n P d h = rw (d.1 h) refl
+
+no_count : (b : Bool) (n : ℕ) (P : Type 0) → Decides b P → ¬ P → None ≡ (if b then Some n else None)
+no_count true n P d h = absurd (h (d.0 refl))
+no_count false n P d h = refl
+
+-- a whole number that was parsed is the one that the text names
+pub count_some : (text : List ℕ) (n : ℕ)
+    → (IsNumeral 10 (without_leading_plus text) × (digits_value 10 (without_leading_plus text) < 2 ^ 64)) × (n ≡ digits_value 10 (without_leading_plus text))
+    → Some n ≡ count_named text
+count_some text n h = ap Some h.1 ∙ some_count _ (digits_value 10 (without_leading_plus text)) _ (counts text) h.0
+
+-- a text that isn't parsed names none
+pub count_none : (text : List ℕ) → ¬ (IsNumeral 10 (without_leading_plus text) × (digits_value 10 (without_leading_plus text) < 2 ^ 64)) → None ≡ count_named text
+count_none text h = no_count _ (digits_value 10 (without_leading_plus text)) _ (counts text) h

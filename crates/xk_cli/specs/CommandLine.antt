@@ -1,5 +1,5 @@
 -- The program's command line in the terms of `clap`, and what its words ask for. This project's own.
-use Rattle.std.specs.Prelude.{ℕ, ℤ, ◌≡◌, ◌≢◌, ◌⊎◌, ⊤, ◌&&◌, Bool, true, false, List, [], ◌∷◌, map, Option, Some, None, is_some, option_and_then, option_map, codes, if◌then◌else◌}
+use Rattle.std.specs.Prelude.{ℕ, ℤ, ◌≡◌, ◌≢◌, ◌⊎◌, ⊤, ◌&&◌, ◌||◌, Bool, true, false, not, List, [], ◌∷◌, map, Option, Some, None, is_some, option_and_then, option_map, unwrap_or, codes, if◌then◌else◌}
 use Rattle.std.specs.Option.{option_map_or}
 use Rattle.std.specs.Borrow.{Bor}
 use Rattle.std.specs.Str.{bytes_eq}
@@ -12,7 +12,7 @@ use Rattle.clap.specs.declared.builder.value_parser.ValueParser.TheVariants as p
 use Rattle.clap.specs.declared.error.kind.ErrorKind.{ErrorKind}
 use Rattle.clap.specs.declared.error.kind.ErrorKind.TheVariants as kind
 use Rattle.xk_cli.specs.WorkerCount.{count_within, most_workers}
-use Rattle.xk_cli.specs.Numbers.{is_numeral, least_number, most_number, numbers_named}
+use Rattle.xk_cli.specs.Numbers.{count_named, is_numeral, least_number, most_count, most_number, numbers_named}
 use Rattle.xk_cli.specs.Status.{status_done, status_memory, status_words}
 use Rattle.xk_cli.specs.declared.job.Command.{Command}
 use Rattle.xk_cli.specs.declared.job.Command.TheVariants as command
@@ -101,13 +101,21 @@ order_option names = record (option (codes "ORDER") (codes "order")) { parser = 
 abbrev pub by_order : Names → App
 by_order names = with_rule (on_either (codes "run")) (order_option names)
 
+-- `--seed SEED`, which takes a whole number of 64 bits
+abbrev pub seed_option : Rule
+seed_option = record (option (codes "SEED") (codes "seed")) { parser = Some (parser.Unsigned 0 most_count) }
+
+-- the same, where the order may be by chance from a seed
+abbrev pub by_chance : Names → App
+by_chance names = with_rule (by_order names) seed_option
+
 -- `--workers N`, which takes a whole number from 1 to 64
 abbrev pub workers_option : Rule
 workers_option = record (option (codes "N") (codes "workers")) { parser = Some (parser.Unsigned 1 most_workers) }
 
 -- the same, whose steps may be taken by workers
 abbrev pub by_workers : Names → App
-by_workers names = with_rule (by_order names) workers_option
+by_workers names = with_rule (by_chance names) workers_option
 
 -- the same, whose log may be written
 abbrev pub with_log : Names → App
@@ -117,15 +125,40 @@ with_log names = with_rule (by_workers names) log_option
 abbrev pub run_line : Names → App
 run_line names = with_rule (with_log names) arg_option
 
+-- `--limit LIMIT`, which takes a whole number of 64 bits but 0
+abbrev pub limit_option : Rule
+limit_option = record (option (codes "LIMIT") (codes "limit")) { parser = Some (parser.Unsigned 1 most_count) }
+
+-- the command on FILE that tells its outcomes, so many at most
+abbrev pub limited : App
+limited = with_rule (on_either (codes "outcomes")) limit_option
+
+-- `--pick K`, which takes a whole number of 64 bits but 0
+abbrev pub pick_option : Rule
+pick_option = record (option (codes "K") (codes "pick")) { parser = Some (parser.Unsigned 1 most_count) }
+
+-- the same, of which one may be picked
+abbrev pub picked : App
+picked = with_rule limited pick_option
+
+-- the same, whose log may be written
+abbrev pub with_outcome_log : App
+with_outcome_log = with_rule picked log_option
+
+-- the same, whose main may be given numbers
+abbrev pub outcomes_line : App
+outcomes_line = with_rule with_outcome_log arg_option
+
 -- the program with a command that has to be there, and a version that it tells
 abbrev pub program : App
 program = record (new_app (codes "x10clock")) { top = record (new_app (codes "x10clock")).top { has_version = true; subcommand_required = true } }
 
 abbrev pub command_line : Names → App
 command_line names =
-    with_subcommand (with_subcommand (with_subcommand (with_subcommand (with_subcommand (with_subcommand (with_subcommand program
-    (on_either (codes "check")).top) explain_line.top) (on_file (codes "compile")).top) (on_either (codes "listing")).top)
-    (run_line names).top) (on_run (codes "replay")).top) (on_run (codes "chart")).top
+    with_subcommand (with_subcommand (with_subcommand (with_subcommand (with_subcommand (with_subcommand (with_subcommand (with_subcommand
+    (with_subcommand (with_subcommand program (on_either (codes "check")).top) explain_line.top) (on_file (codes "compile")).top)
+    (on_either (codes "listing")).top) (run_line names).top) outcomes_line.top) (on_run (codes "replay")).top) (on_run (codes "chart")).top)
+    (on_run (codes "events")).top) (on_run (codes "lanes")).top
 
 -- no argument of the command is one of its subcommands too
 abbrev pub HasNoGlobals : clap_Command → Type 0
@@ -137,7 +170,7 @@ texts words = map (λ w. w.now) words
 
 -- the names of the orders
 abbrev pub AreOrders : Names → Type 0
-AreOrders names = texts names.now ≡ codes "first" ∷ codes "last" ∷ codes "round" ∷ []
+AreOrders names = texts names.now ≡ codes "first" ∷ codes "last" ∷ codes "round" ∷ codes "random" ∷ []
 
 -- This holds of the names of the orders. `clap` is told of a list of names by where it lies in memory; nothing that is said here looks at
 -- that.
@@ -160,7 +193,7 @@ way_value (drive.Order o) = In o
 way_value (drive.Workers w) = By w.count
 
 -- A command without where its texts lie in memory. What is explained may be a JSON value. A run has who takes its steps, and the log's path, where
--- they were given; the others on a log have its path.
+-- they were given; outcomes have how many there are at most, which is picked, and the path of its log; the others on a log have its path.
 pub data Task : Type 0 where
   Check : Task
   Compile : Task
@@ -169,6 +202,9 @@ pub data Task : Type 0 where
   Run : Option Way → Option Text → Task
   Replay : Text → Task
   Chart : Text → Task
+  Events : Text → Task
+  Lanes : Text → Task
+  Outcomes : Option ℕ → Option ℕ → Option Text → Task
 
 abbrev pub task_value : Command → Task
 task_value command.Check = Check
@@ -178,6 +214,9 @@ task_value command.Listing = Listing
 task_value (command.Run given log) = Run (option_map way_value given) (option_map (λ s. s.now) log)
 task_value (command.Replay log) = Replay log.now
 task_value (command.Chart log) = Chart log.now
+task_value (command.Events log) = Events log.now
+task_value (command.Lanes log) = Lanes log.now
+task_value (command.Outcomes limit pick log) = Outcomes limit pick (option_map (λ s. s.now) log)
 
 -- a job without where its texts and numbers lie in memory
 pub record Asked : Type 0 where
@@ -205,14 +244,32 @@ form_in given = option_map_or form_named (first_of (codes "module") given) form.
 abbrev pub is_json : List Row → Bool
 is_json given = option_map_or is_true (first_of (codes "json") given) false
 
-abbrev pub order_named : Text → Option Order
-order_named name =
+-- the whole number that was given under a name
+abbrev pub count_in : Text → List Row → Option ℕ
+count_in name given = option_and_then count_named (first_of name given)
+
+-- the seed that was given, or else 0
+abbrev pub seed_in : List Row → ℕ
+seed_in given = unwrap_or (count_in (codes "SEED") given) 0
+
+-- the order of a name, where by chance from this seed
+abbrev pub order_named : Text → ℕ → Option Order
+order_named name seed =
     if bytes_eq name (codes "first") then Some order.First
-    else (if bytes_eq name (codes "last") then Some order.Last else (if bytes_eq name (codes "round") then Some order.Round else None))
+    else (if bytes_eq name (codes "last") then Some order.Last
+    else (if bytes_eq name (codes "round") then Some order.Round else (if bytes_eq name (codes "random") then Some (order.Random seed) else None)))
 
 -- the order that was given
 abbrev pub order_in : List Row → Option Order
-order_in given = option_and_then order_named (first_of (codes "ORDER") given)
+order_in given = option_and_then (λ name. order_named name (seed_in given)) (first_of (codes "ORDER") given)
+
+-- whether the order was given that goes by chance
+abbrev pub is_random : List Row → Bool
+is_random given = option_map_or (λ name. bytes_eq name (codes "random")) (first_of (codes "ORDER") given) false
+
+-- a seed was given, and no order by chance
+abbrev pub is_seed_alone : List Row → Bool
+is_seed_alone given = is_some (first_of (codes "SEED") given) && not (is_random given)
 
 -- so many workers as a numeral says, before which a plus may stand
 abbrev pub workers_named : Text → Option ℕ
@@ -239,9 +296,13 @@ way_of None n = option_map By n
 abbrev pub drive_in : List Row → Option Way
 drive_in given = way_of (order_in given) (workers_in given)
 
--- `run` with what was given to it; an order and workers exclude each other
+-- `run` with what was given to it; an order and workers exclude each other, and a seed is for an order by chance
 abbrev pub run_by : List Row → Option Task
-run_by given = if is_both given then None else Some (Run (drive_in given) (first_of (codes "PATH") given))
+run_by given = if is_both given || is_seed_alone given then None else Some (Run (drive_in given) (first_of (codes "PATH") given))
+
+-- `outcomes` with what was given to it
+abbrev pub outcomes_in : List Row → Task
+outcomes_in given = Outcomes (count_in (codes "LIMIT") given) (count_in (codes "K") given) (first_of (codes "PATH") given)
 
 -- the command of a name, with what else was given to it
 abbrev pub command_by : Text → List Row → Option Task
@@ -252,7 +313,10 @@ command_by name given =
     else (if bytes_eq name (codes "listing") then Some Listing
     else (if bytes_eq name (codes "run") then run_by given
     else (if bytes_eq name (codes "replay") then option_map Replay (first_of (codes "LOG") given)
-    else (if bytes_eq name (codes "chart") then option_map Chart (first_of (codes "LOG") given) else None))))))
+    else (if bytes_eq name (codes "chart") then option_map Chart (first_of (codes "LOG") given)
+    else (if bytes_eq name (codes "events") then option_map Events (first_of (codes "LOG") given)
+    else (if bytes_eq name (codes "lanes") then option_map Lanes (first_of (codes "LOG") given)
+    else (if bytes_eq name (codes "outcomes") then Some (outcomes_in given) else None)))))))))
 
 -- this command on this file, with what else was given to it
 abbrev pub asked_of : Task → Text → List Row → Option Asked
@@ -277,6 +341,14 @@ excludes_by found = option_map_or (λ p. is_both p.1) found false
 unfoldable pub excludes_in : Names → List Text → Bool
 excludes_in names words = excludes_by (subcommand_of (command_line names) words)
 
+-- a seed was given to the command that was found, and no order by chance
+abbrev pub strays_by : Option (Text × List Row) → Bool
+strays_by found = option_map_or (λ p. is_seed_alone p.1) found false
+
+-- the words have a seed for no order by chance, as `clap` takes them apart
+unfoldable pub strays_in : Names → List Text → Bool
+strays_in names words = strays_by (subcommand_of (command_line names) words)
+
 -- ---- why words are refused
 
 -- the fault fits the kind of `clap`'s error
@@ -284,6 +356,7 @@ abbrev pub FitsKind : ErrorKind → WordsFault → Type 0
 FitsKind k (fault.Help text) = (k ≡ kind.DisplayHelp) ⊎ (k ≡ kind.DisplayVersion)
 FitsKind k (fault.NotUnderstood text) = (k ≢ kind.DisplayHelp) × (k ≢ kind.DisplayVersion) × (k ≢ kind.OutOfMemory)
 FitsKind k fault.OrderAndWorkers = ⊥
+FitsKind k fault.SeedAlone = ⊥
 FitsKind k fault.OutOfMemory = ⊤
 
 -- a mistake is among the kinds: one that is no request for help or for the version
@@ -291,16 +364,19 @@ abbrev pub HasMistake : Kinds → Type 0
 HasMistake kinds = (k : ErrorKind) × IsAmong k kinds × (k ≢ kind.DisplayHelp) × (k ≢ kind.DisplayVersion)
 
 -- Help is told only where it was asked for, words are called not understood only where `clap` finds a mistake in them, or where it finds
--- nothing wrong and no job, and the order and the workers are called to exclude each other only where both were given and nothing is wrong else.
-abbrev pub IsRefused : Kinds → Option Asked → Bool → WordsFault → Type 0
-IsRefused kinds asked both (fault.Help text) = IsAmong kind.DisplayHelp kinds ⊎ IsAmong kind.DisplayVersion kinds
-IsRefused kinds asked both (fault.NotUnderstood text) = HasMistake kinds ⊎ ((kinds ≡ []) × (asked ≡ None) × (both ≡ false))
-IsRefused kinds asked both fault.OrderAndWorkers = (kinds ≡ []) × (both ≡ true)
-IsRefused kinds asked both fault.OutOfMemory = ⊤
+-- nothing wrong and no job. The order and the workers are called to exclude each other only where both were given, and a seed to stand alone only where
+-- it does, and nothing is wrong else.
+abbrev pub IsRefused : Kinds → Option Asked → Bool → Bool → WordsFault → Type 0
+IsRefused kinds asked both alone (fault.Help text) = IsAmong kind.DisplayHelp kinds ⊎ IsAmong kind.DisplayVersion kinds
+IsRefused kinds asked both alone (fault.NotUnderstood text) = HasMistake kinds ⊎ ((kinds ≡ []) × (asked ≡ None) × (both ≡ false) × (alone ≡ false))
+IsRefused kinds asked both alone fault.OrderAndWorkers = (kinds ≡ []) × (both ≡ true)
+IsRefused kinds asked both alone fault.SeedAlone = (kinds ≡ []) × (alone ≡ true)
+IsRefused kinds asked both alone fault.OutOfMemory = ⊤
 
 -- the status that the program ends with
 abbrev pub status_of : WordsFault → ℕ
 status_of (fault.Help text) = status_done
 status_of (fault.NotUnderstood text) = status_words
 status_of fault.OrderAndWorkers = status_words
+status_of fault.SeedAlone = status_words
 status_of fault.OutOfMemory = status_memory

@@ -1,8 +1,8 @@
 -- Numbers in words. This project's own.
-use Rattle.std.specs.Prelude.{ℕ, ℤ, pos, negsuc, ◌&&◌, nat_lt, Bool, List, [], ◌∷◌, length, Option, Some, None, option_and_then, option_map, if◌then◌else◌}
+use Rattle.std.specs.Prelude.{ℕ, ℤ, pos, negsuc, ◌^◌, ◌&&◌, nat_lt, Bool, List, [], ◌∷◌, length, Option, Some, None, option_and_then, option_map, if◌then◌else◌}
 use Rattle.std.specs.Char.{is_digit}
 use Rattle.std.specs.List.{list_all}
-use Rattle.std.specs.Str.Parse.{signed_digits_value, without_leading_sign}
+use Rattle.std.specs.Str.Parse.{digits_value, signed_digits_value, without_leading_plus, without_leading_sign}
 use Rattle.clap.specs.ValueTests.{fits_i64}
 
 -- the least and the greatest number of 64 bits
@@ -24,3 +24,11 @@ number_named text = let n = signed_digits_value 10 text in if is_numeral (withou
 abbrev pub numbers_named : List (List ℕ) → Option (List ℤ)
 numbers_named [] = Some []
 numbers_named (text ∷ more) = option_and_then (λ n. option_map (λ ns. n ∷ ns) (numbers_named more)) (number_named text)
+
+-- the greatest whole number of 64 bits
+abbrev pub most_count : ℕ
+most_count = 18446744073709551615
+
+-- the whole number that a numeral says, before which a plus may stand, if it has 64 bits at most
+abbrev pub count_named : List ℕ → Option ℕ
+count_named text = let ds = without_leading_plus text in if is_numeral ds && nat_lt (digits_value 10 ds) (2 ^ 64) then Some (digits_value 10 ds) else None

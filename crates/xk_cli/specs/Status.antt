@@ -24,3 +24,7 @@ status_memory = 4
 -- a device failed
 abbrev pub status_device : ℕ
 status_device = 5
+
+-- answered, but not whole
+abbrev pub status_partial : ℕ
+status_partial = 6

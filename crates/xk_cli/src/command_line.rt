@@ -2,10 +2,10 @@
 
 ghost use Rattle.std.specs.Prelude.{◌≡◌, [], false, Some, None, IfOk, OnOk, IfErr, IsOkAnd, option_map};
 ghost use Rattle.clap.specs.Words.{app_of, first_of, found_of, kind_of, rows_of, rule_of, subcommand_rows_of, with_subcommand};
-ghost use Rattle.xk_cli.specs.CommandLine.{FitsKind, HasNoGlobals, IsRefused, WithOrders, arg_option, arguments_in, asked_by, asked_in, asked_of, asked_value, by_order, by_workers, command_by, command_line, drive_in, excludes_by, excludes_in, explain_line, faults_in, flag, form_in, form_named, is_both, is_json, is_true, job_of, json_flag, log_option, module_flag, on_either, on_file, on_log, on_run, option, order_in, order_named, order_option, place, program, run_by, run_line, task_value, texts, way_value, with_log, workers_in, workers_named, workers_option};
+ghost use Rattle.xk_cli.specs.CommandLine.{FitsKind, HasNoGlobals, IsRefused, WithOrders, arg_option, arguments_in, asked_by, asked_in, asked_of, asked_value, by_chance, by_order, by_workers, command_by, command_line, count_in, drive_in, excludes_by, excludes_in, explain_line, faults_in, flag, form_in, form_named, is_both, is_json, is_random, is_seed_alone, is_true, job_of, json_flag, limit_option, limited, log_option, module_flag, on_either, on_file, on_log, on_run, option, order_in, order_named, order_option, outcomes_in, outcomes_line, pick_option, picked, place, program, run_by, run_line, seed_in, seed_option, strays_by, strays_in, task_value, texts, way_value, with_log, with_outcome_log, workers_in, workers_named, workers_option};
 
 use crate::job::{Command, Drive, Form, Job, MOST_WORKERS, Order, Workers};
-use crate::numbers::numbers_named;
+use crate::numbers::{count_named, numbers_named};
 use crate::words_fault::WordsFault;
 use clap::builder::ValueParser;
 use clap::error::ErrorKind;
@@ -16,7 +16,7 @@ use std::alloc::{AllocError, Global};
 const VERSION: &str = "1.0.0";
 
 /// The names of the orders.
-static ORDERS: [&str; 3] = ["first", "last", "round"];
+static ORDERS: [&str; 4] = ["first", "last", "round", "random"];
 
 /// The job that the words ask for; the first word is the program's name. Where they ask for help or aren't understood,
 /// the fault has `clap`'s text.
@@ -27,7 +27,8 @@ pub fn read_job<'a>(alloc: Global, words: &'a [&'a str]) -> Result<Job<'a>, Word
         faults_in names (texts words.entry.now) ≡ [])) }
     ensures refused { IfErr result (λ fault. WithOrders (λ names. IsRefused
         (faults_in names (texts words.entry.now)) (job_of names (texts words.entry.now))
-        (excludes_in names (texts words.entry.now)) fault)) }
+        (excludes_in names (texts words.entry.now)) (strays_in names (texts words.entry.now))
+        fault)) }
 {
     let command_line = line(alloc)?;
     match command_line.try_get_matches_from(words) {
@@ -56,18 +57,31 @@ fn line<'a>(alloc: Global) -> Result<clap::Command<'a>, AllocError>
     );
     let listings = add(compiles, listing)?;
     let runs = add(listings, run_line(alloc))?;
+    let outcomes = add(runs, outcomes_line(alloc))?;
     let replay = on_run(
         alloc,
         "replay",
         "Runs a program again as a log has it, and prints what it prints.",
     );
-    let replays = add(runs, replay)?;
+    let replays = add(outcomes, replay)?;
     let chart = on_run(
         alloc,
         "chart",
         "Prints when the clocks advanced in the run that a log has.",
     );
-    add(replays, chart)
+    let charts = add(replays, chart)?;
+    let events = on_run(
+        alloc,
+        "events",
+        "Prints what others see of each step of the run that a log has.",
+    );
+    let told = add(charts, events)?;
+    let lanes = on_run(
+        alloc,
+        "lanes",
+        "Draws the run that a log has, with a lane for each activity.",
+    );
+    add(told, lanes)
 }
 
 /// The program without its commands, of which one has to be there.
@@ -126,17 +140,62 @@ fn by_workers<'a>(alloc: Global) -> Result<clap::Command<'a>, AllocError>
     ensures shape { IfOk result (λ c. WithOrders (λ names. app_of c ≡ by_workers names)) }
     ensures local { IfOk result HasNoGlobals }
 {
-    let command = by_order(alloc)?;
+    let command = by_chance(alloc)?;
     command.arg(workers_option(alloc))
 }
 
 /// The command `run` without `--workers`, `--log` and `--arg`.
+fn by_chance<'a>(alloc: Global) -> Result<clap::Command<'a>, AllocError>
+    ensures shape { IfOk result (λ c. WithOrders (λ names. app_of c ≡ by_chance names)) }
+    ensures local { IfOk result HasNoGlobals }
+{
+    let command = by_order(alloc)?;
+    command.arg(seed_option(alloc))
+}
+
+/// The command `run` with `--module` and `--order` alone.
 fn by_order<'a>(alloc: Global) -> Result<clap::Command<'a>, AllocError>
     ensures shape { IfOk result (λ c. WithOrders (λ names. app_of c ≡ by_order names)) }
     ensures local { IfOk result HasNoGlobals }
 {
     let command = on_either(alloc, "run", "Runs a program and prints what it prints.")?;
     command.arg(order_option(alloc))
+}
+
+/// The command `outcomes`.
+fn outcomes_line<'a>(alloc: Global) -> Result<clap::Command<'a>, AllocError>
+    ensures shape { IfOk result (λ c. app_of c ≡ outcomes_line) }
+    ensures local { IfOk result HasNoGlobals }
+{
+    let command = with_outcome_log(alloc)?;
+    command.arg(arg_option(alloc))
+}
+
+/// The command `outcomes` without `--arg`.
+fn with_outcome_log<'a>(alloc: Global) -> Result<clap::Command<'a>, AllocError>
+    ensures shape { IfOk result (λ c. app_of c ≡ with_outcome_log) }
+    ensures local { IfOk result HasNoGlobals }
+{
+    let command = picked(alloc)?;
+    command.arg(log_option(alloc))
+}
+
+/// The command `outcomes` without `--log` and `--arg`.
+fn picked<'a>(alloc: Global) -> Result<clap::Command<'a>, AllocError>
+    ensures shape { IfOk result (λ c. app_of c ≡ picked) }
+    ensures local { IfOk result HasNoGlobals }
+{
+    let command = limited(alloc)?;
+    command.arg(pick_option(alloc))
+}
+
+/// The command `outcomes` with `--module` and `--limit` alone.
+fn limited<'a>(alloc: Global) -> Result<clap::Command<'a>, AllocError>
+    ensures shape { IfOk result (λ c. app_of c ≡ limited) }
+    ensures local { IfOk result HasNoGlobals }
+{
+    let command = on_either(alloc, "outcomes", "Prints all that a program can print.")?;
+    command.arg(limit_option(alloc))
 }
 
 /// A command on FILE and on LOG, which is the log of a run of it with these arguments.
@@ -209,6 +268,48 @@ fn log_option<'a>(alloc: Global) -> Arg<'a>
     )
 }
 
+/// `--limit LIMIT`.
+fn limit_option<'a>(alloc: Global) -> Arg<'a>
+    ensures rule { rule_of result ≡ limit_option }
+    ensures local { result.global ≡ false }
+{
+    let limit = option(
+        alloc,
+        "LIMIT",
+        "limit",
+        "How many worlds are kept at most, and how many outcomes are told: 100000 where nothing is said",
+    );
+    limit.value_parser(ValueParser::unsigned(1, u64::MAX))
+}
+
+/// `--pick K`.
+fn pick_option<'a>(alloc: Global) -> Arg<'a>
+    ensures rule { rule_of result ≡ pick_option }
+    ensures local { result.global ≡ false }
+{
+    let pick = option(
+        alloc,
+        "K",
+        "pick",
+        "The outcome whose log is written, counted from 1: the first where nothing is said",
+    );
+    pick.value_parser(ValueParser::unsigned(1, u64::MAX))
+}
+
+/// `--seed SEED`.
+fn seed_option<'a>(alloc: Global) -> Arg<'a>
+    ensures rule { rule_of result ≡ seed_option }
+    ensures local { result.global ≡ false }
+{
+    let seed = option(
+        alloc,
+        "SEED",
+        "seed",
+        "What is drawn from where the order is random: 0 where nothing is said",
+    );
+    seed.value_parser(ValueParser::unsigned(0, u64::MAX))
+}
+
 /// `--workers N`.
 fn workers_option<'a>(alloc: Global) -> Arg<'a>
     ensures rule { rule_of result ≡ workers_option }
@@ -232,7 +333,7 @@ fn order_option<'a>(alloc: Global) -> Arg<'a>
         alloc,
         "ORDER",
         "order",
-        "Who takes the next step: the least activity that can (the default), the greatest, or each in turn",
+        "Who takes the next step: the least activity that can (the default), the greatest, each in turn, or by chance",
     );
     order.value_parser(ORDERS.as_slice())
 }
@@ -291,7 +392,8 @@ fn asked<'a>(alloc: Global, matches: &ArgMatches<'a>) -> Result<Job<'a>, WordsFa
     ensures job { IfOk result
         (λ job. asked_in (subcommand_rows_of matches.now) ≡ Some (asked_value job)) }
     ensures refused { IfErr result (IsRefused [] (asked_in (subcommand_rows_of matches.now))
-        (excludes_by (subcommand_rows_of matches.now))) }
+        (excludes_by (subcommand_rows_of matches.now))
+        (strays_by (subcommand_rows_of matches.now))) }
 {
     match job_in(alloc, matches)? {
         Some(job) => Ok(job),
@@ -378,15 +480,33 @@ fn command_by<'a>(name: &str, given: &ArgMatches<'a>) -> Option<Command<'a>>
         "chart" => Some(Command::Chart {
             log: given_in(given, "LOG")?,
         }),
+        "events" => Some(Command::Events {
+            log: given_in(given, "LOG")?,
+        }),
+        "lanes" => Some(Command::Lanes {
+            log: given_in(given, "LOG")?,
+        }),
+        "outcomes" => Some(outcomes_in(given)),
         _ => None,
     }
 }
 
-/// The command `run` with what was given to it. None where both an order and workers were.
+/// The command `outcomes` with what was given to it.
+fn outcomes_in<'a>(given: &ArgMatches<'a>) -> Command<'a>
+    ensures { task_value result ≡ outcomes_in (rows_of (found_of given.now)) }
+{
+    Command::Outcomes {
+        limit: count_in(given, "LIMIT"),
+        pick: count_in(given, "K"),
+        log: given_in(given, "PATH"),
+    }
+}
+
+/// The command `run` with what was given to it. None where both an order and workers were, or a seed for no order by chance.
 fn run_by<'a>(given: &ArgMatches<'a>) -> Option<Command<'a>>
     ensures { option_map task_value result ≡ run_by (rows_of (found_of given.now)) }
 {
-    if is_both(given) {
+    if is_both(given) || is_seed_alone(given) {
         return None;
     }
     Some(Command::Run {
@@ -400,6 +520,41 @@ fn is_both(given: &ArgMatches<'_>) -> bool
     ensures { result ≡ is_both (rows_of (found_of given.now)) }
 {
     given_in(given, "ORDER").is_some() && given_in(given, "N").is_some()
+}
+
+/// Whether a seed was given, and no order by chance.
+fn is_seed_alone(given: &ArgMatches<'_>) -> bool
+    ensures { result ≡ is_seed_alone (rows_of (found_of given.now)) }
+{
+    given_in(given, "SEED").is_some() && !is_random(given)
+}
+
+/// Whether the order was given that goes by chance.
+fn is_random(given: &ArgMatches<'_>) -> bool
+    ensures { result ≡ is_random (rows_of (found_of given.now)) }
+{
+    match given_in(given, "ORDER") {
+        Some(name) => name == "random",
+        None => false,
+    }
+}
+
+/// The whole number that was given under this name.
+fn count_in(given: &ArgMatches<'_>, name: &str) -> Option<u64>
+    ensures { result ≡ count_in name.now (rows_of (found_of given.now)) }
+{
+    let text = given_in(given, name)?;
+    count_named(text)
+}
+
+/// The seed that was given, or else 0.
+fn seed_in(given: &ArgMatches<'_>) -> u64
+    ensures { result ≡ seed_in (rows_of (found_of given.now)) }
+{
+    match count_in(given, "SEED") {
+        Some(seed) => seed,
+        None => 0,
+    }
 }
 
 /// Who takes the steps, where that was given.
@@ -479,27 +634,32 @@ fn order_in(given: &ArgMatches<'_>) -> Option<Order>
     ensures { result ≡ order_in (rows_of (found_of given.now)) }
 {
     let name = given_in(given, "ORDER")?;
-    order_named(name)
+    order_named(name, seed_in(given))
 }
 
-/// The order of a name.
-fn order_named(name: &str) -> Option<Order>
-    ensures { result ≡ order_named name.now }
+/// The order of a name, where by chance from this seed.
+fn order_named(name: &str, seed: u64) -> Option<Order>
+    ensures { result ≡ order_named name.now seed }
 {
     match name {
         "first" => Some(Order::First),
         "last" => Some(Order::Last),
         "round" => Some(Order::Round),
+        "random" => Some(Order::Random(seed)),
         _ => None,
     }
 }
 
-/// What is said where `clap` took the words and they name no job: they have both an order and workers.
+/// What is said where `clap` took the words and they name no job: they have both an order and workers, or a seed for no order by chance.
 fn no_job(alloc: Global, matches: &ArgMatches<'_>) -> WordsFault
-    ensures { IsRefused [] None (excludes_by (subcommand_rows_of matches.now)) result }
+    ensures { IsRefused [] None (excludes_by (subcommand_rows_of matches.now))
+        (strays_by (subcommand_rows_of matches.now)) result }
 {
     if excludes(matches) {
         return WordsFault::OrderAndWorkers;
+    }
+    if strays(matches) {
+        return WordsFault::SeedAlone;
     }
     not_a_job(alloc)
 }
@@ -514,9 +674,19 @@ fn excludes(matches: &ArgMatches<'_>) -> bool
     }
 }
 
-/// What is said where `clap` took the words, they name no job, and that isn't for an order beside workers. It doesn't come to that.
+/// Whether a seed was given to the command, and no order by chance.
+fn strays(matches: &ArgMatches<'_>) -> bool
+    ensures { result ≡ strays_by (subcommand_rows_of matches.now) }
+{
+    match matches.subcommand() {
+        Some((_, given)) => is_seed_alone(given),
+        None => false,
+    }
+}
+
+/// What is said where `clap` took the words, they name no job, and that isn't for what excludes one another. It doesn't come to that.
 fn not_a_job(alloc: Global) -> WordsFault
-    ensures { IsRefused [] None false result }
+    ensures { IsRefused [] None false false result }
 {
     match String::from_str(alloc, "error: no command on a file was given\n") {
         Ok(text) => WordsFault::NotUnderstood(text),

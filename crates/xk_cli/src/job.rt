@@ -34,6 +34,25 @@ pub enum Command<'a> {
         /// The log's path.
         log: &'a str,
     },
+    /// `events`: print what others see of the steps of the run of FILE that a log has, and where in FILE each comes from.
+    Events {
+        /// The log's path.
+        log: &'a str,
+    },
+    /// `lanes`: draw the same with a lane for each activity.
+    Lanes {
+        /// The log's path.
+        log: &'a str,
+    },
+    /// `outcomes`: print all that FILE can print.
+    Outcomes {
+        /// `--limit`: how many worlds are kept at most, and how many outcomes are told, where that was given.
+        limit: Option<u64>,
+        /// `--pick`: the outcome whose log is written, counted from 1; the first where none was given.
+        pick: Option<u64>,
+        /// Where the log of a run with that outcome goes, if anywhere: a file's path.
+        log: Option<&'a str>,
+    },
 }
 
 /// What stands in FILE.
@@ -63,6 +82,8 @@ pub enum Order {
     Last,
     /// `round`: the least of greater number than the one taken before, else the least of all.
     Round,
+    /// `random`: by chance, drawn from this seed.
+    Random(u64),
 }
 
 /// The most worker threads.

@@ -1,7 +1,7 @@
 //! Numbers in words.
 
 ghost use Rattle.std.specs.Prelude.{◌≡◌, IfOk, map, option_map};
-ghost use Rattle.xk_cli.specs.Numbers.{number_named, numbers_named};
+ghost use Rattle.xk_cli.specs.Numbers.{count_named, number_named, numbers_named};
 
 use std::alloc::{AllocError, Global};
 
@@ -26,6 +26,16 @@ fn number_named(text: &str) -> Option<i64>
 {
     match text.parse::<i64>() {
         Ok(number) => Some(number),
+        Err(_) => None,
+    }
+}
+
+/// The whole number that a text names: a digit or more, before which a plus may stand. None where it has more than 64 bits.
+pub(crate) fn count_named(text: &str) -> Option<u64>
+    ensures { result ≡ count_named text.now }
+{
+    match text.parse::<u64>() {
+        Ok(count) => Some(count),
         Err(_) => None,
     }
 }

@@ -17,3 +17,6 @@ pub const MEMORY: u8 = 4;
 
 /// A device failed.
 pub const DEVICE: u8 = 5;
+
+/// The job is done, but its answer isn't whole.
+pub const PARTIAL: u8 = 6;

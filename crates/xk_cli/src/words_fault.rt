@@ -18,6 +18,9 @@ pub enum WordsFault {
     /// `--workers` stands beside `--order`.
     #[error("x10clock: --workers and --order exclude each other\n")]
     OrderAndWorkers,
+    /// `--seed` stands without `--order random`.
+    #[error("x10clock: --seed goes with --order random\n")]
+    SeedAlone,
     /// Memory ran out.
     #[error("out of memory")]
     OutOfMemory,
@@ -32,7 +35,9 @@ impl WordsFault {
     {
         match self {
             WordsFault::Help(_) => status::DONE,
-            WordsFault::NotUnderstood(_) | WordsFault::OrderAndWorkers => status::WORDS,
+            WordsFault::NotUnderstood(_)
+            | WordsFault::OrderAndWorkers
+            | WordsFault::SeedAlone => status::WORDS,
             WordsFault::OutOfMemory => status::MEMORY,
         }
     }

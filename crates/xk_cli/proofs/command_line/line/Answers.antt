@@ -33,12 +33,18 @@ returns c =
     let run = added c.run_line.result (app_of c.in_ok-listings.listings) _ (λ a. WithOrders (λ names. a ≡ run_line names)) c.in_ok-runs.ensures c.run_line.ensures.local c.run_line.ensures.shape in
     let orders = run.1 in
     let with_run = run.2 ∙ ap₂ with_subcommand with_listing (ap (λ (a : App). a.top) orders.2) in
+    let with_outcomes =
+    added_shape c.outcomes_line.result _ _ _ _ c.in_ok-outcomes.ensures c.outcomes_line.ensures.local c.outcomes_line.ensures.shape with_run in
     let with_replay =
-    added_shape c.on_run-replay.result _ _ _ _ c.in_ok-replays.ensures c.on_run-replay.ensures.local c.on_run-replay.ensures.shape with_run in
-    IfOk-weaker c.add-7.result _ _
+    added_shape c.on_run-replay.result _ _ _ _ c.in_ok-replays.ensures c.on_run-replay.ensures.local c.on_run-replay.ensures.shape with_outcomes in
+    let with_chart =
+    added_shape c.on_run-chart.result _ _ _ _ c.in_ok-charts.ensures c.on_run-chart.ensures.local c.on_run-chart.ensures.shape with_replay in
+    let with_events =
+    added_shape c.on_run-events.result _ _ _ _ c.in_ok-told.ensures c.on_run-events.ensures.local c.on_run-events.ensures.shape with_chart in
+    IfOk-weaker c.add-10.result _ _
     (λ r h. (
       orders.0,
       orders.1,
-      added_shape c.on_run-chart.result _ _ _ _ h c.on_run-chart.ensures.local c.on_run-chart.ensures.shape with_replay,
+      added_shape c.on_run-lanes.result _ _ _ _ h c.on_run-lanes.ensures.local c.on_run-lanes.ensures.shape with_events,
     ))
-    c.add-7.ensures
+    c.add-10.ensures

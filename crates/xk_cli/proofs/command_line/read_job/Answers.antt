@@ -5,19 +5,20 @@ use Rattle.clap.specs.declared.error.kind.ErrorKind.{ErrorKind}
 use Rattle.clap.specs.declared.error.kind.ErrorKind.TheVariants as kind
 use Rattle.xk_cli.specs.declared.words_fault.WordsFault.{WordsFault}
 use Rattle.xk_cli.specs.declared.words_fault.WordsFault.TheVariants as fault
-use Rattle.xk_cli.specs.CommandLine.{Asked, FitsKind, IsRefused, Names, WithOrders, asked_in, command_line, excludes_by, excludes_in, faults_in, job_of, texts}
+use Rattle.xk_cli.specs.CommandLine.{Asked, FitsKind, IsRefused, Names, WithOrders, asked_in, command_line, excludes_by, excludes_in, faults_in, job_of, strays_by, strays_in, texts}
 use Rattle.xk_cli.proofs.command_line.read_job.Goals as goal
 
 -- a fault that fits the kind of an error fits what may be the kind
-refused_by : (kinds : Kinds) (asked : Option Asked) (both : Bool) (k : ErrorKind) (f : WordsFault) → (k ≡ kind.OutOfMemory) ⊎ IsAmong k kinds → FitsKind k f → IsRefused kinds asked both f
-refused_by kinds asked both k (fault.Help text) (inl e) (inl h) = cc
-refused_by kinds asked both k (fault.Help text) (inl e) (inr h) = cc
-refused_by kinds asked both k (fault.Help text) (inr among) (inl h) = inl (rw h at among)
-refused_by kinds asked both k (fault.Help text) (inr among) (inr h) = inr (rw h at among)
-refused_by kinds asked both k (fault.NotUnderstood text) (inl e) fits = absurd (fits.2 e)
-refused_by kinds asked both k (fault.NotUnderstood text) (inr among) fits = inl (k, among, fits.0, fits.1)
-refused_by kinds asked both k fault.OrderAndWorkers has fits = absurd fits
-refused_by kinds asked both k fault.OutOfMemory has fits = tt
+refused_by : (kinds : Kinds) (asked : Option Asked) (both alone : Bool) (k : ErrorKind) (f : WordsFault) → (k ≡ kind.OutOfMemory) ⊎ IsAmong k kinds → FitsKind k f → IsRefused kinds asked both alone f
+refused_by kinds asked both alone k (fault.Help text) (inl e) (inl h) = cc
+refused_by kinds asked both alone k (fault.Help text) (inl e) (inr h) = cc
+refused_by kinds asked both alone k (fault.Help text) (inr among) (inl h) = inl (rw h at among)
+refused_by kinds asked both alone k (fault.Help text) (inr among) (inr h) = inr (rw h at among)
+refused_by kinds asked both alone k (fault.NotUnderstood text) (inl e) fits = absurd (fits.2 e)
+refused_by kinds asked both alone k (fault.NotUnderstood text) (inr among) fits = inl (k, among, fits.0, fits.1)
+refused_by kinds asked both alone k fault.OrderAndWorkers has fits = absurd fits
+refused_by kinds asked both alone k fault.SeedAlone has fits = absurd fits
+refused_by kinds asked both alone k fault.OutOfMemory has fits = tt
 
 simple : (names : Names) → is_simple (command_line names) ≡ true
 simple names = refl
@@ -41,9 +42,15 @@ excludes_are : (names : Names) (a : App) (words : List Text) (found : Option (Te
 unfolding excludes_in
 excludes_are names a words found e h = ap excludes_by (h ∙ ap (λ b. subcommand_of b words) e)
 
+-- the same of a seed for no order by chance
+strays_are : (names : Names) (a : App) (words : List Text) (found : Option (Text × List _))
+    → a ≡ command_line names → found ≡ subcommand_of a words → strays_by found ≡ strays_in names words
+unfolding strays_in
+strays_are names a words found e h = ap strays_by (h ∙ ap (λ b. subcommand_of b words) e)
+
 -- want of memory says nothing of the names
 without_memory : WithOrders (λ names. Unit {0})
-without_memory = (record { ref_ptr = (0, 0); now = map (λ t. record { ref_ptr = (0, 0); now = t }) (codes "first" ∷ codes "last" ∷ codes "round" ∷ []) }, refl, tt)
+without_memory = (record { ref_ptr = (0, 0); now = map (λ t. record { ref_ptr = (0, 0); now = t }) (codes "first" ∷ codes "last" ∷ codes "round" ∷ codes "random" ∷ []) }, refl, tt)
 
 pub returns-in-Ok-clause-job : goal.returns-in-Ok-clause-job
 returns-in-Ok-clause-job c =
@@ -78,7 +85,8 @@ returns-in-Ok-clause-refused c =
     let no_fault : faults_in line.0 (texts c.args.words.now) ≡ [] =
     sym (faults_are line.0 (app_of c.in_ok-command_line.command_line) (texts c.args.words.now) line.2) ∙ c.in-Ok.ensures.kinds (ap is_simple_and_free line.2 ∙ free line.0) in
     let both = excludes_are line.0 (app_of c.in_ok-command_line.command_line) (texts c.args.words.now) (subcommand_rows_of c.in-Ok.matches) line.2 found in
-    IfErr-weaker c.asked.result _ _ (λ f h. (line.0, line.1, rw (no_fault, ← job, ← both) h)) c.asked.ensures.refused
+    let alone = strays_are line.0 (app_of c.in_ok-command_line.command_line) (texts c.args.words.now) (subcommand_rows_of c.in-Ok.matches) line.2 found in
+    IfErr-weaker c.asked.result _ _ (λ f h. (line.0, line.1, rw (no_fault, ← job, ← both, ← alone) h)) c.asked.ensures.refused
 
 pub returns-in-Err-clause-refused : goal.returns-in-Err-clause-refused
 returns-in-Err-clause-refused c =
@@ -86,7 +94,7 @@ returns-in-Err-clause-refused c =
     let e = faults_are line.0 (app_of c.in_ok-command_line.command_line) (texts c.args.words.now) line.2 in (
       line.0,
       line.1,
-      refused_by (faults_in line.0 (texts c.args.words.now)) (job_of line.0 (texts c.args.words.now)) (excludes_in line.0 (texts c.args.words.now)) _ c.words_fault.result
+      refused_by (faults_in line.0 (texts c.args.words.now)) (job_of line.0 (texts c.args.words.now)) (excludes_in line.0 (texts c.args.words.now)) (strays_in line.0 (texts c.args.words.now)) _ c.words_fault.result
           (rw e at (c.in-Err.ensures.kinds (ap is_simple_and_free line.2 ∙ free line.0))) c.words_fault.ensures,
     )
 
