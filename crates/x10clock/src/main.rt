@@ -146,7 +146,11 @@ fn on_program<R: Runtime, P: Read + Drop, O: Sink, E: Sink>(
         → Appends (E.contents err.old) (E.contents err.new) device_line
         ⊎ Rose (E.fault_count err.old) (E.fault_count err.new) }
 {
-    let (Command::Replay { log: path } | Command::Chart { log: path }) = job.command else {
+    let (Command::Replay { log: path }
+    | Command::Chart { log: path }
+    | Command::Events { log: path }
+    | Command::Lanes { log: path }) = job.command
+    else {
         return on_log(rt, job, program, &mut Counted::new(io::empty()), out, err);
     };
     match fs::open(rt, path) {
@@ -155,7 +159,7 @@ fn on_program<R: Runtime, P: Read + Drop, O: Sink, E: Sink>(
     }
 }
 
-/// Makes the file of the run's log, or empties it, where there is to be one, and does the job on an open program.
+/// Makes the file of the log that is written, or empties it, where there is to be one, and does the job on an open program.
 fn on_log<R: Runtime, P: Read + Drop, L: Source, O: Sink, E: Sink>(
     rt: &R,
     job: &Job<'_>,
@@ -184,10 +188,12 @@ fn on_log<R: Runtime, P: Read + Drop, L: Source, O: Sink, E: Sink>(
     ensures log_in { reads_log (task_of job.now).doing ≡ false → log_in.new ≡ log_in.old }
     ensures log_unread { result ≡ status_program → log_in.new ≡ log_in.old }
 {
-    let Command::Run {
-        log: Some(path),
-        ..
-    } = job.command
+    let (Command::Run {
+        log: Some(path), ..
+    }
+    | Command::Outcomes {
+        log: Some(path), ..
+    }) = job.command
     else {
         let mut log_out = Counted::new(io::sink());
         return on_devices(rt, job, program, log_in, out, err, &mut log_out);

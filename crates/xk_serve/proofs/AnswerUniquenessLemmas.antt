@@ -18,7 +18,6 @@ use Rattle.xk_module.specs.declared.fault.ModuleFault.{ModuleFault}
 use Rattle.xk_module.specs.declared.fault.ModuleFault.TheVariants as text
 use Rattle.xk_module.specs.ModuleText.{IsJson, IsModuleText, module_value}
 use Rattle.xk_module.proofs.TextLemmas.{one_module}
-use Rattle.xk_replay.specs.Chart.{chart_text}
 use Rattle.xk_replay.specs.Replay.{IsWhole}
 use Rattle.xk_tree.specs.declared.fault.FrontFault.{FrontFault}
 use Rattle.xk_cli.specs.declared.job.Form.{Form}
@@ -28,10 +27,10 @@ use Rattle.xk_serve.specs.declared.job_result.Done.{Done}
 use Rattle.xk_serve.specs.declared.job_result.Done.TheVariants as done
 use Rattle.xk_serve.specs.declared.fault.Fault.{Fault}
 use Rattle.xk_serve.specs.declared.fault.Fault.TheVariants as fault
-use Rattle.xk_serve.specs.Answer.{Answers, Chart, Check, ComesTo, Compile, Doing, Explain, IsLogText, IsMisfit, IsNoRun, IsSaidBy, IsSaidOf, IsTelling, IsText, Listing, Replay, Reply, Run, Task, asks_verifier, done_reply, fault_reply, reads_log, runs}
+use Rattle.xk_serve.specs.Answer.{Answers, Check, ComesTo, Compile, Doing, Draw, Explain, IsLogText, IsMisfit, IsNoRun, IsPicture, IsSaidBy, IsSaidOf, IsTelling, IsText, Listing, OfRun, Outcomes, Replay, Reply, Run, Task, asks_verifier, done_reply, done_status, fault_reply, reads_log, runs}
 use Rattle.xk_output.specs.Lines.{number_lines}
 use Rattle.xk_serve.specs.Lines.{accepted_line, arguments_line, done_log, done_text, ended_line, fault_line, refusal_status, status_of}
-use Rattle.xk_serve.specs.OneAnswer.{IsDetermined, IsLeftOpen, IsSameLine, IsSameReply, IsWithoutWorkers, TellFaults}
+use Rattle.xk_serve.specs.OneAnswer.{ComesToOne, HasOneStatus, IsDetermined, IsLeftOpen, IsSameLine, IsSameReply, TellFaults}
 use Rattle.xk_serve.specs.OrderedRun.{IsLoggedRun, IsOrderedRun, IsReplay, IsWholeRun}
 use Rattle.xk_serve.specs.Programs.{Gives, IsCompiledTo, IsNoModule, IsNoSource, IsUnread, longest_module}
 use Rattle.xk_serve.proofs.LogUniquenessLemmas.{no_run_once, text_once, whole_not_refused}
@@ -55,7 +54,8 @@ Prints (Run (In o) true) m args logged out log =
 Prints (Run (By n) kept) m args logged out log = IsAccepted m × AreArguments m args
 Prints Replay m args logged out log =
     IsAccepted m × (numbers : List ℤ) × (steps : ℕ) × (es : List Entry) × IsLogText logged es × IsReplay m args es numbers steps × (out ≡ number_lines numbers ++ ended_line steps) × (log ≡ [])
-Prints Chart m args logged out log = IsAccepted m × (es : List Entry) × IsLogText logged es × IsWholeRun m args es × (out ≡ chart_text m args es) × (log ≡ [])
+Prints (Draw picture) m args logged out log = ⊥
+Prints (Outcomes limit pick kept) m args logged out log = IsAccepted m × AreArguments m args
 
 pub prints : (what : Doing) (m : ModuleValue) (args : List ℤ) (logged : List ℕ) (d : Done) → ComesTo what m args logged d → Prints what m args logged (done_text d) (done_log d)
 prints Compile m args logged (done.Compiled t) h = (ap (λ bytes. bytes ++ codes "\n") h, refl)
@@ -75,8 +75,27 @@ prints (Run (By n) true) m args logged (done.Ended numbers steps (Some es)) h = 
 prints (Run (By n) true) m args logged _ h = absurd h
 prints Replay m args logged (done.Ended numbers steps None) h = (h.0, numbers.items, steps, h.1.0, h.1.1, h.1.2, refl, refl)
 prints Replay m args logged _ h = absurd h
-prints Chart m args logged (done.Charted t) h = (h.0, h.1.0, h.1.1, h.1.2, h.1.3, refl)
-prints Chart m args logged _ h = absurd h
+prints (Draw picture) m args logged d h = absurd h
+prints (Outcomes limit pick kept) m args logged (done.Outcomes t whole log) h = (h.0, h.1.taken)
+prints (Outcomes limit pick kept) m args logged _ h = absurd h.1
+
+-- what it comes to has the status of what is done, but where outcomes are looked for
+pub done_zero : (what : Doing) (m : ModuleValue) (args : List ℤ) (logged : List ℕ) (d : Done) → HasOneStatus what → ComesTo what m args logged d → done_status d ≡ 0
+done_zero Compile m args logged (done.Outcomes t whole log) one h = absurd h
+done_zero Check m args logged (done.Outcomes t whole log) one h = absurd h
+done_zero (Explain json) m args logged (done.Outcomes t whole log) one h = absurd h
+done_zero Listing m args logged (done.Outcomes t whole log) one h = absurd h
+done_zero (Run (In o) false) m args logged (done.Outcomes t whole log) one h = absurd h
+done_zero (Run (In o) true) m args logged (done.Outcomes t whole log) one h = absurd h
+done_zero (Run (By n) false) m args logged (done.Outcomes t whole log) one h = absurd h
+done_zero (Run (By n) true) m args logged (done.Outcomes t whole log) one h = absurd h
+done_zero Replay m args logged (done.Outcomes t whole log) one h = absurd h
+done_zero (Draw picture) m args logged (done.Outcomes t whole log) one h = absurd h
+done_zero (Outcomes limit pick kept) m args logged (done.Outcomes t whole log) one h = absurd one
+done_zero what m args logged (done.Compiled t) one h = refl
+done_zero what m args logged (done.Accepted steps activities clocks) one h = refl
+done_zero what m args logged (done.Told t) one h = refl
+done_zero what m args logged (done.Ended numbers steps log) one h = refl
 
 -- what asks the verifier prints nothing of another module than one that is accepted
 prints_accepted : (what : Doing) (m : ModuleValue) (args : List ℤ) (logged out log : List ℕ) → asks_verifier what ≡ true → Prints what m args logged out log → IsAccepted m
@@ -88,7 +107,8 @@ prints_accepted (Run (In o) false) m args logged out log asks h = h.0
 prints_accepted (Run (In o) true) m args logged out log asks h = h.0
 prints_accepted (Run (By n) kept) m args logged out log asks h = h.0
 prints_accepted Replay m args logged out log asks h = h.0
-prints_accepted Chart m args logged out log asks h = h.0
+prints_accepted (Draw picture) m args logged out log asks h = absurd h
+prints_accepted (Outcomes limit pick kept) m args logged out log asks h = h.0
 
 -- main of a run takes as many numbers as it is given
 prints_taken : (what : Doing) (m : ModuleValue) (args : List ℤ) (logged out log : List ℕ) → runs what ≡ true → Prints what m args logged out log → AreArguments m args
@@ -100,7 +120,8 @@ prints_taken (Run (In o) false) m args logged out log run h = run_taken _ m args
 prints_taken (Run (In o) true) m args logged out log run h = run_taken _ m args h.1 h.2 h.4
 prints_taken (Run (By n) kept) m args logged out log run h = h.1
 prints_taken Replay m args logged out log run h = run_taken _ m args h.1 h.2 h.5
-prints_taken Chart m args logged out log run h = subst (AreArguments m) h.3.given h.3.leads.0
+prints_taken (Draw picture) m args logged out log run h = absurd h
+prints_taken (Outcomes limit pick kept) m args logged out log run h = h.1
 
 replay_whole : (m : ModuleValue) (args numbers : List ℤ) (steps : ℕ) (es : List Entry) → IsReplay m args es numbers steps → IsWhole m args es
 replay_whole m args numbers steps es r = record { last = r.last; leads = subst (λ l. Leads m l r.last) r.follows r.leads; given = r.given; over = r.over }
@@ -114,14 +135,15 @@ prints_whole (Explain json) m args logged out log reads h = absurd h
 prints_whole Listing m args logged out log reads h = absurd h
 prints_whole (Run way kept) m args logged out log reads h = absurd (false≢true reads)
 prints_whole Replay m args logged out log reads h = (h.3, h.4, replay_whole m args h.1 h.2 h.3 h.5)
-prints_whole Chart m args logged out log reads h = (h.1, h.2, record { last = h.3.last; leads = h.3.leads; given = h.3.given; over = h.3.over })
+prints_whole (Draw picture) m args logged out log reads h = absurd h
+prints_whole (Outcomes limit pick kept) m args logged out log reads h = absurd (false≢true reads)
 
 -- the lines of a run
 same_lines : (numbers others : List ℤ) (n k : ℕ) → numbers ≡ others → n ≡ k → number_lines numbers ++ ended_line n ≡ number_lines others ++ ended_line k
 same_lines numbers others n k e d = ap (λ xs. number_lines xs ++ ended_line n) e ∙ ap (λ j. number_lines others ++ ended_line j) d
 
 -- one thing is printed, and one log
-pub prints_once : (what : Doing) (m : ModuleValue) (args : List ℤ) (logged out log other kept : List ℕ) → IsWithoutWorkers what → Prints what m args logged out log
+pub prints_once : (what : Doing) (m : ModuleValue) (args : List ℤ) (logged out log other kept : List ℕ) → ComesToOne what → Prints what m args logged out log
     → Prints what m args logged other kept → (out ≡ other) × (log ≡ kept)
 prints_once Compile m args logged out log other kept none p q = (p.0 ∙ sym q.0, p.1 ∙ sym q.1)
 prints_once Check m args logged out log other kept none p q = (p.1 ∙ sym q.1, p.2 ∙ sym q.2)
@@ -138,9 +160,10 @@ prints_once Replay m args logged out log other kept none p q =
     let es = text_once logged p.3 q.3 p.4 q.4 in
     let same = list_once _ _ m args p.1 q.1 p.2 q.2 p.5 q.5 (p.5.follows ∙ ap schedule_of es ∙ sym q.5.follows) in
     (p.6 ∙ same_lines p.1 q.1 p.2 q.2 same.0 same.1 ∙ sym q.6, p.7 ∙ sym q.7)
-prints_once Chart m args logged out log other kept none p q = (p.4 ∙ ap (chart_text m args) (text_once logged p.1 q.1 p.2 q.2) ∙ sym q.4, p.5 ∙ sym q.5)
+prints_once (Draw picture) m args logged out log other kept none p q = absurd p
+prints_once (Outcomes limit pick written) m args logged out log other kept none p q = absurd none
 
-pub done_once : (what : Doing) (m : ModuleValue) (args : List ℤ) (logged : List ℕ) (d e : Done) → IsWithoutWorkers what → ComesTo what m args logged d
+pub done_once : (what : Doing) (m : ModuleValue) (args : List ℤ) (logged : List ℕ) (d e : Done) → ComesToOne what → ComesTo what m args logged d
     → ComesTo what m args logged e → (done_text d ≡ done_text e) × (done_log d ≡ done_log e)
 done_once what m args logged d e none p q =
     prints_once what m args logged (done_text d) (done_log d) (done_text e) (done_log e) none (prints what m args logged d p) (prints what m args logged e q)
@@ -159,7 +182,8 @@ said_determined Compile kind file bytes said f h one = h
 said_determined Listing kind file bytes said f h one = h
 said_determined (Run way kept) kind file bytes said f h one = h
 said_determined Replay kind file bytes said f h one = h
-said_determined Chart kind file bytes said f h one = h
+said_determined (Draw picture) kind file bytes said f h one = h
+said_determined (Outcomes limit pick kept) kind file bytes said f h one = h
 
 -- the reply of a task's fault
 abbrev IsReplyOf : Task → List ℕ → Fault → Reply → Type 0
@@ -170,44 +194,53 @@ reply_of t bytes r f e = (e.0, said_determined t.doing t.form t.file bytes e.0 f
 
 -- ---- what is told of it
 
--- nothing is told of it by what is run, and what is told isn't printed
-telling_runs : (what : Doing) (kind : Form) (file bytes : List ℕ) (m : ModuleValue) (told : List ℕ) → runs what ≡ true → IsTelling what kind file bytes m told → ⊥
-telling_runs (Explain json) kind file bytes m told run h = false≢true run
-telling_runs Listing kind file bytes m told run h = false≢true run
-telling_runs Check kind file bytes m told run h = h
-telling_runs Compile kind file bytes m told run h = h
-telling_runs (Run way kept) kind file bytes m told run h = h
-telling_runs Replay kind file bytes m told run h = h
-telling_runs Chart kind file bytes m told run h = h
+-- the log that is read is that of a whole run, of whose module something is told
+telling_whole : (what : Doing) (kind : Form) (file bytes : List ℕ) (m : ModuleValue) (args : List ℤ) (logged told : List ℕ) → reads_log what ≡ true
+    → IsTelling what kind file bytes m args logged told → (es : List Entry) × IsLogText logged es × IsWhole m args es
+telling_whole (Draw picture) kind file bytes m args logged told reads h =
+    let r = h.1.2 in (h.1.0, h.1.1, record { last = r.last; leads = r.leads; given = r.given; over = r.over })
+telling_whole (Explain json) kind file bytes m args logged told reads h = absurd (false≢true reads)
+telling_whole Listing kind file bytes m args logged told reads h = absurd (false≢true reads)
+telling_whole Check kind file bytes m args logged told reads h = absurd h
+telling_whole Compile kind file bytes m args logged told reads h = absurd h
+telling_whole (Run way kept) kind file bytes m args logged told reads h = absurd h
+telling_whole Replay kind file bytes m args logged told reads h = absurd h
+telling_whole (Outcomes limit pick kept) kind file bytes m args logged told reads h = absurd h
 
-telling_reads : (what : Doing) (kind : Form) (file bytes : List ℕ) (m : ModuleValue) (told : List ℕ) → reads_log what ≡ true → IsTelling what kind file bytes m told → ⊥
-telling_reads (Explain json) kind file bytes m told reads h = false≢true reads
-telling_reads Listing kind file bytes m told reads h = false≢true reads
-telling_reads Check kind file bytes m told reads h = h
-telling_reads Compile kind file bytes m told reads h = h
-telling_reads (Run way kept) kind file bytes m told reads h = h
-telling_reads Replay kind file bytes m told reads h = h
-telling_reads Chart kind file bytes m told reads h = h
+-- main of what is run takes as many numbers as it is given
+telling_taken : (what : Doing) (kind : Form) (file bytes : List ℕ) (m : ModuleValue) (args : List ℤ) (logged told : List ℕ) → runs what ≡ true
+    → IsTelling what kind file bytes m args logged told → AreArguments m args
+telling_taken (Draw picture) kind file bytes m args logged told run h = subst (AreArguments m) h.1.2.given h.1.2.leads.0
+telling_taken (Explain json) kind file bytes m args logged told run h = absurd (false≢true run)
+telling_taken Listing kind file bytes m args logged told run h = absurd (false≢true run)
+telling_taken Check kind file bytes m args logged told run h = absurd h
+telling_taken Compile kind file bytes m args logged told run h = absurd h
+telling_taken (Run way kept) kind file bytes m args logged told run h = absurd h
+telling_taken Replay kind file bytes m args logged told run h = absurd h
+telling_taken (Outcomes limit pick kept) kind file bytes m args logged told run h = absurd h
 
-telling_unprinted : (what : Doing) (kind : Form) (file bytes : List ℕ) (m : ModuleValue) (told : List ℕ) (args : List ℤ) (logged out log : List ℕ)
-    → IsTelling what kind file bytes m told → Prints what m args logged out log → ⊥
-telling_unprinted (Explain json) kind file bytes m told args logged out log h p = p
-telling_unprinted Listing kind file bytes m told args logged out log h p = p
-telling_unprinted Check kind file bytes m told args logged out log h p = h
-telling_unprinted Compile kind file bytes m told args logged out log h p = h
-telling_unprinted (Run way kept) kind file bytes m told args logged out log h p = h
-telling_unprinted Replay kind file bytes m told args logged out log h p = h
-telling_unprinted Chart kind file bytes m told args logged out log h p = h
+-- what is told isn't printed
+telling_unprinted : (what : Doing) (kind : Form) (file bytes : List ℕ) (m : ModuleValue) (args : List ℤ) (logged told out log : List ℕ)
+    → IsTelling what kind file bytes m args logged told → Prints what m args logged out log → ⊥
+telling_unprinted (Explain json) kind file bytes m args logged told out log h p = p
+telling_unprinted Listing kind file bytes m args logged told out log h p = p
+telling_unprinted (Draw picture) kind file bytes m args logged told out log h p = p
+telling_unprinted Check kind file bytes m args logged told out log h p = h
+telling_unprinted Compile kind file bytes m args logged told out log h p = h
+telling_unprinted (Run way kept) kind file bytes m args logged told out log h p = h
+telling_unprinted Replay kind file bytes m args logged told out log h p = h
+telling_unprinted (Outcomes limit pick kept) kind file bytes m args logged told out log h p = h
 
-telling_accepted : (what : Doing) (kind : Form) (file bytes : List ℕ) (m : ModuleValue) (told : List ℕ) → asks_verifier what ≡ true → IsTelling what kind file bytes m told
-    → IsAccepted m
-telling_accepted (Explain json) kind file bytes m told asks h = h.0
-telling_accepted Listing kind file bytes m told asks h = absurd (false≢true asks)
-telling_accepted Check kind file bytes m told asks h = absurd h
-telling_accepted Compile kind file bytes m told asks h = absurd h
-telling_accepted (Run way kept) kind file bytes m told asks h = absurd h
-telling_accepted Replay kind file bytes m told asks h = absurd h
-telling_accepted Chart kind file bytes m told asks h = absurd h
+telling_accepted : (what : Doing) (kind : Form) (file bytes : List ℕ) (m : ModuleValue) (args : List ℤ) (logged told : List ℕ) → asks_verifier what ≡ true
+    → IsTelling what kind file bytes m args logged told → IsAccepted m
+telling_accepted (Explain json) kind file bytes m args logged told asks h = h.0
+telling_accepted (Draw picture) kind file bytes m args logged told asks h = h.0
+telling_accepted Listing kind file bytes m args logged told asks h = absurd (false≢true asks)
+telling_accepted Check kind file bytes m args logged told asks h = absurd h
+telling_accepted Compile kind file bytes m args logged told asks h = absurd h
+telling_accepted (Run way kept) kind file bytes m args logged told asks h = absurd h
+telling_accepted Replay kind file bytes m args logged told asks h = absurd h
+telling_accepted (Outcomes limit pick kept) kind file bytes m args logged told asks h = absurd h
 
 -- it goes to standard output, and nothing to the log
 text_told : (P : List ℕ → Type 0) (d : Done) → IsText P d → P (done_text d) × (done_log d ≡ [])
@@ -215,12 +248,21 @@ text_told P (done.Told text) h = (h, refl)
 text_told P _ h = absurd h
 
 -- what is told of the same bytes is one
-pub told_once : (t : Task) (bytes : List ℕ) (m : ModuleValue) (d e : Done) → Gives t.form bytes m → IsText (IsTelling t.doing t.form t.file bytes m) d
-    → IsText (IsTelling t.doing t.form t.file bytes m) e → (done_text d ≡ done_text e) × (done_log d ≡ done_log e)
-told_once t bytes m d e given p q =
-    let a = text_told (IsTelling t.doing t.form t.file bytes m) d p in
-    let b = text_told (IsTelling t.doing t.form t.file bytes m) e q in
-    (telling_once t.doing t.form t.file bytes m (done_text d) (done_text e) given a.0 b.0, a.1 ∙ sym b.1)
+pub told_once : (t : Task) (bytes logged : List ℕ) (m : ModuleValue) (d e : Done) → Gives t.form bytes m
+    → IsText (IsTelling t.doing t.form t.file bytes m t.arguments logged) d → IsText (IsTelling t.doing t.form t.file bytes m t.arguments logged) e
+    → (done_text d ≡ done_text e) × (done_log d ≡ done_log e)
+told_once t bytes logged m d e given p q =
+    let a = text_told (IsTelling t.doing t.form t.file bytes m t.arguments logged) d p in
+    let b = text_told (IsTelling t.doing t.form t.file bytes m t.arguments logged) e q in
+    (telling_once t.doing t.form t.file bytes m t.arguments logged (done_text d) (done_text e) given a.0 b.0, a.1 ∙ sym b.1)
+
+-- and is whole
+told_zero : (P : List ℕ → Type 0) (d : Done) → IsText P d → done_status d ≡ 0
+told_zero P (done.Told text) h = refl
+told_zero P (done.Compiled text) h = absurd h
+told_zero P (done.Accepted steps activities clocks) h = absurd h
+told_zero P (done.Outcomes text whole log) h = absurd h
+told_zero P (done.Ended numbers steps log) h = absurd h
 
 -- ---- what is said of a module
 
@@ -230,14 +272,14 @@ data Said (t : Task) (bytes : List ℕ) (m : ModuleValue) (logged : List ℕ) (r
   Misfit : (wants has : ℕ) → runs t.doing ≡ true → IsAccepted m → IsMisfit m t.arguments wants has → IsFaultReply t.doing (fault.Arguments wants has) r → Said t bytes m logged r
   NoRun : (f : Fault) → reads_log t.doing ≡ true → IsAccepted m → AreArguments m t.arguments → IsNoRun m t.arguments logged f → status_of f ≢ 4 → IsFaultReply t.doing f r
       → Said t bytes m logged r
-  Does : r.status ≡ 0 → r.err ≡ [] → Prints t.doing m t.arguments logged r.out r.log → Said t bytes m logged r
-  Telling : r.status ≡ 0 → r.err ≡ [] → IsTelling t.doing t.form t.file bytes m r.out → r.log ≡ [] → Said t bytes m logged r
+  Does : (HasOneStatus t.doing → r.status ≡ 0) → r.err ≡ [] → Prints t.doing m t.arguments logged r.out r.log → Said t bytes m logged r
+  Telling : r.status ≡ 0 → r.err ≡ [] → IsTelling t.doing t.form t.file bytes m t.arguments logged r.out → r.log ≡ [] → Said t bytes m logged r
 
 -- the replies of two faults that have one line, but for a walk
 same_faults : (what : Doing) (r s : Reply) (f g : Fault) → IsFaultReply what f r → IsFaultReply what g s → status_of f ≡ status_of g → IsSameLine (fault_line f) (fault_line g)
     → IsSameReply what r s
 same_faults what r s f g e d same lines = record {
-  status = ap (λ (z : Reply). z.status) e.2 ∙ same ∙ sym (ap (λ (z : Reply). z.status) d.2);
+  status = λ one. ap (λ (z : Reply). z.status) e.2 ∙ same ∙ sym (ap (λ (z : Reply). z.status) d.2);
   err = subst (λ (z : Reply). IsSameLine z.err s.err) (sym e.2) (subst (λ (z : Reply). IsSameLine (fault_line f) z.err) (sym d.2) lines);
   out = λ none. ap (λ (z : Reply). z.out) e.2 ∙ (e.1 none ∙ sym (d.1 none)) ∙ sym (ap (λ (z : Reply). z.out) d.2);
   log = λ none. ap (λ (z : Reply). z.log) e.2 ∙ sym (ap (λ (z : Reply). z.log) d.2);
@@ -248,8 +290,8 @@ same_misfits : (m : ModuleValue) (args : List ℤ) (wants has other given : ℕ)
 same_misfits m args wants has other given p q =
     ap (λ n. arguments_line n has) (p.wants_are ∙ sym q.wants_are) ∙ ap (arguments_line other) (p.has_are ∙ sym q.has_are)
 
--- what is determined isn't run by workers
-determined : (what : Doing) → IsDetermined what → IsWithoutWorkers what
+-- what is determined comes to one thing
+determined : (what : Doing) → IsDetermined what → ComesToOne what
 determined (Explain json) one = absurd one
 determined Check one = tt
 determined Compile one = tt
@@ -257,7 +299,8 @@ determined Listing one = tt
 determined (Run (In o) kept) one = tt
 determined (Run (By n) kept) one = absurd one
 determined Replay one = tt
-determined Chart one = tt
+determined (Draw picture) one = tt
+determined (Outcomes limit pick kept) one = absurd one
 
 module _ (t : Task) (bytes : List ℕ) (m : ModuleValue) (logged : List ℕ) (r s : Reply) (given : Gives t.form bytes m) where
   same_said : Said t bytes m logged r → Said t bytes m logged s → IsSameReply t.doing r s
@@ -266,13 +309,13 @@ module _ (t : Task) (bytes : List ℕ) (m : ModuleValue) (logged : List ℕ) (r 
   same_said (Refusing f asks p n e) (Misfit wants has run ok q d) = absurd (not_accepted m f ok p n)
   same_said (Refusing f asks p n e) (NoRun g reads ok taken q k d) = absurd (not_accepted m f ok p n)
   same_said (Refusing f asks p n e) (Does zero quiet q) = absurd (not_accepted m f (prints_accepted t.doing m t.arguments logged s.out s.log asks q) p n)
-  same_said (Refusing f asks p n e) (Telling zero quiet q none) = absurd (not_accepted m f (telling_accepted t.doing t.form t.file bytes m s.out asks q) p n)
+  same_said (Refusing f asks p n e) (Telling zero quiet q none) = absurd (not_accepted m f (telling_accepted t.doing t.form t.file bytes m t.arguments logged s.out asks q) p n)
   same_said (Misfit wants has run ok p e) (Refusing g again q k d) = absurd (not_accepted m g ok q k)
   same_said (Misfit wants has run ok p e) (Misfit other given again fine q d) =
       same_faults t.doing r s (fault.Arguments wants has) (fault.Arguments other given) e d refl (inl (same_misfits m t.arguments wants has other given p q))
   same_said (Misfit wants has run ok p e) (NoRun g reads fine taken q k d) = absurd (p.misfit taken)
   same_said (Misfit wants has run ok p e) (Does zero quiet q) = absurd (p.misfit (prints_taken t.doing m t.arguments logged s.out s.log run q))
-  same_said (Misfit wants has run ok p e) (Telling zero quiet q none) = absurd (telling_runs t.doing t.form t.file bytes m s.out run q)
+  same_said (Misfit wants has run ok p e) (Telling zero quiet q none) = absurd (p.misfit (telling_taken t.doing t.form t.file bytes m t.arguments logged s.out run q))
   same_said (NoRun f reads ok taken p n e) (Refusing g again q k d) = absurd (not_accepted m g ok q k)
   same_said (NoRun f reads ok taken p n e) (Misfit wants has run fine q d) = absurd (q.misfit taken)
   same_said (NoRun f reads ok taken p n e) (NoRun g again fine fits q k d) =
@@ -280,26 +323,28 @@ module _ (t : Task) (bytes : List ℕ) (m : ModuleValue) (logged : List ℕ) (r 
       same_faults t.doing r s f g e d (ap status_of same) (inl (ap fault_line same))
   same_said (NoRun f reads ok taken p n e) (Does zero quiet q) =
       let whole = prints_whole t.doing m t.arguments logged s.out s.log reads q in absurd (whole_not_refused m t.arguments logged f whole.0 p n whole.1 whole.2)
-  same_said (NoRun f reads ok taken p n e) (Telling zero quiet q none) = absurd (telling_reads t.doing t.form t.file bytes m s.out reads q)
+  same_said (NoRun f reads ok taken p n e) (Telling zero quiet q none) =
+      let whole = telling_whole t.doing t.form t.file bytes m t.arguments logged s.out reads q in absurd (whole_not_refused m t.arguments logged f whole.0 p n whole.1 whole.2)
   same_said (Does zero quiet p) (Refusing g again q k d) = absurd (not_accepted m g (prints_accepted t.doing m t.arguments logged r.out r.log again p) q k)
   same_said (Does zero quiet p) (Misfit wants has run ok q d) = absurd (q.misfit (prints_taken t.doing m t.arguments logged r.out r.log run p))
   same_said (Does zero quiet p) (NoRun g reads ok taken q k d) =
       let whole = prints_whole t.doing m t.arguments logged r.out r.log reads p in absurd (whole_not_refused m t.arguments logged g whole.0 q k whole.1 whole.2)
   same_said (Does zero quiet p) (Does none silent q) = record {
-    status = zero ∙ sym none;
+    status = λ one. zero one ∙ sym (none one);
     err = inl (quiet ∙ sym silent);
     out = λ one. (prints_once t.doing m t.arguments logged r.out r.log s.out s.log (determined t.doing one) p q).0;
     log = λ orders. (prints_once t.doing m t.arguments logged r.out r.log s.out s.log orders p q).1;
   }
-  same_said (Does zero quiet p) (Telling none silent q log) = absurd (telling_unprinted t.doing t.form t.file bytes m s.out t.arguments logged r.out r.log q p)
-  same_said (Telling zero quiet p log) (Refusing g again q k d) = absurd (not_accepted m g (telling_accepted t.doing t.form t.file bytes m r.out again p) q k)
-  same_said (Telling zero quiet p log) (Misfit wants has run ok q d) = absurd (telling_runs t.doing t.form t.file bytes m r.out run p)
-  same_said (Telling zero quiet p log) (NoRun g reads ok taken q k d) = absurd (telling_reads t.doing t.form t.file bytes m r.out reads p)
-  same_said (Telling zero quiet p log) (Does none silent q) = absurd (telling_unprinted t.doing t.form t.file bytes m r.out t.arguments logged s.out s.log p q)
+  same_said (Does zero quiet p) (Telling none silent q log) = absurd (telling_unprinted t.doing t.form t.file bytes m t.arguments logged s.out r.out r.log q p)
+  same_said (Telling zero quiet p log) (Refusing g again q k d) = absurd (not_accepted m g (telling_accepted t.doing t.form t.file bytes m t.arguments logged r.out again p) q k)
+  same_said (Telling zero quiet p log) (Misfit wants has run ok q d) = absurd (q.misfit (telling_taken t.doing t.form t.file bytes m t.arguments logged r.out run p))
+  same_said (Telling zero quiet p log) (NoRun g reads ok taken q k d) =
+      let whole = telling_whole t.doing t.form t.file bytes m t.arguments logged r.out reads p in absurd (whole_not_refused m t.arguments logged g whole.0 q k whole.1 whole.2)
+  same_said (Telling zero quiet p log) (Does none silent q) = absurd (telling_unprinted t.doing t.form t.file bytes m t.arguments logged r.out s.out s.log p q)
   same_said (Telling zero quiet p log) (Telling none silent q unlogged) = record {
-    status = zero ∙ sym none;
+    status = λ one. zero ∙ sym none;
     err = inl (quiet ∙ sym silent);
-    out = λ one. telling_once t.doing t.form t.file bytes m r.out s.out given p q;
+    out = λ one. telling_once t.doing t.form t.file bytes m t.arguments logged r.out s.out given p q;
     log = λ orders. log ∙ sym unlogged;
   }
 
@@ -319,13 +364,13 @@ no_source : (t : Task) → t.form ≡ form.Module → t.form ≡ form.Source →
 no_source t e d = let both : form.Module ≡ form.Source = sym e ∙ d in cc
 
 done_said : (t : Task) (bytes : List ℕ) (m : ModuleValue) (logged : List ℕ) (r : Reply) (d : Done) → r ≡ done_reply d
-    → ComesTo t.doing m t.arguments logged d ⊎ IsText (IsTelling t.doing t.form t.file bytes m) d → Said t bytes m logged r
-done_said t bytes m logged r d e (inl h) = Does (ap (λ (z : Reply). z.status) e) (ap (λ (z : Reply). z.err) e)
+    → ComesTo t.doing m t.arguments logged d ⊎ IsText (IsTelling t.doing t.form t.file bytes m t.arguments logged) d → Said t bytes m logged r
+done_said t bytes m logged r d e (inl h) = Does (λ one. ap (λ (z : Reply). z.status) e ∙ done_zero t.doing m t.arguments logged d one h) (ap (λ (z : Reply). z.err) e)
     (subst (λ (z : Reply). Prints t.doing m t.arguments logged z.out z.log) (sym e) (prints t.doing m t.arguments logged d h))
 done_said t bytes m logged r d e (inr h) =
-    let told = text_told (IsTelling t.doing t.form t.file bytes m) d h in
-    Telling (ap (λ (z : Reply). z.status) e) (ap (λ (z : Reply). z.err) e)
-    (subst (λ (z : Reply). IsTelling t.doing t.form t.file bytes m z.out) (sym e) told.0) (ap (λ (z : Reply). z.log) e ∙ told.1)
+    let told = text_told (IsTelling t.doing t.form t.file bytes m t.arguments logged) d h in
+    Telling (ap (λ (z : Reply). z.status) e ∙ told_zero (IsTelling t.doing t.form t.file bytes m t.arguments logged) d h) (ap (λ (z : Reply). z.err) e)
+    (subst (λ (z : Reply). IsTelling t.doing t.form t.file bytes m t.arguments logged z.out) (sym e) told.0) (ap (λ (z : Reply). z.log) e ∙ told.1)
 
 case_of : (t : Task) (bytes logged : List ℕ) (r : Reply) → r.status ≢ 4 → Answers t bytes logged r → Case t bytes logged r
 case_of t bytes logged r not4 (inl (d, s, e)) = Read s.of s.given (done_said t bytes s.of logged r d e s.done)
@@ -452,19 +497,23 @@ one_source_answer t bytes logged r s of p q n k = same_source t bytes logged r s
 
 -- ---- logs of whole runs
 
+-- The job is done: it prints this, or tells this.
+abbrev pub IsDone : Task → List ℕ → ModuleValue → List ℕ → Reply → Type 0
+IsDone t bytes m logged s = (HasOneStatus t.doing → s.status ≡ 0) × (s.err ≡ [])
+    × (Prints t.doing m t.arguments logged s.out s.log ⊎ (IsTelling t.doing t.form t.file bytes m t.arguments logged s.out × (s.log ≡ [])))
+
 -- where the log that is read is that of a whole run, nothing stands against the job
 whole_does : (t : Task) (bytes : List ℕ) (m : ModuleValue) (logged : List ℕ) (es : List Entry) (s : Reply) → reads_log t.doing ≡ true → IsAccepted m
-    → AreArguments m t.arguments → IsLogText logged es → IsWhole m t.arguments es → Said t bytes m logged s
-    → (s.status ≡ 0) × (s.err ≡ []) × Prints t.doing m t.arguments logged s.out s.log
+    → AreArguments m t.arguments → IsLogText logged es → IsWhole m t.arguments es → Said t bytes m logged s → IsDone t bytes m logged s
 whole_does t bytes m logged es s is ok taken text whole (Refusing f asks p n e) = absurd (not_accepted m f ok p n)
 whole_does t bytes m logged es s is ok taken text whole (Misfit wants has run fine p e) = absurd (p.misfit taken)
 whole_does t bytes m logged es s is ok taken text whole (NoRun f reads fine fits p n e) = absurd (whole_not_refused m t.arguments logged f es p n text whole)
-whole_does t bytes m logged es s is ok taken text whole (Does zero quiet p) = (zero, quiet, p)
-whole_does t bytes m logged es s is ok taken text whole (Telling zero quiet p none) = absurd (telling_reads t.doing t.form t.file bytes m s.out is p)
+whole_does t bytes m logged es s is ok taken text whole (Does zero quiet p) = (zero, quiet, inl p)
+whole_does t bytes m logged es s is ok taken text whole (Telling zero quiet p none) = (λ one. zero, quiet, inr (p, none))
 
-pub whole_prints : (t : Task) (bytes logged : List ℕ) (s : Reply) (m : ModuleValue) (out log : List ℕ) → reads_log t.doing ≡ true → Gives t.form bytes m
-    → Prints Replay m t.arguments logged out log → s.status ≢ 4 → Answers t bytes logged s → (s.status ≡ 0) × (s.err ≡ []) × Prints t.doing m t.arguments logged s.out s.log
-whole_prints t bytes logged s m out log is given p not4 answers =
+pub whole_done : (t : Task) (bytes logged : List ℕ) (s : Reply) (m : ModuleValue) (out log : List ℕ) → reads_log t.doing ≡ true → Gives t.form bytes m
+    → Prints Replay m t.arguments logged out log → s.status ≢ 4 → Answers t bytes logged s → IsDone t bytes m logged s
+whole_done t bytes logged s m out log is given p not4 answers =
     let whole = prints_whole Replay m t.arguments logged out log refl p in
     whole_does t bytes m logged whole.0 s is (prints_accepted Replay m t.arguments logged out log refl p)
     (prints_taken Replay m t.arguments logged out log refl p) whole.1 whole.2 (said_of t bytes logged s m given (case_of t bytes logged s not4 answers))

@@ -77,7 +77,7 @@ kept_succeeds : (t : Task) (bytes known logged : List ℕ) (d : Done) → bytes 
 kept_succeeds t bytes known logged d e h = record {
   of = h.of;
   given = kept_gives t.form bytes known h.of e h.given;
-  done = subst (λ b. ComesTo t.doing h.of t.arguments logged d ⊎ IsText (IsTelling t.doing t.form t.file b h.of) d) (kept_whole t.form bytes known h.of e h.given) h.done;
+  done = subst (λ b. ComesTo t.doing h.of t.arguments logged d ⊎ IsText (IsTelling t.doing t.form t.file b h.of t.arguments logged) d) (kept_whole t.form bytes known h.of e h.given) h.done;
 }
 
 -- a success with the bytes kept is one with those that are known

@@ -1,6 +1,7 @@
 -- Runs in an order, as the run of a chooser gives them.
 use Rattle.std.proofs.Common.{◌≡◌, ℕ, ℤ, List, true, refl, subst}
 use Rattle.xk_types.specs.declared.world.Entry.{Entry}
+use Rattle.xk_types.specs.Acceptance.{IsAccepted}
 use Rattle.xk_types.specs.Code.{ModuleValue}
 use Rattle.xk_types.specs.World.{opening}
 use Rattle.xk_types.specs.Schedule.{all_ended, printed}
@@ -10,7 +11,10 @@ use Rattle.xk_scheduler.specs.Choosers.{Follows}
 use Rattle.xk_scheduler.specs.LoggedRuns.{IsRunOf}
 use Rattle.xk_scheduler.specs.WholeRuns.{IsLogThat, IsRunThat}
 use Rattle.xk_scheduler.proofs.UnloggedRunLemmas.{follows_any, run_weaker}
-use Rattle.xk_serve.specs.OrderedRun.{IsReplay}
+use Rattle.xk_cli.specs.declared.job.Form.{Form}
+use Rattle.xk_serve.specs.declared.picture.Picture.{Picture}
+use Rattle.xk_serve.specs.Answer.{Draw, IsLogText, IsPicture, IsTelling}
+use Rattle.xk_serve.specs.OrderedRun.{IsReplay, IsWholeRun}
 
 -- ---- choosers without a state
 
@@ -44,3 +48,12 @@ worked_run m n args log numbers c steps same given run over counted =
       numbers_are = subst (λ xs. numbers ≡ printed m (schedule_of log) (opening m xs)) given run_of.prints;
       steps_are = counted;
     }
+
+-- the log of such a run is that of a whole run, and its picture is told of it
+pub pictured : (p : Picture) (kind : Form) (file bytes : List ℕ) (n m : ModuleValue) (args : List ℤ) (log : List Entry) (logged told : List ℕ) (c : CoreValue) {numbers : List ℤ}
+    → n ≡ m → c.world.arguments ≡ args → IsAccepted m → IsLogText logged log → IsRunOf n log numbers c → all_ended c.world ≡ true
+    → IsPicture p kind bytes n c.world.arguments log told → IsTelling (Draw p) kind file bytes m args logged told
+pictured p kind file bytes n m args log logged told c {numbers} same given accepted text run over is =
+    let run_of = subst (λ k. IsRunOf k log numbers c) same run in
+    let whole : IsWholeRun m args log = record { last = c.world; leads = run_of.leads; given = given; over = over } in
+    (accepted, (log, text, whole, subst (λ xs. IsPicture p kind bytes m xs log told) given (subst (λ k. IsPicture p kind bytes k c.world.arguments log told) same is)))

@@ -8,7 +8,7 @@ use Rattle.xk_serve.specs.declared.job_result.Done.{Done}
 use Rattle.xk_serve.specs.declared.job_result.Done.TheVariants as done
 use Rattle.xk_serve.specs.declared.fault.Fault.{Fault}
 use Rattle.xk_serve.specs.declared.fault.Fault.TheVariants as fault
-use Rattle.xk_serve.specs.Answer.{FailsBy, IsSaidOf, Succeeds, Task, done_reply, fault_reply}
+use Rattle.xk_serve.specs.Answer.{FailsBy, IsSaidOf, Succeeds, Task, done_reply, done_status, fault_reply}
 use Rattle.xk_log.specs.Writing.{AppendsBeginning}
 use Rattle.xk_serve.specs.Lines.{device_line, done_ending, done_front, done_text, fault_line, memory_line, status_of}
 use Rattle.xk_serve.specs.Devices.{Answered, ErrBegins, Explained, IfKnown, IsBegun, IsTold, IsWritten, OutBegins, Reads, Reports, StandsAgainst, Tells, read_of}
@@ -35,7 +35,7 @@ of_known t (Some bytes) known P h = if_known (read_of t known) (P bytes) (λ log
 -- a result that was written is an answer
 pub written_answer : (t : Task) (bytes logged : List ℕ) (d : Done) (out_old out_new err_old err_new log_old log_new : Option (List ℕ)) (result : ℕ)
     (Failing : Type 0) → Succeeds t bytes logged d
-    → ((result ≡ 0) × IsWritten d out_old out_new log_old log_new × Appends err_old err_new []) ⊎ ((result ≡ 5) × Failing)
+    → ((result ≡ done_status d) × IsWritten d out_old out_new log_old log_new × Appends err_old err_new []) ⊎ ((result ≡ 5) × Failing)
     → result ≢ 5 → Answered t bytes logged result out_old out_new err_old err_new log_old log_new
 written_answer t bytes logged d out_old out_new err_old err_new log_old log_new result Failing done (inl (zero_is, written, err_is)) not5 = record {
   reply = done_reply d;
@@ -56,7 +56,7 @@ known_weaker t (Some bytes) known P Q f h = weaker (read_of t known) (P bytes) (
 -- the same, whether the bytes are known or not
 pub written_answers : (t : Task) (program known : Option (List ℕ)) (d : Done) (out_old out_new err_old err_new log_old log_new : Option (List ℕ))
     (result : ℕ) (Failing : Type 0) → IfKnown t program known (λ bytes logged. Succeeds t bytes logged d)
-    → ((result ≡ 0) × IsWritten d out_old out_new log_old log_new × Appends err_old err_new []) ⊎ ((result ≡ 5) × Failing)
+    → ((result ≡ done_status d) × IsWritten d out_old out_new log_old log_new × Appends err_old err_new []) ⊎ ((result ≡ 5) × Failing)
     → IfKnown t program known (λ bytes logged. result ≢ 4 → result ≢ 5
     → Answered t bytes logged result out_old out_new err_old err_new log_old log_new)
 written_answers t program known d out_old out_new err_old err_new log_old log_new result Failing h p = known_weaker t program known _ _
@@ -67,7 +67,7 @@ pub parts_of_text : (d : Done) → done_front d ++ done_ending d ≡ done_text d
 parts_of_text (done.Compiled text) = refl
 parts_of_text (done.Accepted steps activities clocks) = refl
 parts_of_text (done.Told text) = append-nil text.items
-parts_of_text (done.Charted text) = append-nil (string_bytes text)
+parts_of_text (done.Outcomes text whole log) = append-nil text.items
 parts_of_text (done.Ended printed steps log) = refl
 
 -- what was begun to be written is a beginning of a success

@@ -23,7 +23,7 @@ use Rattle.xk_serve.specs.Lines.{done_log, done_text, status_of}
 use Rattle.xk_serve.specs.OneAnswer.{IsChartOf, IsCharted, MayChart, charting, done_with, replaying}
 use Rattle.xk_serve.specs.OrderedRun.{IsReplay, IsWholeRun}
 use Rattle.xk_serve.specs.Programs.{Gives}
-use Rattle.xk_serve.proofs.AnswerUniquenessLemmas.{prints, prints_once, whole_prints}
+use Rattle.xk_serve.proofs.AnswerUniquenessLemmas.{done_zero, prints, prints_once, whole_done}
 
 -- ---- what was written
 
@@ -90,9 +90,9 @@ never_done fault.Device e = cc
 
 -- what is run comes to something
 ran : (t : Task) (way : Way) (bytes logged : List ℕ) (m : ModuleValue) (d : Done) → t.doing ≡ Run way true
-    → ComesTo t.doing m t.arguments logged d ⊎ IsText (IsTelling t.doing t.form t.file bytes m) d → ComesTo (Run way true) m t.arguments logged d
+    → ComesTo t.doing m t.arguments logged d ⊎ IsText (IsTelling t.doing t.form t.file bytes m t.arguments logged) d → ComesTo (Run way true) m t.arguments logged d
 ran t way bytes logged m d is (inl h) = subst (λ what. ComesTo what m t.arguments logged d) is h
-ran t way bytes logged m d is (inr h) = absurd (untold d (subst (λ what. IsText (IsTelling what t.form t.file bytes m) d) is h))
+ran t way bytes logged m d is (inr h) = absurd (untold d (subst (λ what. IsText (IsTelling what t.form t.file bytes m t.arguments logged) d) is h))
   where
     untold : (d : Done) → IsText (λ text. ⊥) d → ⊥
     untold (done.Told text) h = h
@@ -118,8 +118,8 @@ whole_run m args numbers steps es r = record { last = r.last; leads = subst (λ 
 
 charts : (t : Task) (bytes logged : List ℕ) (m : ModuleValue) (es : List Entry) → Gives t.form bytes m → IsAccepted m → IsLogText logged es → IsWholeRun m t.arguments es
     → (d : Done) → IsChartOf (chart_text m t.arguments es) d → Answers (charting t) bytes logged (done_reply d)
-charts t bytes logged m es given accepted log whole (done.Charted found) is =
-    inl (done.Charted found, record { of = m; given = given; done = inl (accepted, (es, log, whole, is)) }, refl)
+charts t bytes logged m es given accepted log whole (done.Told found) is =
+    inl (done.Told found, record { of = m; given = given; done = inr (accepted, (es, log, whole, is)) }, refl)
 charts t bytes logged m es given accepted log whole _ is = absurd is
 
 module _ (t : Task) (way : Way) (bytes logged : List ℕ) (r : Reply) (is : t.doing ≡ Run way true) (answers : Answers t bytes logged r) (zero : r.status ≡ 0) where
@@ -131,7 +131,8 @@ module _ (t : Task) (way : Way) (bytes logged : List ℕ) (r : Reply) (is : t.do
       inl (
         w.again,
         record { of = w.of; given = w.given; done = inl w.comes },
-        ap (λ o. done_with o) w.out ∙ ap (λ l. reply 0 (done_text w.again) [] l) (sym p.7),
+        ap (λ o. done_with o) w.out ∙ ap (λ l. reply 0 (done_text w.again) [] l) (sym p.7)
+            ∙ ap (λ n. reply n (done_text w.again) [] (done_log w.again)) (sym (done_zero Replay w.of t.arguments r.log w.again tt w.comes)),
       )
 
   -- and prints nothing else
@@ -139,9 +140,13 @@ module _ (t : Task) (way : Way) (bytes logged : List ℕ) (r : Reply) (is : t.do
   replayed_alone s again not4 =
       let w = written_of t way bytes logged r is answers zero in
       let p = prints Replay w.of t.arguments r.log w.again w.comes in
-      let q = whole_prints (replaying t) bytes r.log s w.of (done_text w.again) (done_log w.again) refl w.given p not4 again in
-      let same = prints_once Replay w.of t.arguments r.log s.out s.log (done_text w.again) (done_log w.again) tt q.2 p in
-      reply_is s r.out q.0 (same.0 ∙ sym w.out) q.1 (same.1 ∙ p.7)
+      let q = whole_done (replaying t) bytes r.log s w.of (done_text w.again) (done_log w.again) refl w.given p not4 again in
+      elim q.2 [
+        | inl printed ↦
+            let same = prints_once Replay w.of t.arguments r.log s.out s.log (done_text w.again) (done_log w.again) tt printed p in
+            reply_is s r.out (q.0 tt) (same.0 ∙ sym w.out) q.1 (same.1 ∙ p.7)
+        | inr told ↦ absurd told.0
+      ]
 
   -- `chart` may print the chart of that run
   pub charted : MayChart t bytes r.log
@@ -155,6 +160,8 @@ module _ (t : Task) (way : Way) (bytes logged : List ℕ) (r : Reply) (is : t.do
   charted_alone s again not4 =
       let w = written_of t way bytes logged r is answers zero in
       let p = prints Replay w.of t.arguments r.log w.again w.comes in
-      let q = whole_prints (charting t) bytes r.log s w.of (done_text w.again) (done_log w.again) refl w.given p not4 again in
-      let c = q.2 in
-      (w.of, c.1, w.given, c.2, reply_is s _ q.0 c.4 q.1 c.5)
+      let q = whole_done (charting t) bytes r.log s w.of (done_text w.again) (done_log w.again) refl w.given p not4 again in
+      elim q.2 [
+        | inl printed ↦ absurd printed
+        | inr told ↦ let c = told.0.1 in (w.of, c.0, w.given, c.1, reply_is s _ (q.0 tt) c.3 q.1 told.1)
+      ]

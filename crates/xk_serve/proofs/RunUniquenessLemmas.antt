@@ -14,6 +14,7 @@ use Rattle.xk_types.specs.Schedule.{Leads, Through, all_ended, is_step, printed,
 use Rattle.xk_types.specs.Logs.{one_step_of, schedule_of}
 use Rattle.xk_types.proofs.LogEntryLemmas.{entry_of, one_step_is}
 use Rattle.xk_laws.proofs.ReachabilityLemmas.{first_step, same_through}
+use Rattle.xk_random.specs.Chance.{chance_after, chance_answer, chance_of}
 use Rattle.xk_scheduler.specs.Choosers.{Follows, enabled_in, goes_on, turn_after, turn_of}
 use Rattle.xk_scheduler.specs.WholeRuns.{IsRunThat}
 use Rattle.xk_scheduler.proofs.EnabledSetLemmas.{going}
@@ -78,6 +79,7 @@ order_once : (o : Order) (m : ModuleValue) (args : List ℤ) (l k : List ℕ) (x
 order_once order.First m args l k x y = follows_once {S = Unit {0}} (λ s enabled. 0) (λ s enabled. s) m l k tt (opening m args) x y
 order_once order.Last m args l k x y = follows_once {S = Unit {0}} (λ s enabled. length enabled - 1) (λ s enabled. s) m l k tt (opening m args) x y
 order_once order.Round m args l k x y = follows_once turn_of turn_after m l k None (opening m args) x y
+order_once (order.Random seed) m args l k x y = follows_once chance_answer chance_after m l k (chance_of seed) (opening m args) x y
 
 -- a run that follows an order has one list
 ordered_list : (P Q : List ℕ → Type 0) (o : Order) (m : ModuleValue) (args numbers others : List ℤ) (n k : ℕ) (p : IsRunThat P m args numbers n) (q : IsRunThat Q m args others k)

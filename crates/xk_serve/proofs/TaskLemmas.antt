@@ -17,7 +17,7 @@ use Rattle.xk_bounds.specs.declared.refusal.Refusal.TheVariants as refusal
 use Rattle.xk_serve.specs.declared.job_result.Done.{Done}
 use Rattle.xk_serve.specs.declared.fault.Fault.{Fault}
 use Rattle.xk_serve.specs.declared.fault.Fault.TheVariants as fault
-use Rattle.xk_serve.specs.Answer.{Chart, Check, ComesTo, Compile, Doing, Explain, FailsBy, IsLogText, IsNoRun, IsNotRun, IsRefusal, IsTelling, IsText, Listing, Replay, Run, Succeeds, Task, asks_verifier, reads_log, runs}
+use Rattle.xk_serve.specs.Answer.{Check, ComesTo, Compile, Doing, Draw, Explain, FailsBy, IsLogText, IsNoRun, IsNotRun, IsRefusal, IsTelling, IsText, Listing, Outcomes, Replay, Run, Succeeds, Task, asks_verifier, reads_log, runs}
 use Rattle.xk_serve.specs.Faults.{of_log, of_refusal, of_replay}
 use Rattle.xk_serve.specs.Lines.{status_of}
 use Rattle.std.proofs.lemmas.Result.{IfOk-weaker}
@@ -74,12 +74,30 @@ done_of_log t bytes known m what args (Ok d) is told reads given h =
     of_read t _ _ known (ap reads_log is ∙ reads) (λ logged done. succeeds t bytes logged m what args d is told given done) h
 done_of_log t bytes known m what args (Err f) is told reads given h = tt
 
+tells : (t : Task) (bytes logged : List ℕ) (m : ModuleValue) (what : Doing) (args : List ℤ) (d : Done) → t.doing ≡ what → args ≡ t.arguments → Gives t.form bytes m
+    → IsText (IsTelling what t.form t.file bytes m args logged) d → Succeeds t bytes logged d
+tells t bytes logged m what args d is told given text = record {
+  of = m;
+  given = given;
+  done = inr (subst (λ x. IsText (IsTelling x t.form t.file bytes m t.arguments logged) d) (sym is)
+      (subst (λ xs. IsText (IsTelling what t.form t.file bytes m xs logged) d) told text));
+}
+
 -- what is told of it, whatever log there is
 pub done_of_text : (t : Task) (bytes : List ℕ) (known : Option (List ℕ)) (m : ModuleValue) (what : Doing) (r : Result Done Fault) → t.doing ≡ what
-    → Gives t.form bytes m → IfOk r (IsText (IsTelling what t.form t.file bytes m)) → IfOk r (λ d. IfSome (read_of t known) (λ logged. Succeeds t bytes logged d))
-done_of_text t bytes known m what (Ok d) is given h = of_any _ (read_of t known)
-    (λ logged. record { of = m; given = given; done = inr (subst (λ x. IsText (IsTelling x t.form t.file bytes m) d) (sym is) h) })
+    → Gives t.form bytes m → ((logged : List ℕ) → IfOk r (IsText (IsTelling what t.form t.file bytes m t.arguments logged)))
+    → IfOk r (λ d. IfSome (read_of t known) (λ logged. Succeeds t bytes logged d))
+done_of_text t bytes known m what (Ok d) is given h = of_any _ (read_of t known) (λ logged. tells t bytes logged m what t.arguments d is refl given (h logged))
 done_of_text t bytes known m what (Err f) is given h = tt
+
+-- what is told of a run of it, by the log that is read
+pub done_of_run : (t : Task) (bytes : List ℕ) (known : Option (List ℕ)) (m : ModuleValue) (what : Doing) (args : List ℤ) (r : Result Done Fault) → t.doing ≡ what
+    → args ≡ t.arguments → reads_log what ≡ true → Gives t.form bytes m
+    → IfOk r (λ d. IfSome known (λ logged. IsText (IsTelling what t.form t.file bytes m args logged) d))
+    → IfOk r (λ d. IfSome (read_of t known) (λ logged. Succeeds t bytes logged d))
+done_of_run t bytes known m what args (Ok d) is told reads given h =
+    of_read t _ _ known (ap reads_log is ∙ reads) (λ logged text. tells t bytes logged m what args d is told given text) h
+done_of_run t bytes known m what args (Err f) is told reads given h = tt
 
 -- ---- what stands against it
 
@@ -148,7 +166,8 @@ runs_asks Compile h = absurd (false≢true h)
 runs_asks Listing h = absurd (false≢true h)
 runs_asks (Run way kept) h = refl
 runs_asks Replay h = refl
-runs_asks Chart h = refl
+runs_asks (Draw picture) h = refl
+runs_asks (Outcomes limit pick kept) h = refl
 
 against_not_run : (t : Task) (bytes : List ℕ) (known : Option (List ℕ)) (old new : ℕ) (m : ModuleValue) (f : Fault) → new ≡ old → runs t.doing ≡ true
     → Gives t.form bytes m → IsNotRun m t.arguments f → AgainstLog t bytes known old new f
@@ -203,7 +222,8 @@ reads_runs Compile h = absurd (false≢true h)
 reads_runs Listing h = absurd (false≢true h)
 reads_runs (Run way kept) h = refl
 reads_runs Replay h = refl
-reads_runs Chart h = refl
+reads_runs (Draw picture) h = refl
+reads_runs (Outcomes limit pick kept) h = refl
 
 against_either : (t : Task) (bytes : List ℕ) (known : Option (List ℕ)) (old new : ℕ) (m : ModuleValue) (f : Fault) → reads_log t.doing ≡ true
     → Gives t.form bytes m → AgainstModule m t.arguments known old new f → AgainstLog t bytes known old new f

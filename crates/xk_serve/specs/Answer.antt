@@ -1,5 +1,5 @@
 -- What the program answers: which status and texts a job and the bytes of its file may have. This project's own.
-use Rattle.std.specs.Prelude.{◌≡◌, ℕ, ⊤, ◌⊎◌, ℤ, Bool, true, false, List, [], length, Option, Some, None, is_some, option_map, unwrap_or, string_bytes}
+use Rattle.std.specs.Prelude.{◌≡◌, ℕ, ⊤, ◌⊎◌, ℤ, ◌-◌, ◌&&◌, not, Bool, true, false, List, [], length, slice_get, Option, Some, None, is_some, option_map, unwrap_or, string_bytes, if◌then◌else◌}
 use Rattle.serde_json.specs.Written.{compact_text}
 use Rattle.xk_types.specs.Code.{ModuleValue, params_of}
 use Rattle.xk_types.specs.World.{AreArguments}
@@ -13,24 +13,30 @@ use Rattle.xk_cli.specs.declared.job.Form.TheVariants as form
 use Rattle.xk_cli.specs.declared.job.Job.{Job}
 use Rattle.xk_cli.specs.declared.job.Order.TheVariants as order
 use Rattle.xk_cli.specs.CommandLine.{By, In, Way, way_value}
-use Rattle.xk_cli.specs.Status.{status_done}
+use Rattle.xk_cli.specs.Status.{status_done, status_partial}
 use Rattle.xk_module.specs.ModuleText.{module_value}
 use Rattle.xk_bounds.specs.Refusals.{Refuses}
 use Rattle.xk_bounds.specs.declared.refusal.Refusal.TheVariants as refusal
 use Rattle.xk_serve.specs.declared.job_result.Done.{Done}
 use Rattle.xk_serve.specs.declared.job_result.Done.TheVariants as done
+use Rattle.xk_serve.specs.declared.picture.Picture.{Picture}
+use Rattle.xk_serve.specs.declared.picture.Picture.TheVariants as picture
 use Rattle.xk_serve.specs.declared.fault.Fault.{Fault}
 use Rattle.xk_serve.specs.declared.fault.Fault.TheVariants as fault
 use Rattle.xk_types.specs.declared.world.Entry.{Entry}
 use Rattle.xk_log.specs.Verdicts.{IsTruncated, IsWrongAt, Says, Whole}
 use Rattle.xk_replay.specs.Chart.{chart_text}
+use Rattle.xk_outcomes.specs.Outcomes.{AreAll, AreDistinct, AreShown}
+use Rattle.xk_outcomes.specs.declared.listing.Outcome.{Outcome}
+use Rattle.xk_outcomes.specs.Text.{outcomes_text}
 use Rattle.xk_replay.specs.Replay.{IsStoppedAt, IsUnfinished}
 use Rattle.xk_serve.specs.OrderedRun.{IsLoggedRun, IsOrderedRun, IsReplay, IsSomeRun, IsWholeRun}
 use Rattle.xk_serve.specs.Lines.{done_log, done_text, fault_line, status_of}
 use Rattle.xk_serve.specs.Programs.{Gives, IsNoModule, IsNoSource}
-use Rattle.xk_serve.specs.Explanation.{IsByOrigins, IsExplanation, IsProgramListed, accepted_said}
+use Rattle.xk_serve.specs.Explanation.{IsByOrigins, IsExplanation, IsProgramListed, accepted_said, events_told, lanes_told}
 
--- what is to be done with a module; what is explained is a JSON value or not; a run is in an order, or by workers, and has its log kept or not
+-- what is to be done with a module; what is explained is a JSON value or not; a run is in an order, or by workers, and has its log kept or not; some
+-- picture is drawn of one; of outcomes so many are looked for, and of one, counted from 1, the log is kept or not
 pub data Doing : Type 0 where
   Check : Doing
   Explain : Bool → Doing
@@ -38,7 +44,8 @@ pub data Doing : Type 0 where
   Listing : Doing
   Run : Way → Bool → Doing
   Replay : Doing
-  Chart : Doing
+  Draw : Picture → Doing
+  Outcomes : ℕ → ℕ → Bool → Doing
 
 -- whether the module is run, and main given its arguments
 abbrev pub runs : Doing → Bool
@@ -57,14 +64,18 @@ asks_verifier _ = true
 -- whether a log is read
 abbrev pub reads_log : Doing → Bool
 reads_log Replay = true
-reads_log Chart = true
+reads_log (Draw picture) = true
 reads_log _ = false
 
 -- a run is in the order `first` where neither an order nor workers were given
 abbrev pub way_given : Option Drive → Way
 way_given given = unwrap_or (option_map way_value given) (In order.First)
 
--- a run's log is kept where there is a path for it
+-- how many outcomes are looked for where nothing is said
+abbrev pub usual_limit : ℕ
+usual_limit = 100000
+
+-- a log is kept where there is a path for it
 abbrev pub doing_of : Command → Doing
 doing_of command.Check = Check
 doing_of (command.Explain json) = Explain json
@@ -72,7 +83,10 @@ doing_of command.Listing = Listing
 doing_of command.Compile = Compile
 doing_of (command.Run given path) = Run (way_given given) (is_some path)
 doing_of (command.Replay log) = Replay
-doing_of (command.Chart log) = Chart
+doing_of (command.Chart log) = Draw picture.Chart
+doing_of (command.Events log) = Draw picture.Events
+doing_of (command.Lanes log) = Draw picture.Lanes
+doing_of (command.Outcomes limit pick path) = Outcomes (unwrap_or limit usual_limit) (unwrap_or pick 1) (is_some path)
 
 -- what is to be done with a file, what it is called, what stands in it, and what main is given where it is run
 pub record Task : Type 0 where
@@ -92,13 +106,45 @@ IsLogText bytes es = Says (Whole es) bytes
 abbrev pub Replays : ModuleValue → List ℤ → List ℕ → List ℤ → ℕ → Type 0
 Replays m args logged numbers steps = (es : List Entry) × IsLogText logged es × IsReplay m args es numbers steps
 
--- the chart of a whole run with these arguments, by the log in these bytes
-abbrev pub Charts : ModuleValue → List ℤ → List ℕ → List ℕ → Type 0
-Charts m args logged text = (es : List Entry) × IsLogText logged es × IsWholeRun m args es × (text ≡ chart_text m args es)
+-- this holds of a whole run with these arguments, by the log in these bytes
+abbrev pub OfRun : ModuleValue → List ℤ → List ℕ → (List Entry → Type 0) → Type 0
+OfRun m args logged P = (es : List Entry) × IsLogText logged es × IsWholeRun m args es × P es
+
+-- the outcome whose log is kept, counted from 1
+abbrev pub outcome_at : ℕ → List Outcome → Option Outcome
+outcome_at pick list = slice_get list (pick - 1)
+
+-- the log that is kept: of that outcome, if there is one
+abbrev pub kept_log : Bool → ℕ → List Outcome → Option (List Entry)
+kept_log true pick list = option_map (λ x. x.log.items) (outcome_at pick list)
+kept_log false pick list = None
+
+-- a log is to be kept, and there is no such outcome
+abbrev pub lacks_log : Bool → ℕ → List Outcome → Bool
+lacks_log keeps pick list = keeps && not (is_some (outcome_at pick list))
+
+-- What a module can print that is given these arguments: each list of numbers that is told is printed in a run to its end, which has the log beside it, and
+-- is told once; where they are said to be all, every such run prints one of them. (Where they aren't, as many were looked for as the limit says.) The
+-- answer is whole where they are all, and the log that is to be kept is there.
+pub record AreOutcomes (m : ModuleValue) (args : List ℤ) (pick : ℕ) (keeps : Bool) (text : List ℕ) (whole : Bool) (log : Option (List Entry)) : Type 0 where
+  pub taken : AreArguments m args
+  pub list : List Outcome
+  pub complete : Bool
+  pub shown : AreShown m args list
+  pub distinct : AreDistinct list
+  pub all : complete ≡ true → AreAll m args list
+  pub text_is : text ≡ outcomes_text list complete
+  pub whole_is : whole ≡ (complete && not (lacks_log keeps pick list))
+  pub log_is : log ≡ kept_log keeps pick list
+
+-- that is what it comes to
+abbrev pub IsFoundOut : ModuleValue → List ℤ → ℕ → Bool → Done → Type 0
+IsFoundOut m args pick keeps (done.Outcomes text whole log) = AreOutcomes m args pick keeps text.items whole (option_map (λ es. es.items) log)
+IsFoundOut m args pick keeps _ = ⊥
 
 -- What is to be done with a module, whose main is given these arguments where it is run, and with the bytes of a log where one is read, comes
 -- to this: for `compile` the text of the module; where the module is accepted, for `check` its bounds, for `run` its run in the order, or, by workers,
--- some run of it, for `replay` and `chart` the run that the log has.
+-- some run of it, for `replay` the run that the log has, for `outcomes` what it can print.
 abbrev pub ComesTo : Doing → ModuleValue → List ℤ → List ℕ → Done → Type 0
 ComesTo Compile m args logged (done.Compiled text) = string_bytes text ≡ compact_text (module_value m)
 ComesTo Check m args logged (done.Accepted steps activities clocks) =
@@ -108,15 +154,23 @@ ComesTo (Run (In o) true) m args logged (done.Ended numbers steps (Some log)) = 
 ComesTo (Run (By n) false) m args logged (done.Ended numbers steps None) = IsAccepted m × IsSomeRun m args numbers.items steps
 ComesTo (Run (By n) true) m args logged (done.Ended numbers steps (Some log)) = IsAccepted m × IsReplay m args log.items numbers.items steps
 ComesTo Replay m args logged (done.Ended numbers steps None) = IsAccepted m × Replays m args logged numbers.items steps
-ComesTo Chart m args logged (done.Charted text) = IsAccepted m × Charts m args logged (string_bytes text)
+ComesTo (Outcomes limit pick keeps) m args logged d = IsAccepted m × IsFoundOut m args pick keeps d
 ComesTo _ m args logged _ = ⊥
 
+-- What is told of a run of the module that the bytes give, by their lines where they are a source text: its chart, what others see of its steps, or the
+-- same with a lane for each activity.
+abbrev pub IsPicture : Picture → Form → List ℕ → ModuleValue → List ℤ → List Entry → List ℕ → Type 0
+IsPicture picture.Chart kind bytes m args es told = told ≡ chart_text m args es
+IsPicture picture.Events kind bytes m args es told = IsByOrigins kind bytes (events_told bytes m args es) told
+IsPicture picture.Lanes kind bytes m args es told = IsByOrigins kind bytes (lanes_told bytes m args es) told
+
 -- What is told of the module that the bytes give, by their lines and names where they are a source text: for `explain`, where the module is accepted,
--- its bounds, and for `listing` its instructions.
-abbrev pub IsTelling : Doing → Form → List ℕ → List ℕ → ModuleValue → List ℕ → Type 0
-IsTelling (Explain json) kind file bytes m told = IsAccepted m × IsByOrigins kind bytes (accepted_said json file bytes m) told
-IsTelling Listing kind file bytes m told = IsProgramListed kind bytes m told
-IsTelling _ kind file bytes m told = ⊥
+-- its bounds, and for `listing` its instructions; for `chart`, `events` and `lanes`, where it is accepted, the run that the log has.
+abbrev pub IsTelling : Doing → Form → List ℕ → List ℕ → ModuleValue → List ℤ → List ℕ → List ℕ → Type 0
+IsTelling (Explain json) kind file bytes m args logged told = IsAccepted m × IsByOrigins kind bytes (accepted_said json file bytes m) told
+IsTelling Listing kind file bytes m args logged told = IsProgramListed kind bytes m told
+IsTelling (Draw picture) kind file bytes m args logged told = IsAccepted m × OfRun m args logged (λ es. IsPicture picture kind bytes m args es told)
+IsTelling _ kind file bytes m args logged told = ⊥
 
 -- it is a text of which this holds
 abbrev pub IsText : (List ℕ → Type 0) → Done → Type 0
@@ -127,7 +181,7 @@ IsText P _ = ⊥
 pub record Succeeds (t : Task) (bytes logged : List ℕ) (d : Done) : Type 0 where
   pub of : ModuleValue
   pub given : Gives t.form bytes of
-  pub done : ComesTo t.doing of t.arguments logged d ⊎ IsText (IsTelling t.doing t.form t.file bytes of) d
+  pub done : ComesTo t.doing of t.arguments logged d ⊎ IsText (IsTelling t.doing t.form t.file bytes of t.arguments logged) d
 
 -- What stands against a log of a run of the module with these arguments. Of want of memory nothing is claimed.
 abbrev pub IsNoRun : ModuleValue → List ℤ → List ℕ → Fault → Type 0
@@ -196,8 +250,13 @@ pub record Reply : Type 0 where
   pub err : List ℕ
   pub log : List ℕ
 
+-- an answer that isn't whole has a status of its own
+abbrev pub done_status : Done → ℕ
+done_status (done.Outcomes text whole log) = if whole then status_done else status_partial
+done_status _ = status_done
+
 abbrev pub done_reply : Done → Reply
-done_reply d = record { status = status_done; out = done_text d; err = []; log = done_log d }
+done_reply d = record { status = done_status d; out = done_text d; err = []; log = done_log d }
 
 abbrev pub fault_reply : List ℕ → Fault → Reply
 fault_reply said f = record { status = status_of f; out = said; err = fault_line f; log = [] }

@@ -1,6 +1,6 @@
 -- What is told of a program by its lines and names: what `explain` says of what stands against it and of one that is accepted, and its listing. This
 -- project's own.
-use Rattle.std.specs.Prelude.{◌≡◌, ℕ, Bool, true, false, List, [], ◌++◌, Option, Some, None}
+use Rattle.std.specs.Prelude.{◌≡◌, ℕ, ℤ, Bool, true, false, List, [], ◌++◌, Option, Some, None}
 use Rattle.std.specs.Option.{option_map_or}
 use Rattle.xk_types.specs.Code.{ModuleValue}
 use Rattle.xk_types.specs.Bound.{steps_bound, activities_bound, clocks_bound}
@@ -19,6 +19,9 @@ use Rattle.xk_explain_json.specs.Explanations.{accepted_value, front_value, modu
 use Rattle.xk_declarations.specs.Notes.{front_notes}
 use Rattle.xk_sums.specs.Notes.{accepted_notes, module_notes, refusal_notes}
 use Rattle.xk_listing.specs.Listing.{IsListing}
+use Rattle.xk_events.specs.Events.{PlacesValue, events_text, no_text}
+use Rattle.xk_lanes.specs.Lanes.{lanes_text}
+use Rattle.xk_types.specs.declared.world.Entry.{Entry}
 use Rattle.xk_cli.specs.declared.job.Form.{Form}
 use Rattle.xk_cli.specs.declared.job.Form.TheVariants as form
 use Rattle.xk_serve.specs.declared.fault.Fault.{Fault}
@@ -124,3 +127,18 @@ IsListed text m None told = IsListing [] [] m told
 
 abbrev pub IsProgramListed : Form → List ℕ → ModuleValue → List ℕ → Type 0
 IsProgramListed kind bytes m told = (origins : Option (List UnitOrigins)) × HaveOrigins kind bytes origins × IsListed bytes m origins told
+
+-- ---- runs
+
+-- a text, and where the instructions come from; a module alone has neither
+abbrev pub places_in : List ℕ → Option (List UnitOrigins) → PlacesValue
+places_in text None = no_text
+places_in text (Some origins) = record { text = text; origins = origins }
+
+-- what others see of the run of a log
+abbrev pub events_told : List ℕ → ModuleValue → List ℤ → List Entry → Option (List UnitOrigins) → List ℕ
+events_told text m args log origins = events_text (places_in text origins) m args log
+
+-- the same, with a lane for each activity
+abbrev pub lanes_told : List ℕ → ModuleValue → List ℤ → List Entry → Option (List UnitOrigins) → List ℕ
+lanes_told text m args log origins = lanes_text (places_in text origins) m args log

@@ -33,7 +33,7 @@ abbrev pub done_text : Done → List ℕ
 done_text (done.Compiled text) = string_bytes text ++ codes "\n"
 done_text (done.Accepted steps activities clocks) = accepted_line steps activities clocks
 done_text (done.Told text) = text.items
-done_text (done.Charted text) = string_bytes text
+done_text (done.Outcomes text whole log) = text.items
 done_text (done.Ended printed steps log) = number_lines printed.items ++ ended_line steps
 
 -- its front, of what is there before anything is written, and what stands behind that
@@ -41,21 +41,22 @@ abbrev pub done_front : Done → List ℕ
 done_front (done.Compiled text) = string_bytes text
 done_front (done.Accepted steps activities clocks) = []
 done_front (done.Told text) = text.items
-done_front (done.Charted text) = string_bytes text
+done_front (done.Outcomes text whole log) = text.items
 done_front (done.Ended printed steps log) = number_lines printed.items
 
 abbrev pub done_ending : Done → List ℕ
 done_ending (done.Compiled text) = codes "\n"
 done_ending (done.Accepted steps activities clocks) = accepted_line steps activities clocks
 done_ending (done.Told text) = []
-done_ending (done.Charted text) = []
+done_ending (done.Outcomes text whole log) = []
 done_ending (done.Ended printed steps log) = ended_line steps
 
 -- ---- the log
 
--- of a run whose log was kept
+-- of a run, or of an outcome, whose log was kept
 abbrev pub done_log : Done → List ℕ
 done_log (done.Ended printed steps (Some log)) = log_text log.items
+done_log (done.Outcomes text whole (Some log)) = log_text log.items
 done_log _ = []
 
 -- ---- standard error
@@ -97,6 +98,10 @@ device_line = codes "x10clock: device\n"
 -- the words have an order beside workers
 abbrev pub excluded_line : List ℕ
 excluded_line = codes "x10clock: --workers and --order exclude each other\n"
+
+-- they have a seed, and no order by chance
+abbrev pub seed_line : List ℕ
+seed_line = codes "x10clock: --seed goes with --order random\n"
 
 -- a fault of the module text, and want of memory where it is none
 abbrev pub label_line : Option (List ℕ) → List ℕ

@@ -12,8 +12,9 @@ use Rattle.xk_cli.specs.Status.{status_done}
 use Rattle.xk_replay.specs.Chart.{chart_text}
 use Rattle.xk_serve.specs.declared.job_result.Done.{Done}
 use Rattle.xk_serve.specs.declared.job_result.Done.TheVariants as done
+use Rattle.xk_serve.specs.declared.picture.Picture.TheVariants as picture
 use Rattle.xk_serve.specs.declared.fault.Fault.TheVariants as fault
-use Rattle.xk_serve.specs.Answer.{Answers, Chart, Doing, Explain, IsLogText, IsSaidOf, Reply, Replay, Run, Task, done_reply, fault_reply}
+use Rattle.xk_serve.specs.Answer.{Answers, Doing, Draw, Explain, IsLogText, IsSaidOf, Outcomes, Reply, Replay, Run, Task, done_reply, fault_reply}
 use Rattle.xk_serve.specs.Lines.{kind_text, line}
 use Rattle.xk_serve.specs.Programs.{Gives, IsSource, SpellsNone}
 
@@ -38,24 +39,31 @@ pub record TellWalks (a b : List ℕ) : Type 0 where
 abbrev pub IsSameLine : List ℕ → List ℕ → Type 0
 IsSameLine a b = (a ≡ b) ⊎ TellWalks a b
 
--- no workers take the steps
-abbrev pub IsWithoutWorkers : Doing → Type 0
-IsWithoutWorkers (Run (By n) kept) = ⊥
-IsWithoutWorkers _ = ⊤
+-- what it comes to is one: no workers take the steps, and no outcomes are looked for, which may be told in any order, and of which one may be without all
+abbrev pub ComesToOne : Doing → Type 0
+ComesToOne (Run (By n) kept) = ⊥
+ComesToOne (Outcomes limit pick kept) = ⊥
+ComesToOne _ = ⊤
 
--- what goes to standard output is one: no workers take the steps, and no refusal is explained, to which there may be several walks
+-- what goes to standard output is one: what it comes to is, and no refusal is explained, to which there may be several walks
 abbrev pub IsDetermined : Doing → Type 0
 IsDetermined (Run (By n) kept) = ⊥
+IsDetermined (Outcomes limit pick kept) = ⊥
 IsDetermined (Explain json) = ⊥
 IsDetermined _ = ⊤
 
--- Two replies to a job are one, but for the walk to a refusal of kinds; where workers take the steps, but for the numbers and the log of the run.
--- (What is said of a fault is `IsSaidOf`.)
+-- the status is one: no outcomes are looked for, which may be all or not
+abbrev pub HasOneStatus : Doing → Type 0
+HasOneStatus (Outcomes limit pick kept) = ⊥
+HasOneStatus _ = ⊤
+
+-- Two replies to a job are one, but for the walk to a refusal of kinds; where workers take the steps, but for the numbers and the log of the run; where
+-- outcomes are looked for, but for what is found. (What is said of a fault is `IsSaidOf`.)
 pub record IsSameReply (what : Doing) (r s : Reply) : Type 0 where
-  pub status : r.status ≡ s.status
+  pub status : HasOneStatus what → r.status ≡ s.status
   pub err : IsSameLine r.err s.err
   pub out : IsDetermined what → r.out ≡ s.out
-  pub log : IsWithoutWorkers what → r.log ≡ s.log
+  pub log : ComesToOne what → r.log ≡ s.log
 
 -- ---- source texts
 
@@ -82,7 +90,7 @@ abbrev pub replaying : Task → Task
 replaying t = record { doing = Replay; file = t.file; form = t.form; arguments = t.arguments }
 
 abbrev pub charting : Task → Task
-charting t = record { doing = Chart; file = t.file; form = t.form; arguments = t.arguments }
+charting t = record { doing = Draw picture.Chart; file = t.file; form = t.form; arguments = t.arguments }
 
 -- the job is done, and this is printed
 abbrev pub done_with : List ℕ → Reply
@@ -90,7 +98,7 @@ done_with out = record { status = status_done; out = out; err = []; log = [] }
 
 -- it is a chart, and has these bytes
 abbrev pub IsChartOf : List ℕ → Done → Type 0
-IsChartOf text (done.Charted found) = string_bytes found ≡ text
+IsChartOf text (done.Told found) = found.items ≡ text
 IsChartOf text _ = ⊥
 
 -- the bytes of a log are the text of one, and whatever has the chart of its run may be the answer of `chart`

@@ -9,14 +9,16 @@ use Rattle.xk_types.specs.Logs.{schedule_of}
 use Rattle.xk_cli.specs.declared.job.Order.{Order}
 use Rattle.xk_cli.specs.declared.job.Order.TheVariants as order
 use Rattle.xk_scheduler.specs.Choosers.{Follows, turn_of, turn_after}
+use Rattle.xk_random.specs.Chance.{chance_after, chance_answer, chance_of}
 use Rattle.xk_scheduler.specs.WholeRuns.{IsLogThat, IsRunThat}
 
 -- Each step of the list, from the opening world with these arguments on, is one of the enabled activity that has its turn: the least; the
--- greatest; the least of greater number than the one taken before, else the least.
+-- greatest; the least of greater number than the one taken before, else the least; whoever is drawn from the seed.
 abbrev pub FollowsOrder : Order → ModuleValue → List ℤ → List ℕ → Type 0
 FollowsOrder order.First m args list = Follows {S = Unit {0}} (λ s enabled. 0) (λ s enabled. s) m tt (opening m args) list
 FollowsOrder order.Last m args list = Follows {S = Unit {0}} (λ s enabled. length enabled - 1) (λ s enabled. s) m tt (opening m args) list
 FollowsOrder order.Round m args list = Follows turn_of turn_after m None (opening m args) list
+FollowsOrder (order.Random seed) m args list = Follows chance_answer chance_after m (chance_of seed) (opening m args) list
 
 -- the run in this order, with these arguments, prints these numbers, and takes so many steps
 abbrev pub IsOrderedRun : Order → ModuleValue → List ℤ → List ℤ → ℕ → Type 0

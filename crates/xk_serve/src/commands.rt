@@ -3,7 +3,7 @@
 ghost use Rattle.std.specs.Prelude.{◌≡◌, ◌≢◌, ℕ, ℤ, List, false, IfOk, IfErr, IfSome, OnOk};
 ghost use Rattle.xk_types.specs.Acceptance.{IsAccepted};
 ghost use Rattle.xk_types.specs.World.{AreArguments};
-ghost use Rattle.xk_serve.specs.Answer.{Chart, Check, ComesTo, Compile, Explain, IsLogText, IsNotRun, IsRefusal, IsTelling, IsText, Listing, Replay, Run, Succeeds, reads_log, task_of, way_given};
+ghost use Rattle.xk_serve.specs.Answer.{Check, ComesTo, Compile, Explain, IsLogText, IsNotRun, IsRefusal, IsTelling, IsText, Listing, Replay, Run, Succeeds, reads_log, task_of, way_given};
 ghost use Rattle.xk_cli.specs.CommandLine.{By, In};
 ghost use Rattle.xk_cli.specs.Status.{status_program};
 ghost use Rattle.xk_serve.specs.Lines.{status_of};
@@ -15,6 +15,8 @@ use crate::fault::Fault;
 use crate::job_result::Done;
 use crate::logged_run::{run_by_workers, run_with_log, steps_of};
 use crate::ordered_run::run_in_order;
+use crate::outcome_search::searched;
+use crate::picture::{Picture, drawn};
 use crate::program_loader::module_in;
 use std::alloc::{AllocError, Global};
 use std::sync::Wait;
@@ -23,7 +25,7 @@ use xk_bounds::{Verified, verify};
 use xk_cli::{Command, Drive, Form, Job, Order, Workers};
 use xk_log::read_log;
 use xk_module::write_module;
-use xk_replay::{chart, replay};
+use xk_replay::replay;
 use xk_scheduler::Ended;
 use xk_types::{Module, Source};
 
@@ -57,7 +59,21 @@ pub(crate) fn answer<R: Threads + Wait + Sync, L: Source>(
             run_driven(rt, alloc, drive, log.is_some(), module, arguments)
         }
         Command::Replay { .. } => replayed(alloc, module, arguments, log_in),
-        Command::Chart { .. } => charted(alloc, module, arguments, log_in),
+        Command::Chart { .. } => {
+            let chart = Picture::Chart;
+            drawn(alloc, chart, job.form, bytes, module, arguments, log_in)
+        }
+        Command::Events { .. } => {
+            let events = Picture::Events;
+            drawn(alloc, events, job.form, bytes, module, arguments, log_in)
+        }
+        Command::Lanes { .. } => {
+            let lanes = Picture::Lanes;
+            drawn(alloc, lanes, job.form, bytes, module, arguments, log_in)
+        }
+        Command::Outcomes { limit, pick, log } => {
+            searched(alloc, limit, pick, log.is_some(), module, arguments)
+        }
     }
 }
 
@@ -72,8 +88,8 @@ fn compiled(alloc: Global, m: &Module) -> Result<Done, Fault>
 
 /// The listing of a module that these bytes give, which are such a text.
 fn listed(alloc: Global, form: Form, bytes: &[u8], m: Module) -> Result<Done, Fault>
-    ensures done { (file : List ℕ) → IfOk result
-        (IsText (IsTelling Listing form file bytes.now m)) }
+    ensures done { (file : List ℕ) (args : List ℤ) (logged : List ℕ) → IfOk result
+        (IsText (IsTelling Listing form file bytes.now m args logged)) }
     ensures fault { IfErr result (λ f. f ≡ OutOfMemory) }
 {
     Ok(Done::Told(listing(alloc, form, bytes, m)?))
@@ -88,7 +104,8 @@ fn explained(
     bytes: &[u8],
     m: Module,
 ) -> Result<Done, Fault>
-    ensures done { IfOk result (IsText (IsTelling (Explain json) form file.now bytes.now m)) }
+    ensures done { (args : List ℤ) (logged : List ℕ) → IfOk result
+        (IsText (IsTelling (Explain json) form file.now bytes.now m args logged)) }
     ensures fault { IfErr result (IsRefusal m) }
 {
     let verified = accepted(alloc, m)?;
@@ -147,28 +164,8 @@ fn replayed<L: Source>(
     replayed_by(alloc, &verified, arguments, log_in)
 }
 
-/// The chart of the run of a module with these arguments that the log has, if the module is accepted and main takes as many. Where it isn't
-/// run, no log is read.
-fn charted<L: Source>(
-    alloc: Global,
-    m: Module,
-    arguments: &[i64],
-    log_in: &mut L,
-) -> Result<Done, Fault>
-    ensures done { IfOk result (λ d. IfSome (L.remaining log_in.old)
-        (λ logged. ComesTo Chart m arguments.now logged d)) }
-    ensures no_fault { OnOk result (L.fault_count log_in.new ≡ L.fault_count log_in.old) }
-    ensures fault { IfErr result (AgainstModule m arguments.now (L.remaining log_in.old)
-        (L.fault_count log_in.old) (L.fault_count log_in.new)) }
-    ensures refused { IfErr result
-        (λ f. status_of f ≡ status_program → log_in.new ≡ log_in.old) }
-{
-    let verified = runnable(alloc, m, arguments)?;
-    charted_by(alloc, &verified, arguments, log_in)
-}
-
 /// The module, if the verifier accepts it and its main takes as many numbers as it is given (A1).
-fn runnable(alloc: Global, m: Module, arguments: &[i64]) -> Result<Verified, Fault>
+pub(crate) fn runnable(alloc: Global, m: Module, arguments: &[i64]) -> Result<Verified, Fault>
     ensures accepted { IfOk result (λ v. (v ≡ m) × IsAccepted m) }
     ensures taken { OnOk result (AreArguments m arguments.now) }
     ensures refused { IfErr result (IsNotRun m arguments.now) }
@@ -210,26 +207,6 @@ fn replayed_by<L: Source>(
     Ok(numbers_of(ended))
 }
 
-/// The chart of the run of an accepted module with these arguments that the log has.
-fn charted_by<L: Source>(
-    alloc: Global,
-    verified: &Verified,
-    arguments: &[i64],
-    log_in: &mut L,
-) -> Result<Done, Fault>
-    requires accepted { IsAccepted verified.now }
-    requires taken { AreArguments verified.now arguments.now }
-    ensures done { IfOk result (λ d. IfSome (L.remaining log_in.old)
-        (λ logged. ComesTo Chart verified.now arguments.now logged d)) }
-    ensures no_fault { OnOk result (L.fault_count log_in.new ≡ L.fault_count log_in.old) }
-    ensures fault { IfErr result (AgainstRun verified.now arguments.now (L.remaining log_in.old)
-        (L.fault_count log_in.old) (L.fault_count log_in.new)) }
-    ensures of_log { IfErr result (λ f. status_of f ≢ status_program) }
-{
-    let ended = run_again(alloc, verified, arguments, log_in)?;
-    chart_of(alloc, &ended)
-}
-
 /// What a run printed that came to its end, and how many steps it took.
 fn numbers_of(ended: Ended<'_>) -> Done
     requires { IsAccepted ended.module.now }
@@ -243,18 +220,8 @@ fn numbers_of(ended: Ended<'_>) -> Done
     }
 }
 
-/// The chart of a run that came to its end.
-fn chart_of(alloc: Global, ended: &Ended<'_>) -> Result<Done, Fault>
-    requires { IsAccepted ended.now.module.now }
-    ensures done { IfOk result (λ d. (logged : List ℕ) → IsLogText logged ended.now.log.items
-        → ComesTo Chart ended.now.module.now ended.now.core.world.arguments logged d) }
-    ensures fault { IfErr result (λ f. f ≡ OutOfMemory) }
-{
-    Ok(Done::Charted(chart(alloc, ended)?))
-}
-
 /// The whole run again with these arguments that the log has.
-fn run_again<'m, L: Source>(
+pub(crate) fn run_again<'m, L: Source>(
     alloc: Global,
     verified: &'m Verified,
     arguments: &[i64],

@@ -4,8 +4,8 @@ ghost use Rattle.std.specs.Prelude.{◌≡◌, ◌≢◌, ◌⊎◌, false, [], 
 ghost use Rattle.std.specs.Io.KnownBytes.{Appends};
 ghost use Rattle.xk_types.specs.Device.{Rose};
 ghost use Rattle.xk_log.specs.Writing.{AppendsBeginning};
-ghost use Rattle.xk_cli.specs.Status.{status_device, status_done, status_memory, status_program};
-ghost use Rattle.xk_serve.specs.Answer.{Succeeds, reads_log, task_of};
+ghost use Rattle.xk_cli.specs.Status.{status_device, status_done, status_memory, status_partial, status_program};
+ghost use Rattle.xk_serve.specs.Answer.{Succeeds, done_status, reads_log, task_of};
 ghost use Rattle.xk_serve.specs.Bytes.{FailsRead, IsReadToLimit, kept};
 ghost use Rattle.xk_serve.specs.Lines.{device_line, done_ending, done_log, memory_line, status_of};
 ghost use Rattle.xk_serve.specs.Devices.{AgainstLog, Answered, ErrBegins, Explained, IfKnown, IsBegun, IsQuiet, IsWritten, OutBegins, Reports, StandsAgainst, Tells, TellsWords, read_of};
@@ -13,7 +13,7 @@ ghost use Rattle.xk_serve.specs.Devices.{AgainstLog, Answered, ErrBegins, Explai
 use crate::bounded_read::read_front;
 use crate::commands::answer;
 use crate::explanation::{Refused, refused_by, unsaid};
-use crate::fault::{DEVICE_LINE, EXCLUDED_LINE, Fault, MEMORY_LINE};
+use crate::fault::{DEVICE_LINE, EXCLUDED_LINE, Fault, MEMORY_LINE, SEED_LINE};
 use crate::job_result::Done;
 use crate::program_loader::{LONGEST_MODULE, LONGEST_SOURCE};
 use std::alloc::Global;
@@ -24,10 +24,11 @@ use xk_log::{Device, write_all, write_entries};
 use xk_types::{Sink, Source};
 
 /// Reads the program, does the job, and writes what comes of it: its result to `out` and then the log of a run that is to have one
-/// to `log_out`, or one line to `err`. The answer is the exit status: 0 where the job is done, 1 where the program is refused, or is to be run and its
+/// to `log_out`, or one line to `err`. The answer is the exit status: 0 where the job is done, 6 where it is
+/// done but its answer isn't whole, 1 where the program is refused, or is to be run and its
 /// main takes another number of arguments than it is given, 3 where the log is refused, 4 where memory ran out, 5 where a device failed. A run by workers is some run of the program: a call with such a job may wait for them, and
 /// what is said here holds where it returns. Whatever the answer but 5, no read or write failed. The result is written piece by piece, once
-/// all is known and no more memory is wanted, so `out` and `log_out` stay empty but at 0 and 5, and `err` never gets more than one line.
+/// all is known and no more memory is wanted, so `out` and `log_out` stay empty but at 0, 6 and 5, and `err` never gets more than one line.
 pub fn serve<R: Threads + Wait + Sync, P: Source, L: Source, O: Sink, E: Sink, K: Sink>(
     rt: &R,
     alloc: Global,
@@ -175,12 +176,14 @@ fn print<O: Sink, E: Sink, K: Sink>(
     log_out: &mut K,
 ) -> u8
     requires { ending.now ≡ done_ending done.now }
-    ensures printed { ((result ≡ status_done)
+    ensures printed { ((result ≡ done_status done.now)
         × IsWritten done.now (O.contents out.old) (O.contents out.new)
         (K.contents log_out.old) (K.contents log_out.new)
         × Appends (E.contents err.old) (E.contents err.new) [])
         ⊎ ((result ≡ status_device) × (Rose (O.fault_count out.old) (O.fault_count out.new)
         ⊎ Rose (K.fault_count log_out.old) (K.fault_count log_out.new))) }
+    ensures known { (result ≡ status_done)
+        ⊎ ((result ≡ status_partial) ⊎ (result ≡ status_device)) }
     ensures told { result ≡ status_device
         → Appends (E.contents err.old) (E.contents err.new) device_line
         ⊎ Rose (E.fault_count err.old) (E.fault_count err.new) }
@@ -192,7 +195,7 @@ fn print<O: Sink, E: Sink, K: Sink>(
         × (K.fault_count log_out.new ≡ K.fault_count log_out.old) }
 {
     match write_result(done, ending, out, log_out) {
-        Ok(()) => status::DONE,
+        Ok(()) => done.status(),
         Err(_) => report(alloc, &Fault::Device, err),
     }
 }
@@ -304,6 +307,7 @@ pub fn tell_words<O: Sink, E: Sink>(fault: &WordsFault, out: &mut O, err: &mut E
         WordsFault::Help(text) => tell(text.as_str(), status::DONE, out),
         WordsFault::NotUnderstood(text) => tell(text.as_str(), status::WORDS, err),
         WordsFault::OrderAndWorkers => tell(EXCLUDED_LINE, status::WORDS, err),
+        WordsFault::SeedAlone => tell(SEED_LINE, status::WORDS, err),
         WordsFault::OutOfMemory => tell(MEMORY_LINE, status::MEMORY, err),
     }
 }

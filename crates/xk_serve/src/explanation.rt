@@ -72,7 +72,10 @@ fn said_of(alloc: Global, job: &Job<'_>, bytes: &[u8], fault: &Fault) -> Result<
         | Command::Listing
         | Command::Run { .. }
         | Command::Replay { .. }
-        | Command::Chart { .. } => Ok(Vec::new(alloc)),
+        | Command::Chart { .. }
+        | Command::Events { .. }
+        | Command::Lanes { .. }
+        | Command::Outcomes { .. } => Ok(Vec::new(alloc)),
     }
 }
 

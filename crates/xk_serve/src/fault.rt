@@ -58,6 +58,9 @@ pub(crate) const DEVICE_LINE: &str = "x10clock: device\n";
 /// The line where the words have an order beside workers.
 pub(crate) const EXCLUDED_LINE: &str = "x10clock: --workers and --order exclude each other\n";
 
+/// The line of words that have a seed, and no order by chance.
+pub(crate) const SEED_LINE: &str = "x10clock: --seed goes with --order random\n";
+
 impl Fault {
     /// The status that the program ends with.
     pub(crate) fn status(&self) -> u8

@@ -6,9 +6,11 @@ ghost use Rattle.std.specs.Option.{option_map_or};
 ghost use Rattle.xk_types.specs.Device.{Rose};
 ghost use Rattle.xk_log.specs.LogText.{log_text};
 ghost use Rattle.xk_log.specs.Writing.{AppendsBeginning};
+ghost use Rattle.xk_serve.specs.Answer.{done_status};
 ghost use Rattle.xk_serve.specs.Lines.{accepted_line, done_ending, done_front, done_log, done_text, ended_line};
 
 use std::alloc::{AllocError, Global};
+use xk_cli::status;
 use xk_log::{Device, write_all};
 use xk_output::write_numbers;
 use xk_types::{Entry, Sink};
@@ -24,7 +26,7 @@ pub(crate) enum Done {
         activities: u32,
         clocks: u32,
     },
-    /// `explain`, `listing`: this is told of the module.
+    /// `explain`, `listing`: this is told of the module; `chart`, `events`, `lanes`: of the run that the log has.
     Told(Vec<u8>),
     /// `run`, `replay`: the module ran to its end, and printed these numbers.
     Ended {
@@ -33,8 +35,14 @@ pub(crate) enum Done {
         /// Who took a step after whom, where that is to be kept.
         log: Option<Vec<Entry>>,
     },
-    /// `chart`: the run that the log has has this chart.
-    Charted(String),
+    /// `outcomes`: this is told of what the module can print.
+    Outcomes {
+        text: Vec<u8>,
+        /// Whether that is all, and the log that is to be kept is there.
+        whole: bool,
+        /// The log of one of them, where that is to be kept.
+        log: Option<Vec<Entry>>,
+    },
 }
 
 impl Done {
@@ -43,12 +51,26 @@ impl Done {
         ensures { option_map_or (λ log. log_text log.now) result [] ≡ done_log self.now }
     {
         match self {
-            Done::Ended { log: Some(log), .. } => Some(log),
+            Done::Ended { log: Some(log), .. } | Done::Outcomes { log: Some(log), .. } => Some(log),
             Done::Ended { log: None, .. }
+            | Done::Outcomes { log: None, .. }
+            | Done::Compiled(_)
+            | Done::Accepted { .. }
+            | Done::Told(_) => None,
+        }
+    }
+
+    /// The status that the program ends with.
+    pub(crate) fn status(&self) -> u8
+        ensures { result ≡ done_status self.now }
+    {
+        match self {
+            Done::Outcomes { whole: false, .. } => status::PARTIAL,
+            Done::Outcomes { whole: true, .. }
             | Done::Compiled(_)
             | Done::Accepted { .. }
             | Done::Told(_)
-            | Done::Charted(_) => None,
+            | Done::Ended { .. } => status::DONE,
         }
     }
 
@@ -63,7 +85,7 @@ impl Done {
                 activities,
                 clocks,
             } => accepted_line(alloc, *steps, *activities, *clocks),
-            Done::Told(_) | Done::Charted(_) => Ok(String::new(alloc)),
+            Done::Told(_) | Done::Outcomes { .. } => Ok(String::new(alloc)),
             Done::Ended { steps, .. } => ended_line(alloc, *steps),
         }
     }
@@ -96,7 +118,7 @@ impl Done {
             Done::Compiled(text) => write_all(out, text.as_bytes()),
             Done::Accepted { .. } => Ok(()),
             Done::Told(text) => write_all(out, text),
-            Done::Charted(text) => write_all(out, text.as_bytes()),
+            Done::Outcomes { text, .. } => write_all(out, text),
             Done::Ended { printed, .. } => write_numbers(printed, out),
         }
     }

@@ -5,7 +5,7 @@ ghost use Rattle.xk_serve.specs.declared.job_result.Done.{Done};
 ghost use Rattle.xk_serve.specs.Answer.{Answers, ComesTo, Doing, IsTelling, IsText, Reply, Run, Task};
 ghost use Rattle.xk_serve.specs.EveryRun.{EveryRun};
 ghost use Rattle.xk_serve.specs.Lines.{done_log, done_text};
-ghost use Rattle.xk_serve.specs.OneAnswer.{IsCharted, IsSameReply, IsWithoutWorkers, MayChart, TellFaults, charting, done_with, replaying};
+ghost use Rattle.xk_serve.specs.OneAnswer.{ComesToOne, IsCharted, IsSameReply, MayChart, TellFaults, charting, done_with, replaying};
 ghost use Rattle.xk_serve.specs.Programs.{Gives, IsCompiledTo};
 ghost use Rattle.xk_types.specs.Acceptance.{IsAccepted};
 ghost use Rattle.xk_types.specs.Code.{ModuleValue};
@@ -31,10 +31,11 @@ pub fn every_accepted_text()
 
 /// To a job on a module text there is one answer, want of memory aside: the same status, and the same bytes on every device. What is left open is
 /// which walk is told of a refusal of kinds, one of the shortest, and, where workers take the steps, which run they take: then standard output and
-/// the log are those of some run, but the status and the line of a fault are determined still. To a job on a source text there is one answer in the
+/// the log are those of some run, but the status and the line of a fault are determined still; and, where outcomes are looked for, in which order they
+/// are told, and whether all are. To a job on a source text there is one answer in the
 /// same sense, but that of a text which spells no tree, or has several recursive calls, it is left open which fault is told: the status and the other
 /// devices are the same then too. And what a job on a module comes to where nothing stands against it is one, and so
-/// is what is told of a program: what `explain` says of one that is accepted, and its listing.
+/// is what is told of a program and of a run of it: what `explain` says of one that is accepted, its listing, charts, events and lanes.
 pub fn one_answer()
     ensures answer { (t : Task) (bytes logged : List ℕ) (r s : Reply) → t.form ≡ form.Module
         → Answers t bytes logged r → Answers t bytes logged s
@@ -44,11 +45,12 @@ pub fn one_answer()
         → r.status ≢ status_memory → s.status ≢ status_memory
         → IsSameReply t.doing r s ⊎ TellFaults t bytes r s }
     ensures done { (what : Doing) (m : ModuleValue) (args : List ℤ) (logged : List ℕ) (d e : Done)
-        → IsWithoutWorkers what → ComesTo what m args logged d → ComesTo what m args logged e
+        → ComesToOne what → ComesTo what m args logged d → ComesTo what m args logged e
         → (done_text d ≡ done_text e) × (done_log d ≡ done_log e) }
-    ensures told { (t : Task) (bytes : List ℕ) (m : ModuleValue) (d e : Done)
-        → Gives t.form bytes m → IsText (IsTelling t.doing t.form t.file bytes m) d
-        → IsText (IsTelling t.doing t.form t.file bytes m) e
+    ensures told { (t : Task) (bytes logged : List ℕ) (m : ModuleValue) (d e : Done)
+        → Gives t.form bytes m
+        → IsText (IsTelling t.doing t.form t.file bytes m t.arguments logged) d
+        → IsText (IsTelling t.doing t.form t.file bytes m t.arguments logged) e
         → (done_text d ≡ done_text e) × (done_log d ≡ done_log e) }
 {}
 

@@ -10,6 +10,8 @@ mod job_result;
 pub mod laws;
 mod logged_run;
 mod ordered_run;
+mod outcome_search;
+mod picture;
 mod program_loader;
 
 pub use devices::{report, serve, tell, tell_words};

@@ -12,6 +12,7 @@ use std::thread::Threads;
 use xk_bounds::Verified;
 use xk_cli::{Order, Workers};
 use xk_core::Core;
+use xk_random::Random;
 use xk_scheduler::{Chooser, Ended, First, Last, Partial, Round, drive};
 use xk_types::Entry;
 use xk_workers::{Direct, run_workers};
@@ -42,6 +43,7 @@ pub(crate) fn run_with_log(
         Order::First => log_by(alloc, verified, arguments, &mut First),
         Order::Last => log_by(alloc, verified, arguments, &mut Last),
         Order::Round => log_by(alloc, verified, arguments, &mut Round::new()),
+        Order::Random(seed) => log_by(alloc, verified, arguments, &mut Random::new(seed)),
     }
 }
 

@@ -9,6 +9,7 @@ use std::alloc::{AllocError, Global};
 use xk_bounds::Verified;
 use xk_cli::Order;
 use xk_core::Core;
+use xk_random::Random;
 use xk_scheduler::{Chooser, First, Last, Round, Summary, drive_unlogged};
 
 /// Runs the module to its end, with these arguments, in this order, and gives the numbers that it prints and how many steps it takes.
@@ -26,6 +27,7 @@ pub(crate) fn run_in_order(
         Order::First => run_by(alloc, verified, arguments, &mut First),
         Order::Last => run_by(alloc, verified, arguments, &mut Last),
         Order::Round => run_by(alloc, verified, arguments, &mut Round::new()),
+        Order::Random(seed) => run_by(alloc, verified, arguments, &mut Random::new(seed)),
     }
 }
 

@@ -1,7 +1,9 @@
 use Rattle.std.proofs.Common.{◌∙◌, refl, ap, sym}
+use Rattle.std.specs.Prelude.{unwrap_or}
+use Rattle.xk_serve.specs.declared.picture.Picture.TheVariants as picture
 use Rattle.std.proofs.lemmas.Result.{err_from_is_err_and}
-use Rattle.xk_serve.specs.Answer.{Chart, Check, Compile, Replay, Run, doing_of, task_of, way_given}
-use Rattle.xk_serve.proofs.TaskLemmas.{against_any, against_log, against_memory, against_refused, against_run_of, done_of_any, done_of_log, done_of_none, done_of_text}
+use Rattle.xk_serve.specs.Answer.{Check, Compile, Draw, Outcomes, Replay, Run, doing_of, task_of, usual_limit, way_given}
+use Rattle.xk_serve.proofs.TaskLemmas.{against_any, against_log, against_memory, against_refused, against_run_of, done_of_any, done_of_log, done_of_none, done_of_run, done_of_text}
 use Rattle.xk_serve.proofs.commands.answer.Goals as goal
 
 pub returns-in_err-module-clause-fault : goal.returns-in_err-module-clause-fault
@@ -28,7 +30,7 @@ returns-in-Check-clause-fault g c =
 
 pub returns-in-Explain-clause-done : goal.returns-in-Explain-clause-done
 returns-in-Explain-clause-done g c =
-    done_of_text (task_of c.args.job.now) c.args.bytes.now (g.L.Source.remaining c.args.log_in.now) _ _ c.explained.result (ap doing_of c.in-Explain.is) c.in_ok-module.ensures.module c.explained.ensures.done
+    done_of_text (task_of c.args.job.now) c.args.bytes.now (g.L.Source.remaining c.args.log_in.now) _ _ c.explained.result (ap doing_of c.in-Explain.is) c.in_ok-module.ensures.module (c.explained.ensures.done c.args.job.now.arguments.items)
 
 pub returns-in-Explain-clause-fault : goal.returns-in-Explain-clause-fault
 returns-in-Explain-clause-fault g c =
@@ -36,7 +38,7 @@ returns-in-Explain-clause-fault g c =
 
 pub returns-in-Listing-clause-done : goal.returns-in-Listing-clause-done
 returns-in-Listing-clause-done g c =
-    done_of_text (task_of c.args.job.now) c.args.bytes.now (g.L.Source.remaining c.args.log_in.now) _ _ c.listed.result (ap doing_of c.in-Listing.is) c.in_ok-module.ensures.module (c.listed.ensures.done c.args.job.now.file.now)
+    done_of_text (task_of c.args.job.now) c.args.bytes.now (g.L.Source.remaining c.args.log_in.now) _ _ c.listed.result (ap doing_of c.in-Listing.is) c.in_ok-module.ensures.module (c.listed.ensures.done c.args.job.now.file.now c.args.job.now.arguments.items)
 
 pub returns-in-Listing-clause-fault : goal.returns-in-Listing-clause-fault
 returns-in-Listing-clause-fault g c =
@@ -62,8 +64,34 @@ returns-in-Replay-clause-fault g c =
 
 pub returns-in-Chart-clause-done : goal.returns-in-Chart-clause-done
 returns-in-Chart-clause-done g c =
-    done_of_log (task_of c.args.job.now) c.args.bytes.now (g.L.Source.remaining c.args.log_in.now) _ Chart c.as_slice-arguments.result.now c.charted.result (ap doing_of c.in-Chart.is) c.as_slice-arguments.ensures.value refl c.in_ok-module.ensures.module c.charted.ensures.done
+    done_of_run (task_of c.args.job.now) c.args.bytes.now (g.L.Source.remaining c.args.log_in.now) _ (Draw picture.Chart) c.as_slice-arguments.result.now c.drawn.result (ap doing_of c.in-Chart.is) c.as_slice-arguments.ensures.value refl c.in_ok-module.ensures.module (c.drawn.ensures.done c.args.job.now.file.now)
 
 pub returns-in-Chart-clause-fault : goal.returns-in-Chart-clause-fault
 returns-in-Chart-clause-fault g c =
-    against_log (task_of c.args.job.now) c.args.bytes.now (g.L.Source.remaining c.args.log_in.now) _ _ _ Chart c.as_slice-arguments.result.now c.charted.result (ap doing_of c.in-Chart.is) c.as_slice-arguments.ensures.value refl c.in_ok-module.ensures.module c.charted.ensures.fault
+    against_log (task_of c.args.job.now) c.args.bytes.now (g.L.Source.remaining c.args.log_in.now) _ _ _ (Draw picture.Chart) c.as_slice-arguments.result.now c.drawn.result (ap doing_of c.in-Chart.is) c.as_slice-arguments.ensures.value refl c.in_ok-module.ensures.module c.drawn.ensures.fault
+
+pub returns-in-Events-clause-done : goal.returns-in-Events-clause-done
+returns-in-Events-clause-done g c =
+    done_of_run (task_of c.args.job.now) c.args.bytes.now (g.L.Source.remaining c.args.log_in.now) _ (Draw picture.Events) c.as_slice-arguments.result.now c.drawn-in-Events.result (ap doing_of c.in-Events.is) c.as_slice-arguments.ensures.value refl c.in_ok-module.ensures.module (c.drawn-in-Events.ensures.done c.args.job.now.file.now)
+
+pub returns-in-Events-clause-fault : goal.returns-in-Events-clause-fault
+returns-in-Events-clause-fault g c =
+    against_log (task_of c.args.job.now) c.args.bytes.now (g.L.Source.remaining c.args.log_in.now) _ _ _ (Draw picture.Events) c.as_slice-arguments.result.now c.drawn-in-Events.result (ap doing_of c.in-Events.is) c.as_slice-arguments.ensures.value refl c.in_ok-module.ensures.module c.drawn-in-Events.ensures.fault
+
+pub returns-in-Lanes-clause-done : goal.returns-in-Lanes-clause-done
+returns-in-Lanes-clause-done g c =
+    done_of_run (task_of c.args.job.now) c.args.bytes.now (g.L.Source.remaining c.args.log_in.now) _ (Draw picture.Lanes) c.as_slice-arguments.result.now c.drawn-in-Lanes.result (ap doing_of c.in-Lanes.is) c.as_slice-arguments.ensures.value refl c.in_ok-module.ensures.module (c.drawn-in-Lanes.ensures.done c.args.job.now.file.now)
+
+pub returns-in-Lanes-clause-fault : goal.returns-in-Lanes-clause-fault
+returns-in-Lanes-clause-fault g c =
+    against_log (task_of c.args.job.now) c.args.bytes.now (g.L.Source.remaining c.args.log_in.now) _ _ _ (Draw picture.Lanes) c.as_slice-arguments.result.now c.drawn-in-Lanes.result (ap doing_of c.in-Lanes.is) c.as_slice-arguments.ensures.value refl c.in_ok-module.ensures.module c.drawn-in-Lanes.ensures.fault
+
+pub returns-in-Outcomes-clause-done : goal.returns-in-Outcomes-clause-done
+returns-in-Outcomes-clause-done g c =
+    let what = Outcomes (unwrap_or c.in-Outcomes.limit usual_limit) (unwrap_or c.in-Outcomes.pick 1) c.is_some-in-Outcomes.result in
+    let is = ap doing_of c.in-Outcomes.is ∙ ap (λ kept. Outcomes (unwrap_or c.in-Outcomes.limit usual_limit) (unwrap_or c.in-Outcomes.pick 1) kept) (sym c.is_some-in-Outcomes.ensures) in
+    done_of_any (task_of c.args.job.now) c.args.bytes.now (g.L.Source.remaining c.args.log_in.now) _ what c.as_slice-arguments.result.now c.searched.result is c.as_slice-arguments.ensures.value c.in_ok-module.ensures.module c.searched.ensures.done
+
+pub returns-in-Outcomes-clause-fault : goal.returns-in-Outcomes-clause-fault
+returns-in-Outcomes-clause-fault g c =
+    against_run_of (task_of c.args.job.now) c.args.bytes.now (g.L.Source.remaining c.args.log_in.now) _ _ _ c.as_slice-arguments.result.now c.searched.result (ap doing_of c.in-Outcomes.is) c.as_slice-arguments.ensures.value refl c.in_ok-module.ensures.module c.searched.ensures.fault

@@ -1,0 +1,79 @@
+//! What a module can print.
+
+ghost use Rattle.std.specs.Prelude.{◌≡◌, ◌≤◌, ℕ, List, IfOk, IfErr, option_map, unwrap_or};
+ghost use Rattle.xk_types.specs.World.{AreArguments};
+ghost use Rattle.xk_serve.specs.Answer.{ComesTo, IsFoundOut, IsNotRun, Outcomes, kept_log, usual_limit};
+
+use crate::commands::runnable;
+use crate::fault::Fault;
+use crate::job_result::Done;
+use std::alloc::{AllocError, Global};
+use xk_bounds::Verified;
+use xk_outcomes::{Limit, Outcome, outcomes, outcomes_text};
+use xk_types::{Entry, Module};
+
+/// How many worlds are kept at most, and how many outcomes are told, where nothing is said.
+const USUAL_LIMIT: u64 = 100_000;
+
+/// What a module can print that is given these arguments, if it is accepted and main takes as many, with the log of one outcome where that is to be
+/// kept.
+pub(crate) fn searched(
+    alloc: Global,
+    limit: Option<u64>,
+    pick: Option<u64>,
+    keeps_log: bool,
+    m: Module,
+    arguments: &[i64],
+) -> Result<Done, Fault>
+    ensures done { IfOk result (λ d. (logged : List ℕ)
+        → ComesTo (Outcomes (unwrap_or limit usual_limit) (unwrap_or pick 1) keeps_log)
+        m arguments.now logged d) }
+    ensures fault { IfErr result (IsNotRun m arguments.now) }
+{
+    let verified = runnable(alloc, m, arguments)?;
+    let most = limit.unwrap_or(USUAL_LIMIT) as usize;
+    let pick = pick.unwrap_or(1) as usize;
+    Ok(found_out(alloc, most, pick, keeps_log, &verified, arguments)?)
+}
+
+/// The same of an accepted module.
+fn found_out(
+    alloc: Global,
+    most: usize,
+    pick: usize,
+    keeps_log: bool,
+    verified: &Verified,
+    arguments: &[i64],
+) -> Result<Done, AllocError>
+    requires { AreArguments verified.now arguments.now }
+    ensures { IfOk result (IsFoundOut verified.now arguments.now pick keeps_log) }
+{
+    let limit = Limit {
+        entries: most,
+        outcomes: most,
+    };
+    let found = outcomes(alloc, verified, arguments, limit)?;
+    let text = outcomes_text(alloc, &found.list, found.complete)?;
+    let log = kept_log(alloc, keeps_log, pick, &found.list)?;
+    let whole = found.complete && !(keeps_log && log.is_none());
+    Ok(Done::Outcomes { text, whole, log })
+}
+
+/// The log of the outcome of this number, counted from 1, where it is to be kept and there is such an outcome.
+fn kept_log(
+    alloc: Global,
+    keeps_log: bool,
+    pick: usize,
+    list: &[Outcome],
+) -> Result<Option<Vec<Entry>>, AllocError>
+    ensures { IfOk result
+        (λ log. option_map (λ es. es.items) log ≡ kept_log keeps_log pick list.now) }
+{
+    if !keeps_log {
+        return Ok(None);
+    }
+    match list.get(pick.saturating_sub(1)) {
+        Some(outcome) => Ok(Some(outcome.log.to_vec(alloc)?)),
+        None => Ok(None),
+    }
+}
