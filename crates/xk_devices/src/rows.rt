@@ -38,11 +38,33 @@ const LOG: &str = "x10log 1\n0 1\n0 1\n0 1\n1 1\n0 1\n0 1\n0 1\n0 1\n1 1\n1 1\n1
 
 const CHARTED: &str = "step 4 clock 0 phase 1 acts 0 1\n";
 
+const EVENTS: &str = "EVENTS";
+
+const LANES: &str = "LANES";
+
+const OUTCOMES: &str = "OUTCOMES";
+
+const OUTCOME_LOG: &str = "OUTCOME_LOG";
+
 const MODULE: &str =
     r#"{"shared":[],"units":[{"code":[["make",0],["spawn",1,[0]],["advance"],["lit",1,1],["print",1],["ret"]],"kind":"main","params":"","slots":2},{"code":[["advance"],["lit",1,2],["print",1],["ret"]],"kind":"body","params":"c","slots":2}],"version":1}
 "#;
 
+const CHECKED: &str = "accepted steps 12 activities 2 clocks 1\n";
+
+const SOME_OUTCOMES: &str = "SOME_OUTCOMES";
+
+const NO_PROGRAM: &str = "x10clock: F2 Syntax at 0\n";
+
+const RECURSIVE: &str = "x10clock: F10 Recursive at 13\n";
+
+const BEGINNING: &str = "x10log 1\n0 1\n";
+
 const TRUNCATED: &str = "x10clock: L2 Truncated\n";
+
+const OTHER_LOG: &str = "x10log 1\n1 1\nend 1\n";
+
+const NOT_ENABLED: &str = "x10clock: L4 NotEnabled entry 0\n";
 
 /// What is said of a text that is no program.
 const EXPLAINED: &str =
@@ -72,6 +94,32 @@ unit 1  async  1:36  slots 0:c 1
    2  print 1            c:live                    1:83
    3  ret                c:live                    1:99     def main() { val c = Clock.make(); async clocked(c) { Clock.
 ";
+
+/// A method that calls itself.
+const ITSELF: &str = "def main() { main(); }";
+
+const RUN: Command<'static> = Command::Run {
+    drive: None,
+    log: Some("log"),
+};
+
+const REPLAY: Command<'static> = Command::Replay { log: "log" };
+
+const CHART: Command<'static> = Command::Chart { log: "log" };
+
+/// All outcomes, and the log of the first.
+const ALL: Command<'static> = Command::Outcomes {
+    limit: None,
+    pick: None,
+    log: Some("log"),
+};
+
+/// One world is kept at most, and the log of an outcome is asked for that isn't found then.
+const SOME: Command<'static> = Command::Outcomes {
+    limit: Some(1),
+    pick: Some(2),
+    log: Some("log"),
+};
 
 /// A row of the program in step, which is accepted.
 fn done(
@@ -114,92 +162,47 @@ fn refused(
     }
 }
 
+/// What is said of a text that is no program.
+fn explained(name: &'static str, json: bool, out: &'static str) -> Row {
+    let explain = Command::Explain { json };
+    Row {
+        out,
+        ..refused(name, explain, "main", "", 1, NO_PROGRAM)
+    }
+}
+
+/// An answer that isn't whole.
+fn in_part(name: &'static str, command: Command<'static>, out: &'static str) -> Row {
+    Row {
+        status: 6,
+        ..done(name, command, "", out, "")
+    }
+}
+
 /// Each command, and texts and a log that are refused.
-pub fn rows() -> [Row; 14] {
-    let run = Command::Run {
-        drive: None,
-        log: Some("log"),
-    };
+pub fn rows() -> [Row; 18] {
     let by_worker = Command::Run {
         drive: Workers::new(1).map(Drive::Workers),
         log: Some("log"),
     };
-    let replay = Command::Replay { log: "log" };
-    let chart = Command::Chart { log: "log" };
     [
-        done(
-            "check",
-            Command::Check,
-            "",
-            "accepted steps 12 activities 2 clocks 1\n",
-            "",
-        ),
+        done("check", Command::Check, "", CHECKED, ""),
         done("compile", Command::Compile, "", MODULE, ""),
+        done("explain", Command::Explain { json: false }, "", ACCEPTED, ""),
         done("listing", Command::Listing, "", LISTED, ""),
-        done("run", run, "", PRINTED, LOG),
+        done("run", RUN, "", PRINTED, LOG),
         done("run by a worker", by_worker, "", PRINTED, LOG),
-        done("replay", replay, LOG, PRINTED, ""),
-        done("chart", chart, LOG, CHARTED, ""),
-        refused(
-            "check of no program",
-            Command::Check,
-            "main",
-            "",
-            1,
-            "x10clock: F2 Syntax at 0\n",
-        ),
-        done(
-            "explain",
-            Command::Explain { json: false },
-            "",
-            ACCEPTED,
-            "",
-        ),
-        Row {
-            out: EXPLAINED,
-            ..refused(
-                "explain of no program",
-                Command::Explain { json: false },
-                "main",
-                "",
-                1,
-                "x10clock: F2 Syntax at 0\n",
-            )
-        },
-        Row {
-            out: EXPLAINED_JSON,
-            ..refused(
-                "explain of no program, as JSON",
-                Command::Explain { json: true },
-                "main",
-                "",
-                1,
-                "x10clock: F2 Syntax at 0\n",
-            )
-        },
-        refused(
-            "run of a method that calls itself",
-            run,
-            "def main() { main(); }",
-            "",
-            1,
-            "x10clock: F10 Recursive at 13\n",
-        ),
-        refused(
-            "replay of a beginning",
-            replay,
-            IN_STEP,
-            "x10log 1\n0 1\n",
-            3,
-            TRUNCATED,
-        ),
-        refused(
-            "chart of another log",
-            chart,
-            IN_STEP,
-            "x10log 1\n1 1\nend 1\n",
-            3,
-            "x10clock: L4 NotEnabled entry 0\n",
-        ),
+        done("outcomes", ALL, "", OUTCOMES, OUTCOME_LOG),
+        in_part("some outcomes", SOME, SOME_OUTCOMES),
+        done("replay", REPLAY, LOG, PRINTED, ""),
+        done("chart", CHART, LOG, CHARTED, ""),
+        done("events", Command::Events { log: "log" }, LOG, EVENTS, ""),
+        done("lanes", Command::Lanes { log: "log" }, LOG, LANES, ""),
+        refused("check of no program", Command::Check, "main", "", 1, NO_PROGRAM),
+        explained("explain of no program", false, EXPLAINED),
+        explained("explain of no program, as JSON", true, EXPLAINED_JSON),
+        refused("run of itself", RUN, ITSELF, "", 1, RECURSIVE),
+        refused("replay of a beginning", REPLAY, IN_STEP, BEGINNING, 3, TRUNCATED),
+        refused("chart of another log", CHART, IN_STEP, OTHER_LOG, 3, NOT_ENABLED),
     ]
 }

@@ -6,6 +6,8 @@ use crate::modules::{Wrong, accepted, fits, holds};
 use std::alloc::Global;
 use std::io;
 use xk_bounds::Verified;
+use xk_events::module_events;
+use xk_lanes::module_lanes;
 use xk_log::{Log, LogFault, read_log};
 use xk_replay::{ReplayFault, chart, replay, write_log};
 use xk_scheduler::Ended;
@@ -39,6 +41,10 @@ fn is_charted(alloc: Global, ended: &Ended<'_>, is_whole: bool) -> Result<(), Wr
     holds(is_whole, "a log is played again that isn't of a whole run")?;
     let is_charted = chart(alloc, ended).is_ok() || chart(alloc, ended).is_ok();
     holds(is_charted, "a chart isn't made at the second try")?;
+    let is_told = module_events(alloc, ended).is_ok() || module_events(alloc, ended).is_ok();
+    holds(is_told, "events aren't told at the second try")?;
+    let is_drawn = module_lanes(alloc, ended).is_ok() || module_lanes(alloc, ended).is_ok();
+    holds(is_drawn, "lanes aren't drawn at the second try")?;
     let is_written = write_log(ended, &mut Counted::new(io::sink())).is_ok();
     holds(is_written, "a log isn't written at the first try")
 }

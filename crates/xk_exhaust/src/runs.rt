@@ -1,11 +1,14 @@
 //! Runs: by single steps, by a schedule, by choosers, and by turns; each call tried again where memory was refused.
 
 ghost use Rattle.std.specs.Prelude.{◌≡◌, IfOk};
+ghost use Rattle.xk_types.specs.World.{AreArguments};
 
 use crate::modules::{Wrong, fits, holds};
 use std::alloc::Global;
 use xk_bounds::Verified;
 use xk_core::Core;
+use xk_outcomes::{Limit, outcomes, outcomes_text};
+use xk_random::Random;
 use xk_scheduler::{
     Chooser, Driver, Ended, First, Halt, Last, Partial, Ran, Round, drive, run_schedule,
 };
@@ -17,6 +20,8 @@ pub fn on_verified(alloc: Global, verified: &Verified, arguments: &[i64]) -> Res
     by_chooser(alloc, verified, arguments, First)?;
     by_chooser(alloc, verified, arguments, Last)?;
     by_chooser(alloc, verified, arguments, Round::new())?;
+    by_chooser(alloc, verified, arguments, Random::new(1))?;
+    by_search(alloc, verified, arguments)?;
     by_turns(alloc, verified, arguments)
 }
 
@@ -152,6 +157,28 @@ fn by_chooser<C: Chooser + Copy>(
         answer => answer,
     };
     holds(ends == Some(true), "a driven run isn't over")
+}
+
+/// What a module can print, as far as so many worlds show it, at the second try where memory was refused.
+fn by_search(alloc: Global, verified: &Verified, arguments: &[i64]) -> Result<(), Wrong> {
+    fits(verified, arguments)?;
+    let is_searched =
+        is_found(alloc, verified, arguments) || is_found(alloc, verified, arguments);
+    holds(is_searched, "outcomes aren't found at the second try")
+}
+
+/// Whether outcomes are found and told; no more worlds are kept than show what growths there are.
+fn is_found(alloc: Global, verified: &Verified, arguments: &[i64]) -> bool
+    requires { AreArguments verified.now arguments.now }
+{
+    let limit = Limit {
+        entries: 3,
+        outcomes: 3,
+    };
+    match outcomes(alloc, verified, arguments, limit) {
+        Ok(found) => outcomes_text(alloc, &found.list, found.complete).is_ok(),
+        Err(_) => false,
+    }
 }
 
 /// A core that a driver takes over, at the second try, with what came back, where memory was refused.

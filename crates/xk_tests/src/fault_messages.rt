@@ -46,6 +46,8 @@ const STALE_TEXT: &str =
 
 const EXCLUDED_TEXT: &str = "x10clock: --workers and --order exclude each other\n";
 
+const SEED_TEXT: &str = "x10clock: --seed goes with --order random\n";
+
 fn kind_fault(alloc: Global) -> KindFault {
     KindFault {
         rule: Rule::Leak,
@@ -141,6 +143,7 @@ fn faults_of_words_are_told(rt: HostRuntime) -> Result<(), Fail> {
     let mistake = WordsFault::NotUnderstood(String::from_str(alloc, "mistake")?);
     assert!(rt; says(alloc, &mistake, "mistake"));
     assert!(rt; says(alloc, &WordsFault::OrderAndWorkers, EXCLUDED_TEXT));
+    assert!(rt; says(alloc, &WordsFault::SeedAlone, SEED_TEXT));
     assert!(rt; says(alloc, &WordsFault::OutOfMemory, MEMORY_TEXT));
     Ok(())
 }
