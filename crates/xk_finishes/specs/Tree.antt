@@ -34,6 +34,10 @@ innermost_of a node = record { owner = Some a; depth = node.opened }
 abbrev pub governing_of : ℕ → NodeValue → Finish
 governing_of a node = if node.opened == 0 then node.governed else innermost_of a node
 
+-- two activities, or one in two trees, have as many finishes open, and the same governs them
+abbrev pub HaveSameFinishes : NodeValue → NodeValue → Type 0
+HaveSameFinishes x y = (x.opened ≡ y.opened) × (x.governed ≡ y.governed)
+
 -- ---- what happens to an activity
 
 -- one more finish is open

@@ -1,6 +1,7 @@
 //! A finish by its name.
 
 ghost use Rattle.std.specs.Prelude.{◌≡◌, Some};
+ghost use Rattle.std.specs.Bool.{Decides};
 ghost use Rattle.xk_types.specs.World.{root};
 
 use std::marker::Model;
@@ -22,6 +23,19 @@ impl Model for Finish {
     ghost view = { λ f. record { owner = f.owner; depth = f.depth } };
 
     ghost inverse = { λ f. record { owner = f.owner; depth = f.depth } };
+}
+
+/// Whether it is the same activity, or nobody both times.
+fn is_same_owner(owner: Option<Act>, other: Option<Act>) -> bool
+    ensures { Decides result (owner ≡ other) }
+{
+    match owner {
+        None => other.is_none(),
+        Some(act) => match other {
+            None => false,
+            Some(another) => act.0 == another.0,
+        },
+    }
 }
 
 impl Finish {
@@ -57,5 +71,12 @@ impl Finish {
         ensures { result ≡ self.depth }
     {
         self.depth
+    }
+
+    /// Whether it is the other one.
+    pub fn is_same(self, other: Finish) -> bool
+        ensures { Decides result (self ≡ other) }
+    {
+        self.depth == other.depth && is_same_owner(self.owner, other.owner)
     }
 }

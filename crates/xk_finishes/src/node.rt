@@ -1,7 +1,8 @@
 //! What the tree keeps of one activity.
 
 ghost use Rattle.std.specs.Prelude.{◌≡◌, ◌<◌, true, false};
-ghost use Rattle.xk_finishes.specs.Tree.{fresh_node, node_entered, node_left, node_ended, governing_of};
+ghost use Rattle.std.specs.Bool.{Decides};
+ghost use Rattle.xk_finishes.specs.Tree.{fresh_node, node_entered, node_left, node_ended, governing_of, HaveSameFinishes};
 
 use crate::finish::Finish;
 use std::marker::Model;
@@ -72,6 +73,13 @@ impl Node {
         ensures { result ≡ self.now.ended }
     {
         self.ended
+    }
+
+    /// Whether it has as many finishes open as the other one, and the same governs it.
+    pub fn has_same_finishes(&self, other: &Node) -> bool
+        ensures { Decides result (HaveSameFinishes self.now other.now) }
+    {
+        self.opened == other.opened && self.governed.is_same(other.governed)
     }
 
     /// The finish that governs what it starts, this being its number: the innermost that it has open, else the one that

@@ -1,9 +1,10 @@
 //! The tree of finishes.
 
 ghost use Rattle.std.specs.Prelude.{◌≡◌, ◌<◌, ◌^◌, false, not, List, [], ◌∷◌, ◌++◌, length, Some, slice_get, IfOk, OnOk, OnErr};
+ghost use Rattle.std.specs.Bool.{Decides};
 ghost use Rattle.xk_types.specs.World.{Activity, root};
 ghost use Rattle.xk_types.specs.Step as step;
-ghost use Rattle.xk_finishes.specs.Tree.{fresh_node, node_at, node_entered, node_left, node_ended, changed_at, governing_of, awaits_innermost, AreNodesOf};
+ghost use Rattle.xk_finishes.specs.Tree.{fresh_node, node_at, node_entered, node_left, node_ended, changed_at, governing_of, awaits_innermost, AreNodesOf, HaveSameFinishes};
 
 use crate::counters::Counters;
 use crate::finish::Finish;
@@ -125,5 +126,15 @@ impl FinishTree {
         ensures { result ≡ (node_at self.now act).governed.owner }
     {
         self.nodes[act.0 as usize].governed().owner()
+    }
+
+    /// Whether the activity has as many finishes open in the other tree, and the same governs it there.
+    pub fn has_same_finishes(&self, other: &FinishTree, act: Act) -> bool
+        requires here { act < length self.now }
+        requires there { act < length other.now }
+        ensures { Decides result (HaveSameFinishes (node_at self.now act) (node_at other.now act)) }
+    {
+        let there = &other.nodes[act.0 as usize];
+        self.nodes[act.0 as usize].has_same_finishes(there)
     }
 }

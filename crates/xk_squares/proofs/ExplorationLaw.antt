@@ -1,6 +1,6 @@
 -- A quiet step may be moved to the front of a schedule by which all have ended. So nothing is missed where from each world one quiet step was
 -- taken, or each step, and one of several worlds that are alike was kept.
-use Rattle.std.proofs.Common.{◌≡◌, ℕ, ℤ, zero, suc, ◌+◌, ◌≤◌, ◌⊎◌, inl, inr, not, true, false, true≢false, List, [], ◌∷◌, ◌++◌, length, filter, Some, None, refl, sym, ap, ◌∙◌, subst, append_assoc, arith}
+use Rattle.std.proofs.Common.{◌≡◌, ℕ, ℤ, zero, suc, ◌≤◌, ◌⊎◌, inl, inr, not, true, true≢false, List, [], ◌∷◌, ◌++◌, length, filter, Some, None, refl, sym, ap, ◌∙◌, subst, append_assoc, arith}
 use Rattle.std.specs.Prelude.{slice_get}
 use Rattle.std.specs.List.{filter_map, list_all}
 use Rattle.std.specs.Option.{option_to_list}
@@ -17,7 +17,7 @@ use Rattle.xk_types.specs.Schedule.{Through, run, run_on, IsReached, is_local, a
 use Rattle.xk_laws.proofs.ReachabilityLemmas.{same_through, first_step, run_arguments, reached_step}
 use Rattle.xk_squares.specs.PlainWorlds.{AreAlike}
 use Rattle.xk_squares.specs.QuietSteps.{has_quiet_step, QuietStepsGoFirst}
-use Rattle.xk_squares.specs.Exploration.{IsFound, HasAlike, HasNext, AreExplored, NothingIsMissed}
+use Rattle.xk_squares.specs.Exploration.{IsLedTo, AreLedTo, HasAlike, HasNext, AreExplored, NothingIsMissed}
 use Rattle.xk_squares.proofs.AwaitIndependenceLemmas.{same_or_not}
 use Rattle.xk_squares.proofs.ChangeSquareLemmas.{same_step, found_of}
 use Rattle.xk_squares.proofs.StartSquareLemmas.{alive_of}
@@ -46,19 +46,19 @@ ended_at (z ∷ xs) zero x h at =
     ap (λ (y : Activity). is_ended y.status) (sym (same_Some z x at)) ∙ (and_parts (is_ended z.status) (list_all (λ (act : Activity). is_ended act.status) xs) h).0
 ended_at (z ∷ xs) (suc a) x h at = ended_at xs a x (and_parts (is_ended z.status) (list_all (λ (act : Activity). is_ended act.status) xs) h).1 at
 
-nobody_steps : (m : ModuleValue) (w u : World) (a : ℕ) (e : Event) → step m w a ≡ Stepped u e → all_ended w ≡ true → ⊥
+pub nobody_steps : (m : ModuleValue) (w u : World) (a : ℕ) (e : Event) → step m w a ≡ Stepped u e → all_ended w ≡ true → ⊥
 nobody_steps m w u a e h ended =
     let x = found_of m w a u e h in
     true≢false (sym (ended_at w.activities a x.0 ended x.1) ∙ alive_of m w a x.0 u e x.1 h)
 
--- a world that was found is reached
-found_reached : (m : ModuleValue) (args : List ℤ) (schedules : List (List ℕ)) (w : World) (numbers : List ℤ) → AreArguments m args → IsFound m args schedules w numbers → IsReached m w
-found_reached m args schedules w numbers taken found =
-    let same = run_arguments m found.list (opening m args) w found.legal in (
-      found.list,
+-- a world that a legal schedule leads to is reached
+led_reached : (m : ModuleValue) (args : List ℤ) (w : World) (numbers : List ℤ) → AreArguments m args → IsLedTo m args w numbers → IsReached m w
+led_reached m args w numbers taken led =
+    let same = run_arguments m led.list (opening m args) w led.legal in (
+      led.list,
       (
         subst (AreArguments m) (sym same) taken,
-        subst (λ xs. run m found.list (opening m xs) ≡ Through w) (sym same) found.legal,
+        subst (λ xs. run m led.list (opening m xs) ≡ Through w) (sym same) led.legal,
       ),
     )
 
@@ -156,31 +156,31 @@ module _ (m : ModuleValue) (limits : IsWithinLimits m) (ok : IsAccepted m) where
       by shorter (inl same) = comes_first b list w u a e numbers quiet takes same h
       by shorter (inr differs) = comes_later b list shorter w u a e numbers reached quiet takes differs h
 
-  -- ---- schedules that were found
+  -- ---- worlds that were found
 
-  module _ (args : List ℤ) (schedules : List (List ℕ)) (taken : AreArguments m args) (explored : AreExplored m args schedules) where
-    -- one that was found prints these numbers, and all have ended by it
+  module _ (args : List ℤ) (Found : World → List ℤ → Type 0) (taken : AreArguments m args) (led : AreLedTo m args Found) (explored : AreExplored m Found) where
+    -- one was found in which all have ended, these numbers being printed by then
     abbrev IsMet : List ℤ → Type 0
-    IsMet numbers = (v : World) × IsFound m args schedules v numbers × (all_ended v ≡ true)
+    IsMet numbers = (v : World) × Found v numbers × (all_ended v ≡ true)
 
     -- what is known of shorter lists
     abbrev Meets : ℕ → Type 0
-    Meets n = (list : List ℕ) (w : World) (before numbers : List ℤ) → length list ≤ n → HasAlike m args schedules w before → Ends m list w numbers → IsMet (before ++ numbers)
+    Meets n = (list : List ℕ) (w : World) (before numbers : List ℤ) → length list ≤ n → HasAlike Found w before → Ends m list w numbers → IsMet (before ++ numbers)
 
     -- one quiet step was taken
-    by_quiet : (n : ℕ) → Meets n → (list : List ℕ) (w : World) (before numbers : List ℤ) → length list ≤ suc n → IsFound m args schedules w before → Ends m list w numbers
-        → (a : ℕ) → has_quiet_step m w a ≡ true → HasNext m args schedules w before a → IsMet (before ++ numbers)
+    by_quiet : (n : ℕ) → Meets n → (list : List ℕ) (w : World) (before numbers : List ℤ) → length list ≤ suc n → Found w before → Ends m list w numbers
+        → (a : ℕ) → has_quiet_step m w a ≡ true → HasNext m Found w before a → IsMet (before ++ numbers)
     by_quiet n shorter list w before numbers short found h a quiet next =
         let u = enabled_step (step m w a) (quiet_enabled m w a quiet) in
-        let r : Rest m list u.0 numbers = moved list w u.0 a u.1 numbers (found_reached m args schedules w before taken found) quiet u.2 h in
+        let r : Rest m list u.0 numbers = moved list w u.0 a u.1 numbers (led_reached m args w before taken (led w before found)) quiet u.2 h in
         let silent : number_printed u.1 ≡ None = law.silent w u.0 a u.1 quiet u.2 in
-        let has : HasAlike m args schedules u.0 before =
-        subst (HasAlike m args schedules u.0) (ap (λ o. before ++ option_to_list o) silent ∙ append-nil before) (next u.0 u.1 u.2) in
+        let has : HasAlike Found u.0 before =
+        subst (HasAlike Found u.0) (ap (λ o. before ++ option_to_list o) silent ∙ append-nil before) (next u.0 u.1 u.2) in
         shorter r.rest u.0 before numbers (omega (arith, r.shorter, short)) has r.ends
 
     -- each step was
     by_each : (n : ℕ) → Meets n → (b : ℕ) (list : List ℕ) (w : World) (before numbers : List ℤ) → length (b ∷ list) ≤ suc n → Ends m (b ∷ list) w numbers
-        → HasNext m args schedules w before b → IsMet (before ++ numbers)
+        → HasNext m Found w before b → IsMet (before ++ numbers)
     by_each n shorter b list w before numbers short h next =
         let f = first_step w h.last (step m w b) (run m list) h.legal in
         let more : List ℤ = option_to_list (number_printed f.1) in
@@ -191,20 +191,20 @@ module _ (m : ModuleValue) (limits : IsWithinLimits m) (ok : IsAccepted m) where
     meets : (n : ℕ) → Meets n
     meets n [] w before numbers short has h = (
       has.other,
-      subst (IsFound m args schedules has.other) (sym (append-nil before) ∙ ap (λ ns. before ++ ns) h.prints) has.found,
+      subst (Found has.other) (sym (append-nil before) ∙ ap (λ ns. before ++ ns) h.prints) has.found,
       sym ((alike_worlds_go_alike m).ends w has.other has.alike) ∙ ap all_ended (same_through w h.last h.legal) ∙ h.ended,
     )
     meets zero (b ∷ list) w before numbers short has h = absurd (omega (arith, short))
     meets (suc n) (b ∷ list) w before numbers short has h =
         by (meets n) (explored has.other before has.found) (ends_alike m (b ∷ list) w has.other numbers has.alike h)
       where
-        by : Meets n → ((a : ℕ) × (has_quiet_step m has.other a ≡ true) × HasNext m args schedules has.other before a) ⊎ ((a : ℕ) → HasNext m args schedules has.other before a)
+        by : Meets n → ((a : ℕ) × (has_quiet_step m has.other a ≡ true) × HasNext m Found has.other before a) ⊎ ((a : ℕ) → HasNext m Found has.other before a)
             → Ends m (b ∷ list) has.other numbers → IsMet (before ++ numbers)
         by shorter (inl one) g = by_quiet n shorter (b ∷ list) has.other before numbers short has.found g one.0 one.1 one.2
         by shorter (inr all) g = by_each n shorter b list has.other before numbers short g (all b)
 
-pub nothing_missed : (m : ModuleValue) (args : List ℤ) (schedules : List (List ℕ)) → IsWithinLimits m → IsAccepted m → AreArguments m args
-    → HasAlike m args schedules (opening m args) [] → AreExplored m args schedules → NothingIsMissed m args schedules
-nothing_missed m args schedules limits ok taken begun explored list w legal ended =
-    meets m limits ok args schedules taken explored (length list) list (opening m args) [] (printed m list (opening m args)) (omega arith) begun
+pub nothing_missed : (m : ModuleValue) (args : List ℤ) (Found : World → List ℤ → Type 0) → IsWithinLimits m → IsAccepted m → AreArguments m args
+    → AreLedTo m args Found → HasAlike Found (opening m args) [] → AreExplored m Found → NothingIsMissed m args Found
+nothing_missed m args Found limits ok taken led begun explored list w legal ended =
+    meets m limits ok args Found taken led explored (length list) list (opening m args) [] (printed m list (opening m args)) (omega arith) begun
     (record { last = w; legal = legal; ended = ended; prints = refl })

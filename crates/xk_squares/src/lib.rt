@@ -4,7 +4,7 @@
 ghost use Rattle.std.specs.Prelude.{◌≡◌, ◌<◌, ℕ, ℤ, Bool, false, true, List, [], length};
 ghost use Rattle.xk_squares.specs.ClockChanges.{Change, IsPossible, after_change, after_start};
 ghost use Rattle.xk_squares.specs.Conflicts.{AreConflictFree};
-ghost use Rattle.xk_squares.specs.Exploration.{AreExplored, HasAlike, NothingIsMissed};
+ghost use Rattle.xk_squares.specs.Exploration.{AreExplored, AreLedTo, HasAlike, IsIn, NothingIsMissed};
 ghost use Rattle.xk_squares.specs.PlainWorlds.{plain, plain_clock, plain_outcome};
 ghost use Rattle.xk_squares.specs.QuietSteps.{AlikeWorldsGoAlike, QuietStepsGoFirst};
 ghost use Rattle.xk_squares.specs.Squares.{IsSquare, makes_next, starts_next};
@@ -54,12 +54,12 @@ pub fn quiet_first()
     ensures alike { (m : ModuleValue) → AlikeWorldsGoAlike m }
 {}
 
-/// What all legal schedules of an accepted module print by which all have ended is known by a list of some: if one of these leads to
-/// the opening world, or to one that is alike, and prints nothing; and if wherever one leads, others lead on, by one quiet step or
-/// by each step, to worlds that are alike.
+/// What all legal schedules of an accepted module print by which all have ended is known by worlds that were found, each with the
+/// numbers that were printed by then: if the opening world was found, or one that is alike, before any number; and if from each of
+/// them others were, by one quiet step or by each step, up to worlds that are alike.
 pub fn nothing_missed()
-    ensures { (m : ModuleValue) (args : List ℤ) (schedules : List (List ℕ))
-        → IsWithinLimits m → IsAccepted m → AreArguments m args
-        → HasAlike m args schedules (opening m args) [] → AreExplored m args schedules
-        → NothingIsMissed m args schedules }
+    ensures { (m : ModuleValue) (args : List ℤ) (all : List (World × List ℤ))
+        → IsWithinLimits m → IsAccepted m → AreArguments m args → AreLedTo m args (IsIn all)
+        → HasAlike (IsIn all) (opening m args) [] → AreExplored m (IsIn all)
+        → NothingIsMissed m args (IsIn all) }
 {}

@@ -1,6 +1,7 @@
 -- The law, from the lemmas.
+use Rattle.xk_squares.specs.Exploration.{IsIn}
 use Rattle.xk_squares.proofs.ExplorationLaw.{nothing_missed}
 use Rattle.xk_squares.proofs.nothing_missed.Goals as goal
 
 pub returns : goal.returns
-returns c = nothing_missed
+returns c m args all = nothing_missed m args (IsIn all)
