@@ -252,6 +252,20 @@ impl<'m> Frames<'m> {
         &unit.code
     }
 
+    /// The unit that the present frame runs.
+    pub fn unit(&self) -> u16
+        ensures { result ≡ self.now.frame.unit }
+    {
+        self.unit
+    }
+
+    /// The place of the instruction that the present frame stands at.
+    pub fn place(&self) -> u32
+        ensures { result ≡ self.now.frame.place }
+    {
+        self.place
+    }
+
     /// The instruction that the present frame stands at.
     pub fn next(&self) -> &'m Instr
         requires { (i : Instr)
