@@ -10,7 +10,7 @@ use Rattle.xk_types.specs.declared.world.Status.{Status}
 use Rattle.xk_types.specs.declared.world.Status.TheVariants as status
 use Rattle.xk_types.specs.declared.world.Event.TheVariants as event
 use Rattle.xk_types.specs.Code.{ModuleValue}
-use Rattle.xk_types.specs.World.{Activity, World, instruction_at}
+use Rattle.xk_types.specs.World.{Activity, World, instruction_at, is_ended}
 use Rattle.xk_types.specs.Step.{Outcome, Blocked, Wrong, Stepped, step, done, none, moved, settled}
 use Rattle.xk_types.specs.Schedule.{is_step, is_enabled}
 use Rattle.xk_finishes.specs.Tree.{NodeValue}
@@ -22,7 +22,7 @@ use Rattle.xk_activity.specs.Activities.{Stands, act_at, nobody}
 use Rattle.xk_activity.proofs.StepAgreementLemmas.{joined}
 use Rattle.xk_activity.proofs.ReachabilityLemmas.{reached_safe}
 use Rattle.xk_core.specs.InstructionEffect.{concerns_finishes, is_visible, carried, IsLast}
-use Rattle.xk_core.specs.Core.{CoreValue, TakesStep, Locally, IsBeyond, is_arrived, is_running, is_waiting, runs_now, next_instruction, next_of, instruction_of, instruction_by}
+use Rattle.xk_core.specs.Core.{CoreValue, TakesStep, Locally, IsBeyond, is_arrived, is_living, is_running, is_waiting, runs_now, next_instruction, next_of, instruction_of, instruction_by}
 use Rattle.xk_core.specs.FinishView.{with_node, with_nodes, with_finishes, AreTold}
 use Rattle.xk_core.proofs.NonLocalStepLemmas.{visible_there, nobody_waits}
 use Rattle.xk_core.proofs.CoreLemmas.{carry_step}
@@ -161,6 +161,15 @@ waiting_told ns w width a = by (told_at ns w.activities width a)
     by (Nobody e g) = ap (λ o. option_map_or (λ (act : Activity). is_arrived act.status) o false) (g ∙ sym e)
     by (Somebody n x k e g) = ap (λ o. option_map_or (λ (act : Activity). is_arrived act.status) o false) g
         ∙ sym (ap (λ o. option_map_or (λ (act : Activity). is_arrived act.status) o false) e)
+
+-- and whether it hasn't ended
+pub living_told : (ns : List NodeValue) (w : World) → length ns ≡ length w.activities → (a : ℕ) → is_living (with_finishes ns w) a ≡ is_living w a
+living_told ns w width a = by (told_at ns w.activities width a)
+  where
+    by : At ns w.activities a → is_living (with_finishes ns w) a ≡ is_living w a
+    by (Nobody e g) = ap (λ o. option_map_or (λ (act : Activity). not (is_ended act.status)) o false) (g ∙ sym e)
+    by (Somebody n x k e g) = ap (λ o. option_map_or (λ (act : Activity). not (is_ended act.status)) o false) g
+        ∙ sym (ap (λ o. option_map_or (λ (act : Activity). not (is_ended act.status)) o false) e)
 
 -- ---- at an instruction whose step others can see
 

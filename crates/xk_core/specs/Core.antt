@@ -8,7 +8,7 @@ use Rattle.xk_types.specs.declared.world.Event.TheVariants as event
 use Rattle.xk_types.specs.declared.world.Status.{Status}
 use Rattle.xk_types.specs.declared.world.Status.TheVariants as status
 use Rattle.xk_types.specs.Code.{ModuleValue, IsWithinLimits}
-use Rattle.xk_types.specs.World.{Activity, World, instruction_at, opening, standing_of}
+use Rattle.xk_types.specs.World.{Activity, World, instruction_at, opening, standing_of, is_ended}
 use Rattle.xk_types.specs.Step.{Outcome, Blocked, Wrong, Stepped, step, is_registered, is_signalled, settled, moved, none}
 use Rattle.xk_types.specs.Schedule.{IsReached, is_enabled, is_local}
 use Rattle.xk_types.specs.Acceptance.{IsAccepted}
@@ -108,6 +108,10 @@ is_arrived status.Ended = false
 -- activity a exists and waits at an `advance`
 abbrev pub is_waiting : World → ℕ → Bool
 is_waiting w a = option_map_or (λ act. is_arrived act.status) (slice_get w.activities a) false
+
+-- activity a exists and hasn't ended
+abbrev pub is_living : World → ℕ → Bool
+is_living w a = option_map_or (λ act. not (is_ended act.status)) (slice_get w.activities a) false
 
 -- clock c holds activity a back: it is signalled on it
 abbrev pub is_held_back_by : World → ℕ → ℕ → Bool

@@ -6,7 +6,7 @@ ghost use Rattle.xk_types.specs.World.{AreArguments, opening};
 ghost use Rattle.xk_types.specs.Step.{Stepped, step, waits};
 ghost use Rattle.xk_types.specs.Schedule.{IsReached, is_enabled, all_ended};
 ghost use Rattle.xk_types.specs.Bound.{steps_bound};
-ghost use Rattle.xk_core.specs.Core.{is_running, IsBeyond, Locally, next_instruction, next_of, governor, opening_core, StepsTo, WantsMemory, IsCore, IsLeastEnabled, is_quiet, advanced_now, is_held_back_by, is_registered_on, is_next_local, with_world, is_waiting};
+ghost use Rattle.xk_core.specs.Core.{is_living, is_running, IsBeyond, Locally, next_instruction, next_of, governor, opening_core, StepsTo, WantsMemory, IsCore, IsLeastEnabled, is_quiet, advanced_now, is_held_back_by, is_registered_on, is_next_local, with_world, is_waiting};
 ghost use Rattle.xk_core.specs.LocalRun.{RunsTo, AreLocal, IsUnseen, after_steps};
 ghost use Rattle.xk_core.specs.TicketAcceptance.{Accepts};
 ghost use Rattle.xk_activity.specs.Activities.{act_at};
@@ -220,6 +220,13 @@ impl<'m> Core<'m> {
         ensures { result ≡ is_waiting self.now.world act }
     {
         self.state.is_waiting(act.0 as usize)
+    }
+
+    /// Whether the activity exists and hasn't ended.
+    pub fn is_living(&self, act: Act) -> bool
+        ensures { result ≡ is_living self.now.world act }
+    {
+        self.state.is_living(act.0 as usize)
     }
 
     /// A clock that holds the activity back where it waits at an `advance`, if one does: it is signalled on it.

@@ -16,7 +16,7 @@ ghost use Rattle.xk_core.specs.LocalRun.{after_steps, HasRoomForSteps, TakesStep
 ghost use Rattle.xk_core.specs.TicketAcceptance.{Accepts};
 ghost use Rattle.xk_core.specs.Enabledness.{is_able};
 ghost use Rattle.xk_core.specs.State.{core_of, IsReady};
-ghost use Rattle.xk_core.specs.Core.{is_running, is_waiting, next_instruction, with_world, TakesStep};
+ghost use Rattle.xk_core.specs.Core.{is_living, is_running, is_waiting, next_instruction, with_world, TakesStep};
 ghost use Rattle.xk_core.specs.Change.{standing_after_step, AllowsChange};
 ghost use Rattle.xk_core.specs.InstructionEffect.{concerns_finishes, is_visible, carried, CarriesOut, passed_on, IsRoomy, IsLast};
 ghost use Rattle.xk_types.specs.World as world;
@@ -456,6 +456,13 @@ impl<'m> State<'m> {
         ensures { result ≡ is_waiting self.now.world a }
     {
         a < self.activities.len() && matches!(self.activities.status(a), Status::Arrived)
+    }
+
+    /// Whether activity a exists and hasn't ended.
+    pub fn is_living(&self, a: usize) -> bool
+        ensures { result ≡ is_living self.now.world a }
+    {
+        a < self.activities.len() && !matches!(self.activities.status(a), Status::Ended)
     }
 
     /// Whether activity a exists, isn't over, and isn't held back by a clock at an `advance`.
