@@ -27,6 +27,8 @@ impl Model for Random {
     ghost Value = { Chance };
 
     ghost view = { λ r. record { state = r.state; taken = r.taken } };
+
+    ghost inverse = { λ c. record { state = c.state; taken = c.taken } };
 }
 
 /// The state behind a draw.

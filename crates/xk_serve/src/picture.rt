@@ -94,12 +94,16 @@ fn picture_of(
     match picture {
         Picture::Chart => Ok(chart(alloc, ended)?.into_bytes()),
         Picture::Events => match origins_in(alloc, form, bytes)? {
-            Some(origins) => source_events(alloc, bytes, origins.units(), ended),
-            None => module_events(alloc, ended),
+            Some(origins) => {
+                Ok(source_events(alloc, bytes, origins.units(), ended)?.into_bytes())
+            }
+            None => Ok(module_events(alloc, ended)?.into_bytes()),
         },
         Picture::Lanes => match origins_in(alloc, form, bytes)? {
-            Some(origins) => source_lanes(alloc, bytes, origins.units(), ended),
-            None => module_lanes(alloc, ended),
+            Some(origins) => {
+                Ok(source_lanes(alloc, bytes, origins.units(), ended)?.into_bytes())
+            }
+            None => Ok(module_lanes(alloc, ended)?.into_bytes()),
         },
     }
 }
