@@ -1,0 +1,2 @@
+//! Not here yet.
+#![tactic(auto)]

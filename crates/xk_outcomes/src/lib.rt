@@ -1,0 +1,6 @@
+//! Not here yet.
+#![tactic(auto)]
+
+mod text;
+
+pub use text::outcomes_text;
