@@ -1,6 +1,6 @@
 -- What holds of a core, by the law.
-use Rattle.std.proofs.Common.{◌≡◌, ℕ, ◌+◌, ◌<◌, ◌≤◌, ◌^◌, true, false, not, ◌&&◌, List, length, Option, Some, None, slice_get, slice_index_or, All, arith, refl, ap, ◌∙◌}
-use Rattle.std.proofs.lemmas.Option.{slice_get-get_or, get_or_from_slice_get, slice_get_within}
+use Rattle.std.proofs.Common.{◌≡◌, ℕ, ◌+◌, ◌<◌, ◌≤◌, ◌^◌, true, false, not, ◌&&◌, length, Option, Some, None, slice_get, slice_index_or, arith, refl, ap, ◌∙◌}
+use Rattle.std.proofs.lemmas.Option.{slice_get-get_or}
 use Rattle.xk_types.specs.declared.world.Event.{Event}
 use Rattle.xk_types.specs.declared.world.Status.{Status}
 use Rattle.xk_types.specs.declared.world.Status.TheVariants as status

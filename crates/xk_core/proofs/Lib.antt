@@ -14,3 +14,5 @@ pub mod LocalRunLemmas
 pub mod NextLocalLemmas
 pub mod EndLemmas
 pub mod TicketLemmas
+pub mod AlikenessLemmas
+pub mod QuietStepLemmas

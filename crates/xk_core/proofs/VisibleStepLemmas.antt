@@ -10,7 +10,7 @@ use Rattle.xk_types.specs.declared.world.Event.{Event}
 use Rattle.xk_types.specs.declared.world.Event.TheVariants as event
 use Rattle.std.specs.Option.{option_map_or}
 use Rattle.xk_types.specs.Code.{ModuleValue, UnitValue, IsWithinLimits, IsUnitWithinLimits}
-use Rattle.xk_types.specs.World.{Activity, Clock, World, slots_of}
+use Rattle.xk_types.specs.World.{Activity, World, slots_of}
 use Rattle.xk_types.specs.Step.{Outcome, carried_out, done, made, put_in, with_slots, number_in, clock_in, none, cell_in, stored, only, resumed, dropped, onward, slot_at}
 use Rattle.xk_types.specs.Schedule.{is_step}
 use Rattle.xk_activity.specs.Activities.{act_at, nobody}

@@ -7,3 +7,4 @@ pub mod LocalRun
 pub mod FinishView
 pub mod Reservation
 pub mod TicketAcceptance
+pub mod Alikeness

@@ -2,13 +2,15 @@
 
 ghost use Rattle.std.specs.Prelude.{◌≡◌, ◌⊎◌, true, false, ◌+◌, ◌<◌, ◌≤◌, Some, None, length, option_map, option_copied, slice_get, is_some, vec_capacity, IsTrue, IfOk, IfSome, IfNone, OnOk, OnErr};
 ghost use Rattle.std.specs.Bool.{Decides};
-ghost use Rattle.xk_types.specs.World.{AreArguments, opening};
+ghost use Rattle.xk_types.specs.World.{AreArguments, opening, standing_of};
 ghost use Rattle.xk_types.specs.Step.{Stepped, step, waits};
 ghost use Rattle.xk_types.specs.Schedule.{IsReached, is_enabled, all_ended};
 ghost use Rattle.xk_types.specs.Bound.{steps_bound};
 ghost use Rattle.xk_core.specs.Core.{is_living, is_running, IsBeyond, Locally, next_instruction, next_of, governor, opening_core, StepsTo, WantsMemory, IsCore, IsLeastEnabled, is_quiet, advanced_now, is_held_back_by, is_registered_on, is_next_local, with_world, is_waiting};
 ghost use Rattle.xk_core.specs.LocalRun.{RunsTo, AreLocal, IsUnseen, after_steps};
 ghost use Rattle.xk_core.specs.TicketAcceptance.{Accepts};
+ghost use Rattle.xk_core.specs.Alikeness.{AreUnderSameFinishes};
+ghost use Rattle.xk_squares.specs.Conflicts as conflicts;
 ghost use Rattle.xk_activity.specs.Activities.{act_at};
 ghost use Rattle.xk_activity.specs.StepAgreement.{frames_in};
 ghost use Rattle.xk_core.specs.Enabledness.{is_kept};
@@ -23,7 +25,7 @@ use std::marker::Model;
 use xk_activity::{Frames, Next, Ticket};
 use xk_bounds::Verified;
 use xk_finishes::FinishTree;
-use xk_types::{Act, Args, ClockId, Event, Instr};
+use xk_types::{Act, Args, ClockId, Event, Instr, Standing, Status};
 
 /// A running program: one world, which some legal schedule of its module reaches. Every call is proved to keep it so, and
 /// no step of it raises ClockUseException or meets a missing or wrong operand.
@@ -90,6 +92,13 @@ impl<'m> Core<'m> {
         ensures { result.now ≡ self.now.world.arguments }
     {
         self.state.arguments()
+    }
+
+    /// The shared numbers.
+    pub(crate) fn cells(&self) -> &[i64]
+        ensures { result.now ≡ self.now.world.cells }
+    {
+        self.state.cells()
     }
 
     /// Whether the activity exists and can take a step: it runs, and doesn't wait at an `endfinish` for somebody who hasn't ended; or
@@ -193,7 +202,17 @@ impl<'m> Core<'m> {
         requires clock { clock < length self.now.world.clocks }
         ensures { result ≡ is_registered_on self.now.world act clock }
     {
-        is_registered(self.state.standings().standing(act.0 as usize, clock))
+        is_registered(self.standing(act, clock))
+    }
+
+    /// Where the activity stands on the clock.
+    pub(crate) fn standing(&self, act: Act, clock: ClockId) -> Standing
+        requires activity { act < length self.now.world.activities }
+        requires clock { clock < length self.now.world.clocks }
+        ensures { option_map (λ c. standing_of c act) (slice_get self.now.world.clocks clock)
+            ≡ Some result }
+    {
+        self.state.standings().standing(act.0 as usize, clock)
     }
 
     /// Whether no clock advanced in the last step.
@@ -264,6 +283,33 @@ impl<'m> Core<'m> {
             (act_at self.now.world.activities act) }
     {
         self.state.activities().frames(act.0 as usize)
+    }
+
+    /// Whether the activity runs, waits at an `advance`, or is over.
+    pub(crate) fn status(&self, act: Act) -> Status
+        requires { act < length self.now.world.activities }
+        ensures { result ≡ (act_at self.now.world.activities act).status }
+    {
+        self.state.activities().status(act.0 as usize)
+    }
+
+    /// Whether the activity has as many finishes open in the other core, and the same governs it there.
+    pub(crate) fn has_same_finishes(&self, other: &Core<'_>, act: Act) -> bool
+        requires here { act < length self.now.world.activities }
+        requires there { act < length other.now.world.activities }
+        ensures { Decides result (AreUnderSameFinishes (act_at self.now.world.activities act)
+            (act_at other.now.world.activities act)) }
+    {
+        self.finishes.has_same_finishes(&other.finishes, act)
+    }
+
+    /// The instruction that the activity stands at, whatever its status.
+    pub(crate) fn instruction(&self, act: Act) -> &'m Instr
+        requires { act < length self.now.world.activities }
+        ensures { conflicts.next_instruction self.now.module_run self.now.world act
+            ≡ Some result.now }
+    {
+        self.state.activities().next(act.0 as usize)
     }
 
     /// Up to max steps of the activity that nobody else can see, and how many they were: max, or as many as there are before one that

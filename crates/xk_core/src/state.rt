@@ -148,6 +148,13 @@ impl<'m> State<'m> {
         &self.standings
     }
 
+    /// The shared numbers.
+    pub fn cells(&self) -> &[i64]
+        ensures { result.now ≡ self.now.world.cells }
+    {
+        &self.cells
+    }
+
     /// What main was given.
     pub fn arguments(&self) -> &[i64]
         ensures { result.now ≡ self.now.world.arguments }

@@ -1,7 +1,7 @@
 use Rattle.std.proofs.Common.{◌<◌, length, sym, subst, arith}
 use Rattle.xk_core.specs.Core.{CoreValue}
 use Rattle.xk_core.proofs.FinishViewLemmas.{length_told}
-use Rattle.xk_core.proofs.machine.Core.registered.Goals as goal
+use Rattle.xk_core.proofs.machine.Core.standing.Goals as goal
 
 pub standing-requires-clause-activity : goal.standing-requires-clause-activity
 standing-requires-clause-activity c = omega (

@@ -1,0 +1,21 @@
+use Rattle.std.proofs.Common.{refl, arith}
+use Rattle.std.proofs.lemmas.Bool.{false≢true}
+use Rattle.xk_squares.specs.PlainWorlds.{plain_clock}
+use Rattle.xk_core.proofs.AlikenessLemmas.{same_maps, maps_same}
+use Rattle.xk_core.proofs.machine.Core.are_clocks_alike.Goals as goal
+
+pub returns-then-not-is_clock_alike : goal.returns-then-not-is_clock_alike
+returns-then-not-is_clock_alike c = (
+  λ q. absurd (false≢true q),
+  λ e.
+      let yes = c.is_clock_alike.ensures.1 (maps_same plain_clock c.args.self.now.world.clocks c.args.other.now.world.clocks e c.loop-c.c) in
+      let no = c.if-not-is_clock_alike.true in
+      cc,
+)
+
+pub returns : goal.returns
+returns c = (
+  λ q. same_maps plain_clock c.args.self.now.world.clocks c.args.other.now.world.clocks c.requires.clocks
+      (λ k lt. c.loop-c.invariant k (omega (arith, lt, c.clocks-c-end.ensures, c.loop-c-test.false))),
+  λ e. refl,
+)
