@@ -1,19 +1,16 @@
--- Worlds are alike exactly where their activities, clocks, shared numbers and arguments are.
+-- Activities and clocks of two cores, one by one: what is alike at each place is alike as a whole.
 use Rattle.std.proofs.Common.{◌≡◌, ℕ, zero, suc, ◌<◌, Bool, List, [], ◌∷◌, map, length, Some, refl, sym, ap, ◌∙◌, subst, arith, slice_get, get_or, option_map, ext_get_or, Decides}
-use Rattle.std.proofs.lemmas.List.{length-map}
 use Rattle.std.proofs.lemmas.Option.{slice_get-map, slice_get-get_or, same_Some}
 use Rattle.xk_types.specs.declared.world.Standing.TheVariants as standing
 use Rattle.xk_types.specs.Code.{ModuleValue}
 use Rattle.xk_types.specs.World.{Activity, Clock, World, standing_of}
-use Rattle.xk_activity.specs.Local.{FramesValue}
-use Rattle.xk_activity.specs.Activities.{act_at, nobody}
-use Rattle.xk_activity.specs.StepAgreement.{frames_in}
+use Rattle.xk_activity.specs.Activities.{act_at}
 use Rattle.xk_finishes.specs.Tree.{NodeValue, node_at, HaveSameFinishes}
 use Rattle.xk_laws.proofs.ReachabilityLemmas.{reached_sound}
-use Rattle.xk_squares.specs.PlainWorlds.{plain, plain_activity, plain_clock, AreAlike}
+use Rattle.xk_squares.specs.PlainWorlds.{plain_clock}
 use Rattle.xk_core.specs.Core.{IsCore}
 use Rattle.xk_core.specs.FinishView.{with_node, with_nodes}
-use Rattle.xk_core.specs.Alikeness.{AreUnderSameFinishes, StandsAlike, IsAlikeActivity, IsAlikeClock}
+use Rattle.xk_core.specs.Alikeness.{AreUnderSameFinishes, StandsAlike, IsAlikeClock}
 
 -- ---- lists, and what a function makes of their elements
 
@@ -31,9 +28,6 @@ pub maps_same : {X Y : Type 0} (f : X → Y) (xs ys : List X) → map f xs ≡ m
     → (k : ℕ) → option_map f (slice_get xs k) ≡ option_map f (slice_get ys k)
 maps_same f xs ys e k = sym (slice_get-map f xs k) ∙ ap (λ zs. slice_get zs k) e ∙ slice_get-map f ys k
 
-pub maps_long : {X Y : Type 0} (f : X → Y) (xs ys : List X) → map f xs ≡ map f ys → length xs ≡ length ys
-maps_long f xs ys e = sym (length-map xs f) ∙ ap length e ∙ length-map ys f
-
 -- by what is read there
 at_place : {X Y : Type 0} (f : X → Y) (xs ys : List X) (k : ℕ) (d : X) → k < length xs → k < length ys
     → f (get_or xs k d) ≡ f (get_or ys k d) → option_map f (slice_get xs k) ≡ option_map f (slice_get ys k)
@@ -44,44 +38,7 @@ of_place : {X Y : Type 0} (f : X → Y) (xs ys : List X) (k : ℕ) (d : X) → k
 of_place f xs ys k d h g e = same_Some (f (get_or xs k d)) (f (get_or ys k d))
     (sym (ap (option_map f) (slice_get-get_or xs k d h)) ∙ e ∙ ap (option_map f) (slice_get-get_or ys k d g))
 
--- ---- worlds
-
-pub alike : (w v : World) → map plain_activity w.activities ≡ map plain_activity v.activities → map plain_clock w.clocks ≡ map plain_clock v.clocks
-    → w.cells ≡ v.cells → w.arguments ≡ v.arguments → AreAlike w v
-alike w v acts clocks cells args =
-    ap (λ l. record (plain w) { activities = l }) acts
-    ∙ ap (λ l. record (plain w) { activities = (plain v).activities; clocks = l }) clocks
-    ∙ ap (λ l. record (plain v) { cells = l; arguments = w.arguments }) cells
-    ∙ ap (λ l. record (plain v) { arguments = l }) args
-
 -- ---- activities
-
-module _ (w v : World) (a : ℕ) (here : a < length w.activities) (there : a < length v.activities) where
-  abbrev x : Activity
-  x = act_at w.activities a
-
-  abbrev y : Activity
-  y = act_at v.activities a
-
-  pub activity_alike : (m n : ModuleValue) → x.status ≡ y.status → AreUnderSameFinishes x y → frames_in m x ≡ frames_in n y → IsAlikeActivity w v a
-  activity_alike m n status finishes frames = at_place plain_activity w.activities v.activities a nobody here there
-      (ap (λ f. record (plain_activity x) { frame = f }) (ap (λ (fs : FramesValue). fs.frame) frames)
-      ∙ ap (λ l. record (plain_activity x) { frame = y.frame; callers = l }) (ap (λ (fs : FramesValue). fs.callers) frames)
-      ∙ ap (λ s. record (plain_activity x) { frame = y.frame; callers = y.callers; status = s }) status
-      ∙ ap (λ o. record (plain_activity y) { opened = o; governed = x.governed }) finishes.0
-      ∙ ap (λ g. record (plain_activity y) { governed = g }) finishes.1)
-
-  same_but_since : IsAlikeActivity w v a → plain_activity x ≡ plain_activity y
-  same_but_since e = of_place plain_activity w.activities v.activities a nobody here there e
-
-  pub alike_status : IsAlikeActivity w v a → x.status ≡ y.status
-  alike_status e = ap (λ (z : Activity). z.status) (same_but_since e)
-
-  pub alike_finishes : IsAlikeActivity w v a → AreUnderSameFinishes x y
-  alike_finishes e = (ap (λ (z : Activity). z.opened) (same_but_since e), ap (λ (z : Activity). z.governed) (same_but_since e))
-
-  pub alike_frames : (m n : ModuleValue) → m ≡ n → IsAlikeActivity w v a → frames_in m x ≡ frames_in n y
-  alike_frames m n same e = ap (λ k. frames_in k x) same ∙ ap (λ (z : Activity). frames_in n z) (same_but_since e)
 
 -- an activity with its finishes
 pub act_told : (ns : List NodeValue) (xs : List Activity) (a : ℕ) → length ns ≡ length xs → a < length xs
@@ -129,7 +86,3 @@ module _ (m n : ModuleValue) (w v : World) (k : ℕ) (one : IsCore m w) (other :
       at_place plain_clock w.clocks v.clocks k none here there
       (ap (λ l. record (plain_clock c) { standings = l }) (ext_get_or standing.Apart c.standings d.standings (p ∙ sym as_many ∙ sym q)
       (λ a lt. of_place (λ (z : Clock). standing_of z a) w.clocks v.clocks k none here there (each a (omega (arith, lt, p))))))
-
-  pub stands_alike : IsAlikeClock w v k → (a : ℕ) → StandsAlike w v k a
-  stands_alike e a = at_place (λ (z : Clock). standing_of z a) w.clocks v.clocks k none here there
-      (ap (λ (z : Clock). standing_of z a) (of_place plain_clock w.clocks v.clocks k none here there e))
