@@ -1,2 +1,12 @@
-//! Not here yet.
+//! The steps of a run that other activities can see, a line each.
 #![tactic(auto)]
+
+mod events;
+mod places;
+mod steps;
+mod words;
+
+pub use events::{module_events, source_events};
+pub use places::Places;
+pub use steps::{RunStep, seen_steps, take_step};
+pub use words::{event_words, is_seen};

@@ -1,6 +1,12 @@
-//! Not here yet.
+//! All that a program can print, in whichever order its activities take their steps, each list of numbers with a log that shows it.
 #![tactic(auto)]
 
+mod all_outcomes;
+mod found;
+mod listing;
+mod search;
 mod text;
 
+pub use all_outcomes::{Limit, outcomes};
+pub use listing::{Outcome, Outcomes};
 pub use text::outcomes_text;

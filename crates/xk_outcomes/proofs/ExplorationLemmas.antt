@@ -1,0 +1,113 @@
+-- Where each that was found was looked at, nothing is missed.
+use Rattle.std.proofs.Common.{◌≡◌, ◌∙◌, ℕ, ℤ, ◌⊎◌, inl, inr, true, List, [], ◌∷◌, ◌++◌, length, Some, refl, sym, ap, subst, slice_get}
+use Rattle.std.specs.Option.{option_to_list}
+use Rattle.std.proofs.lemmas.List.{append-nil}
+use Rattle.std.proofs.lemmas.Option.{slice_get_within}
+use Rattle.xk_types.specs.declared.world.Event.{Event}
+use Rattle.xk_types.specs.Acceptance.{IsAccepted}
+use Rattle.xk_types.specs.Code.{ModuleValue, IsWithinLimits}
+use Rattle.xk_types.specs.World.{World, opening, AreArguments}
+use Rattle.xk_types.specs.Step.{Stepped, step}
+use Rattle.xk_types.specs.Schedule.{Through, run, all_ended, number_printed, printed}
+use Rattle.xk_laws.proofs.ReachabilityLemmas.{run_more}
+use Rattle.xk_squares.specs.QuietSteps.{has_quiet_step}
+use Rattle.xk_squares.specs.Exploration.{IsLedTo, HasNext}
+use Rattle.xk_squares.proofs.ChangeSquareLemmas.{same_step}
+use Rattle.xk_squares.proofs.QuietStepLaw.{quiet_steps_go_first, alike_worlds_go_alike}
+use Rattle.xk_squares.proofs.ExplorationLaw.{nobody_steps, nothing_missed}
+use Rattle.xk_core.specs.Core.{CoreValue}
+use Rattle.xk_outcomes.specs.declared.found.Found.{Found}
+use Rattle.xk_outcomes.specs.Search.{LeadsQuietly, AreFound, Has, IsKnown, AreExpanded, AreAllFound}
+use Rattle.xk_outcomes.proofs.SearchLemmas.{printed_more}
+
+-- a schedule goes on by a step
+led_step : (m : ModuleValue) (args : List ℤ) (w u : World) (numbers : List ℤ) (a : ℕ) (e : Event) → IsLedTo m args w numbers → step m w a ≡ Stepped u e
+    → IsLedTo m args u (numbers ++ option_to_list (number_printed e))
+led_step m args w u numbers a e led h = record {
+  list = led.list ++ a ∷ [];
+  legal = run_more m led.list (opening m args) w u a e led.legal h;
+  prints = printed_more m led.list (opening m args) w u a e led.legal h ∙ ap (λ l. l ++ option_to_list (number_printed e)) led.prints;
+}
+
+module _ (start : CoreValue) (all : List Found) (limits : IsWithinLimits start.module_run) (ok : IsAccepted start.module_run)
+    (taken : AreArguments start.module_run start.world.arguments) (begins : start.world ≡ opening start.module_run start.world.arguments)
+    (found : AreFound start all) (closed : AreExpanded start.module_run all (length all)) (begun : IsKnown start.module_run all start.world []) where
+  abbrev m : ModuleValue
+  m = start.module_run
+
+  abbrev args : List ℤ
+  args = start.world.arguments
+
+  -- a legal schedule leads to this world and prints these numbers, and quiet steps lead from there to one that they have
+  abbrev Finds : World → List ℤ → Type 0
+  Finds w numbers = IsLedTo m args w numbers × IsKnown m all w numbers
+
+  -- one of them is where its schedule leads
+  led_there : (k : ℕ) (x : Found) → slice_get all k ≡ Some x → IsLedTo m args x.core.world x.printed.items
+  led_there k x there = let f = found k x there in record {
+    list = x.schedule.items;
+    legal = subst (λ w. run m x.schedule.items w ≡ Through x.core.world) begins f.legal;
+    prints = subst (λ w. printed m x.schedule.items w ≡ x.printed.items) begins f.prints;
+  }
+
+  -- each step from one that is like one of them
+  by_each : (w : World) (numbers : List ℤ) → Has all w numbers → (a : ℕ) → HasNext m Finds w numbers a
+  by_each w numbers has a u e h =
+      let x = has.1 in
+      let next = (alike_worlds_go_alike m).steps w x.core.world u a e has.3.0 h in
+      let more : List ℤ = option_to_list (number_printed e) in
+      let there : Finds next.0 (x.printed.items ++ more) = (
+        led_step m args x.core.world next.0 x.printed.items a e (led_there has.0 x has.2) next.1,
+        closed has.0 x (slice_get_within all has.0 x has.2) has.2 a next.0 e next.1,
+      ) in
+      record {
+        other = next.0;
+        found = subst (λ p. Finds next.0 (p ++ more)) has.3.1 there;
+        alike = next.2;
+      }
+
+  -- the first quiet step on the way to one
+  by_quiet : (b : ℕ) (list : List ℕ) (w v : World) (numbers : List ℤ) → IsLedTo m args w numbers → LeadsQuietly m (b ∷ list) w v → Has all v numbers → HasNext m Finds w numbers b
+  by_quiet b list w v numbers led quiet has u e h =
+      let same : (quiet.1 ≡ u) × (quiet.2 ≡ e) = same_step quiet.1 u quiet.2 e (sym quiet.3 ∙ h) in
+      let silent : numbers ++ option_to_list (number_printed e) ≡ numbers =
+      ap (λ n. numbers ++ option_to_list n) ((quiet_steps_go_first m limits ok).silent w u b e quiet.0 h) ∙ append-nil numbers in
+      record {
+        other = u;
+        found = (
+          led_step m args w u numbers b e led h,
+          (list, v, subst (λ z. LeadsQuietly m list z v) same.0 quiet.4, subst (Has all v) (sym silent) has),
+        );
+        alike = refl;
+      }
+
+  explored : (list : List ℕ) (w v : World) (numbers : List ℤ) → IsLedTo m args w numbers → LeadsQuietly m list w v → Has all v numbers
+      → ((a : ℕ) × (has_quiet_step m w a ≡ true) × HasNext m Finds w numbers a) ⊎ ((a : ℕ) → HasNext m Finds w numbers a)
+  explored [] w v numbers led quiet has = inr (by_each w numbers (subst (λ z. Has all z numbers) (sym quiet) has))
+  explored (b ∷ list) w v numbers led quiet has = inl (b, quiet.0, by_quiet b list w v numbers led quiet has)
+
+  -- one of them is where all have ended, these numbers being printed by then
+  abbrev IsMet : List ℤ → Type 0
+  IsMet numbers = (k : ℕ) × (x : Found) × (slice_get all k ≡ Some x) × (x.printed.items ≡ numbers) × (all_ended x.core.world ≡ true)
+
+  -- where all have ended there is no quiet step more
+  met : (list : List ℕ) (w v : World) (numbers : List ℤ) → LeadsQuietly m list w v → all_ended w ≡ true → Has all v numbers → IsMet numbers
+  met [] w v numbers quiet ended has = (
+    has.0,
+    has.1,
+    has.2,
+    has.3.1,
+    sym ((alike_worlds_go_alike m).ends v has.1.core.world has.3.0) ∙ ap all_ended (sym quiet) ∙ ended,
+  )
+  met (b ∷ list) w v numbers quiet ended has = absurd (nobody_steps m w quiet.1 b quiet.2 quiet.3 ended)
+
+  missed_none : (list : List ℕ) (w : World) → run m list (opening m args) ≡ Through w → all_ended w ≡ true → (v : World) × Finds v (printed m list (opening m args)) × (all_ended v ≡ true)
+  missed_none = nothing_missed m args Finds limits ok taken (λ w numbers f. f.0)
+      (record { other = opening m args; found = (record { list = []; legal = refl; prints = refl }, subst (λ w. IsKnown m all w []) begins begun); alike = refl })
+      (λ w numbers f. explored f.1.0 w f.1.1 numbers f.0 f.1.2 f.1.3)
+
+  pub all_found : AreAllFound start all
+  all_found list w legal ended =
+      let h = missed_none list w (subst (λ z. run m list z ≡ Through w) begins legal) ended in
+      let f = h.1.1 in
+      subst (λ z. IsMet (printed m list z)) (sym begins) (met f.0 h.0 f.1 (printed m list (opening m args)) f.2 h.2 f.3)

@@ -1,0 +1,3 @@
+mod SearchLemmas
+mod ExplorationLemmas
+mod ListingLemmas

@@ -1,0 +1,40 @@
+use Rattle.std.proofs.Common.{◌∙◌, sym, subst, true≢false}
+use Rattle.std.proofs.lemmas.Result.{on_ok_weaker}
+use Rattle.xk_outcomes.specs.Outcomes.{IsListed}
+use Rattle.xk_outcomes.proofs.ListingLemmas.{of_either}
+use Rattle.xk_outcomes.proofs.listing.note.Goals as goal
+
+pub returns-in_err-new-clause-distinct : goal.returns-in_err-new-clause-distinct
+returns-in_err-new-clause-distinct c d = d
+
+pub returns-in_err-new-clause-kept : goal.returns-in_err-new-clause-kept
+returns-in_err-new-clause-kept c numbers h = h
+
+pub returns-in_err-new-clause-of : goal.returns-in_err-new-clause-of
+returns-in_err-new-clause-of c all j there before = before
+
+pub returns-in_ok-new-clause-distinct : goal.returns-in_ok-new-clause-distinct
+returns-in_ok-new-clause-distinct c = c.put.ensures.distinct
+
+pub returns-in_ok-new-clause-kept : goal.returns-in_ok-new-clause-kept
+returns-in_ok-new-clause-kept c = c.put.ensures.kept
+
+pub returns-in_ok-new-clause-listed : goal.returns-in_ok-new-clause-listed
+returns-in_ok-new-clause-listed c =
+    on_ok_weaker c.put.result (λ h done. subst (IsListed c.put.new.list.items) c.in_ok-new.ensures.numbers h) c.put.ensures.listed
+
+pub returns-in_ok-new-clause-of : goal.returns-in_ok-new-clause-of
+returns-in_ok-new-clause-of c all j there before =
+    of_either all j c.args.x.now c.args.list.now.items c.put.new.list.items c.in_ok-new.new c.put.ensures.each there c.in_ok-new.ensures before
+
+pub returns-else-ended-clause-distinct : goal.returns-else-ended-clause-distinct
+returns-else-ended-clause-distinct c d = d
+
+pub returns-else-ended-clause-kept : goal.returns-else-ended-clause-kept
+returns-else-ended-clause-kept c numbers h = h
+
+pub returns-else-ended-clause-listed : goal.returns-else-ended-clause-listed
+returns-else-ended-clause-listed c done = absurd (true≢false (sym done ∙ (sym c.ended.ensures ∙ c.if-ended.false)))
+
+pub returns-else-ended-clause-of : goal.returns-else-ended-clause-of
+returns-else-ended-clause-of c all j there before = before

@@ -1,0 +1,4 @@
+pub mod Outcomes
+pub mod Search
+pub mod Listing
+pub mod Text

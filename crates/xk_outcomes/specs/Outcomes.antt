@@ -1,0 +1,31 @@
+-- What the runs of a module print: all that a program can print, in whichever order its activities take their steps. X10 Language
+-- Specification 2.4, chapter Activities, leaves that order open, and the program ends when all have ended (Initial activity).
+use Rattle.std.specs.Prelude.{◌≡◌, ℕ, ℤ, true, List, Some, slice_get}
+use Rattle.xk_types.specs.Code.{ModuleValue}
+use Rattle.xk_types.specs.World.{World, opening}
+use Rattle.xk_types.specs.Schedule.{Through, run, all_ended, printed}
+use Rattle.xk_types.specs.Logs.{schedule_of}
+use Rattle.xk_outcomes.specs.declared.listing.Outcome.{Outcome}
+
+-- a legal schedule of the module with these arguments, after which all have ended, and which prints these numbers
+pub record IsOutcome (m : ModuleValue) (args : List ℤ) (list : List ℕ) (numbers : List ℤ) : Type 0 where
+  pub last : World
+  pub legal : run m list (opening m args) ≡ Through last
+  pub over : all_ended last ≡ true
+  pub prints : printed m list (opening m args) ≡ numbers
+
+-- each that is listed has a log that shows it
+abbrev pub AreShown : ModuleValue → List ℤ → List Outcome → Type 0
+AreShown m args list = (k : ℕ) (x : Outcome) → slice_get list k ≡ Some x → IsOutcome m args (schedule_of x.log.items) x.numbers.items
+
+-- no numbers are listed twice
+abbrev pub AreDistinct : List Outcome → Type 0
+AreDistinct list = (i j : ℕ) (x y : Outcome) → slice_get list i ≡ Some x → slice_get list j ≡ Some y → x.numbers.items ≡ y.numbers.items → i ≡ j
+
+-- these numbers are listed
+abbrev pub IsListed : List Outcome → List ℤ → Type 0
+IsListed list numbers = (k : ℕ) × (x : Outcome) × (slice_get list k ≡ Some x) × (x.numbers.items ≡ numbers)
+
+-- whatever a legal schedule prints after which all have ended is listed
+abbrev pub AreAll : ModuleValue → List ℤ → List Outcome → Type 0
+AreAll m args list = (schedule : List ℕ) (numbers : List ℤ) → IsOutcome m args schedule numbers → IsListed list numbers

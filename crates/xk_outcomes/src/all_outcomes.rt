@@ -1,0 +1,48 @@
+//! All that a program can print.
+
+ghost use Rattle.std.specs.Prelude.{◌≡◌, ◌≤◌, ◌⊎◌, true, false, length, IfOk};
+ghost use Rattle.xk_types.specs.World.{AreArguments};
+ghost use Rattle.xk_outcomes.specs.Outcomes.{AreAll, AreDistinct, AreShown};
+
+use crate::listing::{Outcomes, list_outcomes};
+use crate::search::explore;
+use std::alloc::{AllocError, Global};
+use xk_bounds::Verified;
+use xk_core::Core;
+
+/// When to leave off.
+#[derive(Clone, Copy, Debug)]
+pub struct Limit {
+    /// As many worlds are kept.
+    pub entries: usize,
+    /// As many lists of numbers were found.
+    pub outcomes: usize,
+}
+
+/// Lists what the runs of a module print by which all have ended, in whichever order its activities take their steps: each list of numbers
+/// once, with a log of a run that prints it. The answer says whether that is all; it may not be where a limit was met.
+pub fn outcomes(
+    alloc: Global,
+    verified: &Verified,
+    arguments: &[i64],
+    limit: Limit,
+) -> Result<Outcomes, AllocError>
+    requires { AreArguments verified.now arguments.now }
+    ensures shown { IfOk result (λ r. AreShown verified.now arguments.now r.list.items) }
+    ensures distinct { IfOk result (λ r. AreDistinct r.list.items) }
+    ensures all { IfOk result (λ r.
+        r.complete ≡ true → AreAll verified.now arguments.now r.list.items) }
+    // A limit was met where it isn't complete: so many are kept, or so many are listed.
+    ensures limit { IfOk result (λ r. r.complete ≡ false
+        → (limit.entries ≤ r.entries) ⊎ (limit.outcomes ≤ length r.list.items)) }
+{
+    let start = Core::open(alloc, verified, arguments)?;
+    let explored = explore(alloc, &start, limit.entries)?;
+    let mut list = Vec::new(alloc);
+    let listed = list_outcomes(alloc, &mut list, &explored.all, limit.outcomes)?;
+    Ok(Outcomes {
+        list,
+        complete: explored.complete && listed,
+        entries: explored.all.len(),
+    })
+}

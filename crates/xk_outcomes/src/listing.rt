@@ -1,0 +1,134 @@
+//! What was found is listed, each list of numbers once.
+
+ghost use Rattle.std.specs.Prelude.{◌≡◌, ℕ, ◌≤◌, ◌++◌, ◌∷◌, ◌⊎◌, [], true, false, length, slice_get, IfOk, OnOk, Some, List};
+ghost use Rattle.xk_types.specs.Schedule.{all_ended};
+ghost use Rattle.xk_types.specs.Logs.{schedule_of, one_step_of};
+ghost use Rattle.xk_outcomes.specs.declared.found.Found.{Found as FoundValue};
+ghost use Rattle.xk_outcomes.specs.Outcomes.{AreDistinct, IsListed};
+ghost use Rattle.xk_outcomes.specs.Listing.{AreNoted, AreOf, IsOf, KeepsListed};
+
+use crate::found::{Found, same_numbers};
+use crate::search::are_same;
+use std::alloc::{AllocError, Global};
+use xk_types::Entry;
+
+/// What a run prints by which all have ended, and a log of such a run.
+#[derive(Debug, Drop)]
+pub struct Outcome {
+    /// What is printed, in order.
+    pub numbers: Vec<i64>,
+    /// Who takes a step after whom.
+    pub log: Vec<Entry>,
+}
+
+/// What a program can print.
+#[derive(Debug, Drop)]
+pub struct Outcomes {
+    /// What it can print, each list of numbers once.
+    pub list: Vec<Outcome>,
+    /// Whether that is all.
+    pub complete: bool,
+    /// How many worlds were kept, with the numbers printed by then, to find it.
+    pub entries: usize,
+}
+
+/// Whether these are its numbers.
+fn has(x: &Outcome, numbers: &[i64]) -> bool
+    ensures yes { result ≡ true → x.now.numbers.items ≡ numbers.now }
+    ensures no { result ≡ false → x.now.numbers.items ≡ numbers.now → ⊥ }
+{
+    are_same(&x.numbers, numbers)
+}
+
+/// Whether these numbers are listed.
+fn is_listed(list: &[Outcome], numbers: &[i64]) -> bool
+    ensures yes { result ≡ true → IsListed list.now numbers.now }
+    ensures no { result ≡ false → IsListed list.now numbers.now → ⊥ }
+{
+    for x in list {
+        if has(x, numbers) {
+            return true;
+        }
+    }
+    false
+}
+
+/// The log of a schedule, with an entry for each step.
+fn log_of(alloc: Global, schedule: &[u32]) -> Result<Vec<Entry>, AllocError>
+    ensures { IfOk result (λ log. schedule_of log.items ≡ schedule.now) }
+{
+    let mut log = Vec::with_capacity(alloc, schedule.len())?;
+    for act in schedule {
+        log.push(Entry {
+            act: *act,
+            steps: 1,
+        })?;
+    }
+    Ok(log)
+}
+
+/// What is to be listed of one that was found.
+fn outcome_of(alloc: Global, x: &Found<'_>) -> Result<Outcome, AllocError>
+    requires { all_ended x.now.core.world ≡ true }
+    ensures { IfOk result (IsOf x.now) }
+{
+    let numbers = same_numbers(alloc, &x.printed)?;
+    let log = log_of(alloc, &x.schedule)?;
+    Ok(Outcome { numbers, log })
+}
+
+/// Lists it, if its numbers aren't listed yet.
+fn put(list: &mut Vec<Outcome>, new: Outcome) -> Result<(), AllocError>
+    ensures distinct { AreDistinct list.old.items → AreDistinct list.new.items }
+    ensures kept { KeepsListed list.old.items list.new.items }
+    ensures listed { OnOk result (IsListed list.new.items new.numbers.items) }
+    ensures each { (list.new.items ≡ list.old.items)
+        ⊎ (list.new.items ≡ list.old.items ++ new ∷ []) }
+{
+    if is_listed(list, &new.numbers) {
+        return Ok(());
+    }
+    list.push(new)?;
+    Ok(())
+}
+
+/// Lists what one that was found printed, if all have ended in it.
+fn note(alloc: Global, list: &mut Vec<Outcome>, x: &Found<'_>) -> Result<(), AllocError>
+    ensures distinct { AreDistinct list.old.items → AreDistinct list.new.items }
+    ensures kept { KeepsListed list.old.items list.new.items }
+    ensures listed { OnOk result (all_ended x.now.core.world ≡ true
+        → IsListed list.new.items x.now.printed.items) }
+    ensures of { (all : List FoundValue) (j : ℕ) → slice_get all j ≡ Some x.now
+        → AreOf all list.old.items → AreOf all list.new.items }
+{
+    if x.core.ended() {
+        let new = outcome_of(alloc, x)?;
+        put(list, new)
+    } else {
+        Ok(())
+    }
+}
+
+/// Lists what those print that were found and in which all have ended, each list of numbers once, until as many are listed as the limit
+/// says. Whether all are.
+pub fn list_outcomes(
+    alloc: Global,
+    list: &mut Vec<Outcome>,
+    all: &[Found<'_>],
+    limit: usize,
+) -> Result<bool, AllocError>
+    requires { list.old.items ≡ [] }
+    ensures of { AreOf all.now list.new.items }
+    ensures distinct { AreDistinct list.new.items }
+    ensures noted { IfOk result (λ complete. complete ≡ true
+        → AreNoted all.now (length all.now) list.new.items) }
+    ensures limit { IfOk result (λ complete. complete ≡ false → limit ≤ length list.new.items) }
+{
+    for x in all {
+        if list.len() >= limit {
+            return Ok(false);
+        }
+        note(alloc, list, x)?;
+    }
+    Ok(true)
+}
