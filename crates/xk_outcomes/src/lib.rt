@@ -2,6 +2,7 @@
 #![tactic(auto)]
 
 mod all_outcomes;
+mod digest;
 mod found;
 mod listing;
 mod search;
