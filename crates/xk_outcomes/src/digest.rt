@@ -16,7 +16,7 @@ fn mixed(digest: u64, number: u64) -> u64 {
 fn digest_of_numbers(numbers: &[i64]) -> u64 {
     let mut digest = numbers.len() as u64;
     for number in numbers {
-        digest = mixed(digest, *number as u64);
+        digest = mixed(digest, number.unsigned_abs());
     }
     digest
 }

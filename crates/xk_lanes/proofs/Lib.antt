@@ -1,0 +1,2 @@
+pub mod LaneLemmas
+mod LaneExamples
