@@ -189,10 +189,12 @@ fn on_log<R: Runtime, P: Read + Drop, L: Source, O: Sink, E: Sink>(
     ensures log_unread { result ≡ status_program → log_in.new ≡ log_in.old }
 {
     let (Command::Run {
-        log: Some(path), ..
+        log: Some(path),
+        ..
     }
     | Command::Outcomes {
-        log: Some(path), ..
+        log: Some(path),
+        ..
     }) = job.command
     else {
         let mut log_out = Counted::new(io::sink());

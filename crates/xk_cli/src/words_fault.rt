@@ -35,9 +35,8 @@ impl WordsFault {
     {
         match self {
             WordsFault::Help(_) => status::DONE,
-            WordsFault::NotUnderstood(_)
-            | WordsFault::OrderAndWorkers
-            | WordsFault::SeedAlone => status::WORDS,
+            WordsFault::NotUnderstood(_) | WordsFault::OrderAndWorkers | WordsFault::SeedAlone =>
+                status::WORDS,
             WordsFault::OutOfMemory => status::MEMORY,
         }
     }

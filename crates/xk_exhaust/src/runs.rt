@@ -162,8 +162,7 @@ fn by_chooser<C: Chooser + Copy>(
 /// What a module can print, as far as so many worlds show it, at the second try where memory was refused.
 fn by_search(alloc: Global, verified: &Verified, arguments: &[i64]) -> Result<(), Wrong> {
     fits(verified, arguments)?;
-    let is_searched =
-        is_found(alloc, verified, arguments) || is_found(alloc, verified, arguments);
+    let is_searched = is_found(alloc, verified, arguments) || is_found(alloc, verified, arguments);
     holds(is_searched, "outcomes aren't found at the second try")
 }
 

@@ -31,9 +31,7 @@ pub fn are_same(a: &[i64], b: &[i64]) -> bool
 fn is_same(x: &Found<'_>, new: &Found<'_>) -> bool
     ensures { IsTrue result → IsAt x.now new.now.core.world new.now.printed.items }
 {
-    x.digest == new.digest
-        && are_same(&x.printed, &new.printed)
-        && new.core.is_alike(&x.core)
+    x.digest == new.digest && are_same(&x.printed, &new.printed) && new.core.is_alike(&x.core)
 }
 
 /// Whether one like it is there already.

@@ -8,11 +8,7 @@ use std::alloc::{AllocError, Global};
 
 /// A line for each outcome, numbered from 1, as `outcome 2 prints 10 21`, and a last one: `outcomes 6 complete`, or, where there may be others,
 /// `outcomes 6 and perhaps more`.
-pub fn outcomes_text(
-    alloc: Global,
-    list: &[Outcome],
-    complete: bool,
-) -> Result<Vec<u8>, AllocError>
+pub fn outcomes_text(alloc: Global, list: &[Outcome], complete: bool) -> Result<Vec<u8>, AllocError>
     ensures { IfOk result (λ text. text.items ≡ outcomes_text list.now complete) }
 {
     let mut text = String::new(alloc);

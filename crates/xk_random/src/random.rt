@@ -11,6 +11,7 @@ const GROWTH: u64 = 11_400_714_819_323_198_485;
 
 /// The two factors that mix a state.
 const FIRST_FACTOR: u64 = 13_787_848_793_156_543_929;
+
 const SECOND_FACTOR: u64 = 10_723_151_780_598_845_931;
 
 /// Whoever is drawn: by four chances in five the one who stepped last, if it can go on, and else any of those that can. Two that begin with one

@@ -52,8 +52,8 @@ worked_run m n args log numbers c steps same given run over counted =
 -- the log of such a run is that of a whole run, and its picture is told of it
 pub pictured : (p : Picture) (kind : Form) (file bytes : List ℕ) (n m : ModuleValue) (args : List ℤ) (log : List Entry) (logged told : List ℕ) (c : CoreValue) {numbers : List ℤ}
     → n ≡ m → c.world.arguments ≡ args → IsAccepted m → IsLogText logged log → IsRunOf n log numbers c → all_ended c.world ≡ true
-    → IsPicture p kind bytes n c.world.arguments log told → IsTelling (Draw p) kind file bytes m args logged told
+    → IsPicture p kind bytes n c.world.arguments log c.world told → IsTelling (Draw p) kind file bytes m args logged told
 pictured p kind file bytes n m args log logged told c {numbers} same given accepted text run over is =
     let run_of = subst (λ k. IsRunOf k log numbers c) same run in
     let whole : IsWholeRun m args log = record { last = c.world; leads = run_of.leads; given = given; over = over } in
-    (accepted, (log, text, whole, subst (λ xs. IsPicture p kind bytes m xs log told) given (subst (λ k. IsPicture p kind bytes k c.world.arguments log told) same is)))
+    (accepted, (log, text, whole, subst (λ xs. IsPicture p kind bytes m xs log c.world told) given (subst (λ k. IsPicture p kind bytes k c.world.arguments log c.world told) same is)))

@@ -21,7 +21,7 @@ use Rattle.xk_scheduler.proofs.EnabledSetLemmas.{going}
 use Rattle.xk_replay.proofs.VerdictLemmas.{leads_from}
 use Rattle.xk_cli.specs.declared.job.Order.{Order}
 use Rattle.xk_cli.specs.declared.job.Order.TheVariants as order
-use Rattle.xk_serve.specs.OrderedRun.{FollowsOrder, IsLoggedRun, IsOrderedRun}
+use Rattle.xk_serve.specs.OrderedRun.{FollowsOrder, IsLoggedRun, IsOrderedRun, IsWholeRun}
 
 -- ---- whoever chooses
 
@@ -71,6 +71,13 @@ list_once P Q m args numbers others n k p q e =
       p.numbers_are ∙ ap (λ l. printed m l (opening m args)) e ∙ sym q.numbers_are,
       p.steps_are ∙ ap (λ (w : World). w.steps) last ∙ sym q.steps_are,
     )
+
+-- a whole run by one log ends in one world
+pub last_once : (m : ModuleValue) (args : List ℤ) (es fs : List Entry) → es ≡ fs → (p : IsWholeRun m args es) (q : IsWholeRun m args fs) → p.last ≡ q.last
+last_once m args es fs same p q =
+    let here = leads_from m args (schedule_of es) p.last p.leads p.given in
+    let there = leads_from m args (schedule_of fs) q.last q.leads q.given in
+    same_through p.last q.last (sym here ∙ ap (λ l. run m (schedule_of l) (opening m args)) same ∙ there)
 
 -- ---- orders
 

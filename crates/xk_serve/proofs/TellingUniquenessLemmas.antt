@@ -15,7 +15,9 @@ use Rattle.xk_serve.specs.declared.picture.Picture.TheVariants as picture
 use Rattle.xk_serve.specs.Answer.{Check, Compile, Doing, Draw, Explain, IsPicture, IsTelling, Listing, Outcomes, Replay, Run}
 use Rattle.xk_serve.specs.Explanation.{HaveOrigins, IsByOrigins, IsListed, accepted_said, events_told, lanes_told}
 use Rattle.xk_serve.specs.Programs.{Gives}
+use Rattle.xk_types.specs.World.{World}
 use Rattle.xk_serve.proofs.LogUniquenessLemmas.{text_once}
+use Rattle.xk_serve.proofs.RunUniquenessLemmas.{last_once}
 use Rattle.xk_serve.proofs.TextUniquenessLemmas.{unfit_none}
 
 -- a tree has one list of origins
@@ -41,11 +43,11 @@ listed_once text m (Some o) a b h k = one_listing text o m a b h k
 listed_once text m None a b h k = one_listing [] [] m a b h k
 
 -- a picture of a run is one
-picture_once : (p : Picture) (kind : Form) (bytes : List ℕ) (m : ModuleValue) (args : List ℤ) (es : List Entry) (a b : List ℕ) → Gives kind bytes m
-    → IsPicture p kind bytes m args es a → IsPicture p kind bytes m args es b → a ≡ b
-picture_once picture.Chart kind bytes m args es a b given h k = h ∙ sym k
-picture_once picture.Events kind bytes m args es a b given h k = by_origins_once kind bytes m (events_told bytes m args es) a b given h k
-picture_once picture.Lanes kind bytes m args es a b given h k = by_origins_once kind bytes m (lanes_told bytes m args es) a b given h k
+picture_once : (p : Picture) (kind : Form) (bytes : List ℕ) (m : ModuleValue) (args : List ℤ) (es : List Entry) (last : World) (a b : List ℕ) → Gives kind bytes m
+    → IsPicture p kind bytes m args es last a → IsPicture p kind bytes m args es last b → a ≡ b
+picture_once picture.Chart kind bytes m args es last a b given h k = h ∙ sym k
+picture_once picture.Events kind bytes m args es last a b given h k = by_origins_once kind bytes m (events_told bytes m args es) a b given h k
+picture_once picture.Lanes kind bytes m args es last a b given h k = by_origins_once kind bytes m (lanes_told bytes m es last) a b given h k
 
 pub telling_once : (what : Doing) (kind : Form) (file bytes : List ℕ) (m : ModuleValue) (args : List ℤ) (logged a b : List ℕ) → Gives kind bytes m
     → IsTelling what kind file bytes m args logged a → IsTelling what kind file bytes m args logged b → a ≡ b
@@ -54,7 +56,9 @@ telling_once Listing kind file bytes m args logged a b given h k =
     let same = origins_once kind bytes m h.0 k.0 given h.1 k.1 in listed_once bytes m h.0 a b h.2 (subst (λ o. IsListed bytes m o b) (sym same) k.2)
 telling_once (Draw picture) kind file bytes m args logged a b given h k =
     let same = text_once logged k.1.0 h.1.0 k.1.1 h.1.1 in
-    picture_once picture kind bytes m args h.1.0 a b given h.1.3 (subst (λ es. IsPicture picture kind bytes m args es b) same k.1.3)
+    let last = last_once m args k.1.0 h.1.0 same k.1.2 h.1.2 in
+    picture_once picture kind bytes m args h.1.0 h.1.2.last a b given h.1.3
+    (subst (λ w. IsPicture picture kind bytes m args h.1.0 w b) last (subst (λ es. IsPicture picture kind bytes m args es k.1.2.last b) same k.1.3))
 telling_once Check kind file bytes m args logged a b given h k = absurd h
 telling_once Compile kind file bytes m args logged a b given h k = absurd h
 telling_once (Run way kept) kind file bytes m args logged a b given h k = absurd h

@@ -2,7 +2,7 @@
 use Rattle.std.specs.Prelude.{◌≡◌, ℕ, ⊤, ◌⊎◌, ℤ, ◌-◌, ◌&&◌, not, Bool, true, false, List, [], length, slice_get, Option, Some, None, is_some, option_map, unwrap_or, string_bytes, if◌then◌else◌}
 use Rattle.serde_json.specs.Written.{compact_text}
 use Rattle.xk_types.specs.Code.{ModuleValue, params_of}
-use Rattle.xk_types.specs.World.{AreArguments}
+use Rattle.xk_types.specs.World.{World, AreArguments}
 use Rattle.xk_types.specs.Bound.{steps_bound, activities_bound, clocks_bound}
 use Rattle.xk_types.specs.Acceptance.{IsAccepted}
 use Rattle.xk_cli.specs.declared.job.Command.{Command}
@@ -106,9 +106,9 @@ IsLogText bytes es = Says (Whole es) bytes
 abbrev pub Replays : ModuleValue → List ℤ → List ℕ → List ℤ → ℕ → Type 0
 Replays m args logged numbers steps = (es : List Entry) × IsLogText logged es × IsReplay m args es numbers steps
 
--- this holds of a whole run with these arguments, by the log in these bytes
-abbrev pub OfRun : ModuleValue → List ℤ → List ℕ → (List Entry → Type 0) → Type 0
-OfRun m args logged P = (es : List Entry) × IsLogText logged es × IsWholeRun m args es × P es
+-- this holds of a whole run with these arguments, by the log in these bytes, and of the world in which it ends
+abbrev pub OfRun : ModuleValue → List ℤ → List ℕ → (List Entry → World → Type 0) → Type 0
+OfRun m args logged P = (es : List Entry) × IsLogText logged es × (whole : IsWholeRun m args es) × P es whole.last
 
 -- the outcome whose log is kept, counted from 1
 abbrev pub outcome_at : ℕ → List Outcome → Option Outcome
@@ -159,17 +159,17 @@ ComesTo _ m args logged _ = ⊥
 
 -- What is told of a run of the module that the bytes give, by their lines where they are a source text: its chart, what others see of its steps, or the
 -- same with a lane for each activity.
-abbrev pub IsPicture : Picture → Form → List ℕ → ModuleValue → List ℤ → List Entry → List ℕ → Type 0
-IsPicture picture.Chart kind bytes m args es told = told ≡ chart_text m args es
-IsPicture picture.Events kind bytes m args es told = IsByOrigins kind bytes (events_told bytes m args es) told
-IsPicture picture.Lanes kind bytes m args es told = IsByOrigins kind bytes (lanes_told bytes m args es) told
+abbrev pub IsPicture : Picture → Form → List ℕ → ModuleValue → List ℤ → List Entry → World → List ℕ → Type 0
+IsPicture picture.Chart kind bytes m args es last told = told ≡ chart_text m args es
+IsPicture picture.Events kind bytes m args es last told = IsByOrigins kind bytes (events_told bytes m args es) told
+IsPicture picture.Lanes kind bytes m args es last told = IsByOrigins kind bytes (lanes_told bytes m es last) told
 
 -- What is told of the module that the bytes give, by their lines and names where they are a source text: for `explain`, where the module is accepted,
 -- its bounds, and for `listing` its instructions; for `chart`, `events` and `lanes`, where it is accepted, the run that the log has.
 abbrev pub IsTelling : Doing → Form → List ℕ → List ℕ → ModuleValue → List ℤ → List ℕ → List ℕ → Type 0
 IsTelling (Explain json) kind file bytes m args logged told = IsAccepted m × IsByOrigins kind bytes (accepted_said json file bytes m) told
 IsTelling Listing kind file bytes m args logged told = IsProgramListed kind bytes m told
-IsTelling (Draw picture) kind file bytes m args logged told = IsAccepted m × OfRun m args logged (λ es. IsPicture picture kind bytes m args es told)
+IsTelling (Draw picture) kind file bytes m args logged told = IsAccepted m × OfRun m args logged (λ es last. IsPicture picture kind bytes m args es last told)
 IsTelling _ kind file bytes m args logged told = ⊥
 
 -- it is a text of which this holds

@@ -3,6 +3,7 @@
 use Rattle.std.specs.Prelude.{◌≡◌, ℕ, ℤ, Bool, true, false, List, [], ◌++◌, Option, Some, None}
 use Rattle.std.specs.Option.{option_map_or}
 use Rattle.xk_types.specs.Code.{ModuleValue}
+use Rattle.xk_types.specs.World.{World}
 use Rattle.xk_types.specs.Bound.{steps_bound, activities_bound, clocks_bound}
 use Rattle.xk_tree.specs.Tree.{TreeValue}
 use Rattle.xk_tree.specs.declared.fault.FrontFault.{FrontFault}
@@ -139,6 +140,6 @@ places_in text (Some origins) = record { text = text; origins = origins }
 abbrev pub events_told : List ℕ → ModuleValue → List ℤ → List Entry → Option (List UnitOrigins) → List ℕ
 events_told text m args log origins = events_text (places_in text origins) m args log
 
--- the same, with a lane for each activity
-abbrev pub lanes_told : List ℕ → ModuleValue → List ℤ → List Entry → Option (List UnitOrigins) → List ℕ
-lanes_told text m args log origins = lanes_text (places_in text origins) m args log
+-- the same, with a lane for each activity; the run ends in this world
+abbrev pub lanes_told : List ℕ → ModuleValue → List Entry → World → Option (List UnitOrigins) → List ℕ
+lanes_told text m log last origins = lanes_text (places_in text origins) m log last

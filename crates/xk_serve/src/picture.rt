@@ -89,7 +89,7 @@ fn picture_of(
     ended: &Ended<'_>,
 ) -> Result<Vec<u8>, AllocError>
     ensures { IfOk result (λ told. IsPicture picture form bytes.now ended.now.module.now
-        ended.now.core.world.arguments ended.now.log.items told.items) }
+        ended.now.core.world.arguments ended.now.log.items ended.now.core.world told.items) }
 {
     match picture {
         Picture::Chart => Ok(chart(alloc, ended)?.into_bytes()),
@@ -100,10 +100,8 @@ fn picture_of(
             None => Ok(module_events(alloc, ended)?.into_bytes()),
         },
         Picture::Lanes => match origins_in(alloc, form, bytes)? {
-            Some(origins) => {
-                Ok(source_lanes(alloc, bytes, origins.units(), ended)?.into_bytes())
-            }
-            None => Ok(module_lanes(alloc, ended)?.into_bytes()),
+            Some(origins) => source_lanes(alloc, bytes, origins.units(), ended),
+            None => module_lanes(alloc, ended),
         },
     }
 }
