@@ -38,13 +38,40 @@ const LOG: &str = "x10log 1\n0 1\n0 1\n0 1\n1 1\n0 1\n0 1\n0 1\n0 1\n1 1\n1 1\n1
 
 const CHARTED: &str = "step 4 clock 0 phase 1 acts 0 1\n";
 
-const EVENTS: &str = "EVENTS";
+/// What others see of its steps.
+const EVENTS: &str = r"step 1 act 0 at 1:18 make 0
+step 2 act 0 at 1:36 async 1
+step 3 act 0 at 1:101 arrive
+step 4 act 1 at 1:55 arrive
+step 5 act 0 at 1:101 pass
+step 7 act 0 at 1:129 print 1
+step 8 act 0 at 1:145 end
+step 9 act 1 at 1:55 pass
+step 11 act 1 at 1:83 print 2
+step 12 act 1 at 1:99 end
+";
 
-const LANES: &str = "LANES";
+/// The same, in lanes.
+const LANES: &str = r"  step  at     main     act 1
+     1  1:18   make 0
+     2  1:36   async 1  |
+     3  1:101  arrive   |
+     4  1:55   |        arrive
+               +========+        clock 0 phase 1 by 1
+     5  1:101  pass     |
+     7  1:129  print 1  |
+     8  1:145  end      |
+     9  1:55            pass
+    11  1:83            print 2
+    12  1:99            end
+";
 
-const OUTCOMES: &str = "OUTCOMES";
+/// All that it can print.
+const OUTCOMES: &str = "outcome 1 prints 1 2\noutcome 2 prints 2 1\noutcomes 2 complete\n";
 
-const OUTCOME_LOG: &str = "OUTCOME_LOG";
+/// The log of the first of these.
+const OUTCOME_LOG: &str =
+    "x10log 1\n0 1\n0 1\n0 1\n1 1\n0 1\n0 1\n1 1\n1 1\n0 1\n0 1\n1 1\n1 1\nend 12\n";
 
 const MODULE: &str =
     r#"{"shared":[],"units":[{"code":[["make",0],["spawn",1,[0]],["advance"],["lit",1,1],["print",1],["ret"]],"kind":"main","params":"","slots":2},{"code":[["advance"],["lit",1,2],["print",1],["ret"]],"kind":"body","params":"c","slots":2}],"version":1}
@@ -52,7 +79,8 @@ const MODULE: &str =
 
 const CHECKED: &str = "accepted steps 12 activities 2 clocks 1\n";
 
-const SOME_OUTCOMES: &str = "SOME_OUTCOMES";
+/// What is said where one world is kept at most.
+const SOME_OUTCOMES: &str = "outcomes 0 and perhaps more\n";
 
 const NO_PROGRAM: &str = "x10clock: F2 Syntax at 0\n";
 
