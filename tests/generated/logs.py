@@ -204,7 +204,8 @@ def any_text(rng: random.Random) -> Text:
 
 def any_way(rng: random.Random) -> Way:
     """An order, or one by chance from a seed."""
-    return rng.choice([*Order, ByChance(rng.choice([0, 1, rng.randrange(2**64), 2**64 - 1]))])
+    seed = rng.choice([0, 1, rng.randrange(2**64), 2**64 - 1])
+    return rng.choice([*Order, ByChance(seed), ByChance(seed)])
 
 
 def accepted_text(rng: random.Random) -> tuple[Text, Accepted]:

@@ -15,7 +15,8 @@ Needs the built program and python3. The gate runs it with 2,000 cases.
     python3 tests/generated/mutations.py [CASES] [SEED] [--source [--changed]] [--jobs N] [--program PATH] [--worlds N] [--tally] [--only CASE]
 
 20,000 cases, seed 1, 2 jobs, crates/x10clock/out/x10clock and 1,000 worlds where nothing else is said. With `--changed` all texts but the first
-ones are changed byte by byte. `--tally` tells how often the program gave each answer; `--only` prints one case alone.
+ones are changed byte by byte. `--tally` tells how often the program gave each answer; `--only` prints one case alone. It fails where something differs,
+and where of 1,000 cases or more something wasn't asked at all.
 """
 
 from __future__ import annotations
@@ -65,6 +66,10 @@ SHORT = 500
 LISTED, DRAWN, FOUND_OUT, LIMIT = 10, 5, 10, 2_000
 # Lanes are drawn of no more steps times activities than this.
 MOST_DRAWN = 100_000
+# What has to be counted in so many cases.
+MANY = 1_000
+ASKED = ["accepted modules explained as JSON", "modules listed", "modules taken through all schedules", "programs whose outcomes are told",
+         "refusals explained as JSON", "runs compared", "runs drawn"]  # fmt: skip
 # So many runs of each text are compared with what it means.
 RUNS_MEANT = 3
 CHUNK = 100
@@ -545,8 +550,10 @@ def main() -> int:
         tally.show(summary.answers)
     for case, text, differences in sorted(summary.differing)[:SHOWN]:
         print(f"case {case}: {text!r}", *differences, f"smaller: {shrunk(comparer, text)!r}", sep="\n    ", file=sys.stderr)
+    unasked = [name for name in ASKED if summary.cases >= MANY and not summary.counts[name]]
+    print(*[f"none: {name}" for name in unasked], sep="\n", end="\n" if unasked else "", file=sys.stderr)
     print(f"{summary.cases} cases, {len(summary.differing)} with a difference")
-    return 1 if summary.differing else 0
+    return 1 if summary.differing or unasked else 0
 
 
 if __name__ == "__main__":

@@ -8,7 +8,8 @@ the ends of what may be given, and names of small files, of which some are texts
 with a word left out, doubled, put in or replaced. Each call is made in a folder of its own, and told in another: the status, standard output, the first
 line of standard error and what is in the folder then have to be the same. What a run by workers prints is compared in any order, and its log is
 played again; outcomes, which the program tells in an order of its own, have to be right (tests/reference/telling_outcomes.py), and so has their log.
-`--tally` tells how often each answer was given; `--only` prints the words of one case.
+`--tally` tells how often each answer was given; `--only` prints the words of one case. It fails where something is answered otherwise, and where of 500
+calls or more none told outcomes, events or lanes.
 """
 
 from __future__ import annotations
@@ -34,14 +35,19 @@ import telling_outcomes
 import telling_runs
 import telling_source
 import telling_words
+from telling import Order
 from telling_outcomes import Answer
 from telling_words import Job, Told
 
 SECONDS = 60
+# Of so many calls some have to tell what each of these commands tells.
+MANY, ANSWERED = 500, ("outcomes", "events", "lanes")
 CHUNK = 50
 SHOWN = 5
 IN_STEP, AS_MANY = ((TESTS / f"answers/rows/{name}.x10").read_bytes() for name in ("in-step", "as-many"))
 LOG = b"x10log 1\n" + b"".join(b"%d 1\n" % who for who in (0, 0, 0, 1, 0, 0, 0, 0, 1, 1, 1, 1)) + b"end 12\n"
+# Of a run with three activities beside main, as with each number from 3 on.
+LOG_OF_MANY = telling_log.text_of(telling_log.log_of(telling_source.judge(AS_MANY).module, Order.LAST, (3,)))
 FILES = {
     "step.x10": IN_STEP,
     "many.x10": AS_MANY,
@@ -50,6 +56,7 @@ FILES = {
     "step.json": telling_source.module_text(IN_STEP).encode(),
     "many.json": telling_source.module_text(AS_MANY).encode(),
     "step.log": LOG,
+    "many.log": LOG_OF_MANY,
     "cut.log": LOG[:40],
     "waits.log": b"x10log 1\n1 1\nend 1\n",
 }
@@ -77,9 +84,10 @@ def options(rng: random.Random, command: str, text: str) -> Iterator[list[str]]:
     if command == "explain" and rng.random() < 0.5 or rng.random() < 0.02:
         yield ["--json"]
     if command == "run" and rng.random() < 0.4:
-        order = rng.choice(["random", *ORDERS[:4]] if rng.random() < 0.8 else ORDERS)
+        order = rng.choice(["random", "random", *ORDERS[:4]] if rng.random() < 0.8 else ORDERS)
         yield option(rng, "order", order)
-        yield from [option(rng, "seed", rng.choice(NUMBERS))] if rng.random() < (0.7 if order == "random" else 0.1) else []
+        seed = rng.choice(["0", "1", "7", "18446744073709551615"] if rng.random() < 0.6 else NUMBERS)
+        yield from [option(rng, "seed", seed)] if rng.random() < (0.7 if order == "random" else 0.1) else []
     for name in ("limit", "pick") if command == "outcomes" else ():
         yield from [option(rng, name, rng.choice(["1", "2", "3", "64"] if rng.random() < 0.7 else NUMBERS))] if rng.random() < 0.4 else []
     if command == "run" and rng.random() < 0.3:
@@ -93,13 +101,15 @@ def options(rng: random.Random, command: str, text: str) -> Iterator[list[str]]:
 
 def meant(rng: random.Random, given: str) -> list[str]:
     """A call that could be meant, with this file as standard input."""
-    command = rng.choice([*telling_words.COMMANDS, "run", "run", "outcomes"])
+    command = rng.choice([*telling_words.COMMANDS, "run", "run", "run", "run", "outcomes"])
     file = rng.choice(["step.x10", "many.x10", "step.json", "many.json", "-"] if rng.random() < 0.8 else NAMES)
     parts = [[file], *options(rng, command, given if file == "-" else file)]
     rng.shuffle(parts)
     if command in telling_runs.COMMANDS:
         at = parts.index([file])
-        parts.insert(rng.randrange(at + 1, len(parts) + 1), [rng.choice(["step.log", "step.log", "cut.log", "waits.log", *NAMES])])
+        fitting = f"{(given if file == '-' else file)[:4]}.log"
+        log = fitting if rng.random() < 0.6 else rng.choice(["cut.log", "waits.log", *NAMES])
+        parts.insert(rng.randrange(at + 1, len(parts) + 1), [log])
     return [command, *(word for part in parts for word in part)]
 
 
@@ -259,8 +269,9 @@ class Cases:
     seed: int
     program: pathlib.Path
 
-    def compared(self, cases: range) -> tuple[collections.Counter, list[str]]:
-        answers, differing = collections.Counter(), []
+    def compared(self, cases: range) -> tuple[collections.Counter, collections.Counter, list[str]]:
+        """How often each answer was given, how often each command answered that it is done, and what differs."""
+        answers, done, differing = collections.Counter(), collections.Counter(), []
         with tempfile.TemporaryDirectory() as folder:
             caller = Caller(self.program, pathlib.Path(folder))
             for number in cases:
@@ -270,9 +281,10 @@ class Cases:
                 except Exception as fault:  # A fault of the telling is a difference like any other.
                     answer, what = Told(-1), f"the telling failed: {fault!r}"
                 answers[tally.label(answer.status, answer.err)] += 1
+                done[words[0] if words and answer.status == 0 and job_of(words) else ""] += 1
                 if what:
                     differing.append(f"case {number}: {words} < {given}\n    {what}")
-        return answers, differing
+        return answers, done, differing
 
 
 def main() -> int:
@@ -288,11 +300,13 @@ def main() -> int:
         print(*case(random.Random(f"{asked.seed} {asked.only}")))
         return 0
     chunks = [range(start, min(start + CHUNK, asked.cases)) for start in range(0, asked.cases, CHUNK)]
-    answers, differing = collections.Counter(), []
+    answers, done, differing = collections.Counter(), collections.Counter(), []
     with concurrent.futures.ProcessPoolExecutor(asked.jobs) as pool:
-        for counted, wrong in pool.map(Cases(asked.seed, asked.program.resolve()).compared, chunks):
+        for counted, ended, wrong in pool.map(Cases(asked.seed, asked.program.resolve()).compared, chunks):
             answers += counted
+            done += ended
             differing += wrong
+    differing += [f"no {command} are told" for command in ANSWERED if answers.total() >= MANY and not done[command]]
     if asked.tally:
         tally.show(answers)
     print(*differing[:SHOWN], sep="\n", end="\n" if differing else "", file=sys.stderr)
