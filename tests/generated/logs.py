@@ -1,6 +1,6 @@
 #!/usr/bin/env python3
-"""Logs and what is told of them: whether a second telling (tests/reference/telling_log.py, telling_runs.py) says what the rows of tests/answers/logs.rows
-want, and, with `--program`, whether the program says the same of these rows, and of logs that nobody wrote.
+"""Logs and what is told of them: whether a second telling (tests/reference/telling_log.py, telling_runs.py) says what the rows of
+tests/answers/logs.rows want, and, with `--program`, whether the program says the same of these rows, and of logs that nobody wrote.
 
     python3 tests/generated/logs.py [CASES] [SEED] [--program PATH] [--jobs N] [--tally]
 

@@ -2,11 +2,11 @@
 """Feeds the built program modules that nobody wrote, and compares each answer with a second telling of it (tests/reference/telling.py).
 
 The modules are those of tests/answers/rows and whole programs that are made up here, as they are, with a rule broken, or changed operand by
-operand and byte by byte (tests/generated/generated.py). `check` and `run`, the latter in each order, by chance from a seed, and with numbers by chance
-where main takes some, and `explain`, have to answer what the telling answers, byte for byte, and so have `explain --json` and `listing` of one text in
-ten, and `events` and `lanes` of a run of one accepted program in five; where there are several walks to what is refused, another shortest one is
-taken too, and counted. Of an accepted module with few worlds the telling goes through all schedules, and looks whether the promises hold; of one such
-module in ten `outcomes` has to tell what these schedules print.
+operand and byte by byte (tests/generated/generated.py). `check` and `run`, the latter in each order, also by chance, and with numbers by chance where
+main takes some, and `explain`, have to answer what the telling answers, byte for byte, and so have `explain --json` and `listing` of one text in ten,
+and `events` and `lanes` of a run of one accepted program in five; where there are several walks to what is refused, another shortest one is taken
+too, and counted. Of an accepted module with few worlds the telling goes through all schedules, and looks whether the promises hold; of one such module
+in ten `outcomes` has to tell what these schedules print.
 With `--source` the texts are programs in the language (tests/generated/generated_source.py) and those of tests/answers/programs/sources*.rows
 and of examples, and `compile` is compared too, with what tests/reference/telling_source.py makes of them. Some runs of the module are compared
 with what the text means (tests/reference/meaning.py).
@@ -15,8 +15,8 @@ Needs the built program and python3. The gate runs it with 2,000 cases.
     python3 tests/generated/mutations.py [CASES] [SEED] [--source [--changed]] [--jobs N] [--program PATH] [--worlds N] [--tally] [--only CASE]
 
 20,000 cases, seed 1, 2 jobs, crates/x10clock/out/x10clock and 1,000 worlds where nothing else is said. With `--changed` all texts but the first
-ones are changed byte by byte. `--tally` tells how often the program gave each answer; `--only` prints one case alone. It fails where something differs,
-and where of 1,000 cases or more something wasn't asked at all.
+ones are changed byte by byte. `--tally` tells how often the program gave each answer; `--only` prints one case alone. It fails where something
+differs, and where of 1,000 cases or more something wasn't asked at all.
 """
 
 from __future__ import annotations

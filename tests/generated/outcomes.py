@@ -4,10 +4,10 @@
 
     python3 tests/generated/outcomes.py [CASES] [SEED] [--program PATH] [--jobs N] [--worlds N] [--tally] [--only CASE]
 
-300 cases, seed 1, 2 jobs, crates/x10clock/out/x10clock and 3,000 worlds at most where nothing else is said. A program has 2 to 4 activities that print, and
-mostly shared numbers, clocks and finishes; some are asked about as their modules, some take numbers. The program is asked with no limit, for the log
-of each outcome, or of 12 that are spread evenly, for one that there isn't, and with a small limit. Each log is played again by the program, and by
-the telling. `--tally` tells how often each answer was given; `--only` prints one program alone.
+300 cases, seed 1, 2 jobs, crates/x10clock/out/x10clock and 3,000 worlds at most where nothing else is said. A program has 2 to 4 activities that
+print, and mostly shared numbers, clocks and finishes; some are asked about as their modules, some take numbers. The program is asked with no limit,
+for the log of each outcome, or of 12 that are spread evenly, for that of one which there isn't, and with a limit. Each log is played again by the
+program, and by the telling. `--tally` tells how often each answer was given; `--only` prints one program alone.
 """
 
 from __future__ import annotations

@@ -8,8 +8,8 @@ the ends of what may be given, and names of small files, of which some are texts
 with a word left out, doubled, put in or replaced. Each call is made in a folder of its own, and told in another: the status, standard output, the first
 line of standard error and what is in the folder then have to be the same. What a run by workers prints is compared in any order, and its log is
 played again; outcomes, which the program tells in an order of its own, have to be right (tests/reference/telling_outcomes.py), and so has their log.
-`--tally` tells how often each answer was given; `--only` prints the words of one case. It fails where something is answered otherwise, and where of 500
-calls or more none told outcomes, events or lanes.
+`--tally` tells how often each answer was given; `--only` prints the words of one case. It fails where something is answered otherwise, and where of
+500 calls or more none told outcomes, events or lanes.
 """
 
 from __future__ import annotations

@@ -1280,7 +1280,7 @@ class Order(enum.Enum):
 
 @dataclass(frozen=True)
 class ByChance:
-    """Who took the step before takes the next too, by four chances in five and if it can, and else any of those who can: numbers drawn from a seed say it."""
+    """By four chances in five whoever took the step before, if it can take one more, and else any of those who can: drawn from a seed."""
 
     NAME = "random"
 

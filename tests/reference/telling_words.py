@@ -65,7 +65,7 @@ class TooLong(Exception):
 
 @dataclass(frozen=True)
 class Option:
-    """An option that takes a value: what it is called where it is told, which numbers or names it takes, if not any text, and whether it may come again."""
+    """An option that takes a value: what it is called where it is told, the numbers or names that it takes, if not any text, and whether it comes again."""
 
     told: str
     numbers: range | None = None
