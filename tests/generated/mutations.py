@@ -370,7 +370,7 @@ class Comparer:
 
     def finds_out(self, text: bytes, judged: Accepted, outcome: Outcome) -> None:
         """`outcomes` tells what the telling finds, and the log of one of them."""
-        given, asked = ways(text, judged)[0][1], Asked(LIMIT, random.Random(text).choice([1, 1, 2, 3]))
+        given, asked = ways(text, judged)[0][1], Asked(LIMIT, random.Random(text).choice([1, 1, 1, 2]))
         with tempfile.NamedTemporaryFile() as file:
             question = ["outcomes", "--limit", str(LIMIT), "--pick", str(asked.pick), "--log", file.name, *words_of(given)]
             answer = self.ask(text, *question)

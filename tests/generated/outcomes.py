@@ -6,7 +6,7 @@
 
 300 cases, seed 1, 2 jobs, crates/x10clock/out/x10clock and 3,000 worlds at most where nothing else is said. A program has 2 to 4 activities that
 print, and mostly shared numbers, clocks and finishes; some are asked about as their modules, some take numbers. The program is asked with no limit,
-for the log of each outcome, or of 12 that are spread evenly, for that of one which there isn't, and with a limit. Each log is played again by the
+for the log of each outcome, or of 8 that are spread evenly, for that of one which there isn't, and with a limit. Each log is played again by the
 program, and by the telling. `--tally` tells how often each answer was given; `--only` prints one program alone.
 """
 
@@ -38,7 +38,7 @@ PROGRAM = TESTS.parent / "crates/x10clock/out/x10clock"
 CHUNK = 10
 SHOWN = 5
 # Logs of so many outcomes of a program are looked at.
-LOGS = 12
+LOGS = 8
 ACTIVITIES = range(2, 5)
 MOST_STEPS = 70
 
