@@ -126,6 +126,12 @@ def number(text: str, within: range) -> int:
     return found
 
 
+def told_range(numbers: range) -> str:
+    """A range as clap tells it, which takes one up to the greatest number for one without an end."""
+    greatest = numbers.stop - 1
+    return f"{numbers.start}{'..' if numbers.stop == UNSIGNED.stop else '..='}{greatest}"
+
+
 def looked_at(option: Option, value: str) -> None:
     """Raises what there is to say of an option's value."""
     told, numbers = option.told, option.numbers
@@ -136,7 +142,7 @@ def looked_at(option: Option, value: str) -> None:
     try:
         found = number(value, SIGNED if numbers.start < 0 else UNSIGNED)
         if found not in numbers:
-            raise ValueError(f"{found} is not in {numbers.start}..={numbers.stop - 1}")
+            raise ValueError(f"{found} is not in {told_range(numbers)}")
     except ValueError as fault:
         raise Mistake(f"error: invalid value '{value}' for '{told}': {fault}") from None
 
