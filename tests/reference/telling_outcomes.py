@@ -192,7 +192,7 @@ def faults(walk: Walk | None, module: Module, arguments: Arguments, asked: Asked
         yield "more are told than the limit says"
     if walk:
         yield from against_walk(walk, asked, set(lists), is_complete)
-    elif not lists:
+    elif is_complete and not lists:
         yield "none is told"
     if asked.pick is not None:
         yield from log_faults(module, arguments, lists[asked.pick - 1 : asked.pick], given.log)
