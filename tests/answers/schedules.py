@@ -4,9 +4,10 @@ tests/answers/schedules.rows want, and whether the program says the same of thei
 
     python3 tests/answers/schedules.py [--program PATH]
 
-The telling knows no phases and no numbers of steps: they are counted here. Where all schedules of a module are known, the program replays and
-charts the log of each, or, where there are more than 100, of 60 that are spread evenly among them. The rows of tests/answers/texts.rows are of
-programs as texts, which are carried out by tests/reference/meaning.py and by their modules.
+The telling knows no phases and no numbers of steps: they are counted here. Where all schedules of a module are known, the program has to tell of
+all that they print by `outcomes`, and replays and charts the log of each, or, where there are more than 100, of 60 that are spread evenly among them;
+of one in five it tells the events and draws the lanes, too. The rows of tests/answers/texts.rows are of programs as texts, which are carried out by
+tests/reference/meaning.py and by their modules.
 """
 from __future__ import annotations
 
@@ -24,12 +25,14 @@ import logs
 import meaning
 import telling
 import telling_log
+import telling_outcomes
+import telling_runs
 import telling_source
 from logs import Program, Text, Told
 from telling import World, Wrong
 
 PROGRAM = TESTS.parent / "crates/x10clock/out/x10clock"
-MOST, SOME = 100, 60
+MOST, SOME, TOLD = 100, 60, 5
 
 PRINTED = re.compile(r"(\d+) print((?: -?\d+)*)")
 KNOWN = re.compile(r"(?:halted at (\d+): |.*)clocks.* since(.*?) (?:able(.*)|over)")
@@ -157,17 +160,29 @@ class Every:
         return schedule
 
 
+def ask_outcomes(asked: Asked, program: Program, text: Text, printed: list[str]) -> None:
+    """Whether the program tells of all that the schedules print."""
+    file = program.folder / "text"
+    file.write_bytes(text.data)
+    status, out, err = program.call("outcomes", *text.words(), file)
+    lists, is_complete = telling_outcomes.read(out) or ([], False)
+    told = sorted("".join(f" {number}" for number in numbers) for numbers in lists)
+    wanted = 0, sorted(printed), True, ""
+    asked.said(f"{text}\n    outcomes", wanted, (status, told, is_complete, err))
+
+
 def ask_every(asked: Asked, program: Program, text: Text, row: str) -> None:
     """How many schedules print what; and some of them, or all, are replayed and charted."""
     module = text.judged().module
     every = Every(module, telling.opening(module, text.arguments))
-    printed = every.printed(every.start)
-    asked.said(f"{text}\n    every", {numbers: int(count) for count, numbers in PRINTED.findall(row)}, dict(printed))
+    printed, known = every.printed(every.start), {numbers: int(count) for count, numbers in PRINTED.findall(row)}
+    asked.said(f"{text}\n    every", known, dict(printed))
+    ask_outcomes(asked, program, text, [*known])
     total = printed.total()
     count = total if total <= MOST else SOME
-    for place in (at * total // count for at in range(count)):
-        given = log_of(every.schedule(place))
-        for command in ("replay", "chart"):
+    for at in range(count):
+        given = log_of(every.schedule(at * total // count))
+        for command in ("replay", "chart") if at % TOLD else telling_runs.COMMANDS:
             asked.said(f"{text}\n    {command} {given!r}", Told().answer(text, given, command), program.answer(text, given, command))
 
 

@@ -1,14 +1,14 @@
 #!/usr/bin/env python3
-"""Logs, replay and charts: whether a second telling of them (tests/reference/telling_log.py) says what the rows of tests/answers/logs.rows want,
-and, with `--program`, whether the program says the same of these rows, and of logs that nobody wrote.
+"""Logs and what is told of them: whether a second telling (tests/reference/telling_log.py, telling_runs.py) says what the rows of
+tests/answers/logs.rows want, and, with `--program`, whether the program says the same of these rows, and of logs that nobody wrote.
 
     python3 tests/generated/logs.py [CASES] [SEED] [--program PATH] [--jobs N] [--tally]
 
 2,000 cases, seed 1 and 2 jobs where nothing else is said. A case is a program, as a source text or a module, and the log of a run by an order
 or by chance, which may be changed: an entry, a line, or a byte. Five cases in a row have the same program, which is run with `--log` in some
-order; the program replays each log and charts it. The telling is held against itself, too: what is written is read back, no beginning of a
-text is a text, and entries that are joined give the same run. The rows are asked of the program twice: as they are, and of the modules that
-their programs are compiled to. `--tally` tells how often the program gave each answer.
+order; the program is asked of each log for `replay`, `chart`, `events` and `lanes`. The telling is held against itself, too: what is written is read
+back, no beginning of a text is a text, and entries that are joined give the same run. The rows are asked of the program twice: as they are, and of
+the modules that their programs are compiled to. `--tally` tells how often the program gave each answer.
 """
 
 from __future__ import annotations
@@ -34,21 +34,24 @@ import generated_source
 import tally
 import telling
 import telling_log
+import telling_runs
 import telling_source
-from telling import Accepted, Arguments, Order, Refused
+from telling import Accepted, Arguments, ByChance, Order, Refused, Way
 from telling_log import Answer, Entry, Fault, Log
 
 ROWS = TESTS / "answers/logs.rows"
 IN_STEP = TESTS / "answers/rows/in-step.x10"
 NEW_LINE = b"\n"
 MOST_STEPS = 600
+# Of the edges of a log events and lanes are asked for at one in so many.
+SPARED = 10
 CHUNK = 100
 LOGS_OF_A_PROGRAM = 5
 SHOWN = 5
 SECONDS = 60
 
 ASKED = re.compile(r"(log|chart)(?: (last|round))?:(?: (.*))?|(replay|chart) (.*?): ?(.*)")
-ORDERS = {None: Order.FIRST, "last": Order.LAST, "round": Order.ROUND}
+ORDERS: dict[str | None, Way] = {None: Order.FIRST, "last": Order.LAST, "round": Order.ROUND}
 # The numbers that a program is given in the rows behind this one.
 GIVEN = "args:"
 
@@ -85,14 +88,14 @@ class Text:
 class Told:
     """The telling."""
 
-    def run(self, text: Text, order: Order) -> tuple[Answer, bytes]:
+    def run(self, text: Text, way: Way) -> tuple[Answer, bytes]:
         """What a run prints, and its log."""
         module = text.judged().module
-        log = telling_log.log_of(module, order, text.arguments)
-        return (0, telling.run(module, order, text.arguments).text(), ""), telling_log.text_of(log)
+        log = telling_log.log_of(module, way, text.arguments)
+        return (0, telling.run(module, way, text.arguments).text(), ""), telling_log.text_of(log)
 
     def answer(self, text: Text, log: bytes, command: str) -> Answer:
-        return telling_log.answer(text.judged(), log, command, text.arguments)
+        return telling_log.answer(text.judged(), log, telling_runs.teller(command, text.data, text.is_module), text.arguments)
 
 
 class Program:
@@ -111,11 +114,11 @@ class Program:
         self.answers[tally.label(answer[0], answer[2])] += 1
         return answer
 
-    def run(self, text: Text, order: Order) -> tuple[Answer, bytes]:
+    def run(self, text: Text, way: Way) -> tuple[Answer, bytes]:
         file, log = self.folder / "text", self.folder / "made"
         file.write_bytes(text.data)
         log.write_bytes(b"something that was there before")
-        answer = self.call("run", *text.words(), "--order", order.value, "--log", log, file)
+        answer = self.call("run", *text.words(), *way.words(), "--log", log, file)
         return answer, log.read_bytes()
 
     def answer(self, text: Text, log: bytes, command: str) -> Answer:
@@ -128,8 +131,8 @@ class Program:
 class ProgramOnModules(Program):
     """The same, asked about the module that a source text is compiled to."""
 
-    def run(self, text: Text, order: Order) -> tuple[Answer, bytes]:
-        return super().run(text.compiled(), order)
+    def run(self, text: Text, way: Way) -> tuple[Answer, bytes]:
+        return super().run(text.compiled(), way)
 
     def answer(self, text: Text, log: bytes, command: str) -> Answer:
         return super().answer(text.compiled(), log, command)
@@ -183,12 +186,13 @@ def edge_differences(who: Told | Program) -> tuple[int, list[str]]:
     asked = [(log[:end], "x10clock: L2 Truncated") for end in range(len(log))]
     behind = f"x10clock: L1 Grammar line {log.count(NEW_LINE) + 1}"
     asked += [(log + bytes([more]), behind) for more in range(256)]
+    questions = [*itertools.product(asked, ("replay", "chart")), *itertools.product(asked[::SPARED], ("events", "lanes"))]
     differing = []
-    for (given, line), command in itertools.product(asked, ("replay", "chart")):
+    for (given, line), command in questions:
         got = who.answer(text, given, command)
         if got != wanted(line, command):
             differing.append(f"{command} {given!r}\n    wanted: {line}\n    {type(who).__name__}: {got}")
-    return 2 * len(asked), differing
+    return len(questions), differing
 
 
 # Logs that nobody wrote.
@@ -199,6 +203,12 @@ def any_text(rng: random.Random) -> Text:
     if rng.random() < 0.3:
         return Text(generated.text_of(rng, generated.program(rng)), is_module=True)
     return Text(generated_source.text_of(rng, generated_source.program(rng)))
+
+
+def any_way(rng: random.Random) -> Way:
+    """An order, or one by chance from a seed."""
+    seed = rng.choice([0, 1, rng.randrange(2**64), 2**64 - 1])
+    return rng.choice([*Order, ByChance(seed), ByChance(seed)])
 
 
 def accepted_text(rng: random.Random) -> tuple[Text, Accepted]:
@@ -291,7 +301,7 @@ SPOILS = [bytes([sign]) for sign in b"0123456789 endx\n\r\t+-.\x00\xff"] + [b"en
 def log_of_case(rng: random.Random, module: telling.Module, arguments: Arguments) -> bytes:
     """The log of a run, as it is or changed."""
     in_order = rng.random() < 0.4
-    log = telling_log.log_of(module, rng.choice(list(Order)), arguments) if in_order else by_chance(rng, module, arguments)
+    log = telling_log.log_of(module, any_way(rng), arguments) if in_order else by_chance(rng, module, arguments)
     log = joined(rng, log) if rng.random() < 0.6 else log
     way = rng.random()
     if way < 0.3:
@@ -308,11 +318,11 @@ def log_of_case(rng: random.Random, module: telling.Module, arguments: Arguments
 def differences(rng: random.Random, program: Program | None, cases: int) -> Iterator[str]:
     """What differs in a run of a program, and in so many cases of it."""
     text, judged = accepted_text(rng)
-    order = rng.choice(list(Order))
-    right = Told().run(text, order)
-    yield from against_itself(rng, text, right[1], order)
-    if program and (got := program.run(text, order)) != right:
-        yield shown(text, f"run --order {order.value} --log", right, got)
+    way = any_way(rng)
+    right = Told().run(text, way)
+    yield from against_itself(rng, text, right[1], way)
+    if program and (got := program.run(text, way)) != right:
+        yield shown(text, f"run {' '.join(way.words())} --log", right, got)
     for _ in range(cases):
         # Now and then with other numbers than those of the run, or another count of them.
         other = text.given(*generated.arguments(rng, judged.module.wants + rng.choice([0, 0, 0, 1])))
@@ -321,7 +331,7 @@ def differences(rng: random.Random, program: Program | None, cases: int) -> Iter
 
 def log_differences(text: Text, given: bytes, program: Program | None) -> Iterator[str]:
     """What the program says otherwise of a log."""
-    for command in ("replay", "chart"):
+    for command in telling_runs.COMMANDS:
         right = Told().answer(text, given, command)
         if program and (got := program.answer(text, given, command)) != right:
             yield shown(text, f"{command} {given!r}", right, got)
@@ -331,15 +341,17 @@ def shown(text: Text, question: str, right: object, got: object) -> str:
     return f"{text}\n    {question}\n    telling: {right}\n    program: {got}"
 
 
-def against_itself(rng: random.Random, text: Text, written: bytes, order: Order) -> Iterator[str]:
+def against_itself(rng: random.Random, text: Text, written: bytes, way: Way) -> Iterator[str]:
     """What has to hold of the telling alone, of the log that was written of a run."""
     module, log = text.judged().module, telling_log.read(written)
     played = telling_log.replay(module, log, text.arguments)
-    if played.output() != telling.run(module, order, text.arguments).text():
+    if played.output() != telling.run(module, way, text.arguments).text():
         yield f"another run: {written!r}"
     again = telling_log.replay(module, joined(rng, log), text.arguments)
-    if (again.output(), again.chart()) != (played.output(), played.chart()):
-        yield f"joined entries give another run: {written!r}"
+    for command in telling_runs.COMMANDS:
+        tell = telling_runs.teller(command, text.data, text.is_module)
+        if tell(again) != tell(played):
+            yield f"joined entries give another run, by {command}: {written!r}"
     for end in (0, 1, len(written) - 1, *(rng.randrange(len(written)) for _ in range(3))):
         yield from refused_so(written[:end], "L2 Truncated")
     yield from refused_so(written + bytes([rng.randrange(256)]), f"L1 Grammar line {len(log) + 3}")

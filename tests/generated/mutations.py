@@ -2,10 +2,11 @@
 """Feeds the built program modules that nobody wrote, and compares each answer with a second telling of it (tests/reference/telling.py).
 
 The modules are those of tests/answers/rows and whole programs that are made up here, as they are, with a rule broken, or changed operand by
-operand and byte by byte (tests/generated/generated.py). `check` and `run`, the latter in each order and with numbers by chance where main takes
-some, and `explain`, have to answer what the telling answers, byte for byte, and so have `explain --json` and `listing` of one text in ten; where there
-are several walks to what is refused, another shortest one is taken too, and counted. Of an accepted module with few worlds the telling goes through all
-schedules, and looks whether the promises hold.
+operand and byte by byte (tests/generated/generated.py). `check` and `run`, the latter in each order, also by chance, and with numbers by chance where
+main takes some, and `explain`, have to answer what the telling answers, byte for byte, and so have `explain --json` and `listing` of one text in ten,
+and `events` and `lanes` of a run of one accepted program in five; where there are several walks to what is refused, another shortest one is taken
+too, and counted. Of an accepted module with few worlds the telling goes through all schedules, and looks whether the promises hold; of one such module
+in ten `outcomes` has to tell what these schedules print.
 With `--source` the texts are programs in the language (tests/generated/generated_source.py) and those of tests/answers/programs/sources*.rows
 and of examples, and `compile` is compared too, with what tests/reference/telling_source.py makes of them. Some runs of the module are compared
 with what the text means (tests/reference/meaning.py).
@@ -14,7 +15,8 @@ Needs the built program and python3. The gate runs it with 2,000 cases.
     python3 tests/generated/mutations.py [CASES] [SEED] [--source [--changed]] [--jobs N] [--program PATH] [--worlds N] [--tally] [--only CASE]
 
 20,000 cases, seed 1, 2 jobs, crates/x10clock/out/x10clock and 1,000 worlds where nothing else is said. With `--changed` all texts but the first
-ones are changed byte by byte. `--tally` tells how often the program gave each answer; `--only` prints one case alone.
+ones are changed byte by byte. `--tally` tells how often the program gave each answer; `--only` prints one case alone. It fails where something
+differs, and where of 1,000 cases or more something wasn't asked at all.
 """
 
 from __future__ import annotations
@@ -29,6 +31,7 @@ import random
 import re
 import subprocess
 import sys
+import tempfile
 import zlib
 from collections.abc import Iterable, Iterator
 from dataclasses import dataclass, field, replace
@@ -46,8 +49,11 @@ import telling_explain
 import telling_explain_json
 import telling_listing
 import telling_log
+import telling_outcomes
+import telling_runs
 import telling_source
-from telling import Accepted, Arguments, Order, Refused
+from telling import Accepted, Arguments, ByChance, Order, Refused, Way
+from telling_outcomes import Asked
 
 SECONDS = 60
 # Runs of more steps than this are not made at all; those of more steps, or of more steps times activities and clocks, than these are
@@ -55,8 +61,15 @@ SECONDS = 60
 LONGEST_RUN, LONGEST_COMPARED, MOST_WORK, MOST_ACTIVITIES = 2_000_000, 20_000, 2_000_000, 64
 # Runs that may be longer, by loops with a limit, are compared where they aren't longer than this.
 SHORT = 500
-# One text in so many is listed, and explained as JSON.
-LISTED = 10
+# One text in so many is listed, and explained as JSON; of one accepted text in so many a run's events and lanes are told; and of one in so many its
+# outcomes, no more than so many worlds being kept.
+LISTED, DRAWN, FOUND_OUT, LIMIT = 10, 5, 10, 2_000
+# Lanes are drawn of no more steps times activities than this.
+MOST_DRAWN = 100_000
+# What has to be counted in so many cases.
+MANY = 1_000
+ASKED = ["accepted modules explained as JSON", "modules listed", "modules taken through all schedules", "programs whose outcomes are told",
+         "refusals explained as JSON", "runs compared", "runs drawn"]  # fmt: skip
 # So many runs of each text are compared with what it means.
 RUNS_MEANT = 3
 CHUNK = 100
@@ -153,10 +166,11 @@ def words_of(arguments: Arguments) -> list[str]:
     return [f"--arg={number}" for number in arguments]
 
 
-def given_in_orders(text: bytes, judged: Accepted) -> list[Arguments]:
-    """The numbers that a program is given in each order, by its text alone."""
+def ways(text: bytes, judged: Accepted) -> list[tuple[Way, Arguments]]:
+    """The orders in which a program is run, and the numbers that it is given in each, by its text alone."""
     rng = random.Random(text)
-    return [generated.arguments(rng, judged.module.wants) for _ in Order]
+    given = [generated.arguments(rng, judged.module.wants) for _ in telling.ORDERS]
+    return list(zip([*Order, ByChance(rng.choice([0, 1, rng.randrange(2**64)]))], given, strict=True))
 
 
 def is_short(text: bytes, judged: Accepted) -> bool:
@@ -166,7 +180,7 @@ def is_short(text: bytes, judged: Accepted) -> bool:
         return bounds.steps * (bounds.activities + bounds.clocks) <= MOST_WORK
     if not any(instr.name == "forto" for unit in judged.module.units for instr in unit.code):
         return False
-    runs = (telling_log.driven(judged.module, *how) for how in zip(Order, given_in_orders(text, judged)))
+    runs = (telling_log.driven(judged.module, *how) for how in ways(text, judged))
     return all(next(itertools.islice(run, SHORT, None), None) is None for run in runs)
 
 
@@ -184,9 +198,9 @@ class Comparer:
     source: bool
     answers: collections.Counter = field(default_factory=collections.Counter)
 
-    def ask(self, text: bytes, command: str, *more: str) -> Answer:
+    def ask(self, text: bytes, command: str, *more: str, log: str | None = None) -> Answer:
         form = [] if self.source else ["--module"]
-        words = [self.program, command, *more, *form, "-"]
+        words = [self.program, command, *more, *form, "-", *([log] if log else [])]
         try:
             ran = subprocess.run(words, input=text, capture_output=True, timeout=SECONDS, check=False)
             answer = Answer(ran.returncode, ran.stdout.decode("utf-8", "replace"), ran.stderr.decode("utf-8", "replace"))
@@ -250,7 +264,8 @@ class Comparer:
         if is_sampled(text):
             self.misgiven(text, judged, outcome)
         self.explains_accepted(text, told, outcome)
-        self.schedules(text, judged, outcome)
+        if self.schedules(text, judged, outcome) and is_sampled(text, FOUND_OUT):
+            self.finds_out(text, judged, outcome)
         return outcome
 
     def of_refused(self, text: bytes, judged: Refused) -> Outcome:
@@ -320,22 +335,53 @@ class Comparer:
             outcome.differ(f"run {' '.join(words_of(given))}", told, answer)
 
     def runs(self, text: bytes, judged: Accepted, exact: bool, outcome: Outcome) -> None:
-        for order, given in zip(Order, given_in_orders(text, judged)):
-            question = ["run", "--order", order.value, *words_of(given)]
+        for way, given in ways(text, judged):
+            question = ["run", *way.words(), *words_of(given)]
             answer = self.ask(text, *question)
-            if order is Order.FIRST and is_sampled(text):
+            if way is Order.FIRST and is_sampled(text):
                 usual = self.ask(text, "run", *words_of(given))
                 if answer != usual:
                     outcome.differ("run, with --order first and without", answer, usual)
             if exact:
-                self.compare_run(" ".join(question), judged, (order, given), answer, outcome)
+                self.compare_run(" ".join(question), judged, (way, given), answer, outcome)
                 continue
             outcome.counts["runs looked at for their form"] += 1
             ended = ENDED.fullmatch(answer.out)
             if answer != done(answer.out) or not ended or int(ended[2]) > judged.bounds.steps:
                 outcome.differ(" ".join(question), f"ended within {judged.bounds.steps} steps", answer)
+        if exact and is_sampled(text, DRAWN):
+            self.draws(text, judged, outcome)
 
-    def compare_run(self, question: str, judged: Accepted, how: tuple[Order, Arguments], answer: Answer, outcome: Outcome) -> None:
+    def draws(self, text: bytes, judged: Accepted, outcome: Outcome) -> None:
+        """`events` and `lanes` tell of a run by its log, unless it is a large one."""
+        way, given = random.Random(text).choice(ways(text, judged))
+        log = telling_log.log_of(judged.module, way, given)
+        if len(log) * judged.bounds.activities > MOST_DRAWN:
+            outcome.counts["runs too large to be drawn"] += 1
+            return
+        outcome.counts["runs drawn"] += 1
+        with tempfile.NamedTemporaryFile() as file:
+            pathlib.Path(file.name).write_bytes(telling_log.text_of(log))
+            for command in ("events", "lanes"):
+                told = done(telling_runs.teller(command, text, not self.source)(telling_log.replay(judged.module, log, given)))
+                answer = self.ask(text, command, *words_of(given), log=file.name)
+                if answer != told:
+                    outcome.differ(f"{command}, run {' '.join(way.words())}", told, answer)
+
+    def finds_out(self, text: bytes, judged: Accepted, outcome: Outcome) -> None:
+        """`outcomes` tells what the telling finds, and the log of one of them."""
+        given, asked = ways(text, judged)[0][1], Asked(LIMIT, random.Random(text).choice([1, 1, 1, 2]))
+        with tempfile.NamedTemporaryFile() as file:
+            question = ["outcomes", "--limit", str(LIMIT), "--pick", str(asked.pick), "--log", file.name, *words_of(given)]
+            answer = self.ask(text, *question)
+            told = telling_outcomes.Answer(answer.status, answer.out, pathlib.Path(file.name).read_bytes())
+        outcome.counts[f"programs whose outcomes are told{'' if answer.status == 0 else ', not whole'}"] += 1
+        walk = telling_outcomes.walked(judged.module, given)
+        wrong = [*telling_outcomes.faults(walk, judged.module, given, asked, told)]
+        if wrong or answer.err:
+            outcome.differ(" ".join(question), wrong, answer)
+
+    def compare_run(self, question: str, judged: Accepted, how: tuple[Way, Arguments], answer: Answer, outcome: Outcome) -> None:
         outcome.counts["runs compared"] += 1
         outcome.counts["of them with numbers given"] += 1 if how[1] else 0
         try:
@@ -347,20 +393,22 @@ class Comparer:
         if answer != told or not ran.ended or ran.steps > judged.bounds.steps:
             outcome.differ(question, told if ran.ended else "nobody can step", answer)
 
-    def schedules(self, text: bytes, judged: Accepted, outcome: Outcome) -> None:
+    def schedules(self, text: bytes, judged: Accepted, outcome: Outcome) -> bool:
+        """Whether all schedules were walked through."""
         few = judged.bounds.activities <= MOST_ACTIVITIES and judged.bounds.steps <= LONGEST_COMPARED
         try:
-            worlds = telling.Schedules(judged, self.worlds, given_in_orders(text, judged)[0]).walk() if few else None
+            worlds = telling.Schedules(judged, self.worlds, ways(text, judged)[0][1]).walk() if few else None
         except telling.Broken as broken:
             outcome.differences.append(f"a promise is broken: {broken}")
-            return
+            return False
         if worlds is None:
             outcome.counts["accepted modules with too many worlds"] += 1
-            return
+            return False
         outcome.counts["modules taken through all schedules"] += 1
         outcome.counts["worlds in them"] += worlds
         if judged.bounds.activities > 1:
             outcome.counts["of them with several activities"] += 1
+        return True
 
 
 # Smaller texts with the same fault.
@@ -502,8 +550,10 @@ def main() -> int:
         tally.show(summary.answers)
     for case, text, differences in sorted(summary.differing)[:SHOWN]:
         print(f"case {case}: {text!r}", *differences, f"smaller: {shrunk(comparer, text)!r}", sep="\n    ", file=sys.stderr)
+    unasked = [name for name in ASKED if summary.cases >= MANY and not summary.counts[name]]
+    print(*[f"none: {name}" for name in unasked], sep="\n", end="\n" if unasked else "", file=sys.stderr)
     print(f"{summary.cases} cases, {len(summary.differing)} with a difference")
-    return 1 if summary.differing else 0
+    return 1 if summary.differing or unasked else 0
 
 
 if __name__ == "__main__":

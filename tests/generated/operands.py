@@ -6,9 +6,9 @@
 2 jobs and crates/x10clock/out/x10clock where nothing else is said. The modules are what some texts of tests/answers/rows are compiled to. A
 number becomes 0 and one more; where it may have no sign also the greatest of 16 bits, one beyond it, and -1; where it may also both ends of 64
 bits and one beyond each. A name becomes each other name, a comparison each other one, a letter of `params` the other, and each instruction is
-left out, and doubled. Each of these modules is refused as the second telling says (tests/reference/telling.py), or runs in the three orders as
-it says, within its bound; its logs are played again and say the same. Besides, each beginning of a module's text, and brackets within brackets,
-are no JSON.
+left out, and doubled. Each of these modules is refused as the second telling says (tests/reference/telling.py), or runs in the three orders and by
+chance as it says, within its bound; its logs are played again and say the same. Besides, each beginning of a module's text, and brackets within
+brackets, are no JSON.
 """
 
 from __future__ import annotations
@@ -30,7 +30,7 @@ import logs
 import telling
 import telling_source
 from mutations import SHORT, Comparer, Summary, in_order, refused
-from telling import Accepted, Order, Role
+from telling import Accepted, ByChance, Order, Role, Way
 
 PROGRAM = TESTS.parent / "crates/x10clock/out/x10clock"
 # Two in step; a clock dropped on one of two ways; activities that add; a loop with a limit, whose main takes a number.
@@ -41,6 +41,7 @@ TEXTS = [
     (TESTS / "answers/rows/as-many.x10").read_bytes(),
 ]
 ROW = b'{"version":1,"shared":[],"units":[{"kind":"main","params":"","slots":3,"code":[["lit",0,2],["lit",1,3],["add",0,0,1],["make",2],["advance"],["print",0],["ret"]]}]}'
+WAYS: list[Way] = [*Order, ByChance(7)]
 UNSIGNED = (0, 65_535, 65_536, -1)
 SIGNED = (0, -(2**63), -(2**63) - 1, 2**63 - 1, 2**63)
 CHUNK = 50
@@ -120,16 +121,16 @@ def no_json() -> list[bytes]:
 def replays(program: logs.Program, text: bytes, judged: Accepted) -> Iterator[str]:
     """Whether the logs of a module's runs are played again."""
     given = logs.Text(text, True).given(*[3] * judged.module.wants)
-    for order in Order:
-        ran, log = program.run(given, order)
+    for way in WAYS:
+        ran, log = program.run(given, way)
         again = program.answer(given, log, "replay")
         if ran[0] != 0 or again != ran:
-            yield f"run --log --order {order.value}: {ran}\n    its replay: {again}"
+            yield f"run --log {' '.join(way.words())}: {ran}\n    its replay: {again}"
 
 
 def is_logged(judged: Accepted) -> bool:
     """Whether each order ends soon."""
-    runs = (logs.telling_log.driven(judged.module, order, (3,) * judged.module.wants) for order in Order)
+    runs = (logs.telling_log.driven(judged.module, way, (3,) * judged.module.wants) for way in WAYS)
     return all(next(itertools.islice(run, SHORT, None), None) is None for run in runs)
 
 
@@ -142,7 +143,7 @@ def looked_at(path: pathlib.Path, cases: list[tuple[int, bytes]]) -> Summary:
             judged = telling.judge(text)
             if isinstance(judged, Accepted) and is_logged(judged):
                 outcome.differences += replays(program, text, judged)
-                outcome.counts["logs played again"] += len(Order)
+                outcome.counts["logs played again"] += len(WAYS)
             summary.add(number, text, outcome)
     return summary
 

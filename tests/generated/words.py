@@ -7,7 +7,9 @@
 the ends of what may be given, and names of small files, of which some are texts, modules or logs, one is a folder, and some aren't there; mostly they make a call that could be meant,
 with a word left out, doubled, put in or replaced. Each call is made in a folder of its own, and told in another: the status, standard output, the first
 line of standard error and what is in the folder then have to be the same. What a run by workers prints is compared in any order, and its log is
-played again. `--tally` tells how often each answer was given; `--only` prints the words of one case.
+played again; outcomes, which the program tells in an order of its own, have to be right (tests/reference/telling_outcomes.py), and so has their log.
+`--tally` tells how often each answer was given; `--only` prints the words of one case. It fails where something is answered otherwise, and where of
+500 calls or more none told outcomes, events or lanes.
 """
 
 from __future__ import annotations
@@ -29,15 +31,23 @@ TESTS = pathlib.Path(__file__).resolve().parent.parent
 sys.path.append(str(TESTS / "reference"))
 import tally
 import telling_log
+import telling_outcomes
+import telling_runs
 import telling_source
 import telling_words
-from telling_words import Told
+from telling import Order
+from telling_outcomes import Answer
+from telling_words import Job, Told
 
 SECONDS = 60
+# Of so many calls some have to tell what each of these commands tells.
+MANY, ANSWERED = 500, ("outcomes", "events", "lanes")
 CHUNK = 50
 SHOWN = 5
 IN_STEP, AS_MANY = ((TESTS / f"answers/rows/{name}.x10").read_bytes() for name in ("in-step", "as-many"))
 LOG = b"x10log 1\n" + b"".join(b"%d 1\n" % who for who in (0, 0, 0, 1, 0, 0, 0, 0, 1, 1, 1, 1)) + b"end 12\n"
+# Of a run with three activities beside main, as with each number from 3 on.
+LOG_OF_MANY = telling_log.text_of(telling_log.log_of(telling_source.judge(AS_MANY).module, Order.LAST, (3,)))
 FILES = {
     "step.x10": IN_STEP,
     "many.x10": AS_MANY,
@@ -46,6 +56,7 @@ FILES = {
     "step.json": telling_source.module_text(IN_STEP).encode(),
     "many.json": telling_source.module_text(AS_MANY).encode(),
     "step.log": LOG,
+    "many.log": LOG_OF_MANY,
     "cut.log": LOG[:40],
     "waits.log": b"x10log 1\n1 1\nend 1\n",
 }
@@ -55,10 +66,10 @@ FOLDER, LINK = "folder", "link"
 
 NAMES = [*FILES, FOLDER, LINK, "-", "no-such-file", "folder/made", "made", "", "."]
 NUMBERS = ["0", "1", "2", "3", "64", "65", "-1", "+2", "007", "9223372036854775807", "9223372036854775808", "-9223372036854775808", "-9223372036854775809",
-           "18446744073709551615", "18446744073709551616", "99999999999999999999x", "x", "", "-", "+", "1.5", " 1", "٣", "1e3"]  # fmt: skip
-ORDERS = ["first", "last", "round", "least", "First", "", "firs", "-", "first "]
+           "18446744073709551615", "18446744073709551616", "+18446744073709551615", "99999999999999999999x", "x", "", "-", "+", "1.5", " 1", "٣", "1e3"]  # fmt: skip
+ORDERS = ["first", "last", "round", "random", "least", "First", "", "firs", "-", "first "]
 STRANGE = ["--", "-h", "--help", "help", "-", "", "-x", "-5", "-hx", "--module=x", "--help=x", "--modul", "--Module", "--orders", "--=", "---", "--version", "-V", "walk",
-           "chek", "run", "check", "--no-module", "--log", "--order", "--workers", "--arg", "\udcff", "--log=\udcfe", "ü", "--ü", "a b", "=", "@step.x10"]  # fmt: skip
+           "chek", "run", "check", "--no-module", "--log", "--order", "--workers", "--arg", "--seed", "--limit", "--pick", "outcome", "\udcff", "--log=\udcfe", "ü", "--ü", "a b", "=", "@step.x10"]  # fmt: skip
 
 
 def option(rng: random.Random, name: str, value: str) -> list[str]:
@@ -73,25 +84,32 @@ def options(rng: random.Random, command: str, text: str) -> Iterator[list[str]]:
     if command == "explain" and rng.random() < 0.5 or rng.random() < 0.02:
         yield ["--json"]
     if command == "run" and rng.random() < 0.4:
-        yield option(rng, "order", rng.choice(ORDERS[:3] if rng.random() < 0.8 else ORDERS))
+        order = rng.choice(["random", "random", *ORDERS[:4]] if rng.random() < 0.8 else ORDERS)
+        yield option(rng, "order", order)
+        seed = rng.choice(["0", "1", "7", "18446744073709551615"] if rng.random() < 0.6 else NUMBERS)
+        yield from [option(rng, "seed", seed)] if rng.random() < (0.7 if order == "random" else 0.1) else []
+    for name in ("limit", "pick") if command == "outcomes" else ():
+        yield from [option(rng, name, rng.choice(["1", "2", "3", "64"] if rng.random() < 0.7 else NUMBERS))] if rng.random() < 0.4 else []
     if command == "run" and rng.random() < 0.3:
         yield option(rng, "workers", rng.choice(["1", "2", "3", "64"] if rng.random() < 0.7 else NUMBERS))
-    if command == "run" and rng.random() < 0.4:
+    if command in ("run", "outcomes") and rng.random() < 0.4:
         yield option(rng, "log", rng.choice(["made", "step.log", *NAMES]))
-    if command in ("run", "replay", "chart"):
+    if command in ("run", "outcomes", *telling_runs.COMMANDS):
         for _ in range(text.startswith("many") if rng.random() < 0.8 else rng.randrange(3)):
             yield option(rng, "arg", rng.choice(NUMBERS[:12] if rng.random() < 0.8 else NUMBERS))
 
 
 def meant(rng: random.Random, given: str) -> list[str]:
     """A call that could be meant, with this file as standard input."""
-    command = rng.choice([*telling_words.COMMANDS, "run", "run"])
+    command = rng.choice([*telling_words.COMMANDS, "run", "run", "run", "run", "outcomes"])
     file = rng.choice(["step.x10", "many.x10", "step.json", "many.json", "-"] if rng.random() < 0.8 else NAMES)
     parts = [[file], *options(rng, command, given if file == "-" else file)]
     rng.shuffle(parts)
-    if command in ("replay", "chart"):
+    if command in telling_runs.COMMANDS:
         at = parts.index([file])
-        parts.insert(rng.randrange(at + 1, len(parts) + 1), [rng.choice(["step.log", "step.log", "cut.log", "waits.log", *NAMES])])
+        fitting = f"{(given if file == '-' else file)[:4]}.log"
+        log = fitting if rng.random() < 0.6 else rng.choice(["cut.log", "waits.log", *NAMES])
+        parts.insert(rng.randrange(at + 1, len(parts) + 1), [log])
     return [command, *(word for part in parts for word in part)]
 
 
@@ -174,8 +192,11 @@ class Caller:
     def difference(self, words: list[str], given: str) -> tuple[Told, str | None]:
         """What the program answers, and what is wrong with it."""
         (right, left), (got, there) = self.told(words, given), self.called(words, given)
-        if got.status == 0 and is_by_workers(words):
-            played = replayed(words, given, left, there)
+        job = job_of(words)
+        if job and job.command == "outcomes" and {right.status, got.status} <= {telling_outcomes.WHOLE, telling_outcomes.NOT_WHOLE}:
+            return got, "; ".join(outcome_faults(job, given, got, left, there)) or None
+        if got.status == 0 and job and "workers" in job.values:
+            played = replayed(job, given, left, there)
             if played is not None and played != got:
                 return got, f"its log is that of {played}, and it answers {got}"
             right, got = in_any_order(right), in_any_order(got)
@@ -186,44 +207,71 @@ class Caller:
         return got, f"telling: {right}\n    program: {got}\n    files that differ: {sorted(files)}"
 
 
-def is_by_workers(words: list[str]) -> bool:
-    """Whether words that are a job ask for a run by workers."""
+def job_of(words: list[str]) -> Job | None:
+    """What words ask for that are a job."""
     try:
-        return "workers" in telling_words.read(words).values
+        return telling_words.read(words)
     except (telling_words.Mistake, telling_words.Help, telling_words.Version):
-        return False
+        return None
+
+
+def log_path(job: Job) -> str:
+    """The file that a log goes to."""
+    path = os.path.normpath(job.values.get("log", ""))
+    return "step.x10" if path == LINK else path
+
+
+def program_of(job: Job, given: str) -> bytes:
+    """The bytes of the program."""
+    file = job.values["FILE"]
+    return FILES["step.x10" if file == LINK else given if file == "-" else os.path.normpath(file)]
+
+
+def are_others_same(job: Job, left: Folder, there: Folder) -> bool:
+    """Whether all files but that of the log are the same."""
+    kept = [{name: text for name, text in files.items() if name not in (log_path(job), LINK)} for files in (left, there)]
+    return kept[0] == kept[1]
 
 
 def in_any_order(answer: Told) -> Told:
     return Told(answer.status, "".join(sorted(answer.out.splitlines(keepends=True))), answer.err)
 
 
-def replayed(words: list[str], given: str, left: Folder, there: Folder) -> Told | None:
+def replayed(job: Job, given: str, left: Folder, there: Folder) -> Told | None:
     """What a log prints that workers wrote, if they were to write one; all other files are as they are told to be."""
-    job = telling_words.read(words)
-    path = os.path.normpath(job.values.get("log", ""))
-    path = "step.x10" if path == LINK else path
-    if path not in there:
+    if log_path(job) not in there:
         return None
-    others = [{name: text for name, text in files.items() if name not in (path, LINK)} for files in (left, there)]
-    if others[0] != others[1]:
+    if not are_others_same(job, left, there):
         return Told(-1, "", "other files differ")
-    file = job.values["FILE"]
-    data = FILES["step.x10" if file == LINK else given if file == "-" else os.path.normpath(file)]
-    status, out, err = telling_log.answer(telling_words.judge(job, data), there[path], "replay", tuple(job.numbers))
+    judged = telling_words.judge(job, program_of(job, given))
+    status, out, err = telling_log.answer(judged, there[log_path(job)], telling_log.Played.output, tuple(job.numbers))
     return Told(status, out, err)
+
+
+def outcome_faults(job: Job, given: str, got: Told, left: Folder, there: Folder) -> Iterator[str]:
+    """What is wrong with outcomes that are told, and with their log, if there was to be one; all other files are as they are told to be."""
+    if got.err or not are_others_same(job, left, there):
+        yield f"other files differ, or something is on standard error: {got}"
+    module, numbers = telling_words.judge(job, program_of(job, given)).module, tuple(job.numbers)
+    log = there.get(log_path(job), b"no log") if "log" in job.values else b""
+    walk = telling_outcomes.walked(module, numbers)
+    for fault in telling_outcomes.faults(walk, module, numbers, telling_words.asked_outcomes(job), Answer(got.status, got.out, log)):
+        yield f"{fault}: {got}"
 
 
 # Cases.
 
 
 @dataclass(frozen=True)
-class Job:
+class Cases:
+    """The cases of a seed."""
+
     seed: int
     program: pathlib.Path
 
-    def of_cases(self, cases: range) -> tuple[collections.Counter, list[str]]:
-        answers, differing = collections.Counter(), []
+    def compared(self, cases: range) -> tuple[collections.Counter, collections.Counter, list[str]]:
+        """How often each answer was given, how often each command answered that it is done, and what differs."""
+        answers, done, differing = collections.Counter(), collections.Counter(), []
         with tempfile.TemporaryDirectory() as folder:
             caller = Caller(self.program, pathlib.Path(folder))
             for number in cases:
@@ -233,9 +281,10 @@ class Job:
                 except Exception as fault:  # A fault of the telling is a difference like any other.
                     answer, what = Told(-1), f"the telling failed: {fault!r}"
                 answers[tally.label(answer.status, answer.err)] += 1
+                done[words[0] if words and answer.status == 0 and job_of(words) else ""] += 1
                 if what:
                     differing.append(f"case {number}: {words} < {given}\n    {what}")
-        return answers, differing
+        return answers, done, differing
 
 
 def main() -> int:
@@ -251,11 +300,13 @@ def main() -> int:
         print(*case(random.Random(f"{asked.seed} {asked.only}")))
         return 0
     chunks = [range(start, min(start + CHUNK, asked.cases)) for start in range(0, asked.cases, CHUNK)]
-    answers, differing = collections.Counter(), []
+    answers, done, differing = collections.Counter(), collections.Counter(), []
     with concurrent.futures.ProcessPoolExecutor(asked.jobs) as pool:
-        for counted, wrong in pool.map(Job(asked.seed, asked.program.resolve()).of_cases, chunks):
+        for counted, ended, wrong in pool.map(Cases(asked.seed, asked.program.resolve()).compared, chunks):
             answers += counted
+            done += ended
             differing += wrong
+    differing += [f"no {command} are told" for command in ANSWERED if answers.total() >= MANY and not done[command]]
     if asked.tally:
         tally.show(answers)
     print(*differing[:SHOWN], sep="\n", end="\n" if differing else "", file=sys.stderr)

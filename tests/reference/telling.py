@@ -6,9 +6,9 @@ them, and the machine keeps for each clock the sets of activities that are regis
 each open finish the set of activities that it waits for. Beside the answers it walks through all schedules of a small module and looks
 whether the promises hold: no wrong step, no longer schedule than was verified, and all have ended where nobody can step.
 
-    python3 tests/reference/telling.py check FILE              what the program prints
-    python3 tests/reference/telling.py run FILE [ORDER] [--arg=N]..       ORDER is first, last or round
-    python3 tests/reference/telling.py walk FILE [WORLDS] [--arg=N]..     all schedules, through so many worlds at most
+    python3 tests/reference/telling.py check FILE                           what the program prints
+    python3 tests/reference/telling.py run FILE [ORDER [SEED]] [--arg=N]..  ORDER is first, last, round or random
+    python3 tests/reference/telling.py walk FILE [WORLDS] [--arg=N]..       all schedules, through so many worlds at most
 """
 
 from __future__ import annotations
@@ -1273,12 +1273,72 @@ class Order(enum.Enum):
     LAST = "last"
     ROUND = "round"
 
-    def candidates(self, count: int, before: int) -> Iterable[int]:
-        if self is Order.FIRST:
-            return range(count)
-        if self is Order.LAST:
-            return reversed(range(count))
-        return itertools.chain(range(before + 1, count), range(before + 1))
+    def words(self) -> list[str]:
+        """The words that ask for it."""
+        return ["--order", self.value]
+
+
+@dataclass(frozen=True)
+class ByChance:
+    """By four chances in five whoever took the step before, if it can take one more, and else any of those who can: drawn from a seed."""
+
+    NAME = "random"
+
+    seed: int = 0
+
+    def words(self) -> list[str]:
+        return ["--order", self.NAME, "--seed", str(self.seed)]
+
+    def numbers(self) -> Iterator[int]:
+        """The numbers of SplitMix64."""
+        state = self.seed
+        while True:
+            state = (state + 0x9E3779B97F4A7C15) % 2**64
+            mixed = (state ^ state >> 30) * 0xBF58476D1CE4E5B9 % 2**64
+            mixed = (mixed ^ mixed >> 27) * 0x94D049BB133111EB % 2**64
+            yield mixed ^ mixed >> 31
+
+
+Way = Order | ByChance
+ORDERS = [*(order.value for order in Order), ByChance.NAME]
+
+
+def way_of(name: str, seed: int = 0) -> Way:
+    """The order of this name; the seed is for the one by chance."""
+    return ByChance(seed) if name == ByChance.NAME else Order(name)
+
+
+class Chooser:
+    """Says who takes the steps of a run, one after another."""
+
+    def __init__(self, way: Way) -> None:
+        self.way, self.before = way, -1
+        self.numbers = way.numbers() if isinstance(way, ByChance) else iter(())
+
+    def candidates(self, count: int, can_step: Callable[[int], object]) -> Iterable[int]:
+        """Who takes the next step, of so many: the first of these who can take one."""
+        before = self.before
+        match self.way:
+            case Order.FIRST:
+                return range(count)
+            case Order.LAST:
+                return reversed(range(count))
+            case Order.ROUND:
+                return itertools.chain(range(before + 1, count), range(before + 1))
+        number = next(self.numbers)
+        if number % 5 and can_step(before):
+            return [before]
+        able = [who for who in range(count) if can_step(who)]
+        return [able[number // 5 % len(able)]] if able else []
+
+    def step(self, module: Module, world: World) -> Step | None:
+        """The next step, or None where nobody can step; raises Wrong."""
+        for who in self.candidates(len(world.activities), lambda who: step(module, world, who)):
+            taken = step(module, world, who)
+            if taken:
+                self.before = who
+                return taken
+        return None
 
 
 @dataclass(frozen=True)
@@ -1291,19 +1351,14 @@ class Ran:
         return "".join(f"{number}\n" for number in self.printed) + f"ended steps {self.steps}\n"
 
 
-def run(module: Module, order: Order, arguments: Arguments = ()) -> Ran:
+def run(module: Module, way: Way, arguments: Arguments = ()) -> Ran:
     """The run in an order, with these numbers given; raises Wrong."""
-    world, before, steps, printed = opening(module, arguments), -1, 0, []
-    while True:
-        for who in order.candidates(len(world.activities), before):
-            taken = step(module, world, who)
-            if taken:
-                break
-        else:
-            return Ran(printed, steps, world.has_ended)
-        world, before, steps = taken.world, who, steps + 1
+    world, chooser, steps, printed = opening(module, arguments), Chooser(way), 0, []
+    while (taken := chooser.step(module, world)) is not None:
+        world, steps = taken.world, steps + 1
         if taken.printed is not None:
             printed.append(taken.printed)
+    return Ran(printed, steps, world.has_ended)
 
 
 # All schedules.
@@ -1448,13 +1503,18 @@ def answer(command: str, judged: Accepted | Refused, more: list[str], arguments:
     if command == "check":
         print(judged.bounds.line())
     elif command == "run":
-        print(run(judged.module, Order(more[0] if more else "first"), arguments).text(), end="")
+        print(run(judged.module, way_of(*named(more)), arguments).text(), end="")
     else:
         answer_walk(Schedules(judged, int(more[0]) if more else 1_000_000, arguments))
     return 0
 
 
 ARGUMENT = "--arg="
+
+
+def named(more: list[str]) -> tuple[str, int]:
+    """An order and a seed, as the words have them behind a file."""
+    return more[0] if more else Order.FIRST.value, int(more[1]) if len(more) > 1 else 0
 
 
 def parted(words: list[str]) -> tuple[list[str], Arguments]:

@@ -5,11 +5,9 @@ A log is the schedule of a run, written down: lines of an activity and how many 
 by patterns, line by line; a replay takes the steps one by one, as tests/reference/telling.py has them; a chart has a line for each clock that
 advances.
 
-    python3 tests/reference/telling_log.py log FILE [ORDER] [--arg=N]..         the log of a run; ORDER is first, last or round
-    python3 tests/reference/telling_log.py replay FILE LOG [--arg=N]..          what the run of this log prints
-    python3 tests/reference/telling_log.py chart FILE LOG [--arg=N]..
+    python3 tests/reference/telling_log.py FILE [ORDER [SEED]] [--arg=N]..      the log of a run; ORDER is first, last, round or random
 
-FILE is a module, or with a name that ends in `.x10` a source text.
+FILE is a module, or with a name that ends in `.x10` a source text. What is told of logs, tests/reference/telling_runs.py tells.
 """
 
 from __future__ import annotations
@@ -17,13 +15,14 @@ from __future__ import annotations
 import pathlib
 import re
 import sys
-from collections.abc import Iterable, Iterator
-from dataclasses import dataclass
+from collections.abc import Callable, Iterable, Iterator
+from dataclasses import dataclass, field
 from typing import NamedTuple
 
 import telling
 import telling_source
-from telling import Arguments, Order
+from telling import Arguments, Way
+
 GREATEST = 4_294_967_295
 MOST_ENTRIES = 1_000_000_000
 # The longest line is an entry of twice the greatest number.
@@ -107,32 +106,50 @@ class Advance(NamedTuple):
         return f"step {self.step} clock {self.clock} phase {self.phase} acts {' '.join(map(str, self.registered))}\n"
 
 
+class Taken(NamedTuple):
+    """A step that was taken: its number, whose it was, the world before it, what it came to, and the clocks that advanced with it."""
+
+    number: int
+    who: int
+    before: telling.World
+    step: telling.Step
+    advances: list[Advance]
+
+
 @dataclass
 class Played:
-    """What a run has come to: the world, how many steps it took, what it printed, the phases of clocks, and their advances."""
+    """What a run has come to: the world, the steps that it took, what it printed, the phases of clocks, and their advances."""
 
     module: telling.Module
     world: telling.World
-    steps: int
-    printed: list[int]
-    phases: dict[int, int]
-    advances: list[Advance]
+    taken: list[Taken] = field(default_factory=list)
+    printed: list[int] = field(default_factory=list)
+    phases: dict[int, int] = field(default_factory=dict)
 
     @staticmethod
     def opening(module: telling.Module, arguments: Arguments) -> Played:
-        return Played(module, telling.opening(module, arguments), 0, [], {}, [])
+        return Played(module, telling.opening(module, arguments))
+
+    @property
+    def steps(self) -> int:
+        return len(self.taken)
+
+    @property
+    def advances(self) -> list[Advance]:
+        return [advance for taken in self.taken for advance in taken.advances]
 
     def step(self, who: int) -> bool:
         """A step of an activity, if it can take one."""
         taken = telling.step(self.module, self.world, who)
         if taken is None:
             return False
-        self.world, self.steps = taken.world, self.steps + 1
+        number, before, self.world, advances = self.steps + 1, self.world, taken.world, []
         self.printed += [] if taken.printed is None else [taken.printed]
         for clock in taken.advanced:
             self.phases[clock] = self.phases.get(clock, 0) + 1
             registered = tuple(sorted(self.world.clocks[clock].registered))
-            self.advances.append(Advance(self.steps, clock, self.phases[clock], registered))
+            advances.append(Advance(number, clock, self.phases[clock], registered))
+        self.taken.append(Taken(number, who, before, taken, advances))
         return True
 
     def output(self) -> str:
@@ -154,34 +171,36 @@ def replay(module: telling.Module, log: Iterable[Entry], arguments: Arguments = 
     return played
 
 
-def driven(module: telling.Module, order: Order, arguments: Arguments = ()) -> Iterator[int]:
+def driven(module: telling.Module, way: Way, arguments: Arguments = ()) -> Iterator[int]:
     """The activities that take the steps of a run in this order, with these numbers given."""
-    played, before = Played.opening(module, arguments), -1
-    while (who := next((one for one in order.candidates(len(played.world.activities), before) if played.step(one)), None)) is not None:
-        before = who
-        yield who
+    world, chooser = telling.opening(module, arguments), telling.Chooser(way)
+    while (taken := chooser.step(module, world)) is not None:
+        world = taken.world
+        yield chooser.before
 
 
-def log_of(module: telling.Module, order: Order, arguments: Arguments = ()) -> Log:
+def log_of(module: telling.Module, way: Way, arguments: Arguments = ()) -> Log:
     """The log of a run in this order: an entry for each step."""
-    return [Entry(who, 1) for who in driven(module, order, arguments)]
+    return [Entry(who, 1) for who in driven(module, way, arguments)]
 
 
 # Answers: the status, standard output and standard error of the program.
 
 Answer = tuple[int, str, str]
+# What is told of a run that came to its end.
+Teller = Callable[[Played], str]
 
 
-def answer(judged: telling.Accepted | telling.Refused, data: bytes, command: str, arguments: Arguments = ()) -> Answer:
-    """Of `replay` and `chart`: the program is judged, and the numbers that are given are counted, before the log is read."""
-    line = telling.refusal(command, judged, arguments)
+def answer(judged: telling.Accepted | telling.Refused, data: bytes, tell: Teller, arguments: Arguments = ()) -> Answer:
+    """Of a command on a log: the program is judged, and the numbers that are given are counted, before the log is read."""
+    line = telling.refusal("replay", judged, arguments)
     if line:
         return 1, "", f"x10clock: {line}\n"
     try:
         played = replay(judged.module, read(data), arguments)
     except Fault as fault:
         return 3, "", f"x10clock: {fault}\n"
-    return 0, played.chart() if command == "chart" else played.output(), ""
+    return 0, tell(played), ""
 
 
 def judge(path: pathlib.Path) -> telling.Accepted | telling.Refused:
@@ -190,15 +209,14 @@ def judge(path: pathlib.Path) -> telling.Accepted | telling.Refused:
 
 
 def main(words: list[str]) -> int:
-    (command, file, *more), arguments = telling.parted(words)
+    (file, *more), arguments = telling.parted(words)
     judged = judge(pathlib.Path(file))
-    if command == "log" and not telling.refusal(command, judged, arguments):
-        sys.stdout.buffer.write(text_of(log_of(judged.module, Order(more[0] if more else "first"), arguments)))
-        return 0
-    status, out, err = answer(judged, pathlib.Path(more[0]).read_bytes() if more else b"", command, arguments)
-    sys.stdout.write(out)
-    sys.stderr.write(err)
-    return status
+    line = telling.refusal("run", judged, arguments)
+    if line:
+        print(f"x10clock: {line}", file=sys.stderr)
+        return 1
+    sys.stdout.buffer.write(text_of(log_of(judged.module, telling.way_of(*telling.named(more)), arguments)))
+    return 0
 
 
 if __name__ == "__main__":

@@ -19,13 +19,15 @@ import telling_explain
 import telling_explain_json
 import telling_listing
 import telling_log
+import telling_outcomes
+import telling_runs
 import telling_source
-from telling import Accepted, Arguments, Order, Refused
+from telling import Accepted, Arguments, Refused, Way
 
 TESTS = pathlib.Path(__file__).resolve().parent.parent
 # A number's digits are read one after another, up to the first that makes it too large.
 SIGNED, UNSIGNED = range(-(2**63), 2**63), range(2**64)
-WORKERS = range(1, 65)
+WORKERS, COUNTS = range(1, 65), range(1, 2**64)
 # A run of more steps than this is too long for Python; runs are counted, for a bound says only how long they may become.
 TOO_LONG = 100_000
 # What is behind these bytes of a file isn't looked at: some files have no end.
@@ -33,6 +35,7 @@ MOST_BYTES = 1 << 25
 DEVICE = "x10clock: device"
 NO_TEXT = "x10clock: a word is not in UTF-8"
 EXCLUDED = "x10clock: --workers and --order exclude each other"
+SEED_ALONE = "x10clock: --seed goes with --order random"
 OVER_FILE = "x10clock: --log would write over FILE"
 VERSION = "x10clock 1.0.0\n"
 
@@ -54,7 +57,7 @@ class Device(Exception):
 
 
 class TooLong(Exception):
-    """A run has too many steps to be told."""
+    """A run has too many steps to be told, or a program too many worlds."""
 
 
 # What there is.
@@ -62,22 +65,35 @@ class TooLong(Exception):
 
 @dataclass(frozen=True)
 class Option:
-    """An option that takes a value: what it is called where it is told, and whether it may come again."""
+    """An option that takes a value: what it is called where it is told, the numbers or names that it takes, if not any text, and whether it comes again."""
 
     told: str
+    numbers: range | None = None
+    names: list[str] | None = None
     is_list: bool = False
 
 
-OPTIONS = {"order": Option("--order <ORDER>"), "workers": Option("--workers <N>"), "log": Option("--log <PATH>"), "arg": Option("--arg <N>", True)}
+OPTIONS = {
+    "order": Option("--order <ORDER>", names=telling.ORDERS),
+    "seed": Option("--seed <SEED>", UNSIGNED),
+    "workers": Option("--workers <N>", WORKERS),
+    "limit": Option("--limit <LIMIT>", COUNTS),
+    "pick": Option("--pick <K>", COUNTS),
+    "log": Option("--log <PATH>"),
+    "arg": Option("--arg <N>", SIGNED, is_list=True),
+}
 # For each command its options, those that take no value, and its places.
 COMMANDS: dict[str, tuple[set[str], set[str], list[str]]] = {
     "check": (set(), {"module"}, ["FILE"]),
     "explain": (set(), {"module", "json"}, ["FILE"]),
     "compile": (set(), set(), ["FILE"]),
     "listing": (set(), {"module"}, ["FILE"]),
-    "run": (set(OPTIONS), {"module"}, ["FILE"]),
+    "run": ({"order", "seed", "workers", "log", "arg"}, {"module"}, ["FILE"]),
+    "outcomes": ({"limit", "pick", "log", "arg"}, {"module"}, ["FILE"]),
     "replay": ({"arg"}, {"module"}, ["FILE", "LOG"]),
     "chart": ({"arg"}, {"module"}, ["FILE", "LOG"]),
+    "events": ({"arg"}, {"module"}, ["FILE", "LOG"]),
+    "lanes": ({"arg"}, {"module"}, ["FILE", "LOG"]),
 }
 
 
@@ -110,16 +126,23 @@ def number(text: str, within: range) -> int:
     return found
 
 
-def looked_at(name: str, value: str) -> None:
+def told_range(numbers: range) -> str:
+    """A range as clap tells it, which takes one up to the greatest number for one without an end."""
+    greatest = numbers.stop - 1
+    return f"{numbers.start}{'..' if numbers.stop == UNSIGNED.stop else '..='}{greatest}"
+
+
+def looked_at(option: Option, value: str) -> None:
     """Raises what there is to say of an option's value."""
-    told = OPTIONS[name].told
+    told, numbers = option.told, option.numbers
+    if option.names and value not in option.names:
+        raise Mistake(f"error: invalid value '{value}' for '{told}'" if value else f"error: a value is required for '{told}' but none was supplied")
+    if numbers is None:
+        return
     try:
-        if name == "order" and value not in [order.value for order in Order]:
-            raise Mistake(f"error: invalid value '{value}' for '{told}'" if value else f"error: a value is required for '{told}' but none was supplied")
-        if name == "arg":
-            number(value, SIGNED)
-        if name == "workers" and (count := number(value, UNSIGNED)) not in WORKERS:
-            raise ValueError(f"{count} is not in 1..=64")
+        found = number(value, SIGNED if numbers.start < 0 else UNSIGNED)
+        if found not in numbers:
+            raise ValueError(f"{found} is not in {told_range(numbers)}")
     except ValueError as fault:
         raise Mistake(f"error: invalid value '{value}' for '{told}': {fault}") from None
 
@@ -214,7 +237,7 @@ class Reader:
             raise Mistake(f"error: a value is required for '{OPTIONS[name].told}' but none was supplied")
         if name in self.job.values and not OPTIONS[name].is_list:
             raise Mistake(f"error: the argument '{OPTIONS[name].told}' cannot be used multiple times")
-        looked_at(name, value)
+        looked_at(OPTIONS[name], value)
         self.job.values[name] = value
         if name == "arg":
             self.job.numbers.append(int(value))
@@ -240,6 +263,8 @@ def read(words: list[str]) -> Job:
         job = Reader(first).read(rest)
         if "order" in job.values and "workers" in job.values:
             raise Mistake(EXCLUDED)
+        if "seed" in job.values and job.values.get("order") != telling.ByChance.NAME:
+            raise Mistake(SEED_ALONE)
         return job
     if first == "help":
         raise helped(rest)
@@ -344,18 +369,35 @@ def accepted(job: Job, data: bytes, line: str) -> str:
 
 def ran(job: Job, judged: Accepted, log: BinaryIO | None) -> Told:
     """What a run prints; by workers as by one of them, and such a run's log isn't told."""
-    order, given = Order(job.values.get("order", "first")), tuple(job.numbers)
-    if is_too_long(judged, order, given):
+    way, given = telling.way_of(job.values.get("order", "first"), int(job.values.get("seed", "0"))), tuple(job.numbers)
+    if is_too_long(judged, way, given):
         raise TooLong
     if log and "workers" not in job.values:
-        log.write(telling_log.text_of(telling_log.log_of(judged.module, order, given)))
-    return Told(0, telling.run(judged.module, order, given).text())
+        log.write(telling_log.text_of(telling_log.log_of(judged.module, way, given)))
+    return Told(0, telling.run(judged.module, way, given).text())
 
 
-def is_too_long(judged: Accepted, order: Order, arguments: Arguments) -> bool:
+def is_too_long(judged: Accepted, way: Way, arguments: Arguments) -> bool:
     if judged.bounds.steps <= TOO_LONG:
         return False
-    return next(itertools.islice(telling_log.driven(judged.module, order, arguments), TOO_LONG, None), None) is not None
+    return next(itertools.islice(telling_log.driven(judged.module, way, arguments), TOO_LONG, None), None) is not None
+
+
+def asked_outcomes(job: Job) -> telling_outcomes.Asked:
+    """How many outcomes at most are asked for, and whose log."""
+    limit, pick = int(job.values.get("limit", telling_outcomes.USUAL_LIMIT)), int(job.values.get("pick", "1"))
+    return telling_outcomes.Asked(limit, pick if "log" in job.values else None)
+
+
+def outcomes(job: Job, judged: Accepted, log: BinaryIO | None) -> Told:
+    """An answer that `outcomes` may give, for which it has its choice."""
+    walk = telling_outcomes.walked(judged.module, tuple(job.numbers))
+    if walk is None:
+        raise TooLong
+    answer = telling_outcomes.answer(walk, asked_outcomes(job))
+    if log:
+        log.write(answer.log)
+    return Told(answer.status, answer.out)
 
 
 def answered(job: Job, data: bytes, log_in: BinaryIO | None, log_out: BinaryIO | None) -> Told:
@@ -368,9 +410,10 @@ def answered(job: Job, data: bytes, log_in: BinaryIO | None, log_out: BinaryIO |
         return Told(1, explained(job, data, judged) if job.command == "explain" else "", f"x10clock: {line}")
     if job.command in ("check", "explain"):
         return Told(0, accepted(job, data, judged.bounds.line() + "\n"))
-    if job.command == "run":
-        return ran(job, judged, log_out)
-    status, out, err = telling_log.answer(judged, contents(log_in), job.command, tuple(job.numbers))
+    if job.command in ("run", "outcomes"):
+        return ran(job, judged, log_out) if job.command == "run" else outcomes(job, judged, log_out)
+    tell = telling_runs.teller(job.command, data, "module" in job.flags)
+    status, out, err = telling_log.answer(judged, contents(log_in), tell, tuple(job.numbers))
     return Told(status, out, err.removesuffix("\n"))
 
 

@@ -1,0 +1,229 @@
+#!/usr/bin/env python3
+"""Small programs that nobody wrote: whether `outcomes` tells all that they print, and nothing else, as a walk through all schedules finds it
+(tests/reference/telling_outcomes.py), each outcome with a log that prints it.
+
+    python3 tests/generated/outcomes.py [CASES] [SEED] [--program PATH] [--jobs N] [--worlds N] [--tally] [--only CASE]
+
+300 cases, seed 1, 2 jobs, crates/x10clock/out/x10clock and 3,000 worlds at most where nothing else is said. A program has 2 to 4 activities that
+print, and mostly shared numbers, clocks and finishes; some are asked about as their modules, some take numbers. The program is asked with no limit,
+for the log of each outcome, or of 8 that are spread evenly, for that of one which there isn't, and with a limit. Each log is played again by the
+program, and by the telling. `--tally` tells how often each answer was given; `--only` prints one program alone.
+"""
+
+from __future__ import annotations
+
+import argparse
+import collections
+import concurrent.futures
+import pathlib
+import random
+import sys
+import tempfile
+from collections.abc import Callable, Iterator
+from dataclasses import dataclass, field
+
+TESTS = pathlib.Path(__file__).resolve().parent.parent
+sys.path.append(str(TESTS / "reference"))
+import generated
+import generated_source
+import tally
+import telling
+import telling_outcomes
+from generated_source import Tokens, Writer
+from logs import Program, Text
+from telling import Accepted
+from telling_outcomes import Answer, Asked, Walk
+
+PROGRAM = TESTS.parent / "crates/x10clock/out/x10clock"
+CHUNK = 10
+SHOWN = 5
+# Logs of so many outcomes of a program are looked at.
+LOGS = 8
+ACTIVITIES = range(2, 5)
+MOST_STEPS = 70
+
+
+# Programs.
+
+
+class SmallWriter(Writer):
+    """Writes small programs in which much depends on who goes first."""
+
+    def __init__(self, rng: random.Random) -> None:
+        super().__init__(rng)
+        self.most_steps, self.most_activities = rng.choice([25, 35, 45, 60]), rng.choice([1, 2, 2, 3, 3])
+        self.length, self.slip, self.risk, self.forget = rng.choice([2, 3, 4, 5]), 0, 0, 0
+
+    def expr(self, depth: int = 0) -> Tokens:
+        """Mostly a number that a name stands for."""
+        numbers = self.numbers()
+        if depth or self.rng.random() < 0.2:
+            return super().expr(depth + 2)
+        self.spend(1)
+        return [self.rng.choice(numbers).name] if numbers else [str(self.rng.randrange(10))]
+
+    def statement(self, alone: bool = False) -> None:
+        if self.steps >= self.budget:
+            return
+        ways: list[Callable[[], bool]] = [self.show] * 4 + [self.share] * 3 + [self.advance, self.call, self.resume, self.drop, self.branch]
+        ways += [] if alone else [self.number] * 3 + [self.make] * 2
+        ways += [self.start] * 6 + [self.finish, self.loop] if self.depth < 4 else []
+        for _ in range(4):
+            self.depth += 1
+            done = self.rng.choice(ways)()
+            self.depth -= 1
+            if done:
+                return
+
+
+@dataclass(frozen=True)
+class Case:
+    """A program that is accepted, with all its schedules."""
+
+    text: Text
+    judged: Accepted
+    walk: Walk
+
+
+def case(rng: random.Random, worlds: int) -> Case:
+    """A program with several activities and more than one world for each step, but no more than so many."""
+    while True:
+        text = Text(generated_source.text_of(rng, SmallWriter(rng).program()))
+        judged = text.judged()
+        if not isinstance(judged, Accepted) or judged.bounds.activities not in ACTIVITIES or judged.bounds.steps > MOST_STEPS:
+            continue
+        if not any(instr.name == "print" for unit in judged.module.units for instr in unit.code):
+            continue
+        text = (text.compiled() if rng.random() < 0.2 else text).given(*generated.arguments(rng, judged.module.wants))
+        walk = telling_outcomes.walked(judged.module, text.arguments, worlds)
+        # Programs with one outcome are many, and one in ten is enough.
+        if walk and (len(walk.outcomes) > 1 or rng.random() < 0.1):
+            return Case(text, judged, walk)
+
+
+# Questions.
+
+
+@dataclass
+class Asker:
+    """Asks the program, and compares with the walk."""
+
+    program: Program
+    case: Case
+    counts: collections.Counter[str]
+
+    def asked(self, limit: int | None, pick: int | None) -> Iterator[str]:
+        """What is wrong with an answer with this limit, and for the log of this outcome."""
+        file, log = self.program.folder / "text", self.program.folder / "made"
+        file.write_bytes(self.case.text.data)
+        log.write_bytes(b"something that was there before")
+        options = [*(["--limit", limit] if limit else []), *(["--pick", pick, "--log", log] if pick else [])]
+        status, out, err = self.program.call("outcomes", *self.case.text.words(), *options, file)
+        self.counts["answers that are whole" if status == telling_outcomes.WHOLE else "answers that aren't whole"] += 1
+        question = f"outcomes {' '.join(map(str, options))}"
+        given, asked = Answer(status, out, log.read_bytes() if pick else b""), Asked(limit or telling_outcomes.USUAL_LIMIT, pick)
+        wrong = [*telling_outcomes.faults(self.case.walk, self.case.judged.module, self.case.text.arguments, asked, given)]
+        wrong += [f"on standard error: {err}"] if err else []
+        wrong += self.replayed(out, pick, given.log) if pick else []
+        yield from (f"{question}: {what}" for what in wrong)
+
+    def replayed(self, out: str, pick: int, log: bytes) -> Iterator[str]:
+        """What is wrong with what the program prints by a log, if there is one."""
+        lists, _ = telling_outcomes.read(out) or ([], True)
+        if pick > len(lists):
+            self.counts["logs of no outcome"] += 1
+            return
+        self.counts["logs played again"] += 1
+        wanted = "".join(f"{number}\n" for number in lists[pick - 1])
+        answer = self.program.answer(self.case.text, log, "replay")
+        if answer[0] != 0 or answer[1].rpartition("ended")[0] != wanted:
+            yield f"its log is played again: {answer}"
+
+    def differences(self, rng: random.Random) -> Iterator[str]:
+        count = len(self.case.walk.outcomes)
+        yield from self.asked(None, None)
+        spread = range(1, count + 1) if count <= LOGS else [1 + place * (count - 1) // (LOGS - 1) for place in range(LOGS)]
+        for pick in spread:
+            yield from self.asked(None, pick)
+        yield from self.asked(None, rng.choice([count + 1, 2 * count + 1, 2**64 - 1]))
+        limit = rng.choice([1, 2, 3, 10, max(1, count - 1), count, count + 1, telling_outcomes.SPARE * self.case.walk.entries + 1])
+        yield from self.asked(limit, rng.choice([None, 1, 2, count]))
+
+
+def count_case(counts: collections.Counter[str], case: Case) -> None:
+    module, outcomes = case.judged.module, len(case.walk.outcomes)
+    counts["outcomes"] += outcomes
+    counts["programs with more than one"] += outcomes > 1
+    counts["programs with shared numbers"] += bool(module.shared)
+    counts["programs with clocks"] += case.judged.bounds.clocks > 0
+    counts["programs that are given numbers"] += bool(case.text.arguments)
+    counts["programs as modules"] += case.text.is_module
+
+
+@dataclass
+class Summary:
+    """What was counted, how often each answer was given, and what differs."""
+
+    counts: collections.Counter[str] = field(default_factory=collections.Counter)
+    answers: collections.Counter[str] = field(default_factory=collections.Counter)
+    differing: list[str] = field(default_factory=list)
+
+
+@dataclass(frozen=True)
+class Cases:
+    """The cases of a seed."""
+
+    seed: int
+    worlds: int
+    program: pathlib.Path
+
+    def compared(self, cases: range) -> Summary:
+        summary = Summary()
+        with tempfile.TemporaryDirectory() as folder:
+            program = Program(self.program, folder)
+            for number in cases:
+                rng = random.Random(f"{self.seed} {number}")
+                made = case(rng, self.worlds)
+                count_case(summary.counts, made)
+                differing = [*Asker(program, made, summary.counts).differences(rng)]
+                summary.counts["programs"] += 1
+                if differing:
+                    summary.differing.append("\n    ".join([f"case {number}: {made.text}", *differing[:SHOWN]]))
+            summary.answers += program.answers
+        return summary
+
+
+def words() -> argparse.Namespace:
+    parser = argparse.ArgumentParser(description="Compares what x10clock says that small programs can print with a walk through all their schedules.")
+    parser.add_argument("cases", nargs="?", type=int, default=300)
+    parser.add_argument("seed", nargs="?", type=int, default=1)
+    parser.add_argument("--program", type=pathlib.Path, default=PROGRAM)
+    parser.add_argument("--jobs", type=int, default=2)
+    parser.add_argument("--worlds", type=int, default=3_000)
+    parser.add_argument("--tally", action="store_true")
+    parser.add_argument("--only", type=int)
+    return parser.parse_args()
+
+
+def main() -> int:
+    given, total = words(), Summary()
+    if given.only is not None:
+        sys.stdout.buffer.write(case(random.Random(f"{given.seed} {given.only}"), given.worlds).text.data + b"\n")
+        return 0
+    chunks = [range(start, min(start + CHUNK, given.cases)) for start in range(0, given.cases, CHUNK)]
+    with concurrent.futures.ProcessPoolExecutor(given.jobs) as pool:
+        for part in pool.map(Cases(given.seed, given.worlds, given.program.resolve()).compared, chunks):
+            total.counts += part.counts
+            total.answers += part.answers
+            total.differing += part.differing
+    for name, count in sorted(total.counts.items()):
+        print(f"{count:8} {name}")
+    if given.tally:
+        tally.show(total.answers)
+    print(*total.differing[:SHOWN], sep="\n", end="\n" if total.differing else "", file=sys.stderr)
+    print(f"outcomes: {total.counts['programs']} programs, {len(total.differing)} with a difference")
+    return 1 if total.differing or total.counts["programs"] != given.cases or not total.counts["logs played again"] else 0
+
+
+if __name__ == "__main__":
+    sys.exit(main())

@@ -1,0 +1,69 @@
+"""A second telling, in Python, of what `lanes` draws: a column for each activity, a row for each step of a logged run that others see, and a bar
+for each clock that advances."""
+
+from __future__ import annotations
+
+import telling
+import telling_events
+from telling import Module, Status, World
+from telling_events import Program
+from telling_log import Advance, Played, Taken
+
+NUMBER, GAP = 6, 2
+MOST_LANES, NARROWEST = 64, 8
+
+
+class Grid:
+    """The widths of the columns, and how many lanes there are."""
+
+    def __init__(self, program: Program, played: Played) -> None:
+        seen = telling_events.seen(played)
+        self.place = GAP + max(len(spot(program, taken)) for taken in seen)
+        self.lane = max(NARROWEST, GAP + max(len(telling_events.words(taken)) for taken in seen))
+        self.lanes = range(min(MOST_LANES, len(played.world.activities)))
+        self.left_out = len(played.world.activities) - len(self.lanes)
+
+    def line(self, number: object, place: str, cells: list[str]) -> str:
+        """A line by its fields, without blanks at its end."""
+        fields = "".join(cell.ljust(self.lane) for cell in cells)
+        return f"{number:>{NUMBER}}{'':{GAP}}{place:{self.place}}{fields}".rstrip() + "\n"
+
+    def bar(self, who: int, advance: Advance) -> str:
+        """The bar of a clock: from the first lane to the last of those who are registered on it."""
+        marked = [lane for lane in self.lanes if lane in advance.registered]
+        signs = [" "] * (self.lane * len(self.lanes))
+        for at in range(self.lane * marked[0], self.lane * marked[-1]) if marked else ():
+            signs[at] = "="
+        for lane in marked:
+            signs[self.lane * lane] = "+"
+        label = f"clock {advance.clock} phase {advance.phase} by {who}"
+        return " " * (NUMBER + GAP + self.place) + "".join(signs) + label + "\n"
+
+
+def spot(program: Program, taken: Taken) -> str:
+    """Where a step was taken."""
+    frame = telling_events.frame_before(taken)
+    return program.position(frame) or f"{frame.unit}.{frame.place}"
+
+
+def mark(module: Module, world: World, who: int) -> str:
+    """What an activity shows where another one took the step that led to this world."""
+    if who >= len(world.activities) or world.activities[who].status is Status.ENDED:
+        return ""
+    return "|" if telling.step(module, world, who) else ":"
+
+
+def rows(program: Program, played: Played, grid: Grid, taken: Taken) -> str:
+    """The row of a step that others see, and its bars."""
+    others = [mark(played.module, taken.step.world, lane) for lane in grid.lanes]
+    cells = [telling_events.words(taken) if lane == taken.who else other for lane, other in zip(grid.lanes, others, strict=True)]
+    bars = [grid.bar(taken.who, advance) for advance in taken.advances]
+    return grid.line(taken.number, spot(program, taken), cells) + "".join(bars)
+
+
+def lanes(program: Program, played: Played) -> str:
+    grid = Grid(program, played)
+    titles = ["main" if lane == 0 else f"act {lane}" for lane in grid.lanes]
+    drawn = "".join(rows(program, played, grid, taken) for taken in telling_events.seen(played))
+    rest = f"lanes left out: {grid.left_out}\n" if grid.left_out else ""
+    return grid.line("step", "at", titles) + drawn + rest

@@ -1,0 +1,242 @@
+#!/usr/bin/env python3
+"""A second telling, in Python, of all that a program can print, and what may be said of that by `outcomes`.
+
+All schedules are walked, step by step; a world that was met before is known again, and neither phases nor numbers of steps are part of one
+(tests/reference/telling.py). Which order outcomes are told in, which of them where there may be more, and by which runs they are shown, is the
+program's own: so an answer is judged here, and one that may be given is made.
+
+    python3 tests/reference/telling_outcomes.py [--module] FILE [LIMIT] [--arg=N]..
+"""
+
+from __future__ import annotations
+
+import pathlib
+import re
+import sys
+from collections.abc import Iterator
+from dataclasses import dataclass
+from functools import cached_property
+from typing import NamedTuple
+
+import telling
+import telling_log
+import telling_source
+from telling import Arguments, Module, World
+from telling_log import Entry, Log
+
+# No more worlds are walked through, and no more lists of numbers kept with one of them, than this.
+MOST_WORLDS, MOST_LISTS = 100_000, 100_000
+# The program leaves off at so many worlds or outcomes where nothing is said.
+USUAL_LIMIT = 100_000
+# It keeps apart worlds that are the same here, as by what an activity held that has ended: so many times as many are granted.
+SPARE = 4
+WHOLE, NOT_WHOLE = 0, 6
+
+Numbers = tuple[int, ...]
+LINE = re.compile(r"outcome (\d+) prints((?: -?\d+)*)")
+LAST = re.compile(r"outcomes (\d+) (complete|and perhaps more)")
+
+
+class TooMany(Exception):
+    """There are too many worlds, or too many lists of numbers."""
+
+
+# The walk.
+
+
+class Edge(NamedTuple):
+    """A step: whose it is, what it prints, and where it leads."""
+
+    who: int
+    printed: Numbers
+    world: World
+
+
+def edges(module: Module, world: World) -> list[Edge]:
+    """The steps that can be taken in a world."""
+    steps = ((who, telling.step(module, world, who)) for who in range(len(world.activities)))
+    return [Edge(who, () if step.printed is None else (step.printed,), step.world) for who, step in steps if step]
+
+
+class Walk:
+    """All schedules of a program that is accepted and given these numbers; raises TooMany."""
+
+    def __init__(self, module: Module, arguments: Arguments = (), worlds: int = MOST_WORLDS) -> None:
+        self.module, self.worlds = module, worlds
+        self.start = telling.opening(module, arguments)
+        self.edges: dict[World, list[Edge]] = {}
+        # What can be printed from a world on until all have ended; a world stands behind those that its steps lead to.
+        self.rest: dict[World, frozenset[Numbers]] = {}
+        self.go()
+
+    @property
+    def outcomes(self) -> frozenset[Numbers]:
+        return self.rest[self.start]
+
+    def go(self) -> None:
+        path = [self.start]
+        while path:
+            unknown = next((edge.world for edge in self.known(path[-1]) if edge.world not in self.rest), None)
+            if unknown is not None:
+                path.append(unknown)
+            else:
+                world = path.pop()
+                self.rest[world] = self.printed_from(world)
+
+    def known(self, world: World) -> list[Edge]:
+        """The steps of a world, which is known from now on."""
+        if world not in self.edges:
+            if len(self.edges) == self.worlds:
+                raise TooMany
+            self.edges[world] = edges(self.module, world)
+        return self.edges[world]
+
+    def printed_from(self, world: World) -> frozenset[Numbers]:
+        """By what can be printed from where the steps lead."""
+        if not self.edges[world]:
+            return frozenset({()} if world.has_ended else ())
+        found = frozenset(edge.printed + rest for edge in self.edges[world] for rest in self.rest[edge.world])
+        if len(found) > MOST_LISTS:
+            raise TooMany
+        return found
+
+    def log_of(self, numbers: Numbers) -> Log:
+        """The log of a run that prints these numbers."""
+        world, log = self.start, []
+        while self.edges[world]:
+            who, printed, world = next(edge for edge in self.edges[world] if numbers in {edge.printed + rest for rest in self.rest[edge.world]})
+            numbers = numbers[len(printed) :]
+            log.append(Entry(who, 1))
+        return log
+
+    @cached_property
+    def entries(self) -> int:
+        """How many worlds there are, each counted once for each list of numbers that may be printed by then."""
+        before: dict[World, set[Numbers]] = {world: set() for world in self.rest}
+        before[self.start].add(())
+        for world in reversed(self.rest):
+            for edge in self.edges[world]:
+                before[edge.world] |= {begin + edge.printed for begin in before[world]}
+        return sum(map(len, before.values()))
+
+
+def walked(module: Module, arguments: Arguments = (), worlds: int = MOST_WORLDS) -> Walk | None:
+    """The walk, or None where it is too long."""
+    try:
+        return Walk(module, arguments, worlds)
+    except TooMany:
+        return None
+
+
+# Answers.
+
+
+class Asked(NamedTuple):
+    """What is asked for: how many worlds and outcomes at most, and the outcome whose log is written, if one is."""
+
+    limit: int = USUAL_LIMIT
+    pick: int | None = None
+
+
+class Answer(NamedTuple):
+    """The status, standard output, and the log."""
+
+    status: int
+    out: str
+    log: bytes = b""
+
+
+def text_of(lists: list[Numbers], is_complete: bool) -> str:
+    lines = [" ".join(["outcome", str(number), "prints", *map(str, numbers)]) for number, numbers in enumerate(lists, start=1)]
+    last = f"outcomes {len(lists)} {'complete' if is_complete else 'and perhaps more'}"
+    return "".join(f"{line}\n" for line in [*lines, last])
+
+
+def status_of(asked: Asked, count: int, is_complete: bool) -> int:
+    """An answer is whole where it has all outcomes, and the log that was asked for."""
+    return WHOLE if is_complete and (asked.pick is None or asked.pick <= count) else NOT_WHOLE
+
+
+def answer(walk: Walk, asked: Asked) -> Answer:
+    """An answer that may be given: the outcomes in their order as lists."""
+    lists = sorted(walk.outcomes)[: asked.limit]
+    is_complete = len(lists) == len(walk.outcomes)
+    has_log = asked.pick is not None and asked.pick <= len(lists)
+    log = telling_log.text_of(walk.log_of(lists[asked.pick - 1])) if has_log else b""
+    return Answer(status_of(asked, len(lists), is_complete), text_of(lists, is_complete), log)
+
+
+def read(out: str) -> tuple[list[Numbers], bool] | None:
+    """The outcomes that a text tells, and whether it says that they are all; None where it is no such text."""
+    *lines, last = out.splitlines() or [""]
+    found, end = [LINE.fullmatch(line) for line in lines], LAST.fullmatch(last)
+    if not end or not all(found):
+        return None
+    lists = [tuple(map(int, line[2].split())) for line in found]
+    is_complete = end[2] == "complete"
+    return (lists, is_complete) if text_of(lists, is_complete) == out else None
+
+
+def faults(walk: Walk | None, module: Module, arguments: Arguments, asked: Asked, given: Answer) -> Iterator[str]:
+    """What is wrong with an answer; where the walk is too long, by the answer alone."""
+    told = read(given.out)
+    if told is None:
+        yield "no outcomes are told"
+        return
+    lists, is_complete = told
+    if len(set(lists)) != len(lists):
+        yield "an outcome is told twice"
+    if given.status != status_of(asked, len(lists), is_complete):
+        yield f"the status is {given.status}"
+    if len(lists) > asked.limit:
+        yield "more are told than the limit says"
+    if walk:
+        yield from against_walk(walk, asked, set(lists), is_complete)
+    elif is_complete and not lists:
+        yield "none is told"
+    if asked.pick is not None:
+        yield from log_faults(module, arguments, lists[asked.pick - 1 : asked.pick], given.log)
+
+
+def against_walk(walk: Walk, asked: Asked, told: set[Numbers], is_complete: bool) -> Iterator[str]:
+    """What the walk says against outcomes that are told."""
+    if told - walk.outcomes:
+        yield f"no run prints {sorted(told - walk.outcomes)}"
+    if is_complete and walk.outcomes - told:
+        yield f"left out: {sorted(walk.outcomes - told)}"
+    if not is_complete and len(told) < asked.limit and SPARE * walk.entries < asked.limit:
+        yield f"not complete, and there are {walk.entries} worlds"
+
+
+def log_faults(module: Module, arguments: Arguments, picked: list[Numbers], log: bytes) -> Iterator[str]:
+    """What is wrong with the log of the outcome that was picked, if there is such an outcome."""
+    if not picked:
+        if log:
+            yield f"there is a log of no outcome: {log!r}"
+        return
+    try:
+        printed = tuple(telling_log.replay(module, telling_log.read(log), arguments).printed)
+    except telling_log.Fault as fault:
+        yield f"the log is refused: {fault}: {log!r}"
+        return
+    if printed != picked[0]:
+        yield f"the log prints {printed}, and not {picked[0]}: {log!r}"
+
+
+def main(words: list[str]) -> int:
+    more, arguments = telling.parted(words)
+    is_module = more[0] == "--module"
+    path, *limit = more[1:] if is_module else more
+    data = pathlib.Path(path).read_bytes()
+    judged = telling.judge(data) if is_module else telling_source.judge(data)
+    line = telling.refusal("outcomes", judged, arguments)
+    if line:
+        print(f"x10clock: {line}", file=sys.stderr)
+        return 1
+    told = answer(Walk(judged.module, arguments), Asked(*map(int, limit)))
+    print(told.out, end="")
+    return told.status
+
+
+if __name__ == "__main__":
+    sys.exit(main(sys.argv[1:]))
