@@ -8,7 +8,7 @@ tests/answers/logs.rows want, and, with `--program`, whether the program says th
 or by chance, which may be changed: an entry, a line, or a byte. Five cases in a row have the same program, which is run with `--log` in some
 order; the program is asked of each log for `replay`, `chart`, `events` and `lanes`. The telling is held against itself, too: what is written is read
 back, no beginning of a text is a text, and entries that are joined give the same run. The rows are asked of the program twice: as they are, and of
-the modules that their programs are compiled to. `--tally` tells how often the program gave each answer.
+the modules that their programs are compiled to; and so are runs with about as many activities as have lanes. `--tally` tells how often the program gave each answer.
 """
 
 from __future__ import annotations
@@ -54,6 +54,9 @@ ASKED = re.compile(r"(log|chart)(?: (last|round))?:(?: (.*))?|(replay|chart) (.*
 ORDERS: dict[str | None, Way] = {None: Order.FIRST, "last": Order.LAST, "round": Order.ROUND}
 # The numbers that a program is given in the rows behind this one.
 GIVEN = "args:"
+# So many activities beside main have no lanes, or one each.
+WIDE = b"def main(n: Long) { val c = Clock.make(); for (i in 1..Math.min(n, 66)) async clocked(c) Clock.advanceAll(); Clock.advanceAll(); }"
+WIDTHS = (63, 64, 66)
 
 
 # Programs.
@@ -114,15 +117,19 @@ class Program:
         self.answers[tally.label(answer[0], answer[2])] += 1
         return answer
 
+    def form(self, text: Text) -> Text:
+        """What it is asked about for a text."""
+        return text
+
     def run(self, text: Text, way: Way) -> tuple[Answer, bytes]:
-        file, log = self.folder / "text", self.folder / "made"
+        file, log, text = self.folder / "text", self.folder / "made", self.form(text)
         file.write_bytes(text.data)
         log.write_bytes(b"something that was there before")
         answer = self.call("run", *text.words(), *way.words(), "--log", log, file)
         return answer, log.read_bytes()
 
     def answer(self, text: Text, log: bytes, command: str) -> Answer:
-        file, given = self.folder / "text", self.folder / "log"
+        file, given, text = self.folder / "text", self.folder / "log", self.form(text)
         file.write_bytes(text.data)
         given.write_bytes(log)
         return self.call(command, *text.words(), file, given)
@@ -131,11 +138,8 @@ class Program:
 class ProgramOnModules(Program):
     """The same, asked about the module that a source text is compiled to."""
 
-    def run(self, text: Text, way: Way) -> tuple[Answer, bytes]:
-        return super().run(text.compiled(), way)
-
-    def answer(self, text: Text, log: bytes, command: str) -> Answer:
-        return super().answer(text.compiled(), log, command)
+    def form(self, text: Text) -> Text:
+        return text if text.is_module else text.compiled()
 
 
 # Rows.
@@ -193,6 +197,13 @@ def edge_differences(who: Told | Program) -> tuple[int, list[str]]:
         if got != wanted(line, command):
             differing.append(f"{command} {given!r}\n    wanted: {line}\n    {type(who).__name__}: {got}")
     return len(questions), differing
+
+
+def wide_differences(program: Program) -> tuple[int, list[str]]:
+    """The same of runs with many activities, as the telling has them."""
+    texts = [program.form(Text(WIDE).given(width)) for width in WIDTHS]
+    differing = [what for text in texts for what in log_differences(text, Told().run(text, Order.ROUND)[1], program)]
+    return len(telling_runs.COMMANDS) * len(texts), differing
 
 
 # Logs that nobody wrote.
@@ -394,9 +405,8 @@ def words() -> argparse.Namespace:
 
 
 def asked_of(who: Told | Program) -> tuple[int, list[str]]:
-    count, differing = row_differences(who)
-    more, others = edge_differences(who)
-    return count + more, differing + others
+    found = [row_differences(who), edge_differences(who), *([wide_differences(who)] if isinstance(who, Program) else [])]
+    return sum(count for count, _ in found), [what for _, differing in found for what in differing]
 
 
 def main() -> int:

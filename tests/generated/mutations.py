@@ -5,8 +5,8 @@ The modules are those of tests/answers/rows and whole programs that are made up 
 operand and byte by byte (tests/generated/generated.py). `check` and `run`, the latter in each order, also by chance, and with numbers by chance where
 main takes some, and `explain`, have to answer what the telling answers, byte for byte, and so have `explain --json` and `listing` of one text in ten,
 and `events` and `lanes` of a run of one accepted program in five; where there are several walks to what is refused, another shortest one is taken
-too, and counted. Of an accepted module with few worlds the telling goes through all schedules, and looks whether the promises hold; of one such module
-in ten `outcomes` has to tell what these schedules print.
+too, and counted. Of an accepted module with few worlds the telling goes through all schedules, and looks whether the promises hold; of one such
+module in ten `outcomes` has to tell what these schedules print.
 With `--source` the texts are programs in the language (tests/generated/generated_source.py) and those of tests/answers/programs/sources*.rows
 and of examples, and `compile` is compared too, with what tests/reference/telling_source.py makes of them. Some runs of the module are compared
 with what the text means (tests/reference/meaning.py).

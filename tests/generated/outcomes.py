@@ -86,7 +86,7 @@ class Case:
 
 
 def case(rng: random.Random, worlds: int) -> Case:
-    """A program with several activities and more than one world for each step, but no more than so many."""
+    """A program with several activities that is accepted, and has no more than so many worlds, counted once for each list that is printed by then."""
     while True:
         text = Text(generated_source.text_of(rng, SmallWriter(rng).program()))
         judged = text.judged()
@@ -97,7 +97,7 @@ def case(rng: random.Random, worlds: int) -> Case:
         text = (text.compiled() if rng.random() < 0.2 else text).given(*generated.arguments(rng, judged.module.wants))
         walk = telling_outcomes.walked(judged.module, text.arguments, worlds)
         # Programs with one outcome are many, and one in ten is enough.
-        if walk and (len(walk.outcomes) > 1 or rng.random() < 0.1):
+        if walk and walk.entries <= worlds and (len(walk.outcomes) > 1 or rng.random() < 0.1):
             return Case(text, judged, walk)
 
 
