@@ -27,11 +27,11 @@ use Rattle.xk_serve.specs.declared.job_result.Done.{Done}
 use Rattle.xk_serve.specs.declared.job_result.Done.TheVariants as done
 use Rattle.xk_serve.specs.declared.fault.Fault.{Fault}
 use Rattle.xk_serve.specs.declared.fault.Fault.TheVariants as fault
-use Rattle.xk_serve.specs.Answer.{Answers, Check, ComesTo, Compile, Doing, Draw, Explain, IsLogText, IsMisfit, IsNoRun, IsPicture, IsSaidBy, IsSaidOf, IsTelling, IsText, Listing, OfRun, Outcomes, Replay, Reply, Run, Task, asks_verifier, done_reply, done_status, fault_reply, reads_log, runs}
+use Rattle.xk_serve.specs.Answer.{Answers, Check, ComesTo, Compile, Doing, Draw, Explain, IsLogText, IsMisfit, IsNoRun, IsSaidBy, IsSaidOf, IsTelling, IsText, Listing, Outcomes, Replay, Reply, Run, Task, asks_verifier, done_reply, done_status, fault_reply, reads_log, runs}
 use Rattle.xk_output.specs.Lines.{number_lines}
 use Rattle.xk_serve.specs.Lines.{accepted_line, arguments_line, done_log, done_text, ended_line, fault_line, refusal_status, status_of}
 use Rattle.xk_serve.specs.OneAnswer.{ComesToOne, HasOneStatus, IsDetermined, IsLeftOpen, IsSameLine, IsSameReply, TellFaults}
-use Rattle.xk_serve.specs.OrderedRun.{IsLoggedRun, IsOrderedRun, IsReplay, IsWholeRun}
+use Rattle.xk_serve.specs.OrderedRun.{IsLoggedRun, IsOrderedRun, IsReplay}
 use Rattle.xk_serve.specs.Programs.{Gives, IsCompiledTo, IsNoModule, IsNoSource, IsUnread, longest_module}
 use Rattle.xk_serve.proofs.LogUniquenessLemmas.{no_run_once, text_once, whole_not_refused}
 use Rattle.xk_serve.proofs.RefusalUniquenessLemmas.{not_accepted, refusal_once, refused_status}

@@ -2,14 +2,13 @@
 use Rattle.std.proofs.Common.{◌≡◌, ℕ, Bool, true, false, List, [], Option, Some, None, inl, inr}
 use Rattle.xk_bounds.specs.declared.refusal.Refusal.TheVariants as refusal
 use Rattle.xk_cli.specs.declared.job.Form.{Form}
-use Rattle.xk_cli.specs.declared.job.Form.TheVariants as form
 use Rattle.xk_module.specs.declared.fault.ModuleFault.TheVariants as text
 use Rattle.xk_serve.specs.declared.fault.Fault.{Fault}
 use Rattle.xk_serve.specs.declared.fault.Fault.TheVariants as fault
 use Rattle.xk_origins.specs.UnitOrigins.{UnitOrigins}
 use Rattle.xk_explain.specs.Notes.{NoteValue}
 use Rattle.xk_sums.specs.Notes.{module_notes, refusal_notes}
-use Rattle.xk_serve.specs.Answer.{Chart, Check, Compile, Doing, Explain, IsSaidBy, IsSaidOf, Listing, Replay, Run, Task}
+use Rattle.xk_serve.specs.Answer.{Check, Compile, Doing, Draw, Explain, IsSaidBy, IsSaidOf, Listing, Outcomes, Replay, Run, Task}
 use Rattle.xk_serve.specs.Explanation.{IsExplanation, Program, plain_said, refusal_said, source_said}
 use Rattle.xk_serve.specs.Devices.{IsQuiet}
 
@@ -60,7 +59,8 @@ quiet_by Compile kind file bytes said f h = λ e. h
 quiet_by Listing kind file bytes said f h = λ e. h
 quiet_by (Run way kept) kind file bytes said f h = λ e. h
 quiet_by Replay kind file bytes said f h = λ e. h
-quiet_by Chart kind file bytes said f h = λ e. h
+quiet_by (Draw picture) kind file bytes said f h = λ e. h
+quiet_by (Outcomes limit pick kept) kind file bytes said f h = λ e. h
 
 -- the same of what a task says
 pub quiet_said : (t : Task) (bytes said : List ℕ) (f : Fault) → IsSaidOf t bytes f said → IsQuiet f said

@@ -1,5 +1,5 @@
 -- Of a text that is too long no more than one byte too many is kept: what stands against that stands against the whole text.
-use Rattle.std.proofs.Common.{◌≡◌, ◌≢◌, ◌+◌, ◌<◌, ◌≤◌, ℕ, Bool, true, false, if◌then◌else◌, List, [], ◌∷◌, length, take, min, Option, Some, None, inl, inr, refl, sym, arith, ap, ◌∙◌, subst}
+use Rattle.std.proofs.Common.{◌≡◌, ◌≢◌, ◌+◌, ◌<◌, ◌≤◌, ℕ, Bool, true, false, if◌then◌else◌, List, [], length, take, min, Option, Some, None, inl, inr, refl, sym, arith, ap, ◌∙◌, subst}
 use Rattle.std.proofs.lemmas.Bool.{false≢true}
 use Rattle.std.proofs.lemmas.List.{length-take, take_all}
 use Rattle.std.specs.Prelude.{◌⊎◌, IfSome}
@@ -15,7 +15,7 @@ use Rattle.xk_serve.specs.declared.fault.Fault.TheVariants as fault
 use Rattle.xk_module.specs.declared.fault.ModuleFault.{ModuleFault}
 use Rattle.xk_serve.specs.Programs.{Gives, IsNoModule, IsNoSource, IsNoText, IsTooLong, longest_module, longest_source}
 use Rattle.xk_serve.specs.Bytes.{kept}
-use Rattle.xk_serve.specs.Answer.{Chart, Check, ComesTo, Compile, Doing, Explain, FailsBy, GivesAccepted, IsSaidBy, IsSaidOf, IsTelling, IsText, Listing, Replay, Run, Succeeds, Task}
+use Rattle.xk_serve.specs.Answer.{Check, ComesTo, Compile, Doing, Draw, Explain, FailsBy, GivesAccepted, IsSaidBy, IsSaidOf, IsTelling, IsText, Listing, Outcomes, Replay, Run, Succeeds, Task}
 use Rattle.xk_serve.specs.Explanation.{IsByProgram, IsByTree, IsExplanation, fault_said, front_said, refusal_said}
 use Rattle.xk_tree.specs.declared.fault.FrontRule.TheVariants as rule
 use Rattle.xk_serve.specs.Devices.{AgainstLog, IfKnown, IsRead, IsSaid, Reads, StandsAgainst, read_of}
@@ -159,7 +159,8 @@ same_said Compile kind file bytes known said f e h = h
 same_said Listing kind file bytes known said f e h = h
 same_said (Run way kept) kind file bytes known said f e h = h
 same_said Replay kind file bytes known said f e h = h
-same_said Chart kind file bytes known said f e h = h
+same_said (Draw picture) kind file bytes known said f e h = h
+same_said (Outcomes limit pick kept) kind file bytes known said f e h = h
 
 said_kept : (t : Task) (bytes known logged said : List ℕ) (f : Fault) → bytes ≡ kept t.form known → FailsBy t bytes logged f → IsSaidOf t bytes f said → IsSaidOf t known f said
 said_kept t bytes known logged said f e h =
@@ -173,7 +174,8 @@ memory_unsaid Compile kind file bytes = refl
 memory_unsaid Listing kind file bytes = refl
 memory_unsaid (Run way kept) kind file bytes = refl
 memory_unsaid Replay kind file bytes = refl
-memory_unsaid Chart kind file bytes = refl
+memory_unsaid (Draw picture) kind file bytes = refl
+memory_unsaid (Outcomes limit pick kept) kind file bytes = refl
 
 -- of devices nothing is said
 device_unsaid : (what : Doing) (kind : Form) (file bytes said : List ℕ) → IsSaidBy what kind file bytes fault.Device said → said ≡ []
@@ -183,7 +185,8 @@ device_unsaid Compile kind file bytes said h = h
 device_unsaid Listing kind file bytes said h = h
 device_unsaid (Run way kept) kind file bytes said h = h
 device_unsaid Replay kind file bytes said h = h
-device_unsaid Chart kind file bytes said h = h
+device_unsaid (Draw picture) kind file bytes said h = h
+device_unsaid (Outcomes limit pick kept) kind file bytes said h = h
 
 -- the same of the faults that are no device's
 stands : (t : Task) (known logged : Option (List ℕ)) (bytes : List ℕ) (n : Reads) (f : Fault) (said : List ℕ) → n.program_new ≡ n.program_old → n.log_new ≡ n.log_old

@@ -2,7 +2,7 @@
 use Rattle.std.proofs.Common.{◌≡◌, ◌≢◌, ◌⊎◌, ℕ, zero, suc, List, [], length, take, Option, Some, None, inl, inr, refl, sym, ap, subst, ◌∙◌}
 use Rattle.std.proofs.Math.Seq.{take-length}
 use Rattle.std.proofs.lemmas.List.{append-nil}
-use Rattle.std.specs.Prelude.{IfSome, ◌++◌, string_bytes}
+use Rattle.std.specs.Prelude.{IfSome, ◌++◌}
 use Rattle.std.specs.Io.KnownBytes.{Appends}
 use Rattle.xk_serve.specs.declared.job_result.Done.{Done}
 use Rattle.xk_serve.specs.declared.job_result.Done.TheVariants as done

@@ -10,7 +10,7 @@ use Rattle.xk_types.specs.declared.world.Event.{Event}
 use Rattle.xk_types.specs.Code.{ModuleValue}
 use Rattle.xk_types.specs.World.{World, opening, AreArguments}
 use Rattle.xk_types.specs.Step.{Outcome, Blocked, Wrong, Stepped, step}
-use Rattle.xk_types.specs.Schedule.{Leads, Through, all_ended, is_step, printed, run}
+use Rattle.xk_types.specs.Schedule.{Through, all_ended, is_step, printed, run}
 use Rattle.xk_types.specs.Logs.{one_step_of, schedule_of}
 use Rattle.xk_types.proofs.LogEntryLemmas.{entry_of, one_step_is}
 use Rattle.xk_laws.proofs.ReachabilityLemmas.{first_step, same_through}

@@ -1,5 +1,5 @@
 -- Why a source text gives no tree, or no module.
-use Rattle.std.proofs.Common.{◌≡◌, ℕ, ◌<◌, ◌≤◌, List, length, Result, Ok, Err, IfErr, inl, inr, refl, ap, arith}
+use Rattle.std.proofs.Common.{◌≡◌, ℕ, ◌<◌, ◌≤◌, List, length, Result, Ok, Err, IfErr, inl, inr, refl, arith}
 use Rattle.std.specs.Prelude.{IsUtf8}
 use Rattle.xk_types.specs.declared.unit.Module.{Module}
 use Rattle.xk_tree.specs.Tree.{TreeValue}

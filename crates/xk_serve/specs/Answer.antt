@@ -121,7 +121,7 @@ kept_log false pick list = None
 
 -- a log is to be kept, and there is no such outcome
 abbrev pub lacks_log : Bool → ℕ → List Outcome → Bool
-lacks_log keeps pick list = keeps && not (is_some (outcome_at pick list))
+lacks_log keeps pick list = keeps && not (is_some (kept_log keeps pick list))
 
 -- What a module can print that is given these arguments: each list of numbers that is told is printed in a run to its end, which has the log beside it, and
 -- is told once; where they are said to be all, every such run prints one of them. (Where they aren't, as many were looked for as the limit says.) The

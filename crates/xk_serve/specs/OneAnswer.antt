@@ -1,6 +1,6 @@
 -- When two answers to one job are the same. Which walk to a refusal of kinds is told is left open, and so is which run workers take, and which fault
 -- is told of a source text that spells no tree, or has several recursive calls. This project's own.
-use Rattle.std.specs.Prelude.{◌≡◌, ℕ, ⊤, ◌⊎◌, List, [], length, string_bytes}
+use Rattle.std.specs.Prelude.{◌≡◌, ℕ, ⊤, ◌⊎◌, List, [], length}
 use Rattle.xk_types.specs.declared.world.Entry.{Entry}
 use Rattle.xk_types.specs.Code.{ModuleValue}
 use Rattle.xk_tree.specs.Tree.{TreeValue}

@@ -1,6 +1,6 @@
 //! What a module can print.
 
-ghost use Rattle.std.specs.Prelude.{◌≡◌, ◌≤◌, ℕ, List, IfOk, IfErr, option_map, unwrap_or};
+ghost use Rattle.std.specs.Prelude.{◌≡◌, ◌&&◌, not, ℕ, List, IfOk, IfErr, option_map, unwrap_or};
 ghost use Rattle.xk_types.specs.World.{AreArguments};
 ghost use Rattle.xk_serve.specs.Answer.{ComesTo, IsFoundOut, IsNotRun, Outcomes, kept_log, usual_limit};
 
@@ -55,8 +55,15 @@ fn found_out(
     let found = outcomes(alloc, verified, arguments, limit)?;
     let text = outcomes_text(alloc, &found.list, found.complete)?;
     let log = kept_log(alloc, keeps_log, pick, &found.list)?;
-    let whole = found.complete && !(keeps_log && log.is_none());
+    let whole = is_whole(found.complete, keeps_log, log.is_some());
     Ok(Done::Outcomes { text, whole, log })
+}
+
+/// Whether an answer is whole: all is told, and the log is there if it is to be kept.
+fn is_whole(complete: bool, keeps_log: bool, is_kept: bool) -> bool
+    ensures { result ≡ (complete && not (keeps_log && not is_kept)) }
+{
+    complete && !(keeps_log && !is_kept)
 }
 
 /// The log of the outcome of this number, counted from 1, where it is to be kept and there is such an outcome.

@@ -1,4 +1,3 @@
-use Rattle.std.proofs.Common.{refl}
 use Rattle.xk_serve.proofs.TaskLemmas.{of_each}
 use Rattle.xk_serve.proofs.OrderedRunLemmas.{pictured}
 use Rattle.xk_serve.proofs.picture.drawn_by.Goals as goal
