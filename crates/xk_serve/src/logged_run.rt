@@ -13,7 +13,7 @@ use xk_bounds::Verified;
 use xk_cli::{Order, Workers};
 use xk_core::Core;
 use xk_random::Random;
-use xk_scheduler::{Chooser, Ended, First, Last, Partial, Round, drive};
+use xk_scheduler::{Chooser, Ended, First, Last, Round, drive};
 use xk_types::Entry;
 use xk_workers::{Direct, run_workers};
 
@@ -62,7 +62,7 @@ fn log_by<C: Chooser>(
 {
     match drive(alloc, Core::open(alloc, verified, arguments)?, chooser) {
         Ok(ended) => Ok(logged(ended)),
-        Err(partial) => Err(cut_short(partial)),
+        Err(_) => Err(AllocError),
     }
 }
 
@@ -81,7 +81,7 @@ pub(crate) fn run_by_workers<R: Threads + Wait + Sync>(
     let start = Core::open(alloc, verified, arguments)?;
     match run_workers(rt, alloc, start, workers.count(), &Direct) {
         Ok(ended) => Ok(logged(ended)),
-        Err(partial) => Err(cut_short(partial)),
+        Err(_) => Err(AllocError),
     }
 }
 
@@ -103,9 +103,4 @@ pub(crate) fn steps_of(core: Core<'_>) -> u64
     ensures { result ≡ core.entry.world.steps }
 {
     core.steps_done()
-}
-
-/// A run that was cut short for want of memory is let go.
-fn cut_short(_partial: Partial<'_>) -> AllocError {
-    AllocError
 }
