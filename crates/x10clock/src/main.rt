@@ -188,15 +188,7 @@ fn on_log<R: Runtime, P: Read + Drop, L: Source, O: Sink, E: Sink>(
     ensures log_in { reads_log (task_of job.now).doing ≡ false → log_in.new ≡ log_in.old }
     ensures log_unread { result ≡ status_program → log_in.new ≡ log_in.old }
 {
-    let (Command::Run {
-        log: Some(path),
-        ..
-    }
-    | Command::Outcomes {
-        log: Some(path),
-        ..
-    }) = job.command
-    else {
+    let Some(path) = path_of_log(job.command) else {
         let mut log_out = Counted::new(io::sink());
         return on_devices(rt, job, program, log_in, out, err, &mut log_out);
     };
@@ -211,7 +203,22 @@ fn on_log<R: Runtime, P: Read + Drop, L: Source, O: Sink, E: Sink>(
     }
 }
 
-/// The file of the run's log, made or emptied; `None`, and nothing is emptied, where that is FILE itself.
+/// Where the log goes that is written, if one is.
+fn path_of_log<'a>(command: Command<'a>) -> Option<&'a str> {
+    match command {
+        Command::Run { log, .. } | Command::Outcomes { log, .. } => log,
+        Command::Check
+        | Command::Compile
+        | Command::Explain { .. }
+        | Command::Listing
+        | Command::Replay { .. }
+        | Command::Chart { .. }
+        | Command::Events { .. }
+        | Command::Lanes { .. } => None,
+    }
+}
+
+/// The file of the log that is written, made or emptied; `None`, and nothing is emptied, where that is FILE itself.
 fn log_file<R: Files>(rt: &R, path: &str, file: &str) -> io::Result<Option<R::File>> {
     if is_same_file(rt, path, file)? {
         return Ok(None);
