@@ -277,7 +277,7 @@ fn limit_option<'a>(alloc: Global) -> Arg<'a>
         alloc,
         "LIMIT",
         "limit",
-        "How many worlds are kept at most, and how many outcomes are told: 100000 where nothing is said",
+        "How many worlds are kept at most, and how many outcomes are told: 40000 where nothing is said, and fewer where there may be many activities",
     );
     limit.value_parser(ValueParser::unsigned(1, u64::MAX))
 }

@@ -71,9 +71,9 @@ reads_log _ = false
 abbrev pub way_given : Option Drive → Way
 way_given given = unwrap_or (option_map way_value given) (In order.First)
 
--- how many outcomes are looked for where nothing is said
+-- how many outcomes are looked for at most where nothing is said
 abbrev pub usual_limit : ℕ
-usual_limit = 100000
+usual_limit = 40000
 
 -- a log is kept where there is a path for it
 abbrev pub doing_of : Command → Doing

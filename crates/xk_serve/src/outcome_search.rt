@@ -13,7 +13,12 @@ use xk_outcomes::{Limit, Outcome, outcomes, outcomes_text};
 use xk_types::{Entry, Module};
 
 /// How many worlds are kept at most, and how many outcomes are told, where nothing is said.
-const USUAL_LIMIT: u64 = 100_000;
+const USUAL_LIMIT: u64 = 40_000;
+
+/// How many bytes these may take, and how many one takes for each activity and beside them, as far as can be said before.
+const USUAL_BYTES: u64 = 400_000_000;
+
+const BYTES_EACH: u64 = 1_000;
 
 /// What a module can print that is given these arguments, if it is accepted and main takes as many, with the log of one outcome where that is to be
 /// kept.
@@ -31,7 +36,9 @@ pub(crate) fn searched(
     ensures fault { IfErr result (IsNotRun m arguments.now) }
 {
     let verified = runnable(alloc, m, arguments)?;
-    let most = limit.unwrap_or(USUAL_LIMIT) as usize;
+    let bytes = BYTES_EACH * (1 + u64::from(verified.activities()));
+    let usual = (USUAL_BYTES / bytes).min(USUAL_LIMIT);
+    let most = limit.unwrap_or(usual) as usize;
     let pick = pick.unwrap_or(1) as usize;
     Ok(found_out(alloc, most, pick, keeps_log, &verified, arguments)?)
 }
