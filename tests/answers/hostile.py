@@ -28,6 +28,7 @@ IN_STEP = ROWS / "in-step.x10"
 MODULE = ROWS / "in-step.json"
 PRINTED = (ROWS / "in-step.stdout").read_text()
 LOG = "x10log 1\n" + "".join(f"{who} 1\n" for who in (0, 0, 0, 1, 0, 0, 0, 0, 1, 1, 1, 1)) + "end 12\n"
+OUTCOMES = "outcome 1 prints 1 2\noutcome 2 prints 2 1\noutcomes 2 complete\n"
 DEVICE, MEMORY = "x10clock: device\n", "x10clock: out of memory\n"
 TOO_LONG = """/dev/zero: F4 TooLong: the text has more than 1048576 bytes
    = usual repair: write a shorter one: a method is written once, however often it is called
@@ -87,6 +88,10 @@ def full_devices(tried: Tried) -> None:
     tried.answers("exec $x run in-step.x10 > /dev/full", 5, err=DEVICE)
     tried.answers("exec $x check in-step.x10 > /dev/full", 5, err=DEVICE)
     tried.answers("exec $x listing in-step.x10 > /dev/full", 5, err=DEVICE)
+    tried.answers("exec $x outcomes in-step.x10 > /dev/full", 5, err=DEVICE)
+    tried.answers("exec $x outcomes --log /dev/full in-step.x10", 5, OUTCOMES, DEVICE)
+    tried.answers("exec $x events in-step.x10 log > /dev/full", 5, err=DEVICE)
+    tried.answers("exec $x lanes in-step.x10 log > /dev/full", 5, err=DEVICE)
     tried.answers("exec $x explain --json in-step.x10 > /dev/full", 5, err=DEVICE)
     tried.answers("exec $x explain --json bad.x10 > /dev/full", 5, err=DEVICE)
     tried.answers("exec $x check no.x10 2> /dev/full", 5)
@@ -123,6 +128,7 @@ def over_file(tried: Tried) -> None:
     os.link(tried.folder / "kept.x10", tried.folder / "hard")
     for path, file in [("kept.x10", "kept.x10"), ("./kept.x10", "kept.x10"), ("link", "kept.x10"), ("kept.x10", "link"), ("hard", "kept.x10")]:
         tried.answers(f"exec $x run --log {path} {file}", 2, err=OVER_FILE)
+        tried.answers(f"exec $x outcomes --log {path} {file}", 2, err=OVER_FILE)
     for path in ("kept.x10", "/dev/stdin", "/dev/fd/0", "hard"):
         tried.answers(f"exec $x run --log {path} - < kept.x10", 2, err=OVER_FILE)
     tried.wants("the program that was to be written over", (tried.folder / "kept.x10").read_text(), text)
@@ -135,7 +141,7 @@ def over_file(tried: Tried) -> None:
 
 
 def strange_files(tried: Tried) -> None:
-    for command in ("check", "explain", "explain --json", "listing", "compile", "run", "check --module"):
+    for command in ("check", "explain", "explain --json", "listing", "compile", "run", "outcomes", "check --module"):
         tried.answers(f"exec $x {command} .", 5, err=DEVICE)
         tried.answers(f"exec $x {command} no-such-file", 5, err=DEVICE)
     tried.answers("exec $x check /dev/null", 1, err="x10clock: F9 NoMain at 0\n")
@@ -147,7 +153,7 @@ def strange_files(tried: Tried) -> None:
     tried.answers("exec $x listing /dev/zero", 1, err="x10clock: F4 TooLong at 0\n")
     tried.answers("exec $x listing --module /dev/zero", 1, err="x10clock: M3 Limit\n")
     tried.answers("exec $x listing /dev/null", 1, err="x10clock: F9 NoMain at 0\n")
-    for command in ("replay", "chart"):
+    for command in ("replay", "chart", "events", "lanes"):
         tried.answers(f"exec $x {command} in-step.x10 .", 5, err=DEVICE)
         tried.answers(f"exec $x {command} in-step.x10 no-such-file", 5, err=DEVICE)
         tried.answers(f"exec $x {command} in-step.x10 /dev/zero", 3, err="x10clock: L1 Grammar line 1\n")
@@ -214,7 +220,8 @@ def small_files(tried: Tried) -> None:
 def little_memory(tried: Tried) -> None:
     """An answer, or none for want of memory; no more than that."""
     many = tried.file("many.x10", "def main() { val c = Clock.make(); for (i in 1..9000) async clocked(c) { Clock.advanceAll(); } Clock.advanceAll(); }")
-    words = [f"check {many}", f"listing {many}", f"explain --json {many}", f"run {many}", f"run --log log {many}", f"run --workers 8 {many}", f"run --workers 64 {many}", "replay in-step.x10 kept.log", "--help"]
+    words = [f"check {many}", f"listing {many}", f"explain --json {many}", f"run {many}", f"run --log log {many}", f"run --workers 8 {many}", f"run --workers 64 {many}", f"outcomes {many}", "replay in-step.x10 kept.log",
+             "events in-step.x10 kept.log", "lanes in-step.x10 kept.log", "--help"]
     whole = {word: tried.shell(f"exec $x {word}") for word in words}
     for word, size in ((word, size) for word in words for size in LIMITS_OF_MEMORY):
         ran = tried.shell(f"exec $x {word}", limits=limited(resource.RLIMIT_AS, size << 20))

@@ -218,10 +218,14 @@ def each_log(calls: Calls, folder: str) -> None:
         charted = calls.ask(f"{name}, chart", ["chart", *words, "-", str(kept)], text)
         if charted.status:
             raise Wrong(f"{name}, chart: {charted}")
+        for command in ("events", "lanes"):
+            told = calls.ask(f"{name}, {command}", [command, *words, "-", str(kept)], text)
+            if told.status or not told.out:
+                raise Wrong(f"{name}, {command}: {told}")
     text = (ROWS / "in-step.x10").read_bytes()
     for log, line in (("zero-steps", "L1 Grammar line 2"), ("no-end", "L2 Truncated"),
                       ("waits", "L4 NotEnabled entry 3"), ("stops", "L5 NotEnded")):
-        for command in ("replay", "chart"):
+        for command in ("replay", "chart", "events", "lanes"):
             err = f"x10clock: {line}\n".encode()
             calls.need(f"{command}, {log}", [command, "-", str(LOGS / f"{log}.log")], text, 3, b"", err)
 
@@ -233,6 +237,16 @@ def each_mismatch(calls: Calls, folder: str) -> None:
     calls.need("no argument, run", ["run", "-"], text, 1, b"", few)
     calls.need("no argument, chart", ["chart", "-", f"{folder}/as-many.x10.log"], text, 1, b"", few)
     calls.need("two arguments", ["run", "--arg", "1", "--arg", "1", "-"], text, 1, b"", many)
+
+
+def each_search(calls: Calls) -> None:
+    """All that small programs can print, with a log of one outcome; some of it, where a limit is met; and runs by chance."""
+    for name, limit, status in (("in-step.x10", "100", 0), ("ring.json", "3", 6), ("as-many.x10", "5", 6)):
+        row = ROWS / name
+        found = calls.ask(f"{name}, outcomes", ["outcomes", *given(row), "--limit", limit, "--log", LOG, "-"], row.read_bytes())
+        if found.status != status or not found.out or status == 0 and not found.log:
+            raise Wrong(f"{name}, outcomes: {found}")
+        calls.ask(f"{name}, by chance", ["run", *given(row), "--order", "random", "--seed", "5", "--log", LOG, "-"], row.read_bytes())
 
 
 def each_worker(calls: Calls) -> None:
@@ -262,7 +276,10 @@ def each_mistake(calls: Calls) -> None:
             ("an argument for check", ["check", "--arg", "1", "-"], "error: unexpected argument '--arg' found"),
             ("JSON for a listing", ["listing", "--json", "-"], "error: unexpected argument '--json' found"),
             ("workers beside an order", ["run", "--module", "--workers", "2", "--order", "first", "-"],
-             "x10clock: --workers and --order exclude each other")):
+             "x10clock: --workers and --order exclude each other"),
+            ("a seed without chance", ["run", "--module", "--seed", "2", "-"], "x10clock: --seed goes with --order random"),
+            ("no outcomes", ["outcomes", "--limit", "0", "-"],
+             "error: invalid value '0' for '--limit <LIMIT>': 0 is not in 1..18446744073709551615")):
         calls.begins(name, words, 2, "", err)
     calls.begins("--help", ["--help"], 0, "Verifies and runs clocked programs.", "")
     told = calls.begins("a word not in UTF-8", ["run", "--module", "\udcff"], 2, "", "x10clock: a word is not in UTF-8")
@@ -276,6 +293,7 @@ def all_calls(folder: str, preloaded: str, given: argparse.Namespace) -> list[Ca
     each_log(calls, folder)
     each_mismatch(calls, folder)
     each_row(calls)
+    each_search(calls)
     each_worker(calls)
     each_mistake(calls)
     return calls.calls
