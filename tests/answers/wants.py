@@ -77,6 +77,16 @@ def to_chart(advances: int) -> int:
     return 2 * 40 * advances
 
 
+def to_events(steps: int) -> int:
+    """Four times the text, of which a line has some 40 bytes here."""
+    return 4 * 40 * steps
+
+
+def to_lanes(steps: int) -> int:
+    """Twice the text, of which a row has some 28 bytes here, and the list of the steps that others see."""
+    return (2 * 28 + 64) * steps
+
+
 # The programs.
 
 
@@ -208,6 +218,11 @@ class Calls:
         text = "def main(){for(i in 1..1050000)Console.OUT.println(0-9223372036854775807);}"
         small = to_read(text.encode()) + to_run(judged(text))
         yield Call("run, 1,050,000 numbers", ["run", self.file(text)], small + to_print(1_050_000))
+        text = "def main(){for(i in 1..300000)Console.OUT.println(i);}"
+        small = to_read(text.encode()) + to_run(judged(text))
+        yield Call("run --log, 300,000 prints", ["run", "--log", log, self.file(text)], small + to_log(600_002) + to_print(300_000))
+        yield Call("events, 300,000 prints", ["events", self.file(text), log], small + to_log(600_002) + to_events(300_001))
+        yield Call("lanes, 300,000 prints", ["lanes", self.file(text), log], small + to_log(600_002) + to_lanes(300_001))
         text = "def main(){" + "".join(f"val c{k}=Clock.make();" for k in range(60)) + "for(i in 1..15000)Clock.advanceAll();}"
         small = to_read(text.encode()) + to_run(judged(text))
         yield Call("run --log, 900,000 advances", ["run", "--log", log, self.file(text)], small + to_log(45_062))
