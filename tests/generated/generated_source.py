@@ -241,15 +241,20 @@ class Writer:
                 if len(self.tokens) == begin:
                     self.emit(";")
 
-    def statement(self, alone: bool = False) -> None:
-        if self.steps >= self.budget:
-            return
+    def ways(self, alone: bool) -> list[Callable[[], bool]]:
+        """What a statement may be, more often what stands there more often."""
         ways: list[Callable[[], bool]] = [self.number] * 3 + [self.advance, self.call] * 2
         ways += [self.assign, self.share, self.show, self.resume, self.drop]
         ways += [self.assign] * 8 if self.limiting else []
         ways += [] if alone else [self.make] * 3
         if self.depth < 5:
             ways += [self.start] * (10 if self.unit.has_hidden else 5) + [self.loop, self.branch, self.finish] * 2 + [self.nested]
+        return ways
+
+    def statement(self, alone: bool = False) -> None:
+        if self.steps >= self.budget:
+            return
+        ways = self.ways(alone)
         for _ in range(4):
             self.depth += 1
             done = self.rng.choice(ways)()

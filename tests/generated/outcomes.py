@@ -62,18 +62,10 @@ class SmallWriter(Writer):
         self.spend(1)
         return [self.rng.choice(numbers).name] if numbers else [str(self.rng.randrange(10))]
 
-    def statement(self, alone: bool = False) -> None:
-        if self.steps >= self.budget:
-            return
+    def ways(self, alone: bool) -> list[Callable[[], bool]]:
         ways: list[Callable[[], bool]] = [self.show] * 4 + [self.share] * 3 + [self.advance, self.call, self.resume, self.drop, self.branch]
         ways += [] if alone else [self.number] * 3 + [self.make] * 2
-        ways += [self.start] * 6 + [self.finish, self.loop] if self.depth < 4 else []
-        for _ in range(4):
-            self.depth += 1
-            done = self.rng.choice(ways)()
-            self.depth -= 1
-            if done:
-                return
+        return ways + ([self.start] * 6 + [self.finish, self.loop] if self.depth < 4 else [])
 
 
 @dataclass(frozen=True)
