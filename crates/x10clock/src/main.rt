@@ -149,7 +149,9 @@ fn on_program<R: Runtime, P: Read + Drop, O: Sink, E: Sink>(
     let (Command::Replay { log: path }
     | Command::Chart { log: path }
     | Command::Events { log: path }
-    | Command::Lanes { log: path }) = job.command
+    | Command::Lanes { log: path, .. }
+    | Command::Where { log: path }
+    | Command::Races { log: Some(path) }) = job.command
     else {
         return on_log(rt, job, program, &mut Counted::new(io::empty()), out, err);
     };
@@ -214,7 +216,10 @@ fn path_of_log<'a>(command: Command<'a>) -> Option<&'a str> {
         | Command::Replay { .. }
         | Command::Chart { .. }
         | Command::Events { .. }
-        | Command::Lanes { .. } => None,
+        | Command::Lanes { .. }
+        | Command::Where { .. }
+        | Command::Races { .. }
+        | Command::Tally { .. } => None,
     }
 }
 

@@ -1,6 +1,6 @@
 -- The answer to a job is one.
-use Rattle.std.proofs.Common.{◌≡◌, ◌≢◌, ◌<◌, ◌≤◌, ◌∙◌, ℕ, ℤ, true, false, List, [], ◌++◌, length, codes, None, Some, inl, inr, refl, sym, ap, subst, arith}
-use Rattle.std.specs.Prelude.{◌⊎◌}
+use Rattle.std.proofs.Common.{◌≡◌, ◌≢◌, ◌<◌, ◌≤◌, ◌∙◌, ℕ, ℤ, Bool, true, false, List, [], ◌++◌, length, codes, None, Some, inl, inr, refl, sym, ap, subst, arith}
+use Rattle.std.specs.Prelude.{◌⊎◌, ⊤}
 use Rattle.std.proofs.lemmas.Bool.{false≢true}
 use Rattle.serde_json.specs.Written.{compact_text}
 use Rattle.xk_types.specs.declared.world.Entry.{Entry}
@@ -27,13 +27,15 @@ use Rattle.xk_serve.specs.declared.job_result.Done.{Done}
 use Rattle.xk_serve.specs.declared.job_result.Done.TheVariants as done
 use Rattle.xk_serve.specs.declared.fault.Fault.{Fault}
 use Rattle.xk_serve.specs.declared.fault.Fault.TheVariants as fault
-use Rattle.xk_serve.specs.Answer.{Answers, Check, ComesTo, Compile, Doing, Draw, Explain, IsLogText, IsMisfit, IsNoRun, IsSaidBy, IsSaidOf, IsTelling, IsText, Listing, Outcomes, Replay, Reply, Run, Task, asks_verifier, done_reply, done_status, fault_reply, reads_log, runs}
+use Rattle.xk_serve.specs.Answer.{Answers, Check, ComesTo, Compile, Doing, Draw, Explain, IsLogText, IsMisfit, IsNoRun, IsSaidBy, IsSaidOf, IsTelling, IsText, Listing, Outcomes, Races, Replay, Reply, Run, Tally, Task, Where, asks_verifier, done_reply, done_status, fault_reply, reads_log, runs, wants_whole, whole_status}
+use Rattle.xk_serve.specs.Explanation.{Tale}
+use Rattle.xk_serve.specs.declared.picture.Picture.{Picture}
 use Rattle.xk_output.specs.Lines.{number_lines}
 use Rattle.xk_serve.specs.Lines.{accepted_line, arguments_line, done_log, done_text, ended_line, fault_line, refusal_status, status_of}
 use Rattle.xk_serve.specs.OneAnswer.{ComesToOne, HasOneStatus, IsDetermined, IsLeftOpen, IsSameLine, IsSameReply, TellFaults}
 use Rattle.xk_serve.specs.OrderedRun.{IsLoggedRun, IsOrderedRun, IsReplay}
 use Rattle.xk_serve.specs.Programs.{Gives, IsCompiledTo, IsNoModule, IsNoSource, IsUnread, longest_module}
-use Rattle.xk_serve.proofs.LogUniquenessLemmas.{no_run_once, text_once, whole_not_refused}
+use Rattle.xk_serve.proofs.LogUniquenessLemmas.{no_run_once, text_not_cut, text_not_wrong, text_once, whole_not_refused}
 use Rattle.xk_serve.proofs.RefusalUniquenessLemmas.{not_accepted, refusal_once, refused_status}
 use Rattle.xk_serve.proofs.RunUniquenessLemmas.{list_once, logged_once, ordered_once, run_taken}
 use Rattle.xk_serve.proofs.TellingUniquenessLemmas.{telling_once}
@@ -55,7 +57,10 @@ Prints (Run (By n) kept) m args logged out log = IsAccepted m × AreArguments m 
 Prints Replay m args logged out log =
     IsAccepted m × (numbers : List ℤ) × (steps : ℕ) × (es : List Entry) × IsLogText logged es × IsReplay m args es numbers steps × (out ≡ number_lines numbers ++ ended_line steps) × (log ≡ [])
 Prints (Draw picture) m args logged out log = ⊥
-Prints (Outcomes limit pick kept) m args logged out log = IsAccepted m × AreArguments m args
+Prints Where m args logged out log = ⊥
+Prints Races m args logged out log = ⊥
+Prints (Tally seed runs) m args logged out log = ⊥
+Prints (Outcomes sets limit pick kept) m args logged out log = IsAccepted m × AreArguments m args
 
 pub prints : (what : Doing) (m : ModuleValue) (args : List ℤ) (logged : List ℕ) (d : Done) → ComesTo what m args logged d → Prints what m args logged (done_text d) (done_log d)
 prints Compile m args logged (done.Compiled t) h = (ap (λ bytes. bytes ++ codes "\n") h, refl)
@@ -76,8 +81,11 @@ prints (Run (By n) true) m args logged _ h = absurd h
 prints Replay m args logged (done.Ended numbers steps None) h = (h.0, numbers.items, steps, h.1.0, h.1.1, h.1.2, refl, refl)
 prints Replay m args logged _ h = absurd h
 prints (Draw picture) m args logged d h = absurd h
-prints (Outcomes limit pick kept) m args logged (done.Outcomes t whole log) h = (h.0, h.1.taken)
-prints (Outcomes limit pick kept) m args logged _ h = absurd h.1
+prints Where m args logged d h = absurd h
+prints Races m args logged d h = absurd h
+prints (Tally seed runs) m args logged d h = absurd h
+prints (Outcomes sets limit pick kept) m args logged (done.Outcomes t whole log) h = (h.0, h.1.taken)
+prints (Outcomes sets limit pick kept) m args logged _ h = absurd h.1
 
 -- what it comes to has the status of what is done, but where outcomes are looked for
 pub done_zero : (what : Doing) (m : ModuleValue) (args : List ℤ) (logged : List ℕ) (d : Done) → HasOneStatus what → ComesTo what m args logged d → done_status d ≡ 0
@@ -91,10 +99,26 @@ done_zero (Run (By n) false) m args logged (done.Outcomes t whole log) one h = a
 done_zero (Run (By n) true) m args logged (done.Outcomes t whole log) one h = absurd h
 done_zero Replay m args logged (done.Outcomes t whole log) one h = absurd h
 done_zero (Draw picture) m args logged (done.Outcomes t whole log) one h = absurd h
-done_zero (Outcomes limit pick kept) m args logged (done.Outcomes t whole log) one h = absurd one
+done_zero Where m args logged (done.Outcomes t whole log) one h = absurd h
+done_zero Races m args logged (done.Outcomes t whole log) one h = absurd h
+done_zero (Tally seed runs) m args logged (done.Outcomes t whole log) one h = absurd h
+done_zero (Outcomes sets limit pick kept) m args logged (done.Outcomes t whole log) one h = absurd one
 done_zero what m args logged (done.Compiled t) one h = refl
 done_zero what m args logged (done.Accepted steps activities clocks) one h = refl
-done_zero what m args logged (done.Told t) one h = refl
+done_zero Compile m args logged (done.Told t whole) one h = absurd h
+done_zero Check m args logged (done.Told t whole) one h = absurd h
+done_zero (Explain json) m args logged (done.Told t whole) one h = absurd h
+done_zero Listing m args logged (done.Told t whole) one h = absurd h
+done_zero (Run (In o) false) m args logged (done.Told t whole) one h = absurd h
+done_zero (Run (In o) true) m args logged (done.Told t whole) one h = absurd h
+done_zero (Run (By n) false) m args logged (done.Told t whole) one h = absurd h
+done_zero (Run (By n) true) m args logged (done.Told t whole) one h = absurd h
+done_zero Replay m args logged (done.Told t whole) one h = absurd h
+done_zero (Draw picture) m args logged (done.Told t whole) one h = absurd h
+done_zero Where m args logged (done.Told t whole) one h = absurd h
+done_zero Races m args logged (done.Told t whole) one h = absurd h
+done_zero (Tally seed runs) m args logged (done.Told t whole) one h = absurd h
+done_zero (Outcomes sets limit pick kept) m args logged (done.Told t whole) one h = absurd h.1
 done_zero what m args logged (done.Ended numbers steps log) one h = refl
 
 -- what asks the verifier prints nothing of another module than one that is accepted
@@ -108,7 +132,10 @@ prints_accepted (Run (In o) true) m args logged out log asks h = h.0
 prints_accepted (Run (By n) kept) m args logged out log asks h = h.0
 prints_accepted Replay m args logged out log asks h = h.0
 prints_accepted (Draw picture) m args logged out log asks h = absurd h
-prints_accepted (Outcomes limit pick kept) m args logged out log asks h = h.0
+prints_accepted Where m args logged out log asks h = absurd h
+prints_accepted Races m args logged out log asks h = absurd h
+prints_accepted (Tally seed runs) m args logged out log asks h = absurd h
+prints_accepted (Outcomes sets limit pick kept) m args logged out log asks h = h.0
 
 -- main of a run takes as many numbers as it is given
 prints_taken : (what : Doing) (m : ModuleValue) (args : List ℤ) (logged out log : List ℕ) → runs what ≡ true → Prints what m args logged out log → AreArguments m args
@@ -121,7 +148,10 @@ prints_taken (Run (In o) true) m args logged out log run h = run_taken _ m args 
 prints_taken (Run (By n) kept) m args logged out log run h = h.1
 prints_taken Replay m args logged out log run h = run_taken _ m args h.1 h.2 h.5
 prints_taken (Draw picture) m args logged out log run h = absurd h
-prints_taken (Outcomes limit pick kept) m args logged out log run h = h.1
+prints_taken Where m args logged out log run h = absurd h
+prints_taken Races m args logged out log run h = absurd h
+prints_taken (Tally seed runs) m args logged out log run h = absurd h
+prints_taken (Outcomes sets limit pick kept) m args logged out log run h = h.1
 
 replay_whole : (m : ModuleValue) (args numbers : List ℤ) (steps : ℕ) (es : List Entry) → IsReplay m args es numbers steps → IsWhole m args es
 replay_whole m args numbers steps es r = record { last = r.last; leads = subst (λ l. Leads m l r.last) r.follows r.leads; given = r.given; over = r.over }
@@ -136,7 +166,10 @@ prints_whole Listing m args logged out log reads h = absurd h
 prints_whole (Run way kept) m args logged out log reads h = absurd (false≢true reads)
 prints_whole Replay m args logged out log reads h = (h.3, h.4, replay_whole m args h.1 h.2 h.3 h.5)
 prints_whole (Draw picture) m args logged out log reads h = absurd h
-prints_whole (Outcomes limit pick kept) m args logged out log reads h = absurd (false≢true reads)
+prints_whole Where m args logged out log reads h = absurd h
+prints_whole Races m args logged out log reads h = absurd h
+prints_whole (Tally seed runs) m args logged out log reads h = absurd h
+prints_whole (Outcomes sets limit pick kept) m args logged out log reads h = absurd (false≢true reads)
 
 -- the lines of a run
 same_lines : (numbers others : List ℤ) (n k : ℕ) → numbers ≡ others → n ≡ k → number_lines numbers ++ ended_line n ≡ number_lines others ++ ended_line k
@@ -161,7 +194,10 @@ prints_once Replay m args logged out log other kept none p q =
     let same = list_once _ _ m args p.1 q.1 p.2 q.2 p.5 q.5 (p.5.follows ∙ ap schedule_of es ∙ sym q.5.follows) in
     (p.6 ∙ same_lines p.1 q.1 p.2 q.2 same.0 same.1 ∙ sym q.6, p.7 ∙ sym q.7)
 prints_once (Draw picture) m args logged out log other kept none p q = absurd p
-prints_once (Outcomes limit pick written) m args logged out log other kept none p q = absurd none
+prints_once Where m args logged out log other kept none p q = absurd p
+prints_once Races m args logged out log other kept none p q = absurd p
+prints_once (Tally seed runs) m args logged out log other kept none p q = absurd p
+prints_once (Outcomes sets limit pick written) m args logged out log other kept none p q = absurd none
 
 pub done_once : (what : Doing) (m : ModuleValue) (args : List ℤ) (logged : List ℕ) (d e : Done) → ComesToOne what → ComesTo what m args logged d
     → ComesTo what m args logged e → (done_text d ≡ done_text e) × (done_log d ≡ done_log e)
@@ -183,7 +219,10 @@ said_determined Listing kind file bytes said f h one = h
 said_determined (Run way kept) kind file bytes said f h one = h
 said_determined Replay kind file bytes said f h one = h
 said_determined (Draw picture) kind file bytes said f h one = h
-said_determined (Outcomes limit pick kept) kind file bytes said f h one = h
+said_determined Where kind file bytes said f h one = h
+said_determined Races kind file bytes said f h one = h
+said_determined (Tally seed runs) kind file bytes said f h one = h
+said_determined (Outcomes sets limit pick kept) kind file bytes said f h one = h
 
 -- the reply of a task's fault
 abbrev IsReplyOf : Task → List ℕ → Fault → Reply → Type 0
@@ -194,58 +233,94 @@ reply_of t bytes r f e = (e.0, said_determined t.doing t.form t.file bytes e.0 f
 
 -- ---- what is told of it
 
+-- a fault of the run that a log has is told where the log is to be that of a whole one
+abbrev pub MayStand : Doing → Fault → Type 0
+MayStand what (fault.NotEnabled i) = wants_whole what ≡ true
+MayStand what fault.NotEnded = wants_whole what ≡ true
+MayStand what _ = ⊤
+
 -- the log that is read is that of a whole run, of whose module something is told
-telling_whole : (what : Doing) (kind : Form) (file bytes : List ℕ) (m : ModuleValue) (args : List ℤ) (logged told : List ℕ) → reads_log what ≡ true
-    → IsTelling what kind file bytes m args logged told → (es : List Entry) × IsLogText logged es × IsWhole m args es
-telling_whole (Draw picture) kind file bytes m args logged told reads h =
+telling_whole : (picture : Picture) (kind : Form) (file bytes : List ℕ) (m : ModuleValue) (args : List ℤ) (logged : List ℕ) (told : Tale)
+    → IsTelling (Draw picture) kind file bytes m args logged told → (es : List Entry) × IsLogText logged es × IsWhole m args es
+telling_whole picture kind file bytes m args logged told h =
     let r = h.1.2 in (h.1.0, h.1.1, record { last = r.last; leads = r.leads; given = r.given; over = r.over })
-telling_whole (Explain json) kind file bytes m args logged told reads h = absurd (false≢true reads)
-telling_whole Listing kind file bytes m args logged told reads h = absurd (false≢true reads)
-telling_whole Check kind file bytes m args logged told reads h = absurd h
-telling_whole Compile kind file bytes m args logged told reads h = absurd h
-telling_whole (Run way kept) kind file bytes m args logged told reads h = absurd h
-telling_whole Replay kind file bytes m args logged told reads h = absurd h
-telling_whole (Outcomes limit pick kept) kind file bytes m args logged told reads h = absurd h
+
+-- a log of which something is told isn't refused
+telling_stands : (what : Doing) (kind : Form) (file bytes : List ℕ) (m : ModuleValue) (args : List ℤ) (logged : List ℕ) (told : Tale) (f : Fault) → reads_log what ≡ true
+    → IsTelling what kind file bytes m args logged told → IsNoRun m args logged f → MayStand what f → status_of f ≢ 4 → ⊥
+telling_stands (Draw picture) kind file bytes m args logged told f reads h no may not4 =
+    let whole = telling_whole picture kind file bytes m args logged told h in whole_not_refused m args logged f whole.0 no not4 whole.1 whole.2
+telling_stands Where kind file bytes m args logged told (fault.NotEnabled i) reads h no may not4 = false≢true may
+telling_stands Where kind file bytes m args logged told fault.NotEnded reads h no may not4 = false≢true may
+telling_stands Where kind file bytes m args logged told (fault.Grammar line) reads h no may not4 = text_not_wrong logged line h.1.1.0 h.1.1.1 no
+telling_stands Where kind file bytes m args logged told fault.Truncated reads h no may not4 = text_not_cut logged h.1.1.0 h.1.1.1 no
+telling_stands Where kind file bytes m args logged told fault.OutOfMemory reads h no may not4 = not4 refl
+telling_stands Where kind file bytes m args logged told (fault.Text f) reads h no may not4 = no
+telling_stands Where kind file bytes m args logged told (fault.Front f) reads h no may not4 = no
+telling_stands Where kind file bytes m args logged told (fault.Refused r) reads h no may not4 = no
+telling_stands Where kind file bytes m args logged told (fault.Arguments wants has) reads h no may not4 = no
+telling_stands Where kind file bytes m args logged told fault.Device reads h no may not4 = no
+telling_stands Races kind file bytes m args logged told f reads h no may not4 = false≢true reads
+telling_stands (Tally seed runs) kind file bytes m args logged told f reads h no may not4 = false≢true reads
+telling_stands (Explain json) kind file bytes m args logged told f reads h no may not4 = false≢true reads
+telling_stands Listing kind file bytes m args logged told f reads h no may not4 = false≢true reads
+telling_stands Check kind file bytes m args logged told f reads h no may not4 = h
+telling_stands Compile kind file bytes m args logged told f reads h no may not4 = h
+telling_stands (Run way kept) kind file bytes m args logged told f reads h no may not4 = h
+telling_stands Replay kind file bytes m args logged told f reads h no may not4 = h
+telling_stands (Outcomes sets limit pick kept) kind file bytes m args logged told f reads h no may not4 = h
 
 -- main of what is run takes as many numbers as it is given
-telling_taken : (what : Doing) (kind : Form) (file bytes : List ℕ) (m : ModuleValue) (args : List ℤ) (logged told : List ℕ) → runs what ≡ true
+telling_taken : (what : Doing) (kind : Form) (file bytes : List ℕ) (m : ModuleValue) (args : List ℤ) (logged : List ℕ) (told : Tale) → runs what ≡ true
     → IsTelling what kind file bytes m args logged told → AreArguments m args
 telling_taken (Draw picture) kind file bytes m args logged told run h = subst (AreArguments m) h.1.2.given h.1.2.leads.0
+telling_taken Where kind file bytes m args logged told run h = h.1.0
+telling_taken Races kind file bytes m args logged told run h = run_taken _ m args h.1.0 h.1.1 h.1.3
+telling_taken (Tally seed runs) kind file bytes m args logged told run h = h.1
 telling_taken (Explain json) kind file bytes m args logged told run h = absurd (false≢true run)
 telling_taken Listing kind file bytes m args logged told run h = absurd (false≢true run)
 telling_taken Check kind file bytes m args logged told run h = absurd h
 telling_taken Compile kind file bytes m args logged told run h = absurd h
 telling_taken (Run way kept) kind file bytes m args logged told run h = absurd h
 telling_taken Replay kind file bytes m args logged told run h = absurd h
-telling_taken (Outcomes limit pick kept) kind file bytes m args logged told run h = absurd h
+telling_taken (Outcomes sets limit pick kept) kind file bytes m args logged told run h = absurd h
 
 -- what is told isn't printed
-telling_unprinted : (what : Doing) (kind : Form) (file bytes : List ℕ) (m : ModuleValue) (args : List ℤ) (logged told out log : List ℕ)
+telling_unprinted : (what : Doing) (kind : Form) (file bytes : List ℕ) (m : ModuleValue) (args : List ℤ) (logged : List ℕ) (told : Tale) (out log : List ℕ)
     → IsTelling what kind file bytes m args logged told → Prints what m args logged out log → ⊥
 telling_unprinted (Explain json) kind file bytes m args logged told out log h p = p
 telling_unprinted Listing kind file bytes m args logged told out log h p = p
 telling_unprinted (Draw picture) kind file bytes m args logged told out log h p = p
+telling_unprinted Where kind file bytes m args logged told out log h p = p
+telling_unprinted Races kind file bytes m args logged told out log h p = p
+telling_unprinted (Tally seed runs) kind file bytes m args logged told out log h p = p
 telling_unprinted Check kind file bytes m args logged told out log h p = h
 telling_unprinted Compile kind file bytes m args logged told out log h p = h
 telling_unprinted (Run way kept) kind file bytes m args logged told out log h p = h
 telling_unprinted Replay kind file bytes m args logged told out log h p = h
-telling_unprinted (Outcomes limit pick kept) kind file bytes m args logged told out log h p = h
+telling_unprinted (Outcomes sets limit pick kept) kind file bytes m args logged told out log h p = h
 
-telling_accepted : (what : Doing) (kind : Form) (file bytes : List ℕ) (m : ModuleValue) (args : List ℤ) (logged told : List ℕ) → asks_verifier what ≡ true
+telling_accepted : (what : Doing) (kind : Form) (file bytes : List ℕ) (m : ModuleValue) (args : List ℤ) (logged : List ℕ) (told : Tale) → asks_verifier what ≡ true
     → IsTelling what kind file bytes m args logged told → IsAccepted m
 telling_accepted (Explain json) kind file bytes m args logged told asks h = h.0
 telling_accepted (Draw picture) kind file bytes m args logged told asks h = h.0
+telling_accepted Where kind file bytes m args logged told asks h = h.0
+telling_accepted Races kind file bytes m args logged told asks h = h.0
+telling_accepted (Tally seed runs) kind file bytes m args logged told asks h = h.0
 telling_accepted Listing kind file bytes m args logged told asks h = absurd (false≢true asks)
 telling_accepted Check kind file bytes m args logged told asks h = absurd h
 telling_accepted Compile kind file bytes m args logged told asks h = absurd h
 telling_accepted (Run way kept) kind file bytes m args logged told asks h = absurd h
 telling_accepted Replay kind file bytes m args logged told asks h = absurd h
-telling_accepted (Outcomes limit pick kept) kind file bytes m args logged told asks h = absurd h
+telling_accepted (Outcomes sets limit pick kept) kind file bytes m args logged told asks h = absurd h
 
--- it goes to standard output, and nothing to the log
-text_told : (P : List ℕ → Type 0) (d : Done) → IsText P d → P (done_text d) × (done_log d ≡ [])
-text_told P (done.Told text) h = (h, refl)
-text_told P _ h = absurd h
+-- it goes to standard output, and nothing to the log, and the status says whether it is whole
+text_told : (P : Tale → Type 0) (d : Done) → IsText P d → (whole : Bool) × P (done_text d, whole) × (done_status d ≡ whole_status whole) × (done_log d ≡ [])
+text_told P (done.Told text whole) h = (whole, h, refl, refl)
+text_told P (done.Compiled text) h = absurd h
+text_told P (done.Accepted steps activities clocks) h = absurd h
+text_told P (done.Outcomes text whole log) h = absurd h
+text_told P (done.Ended numbers steps log) h = absurd h
 
 -- what is told of the same bytes is one
 pub told_once : (t : Task) (bytes logged : List ℕ) (m : ModuleValue) (d e : Done) → Gives t.form bytes m
@@ -254,26 +329,21 @@ pub told_once : (t : Task) (bytes logged : List ℕ) (m : ModuleValue) (d e : Do
 told_once t bytes logged m d e given p q =
     let a = text_told (IsTelling t.doing t.form t.file bytes m t.arguments logged) d p in
     let b = text_told (IsTelling t.doing t.form t.file bytes m t.arguments logged) e q in
-    (telling_once t.doing t.form t.file bytes m t.arguments logged (done_text d) (done_text e) given a.0 b.0, a.1 ∙ sym b.1)
-
--- and is whole
-told_zero : (P : List ℕ → Type 0) (d : Done) → IsText P d → done_status d ≡ 0
-told_zero P (done.Told text) h = refl
-told_zero P (done.Compiled text) h = absurd h
-told_zero P (done.Accepted steps activities clocks) h = absurd h
-told_zero P (done.Outcomes text whole log) h = absurd h
-told_zero P (done.Ended numbers steps log) h = absurd h
+    let same = telling_once t.doing t.form t.file bytes m t.arguments logged (done_text d, a.0) (done_text e, b.0) given a.1 b.1 in
+    (ap (λ (tale : Tale). tale.0) same, a.3 ∙ sym b.3)
 
 -- ---- what is said of a module
+
 
 -- The reply is that of a refusal, of arguments that aren't as many as main takes, of a log of no run, of what the job comes to, or of what it tells.
 data Said (t : Task) (bytes : List ℕ) (m : ModuleValue) (logged : List ℕ) (r : Reply) : Type 0 where
   Refusing : (f : Refusal) → asks_verifier t.doing ≡ true → Refuses m f → refusal_status f ≢ 4 → IsFaultReply t.doing (fault.Refused f) r → Said t bytes m logged r
   Misfit : (wants has : ℕ) → runs t.doing ≡ true → IsAccepted m → IsMisfit m t.arguments wants has → IsFaultReply t.doing (fault.Arguments wants has) r → Said t bytes m logged r
-  NoRun : (f : Fault) → reads_log t.doing ≡ true → IsAccepted m → AreArguments m t.arguments → IsNoRun m t.arguments logged f → status_of f ≢ 4 → IsFaultReply t.doing f r
-      → Said t bytes m logged r
+  NoRun : (f : Fault) → reads_log t.doing ≡ true → IsAccepted m → AreArguments m t.arguments → IsNoRun m t.arguments logged f × MayStand t.doing f → status_of f ≢ 4
+      → IsFaultReply t.doing f r → Said t bytes m logged r
   Does : (HasOneStatus t.doing → r.status ≡ 0) → r.err ≡ [] → Prints t.doing m t.arguments logged r.out r.log → Said t bytes m logged r
-  Telling : r.status ≡ 0 → r.err ≡ [] → IsTelling t.doing t.form t.file bytes m t.arguments logged r.out → r.log ≡ [] → Said t bytes m logged r
+  Telling : (whole : Bool) → r.status ≡ whole_status whole → r.err ≡ [] → IsTelling t.doing t.form t.file bytes m t.arguments logged (r.out, whole) → r.log ≡ []
+      → Said t bytes m logged r
 
 -- the replies of two faults that have one line, but for a walk
 same_faults : (what : Doing) (r s : Reply) (f g : Fault) → IsFaultReply what f r → IsFaultReply what g s → status_of f ≡ status_of g → IsSameLine (fault_line f) (fault_line g)
@@ -300,7 +370,10 @@ determined (Run (In o) kept) one = tt
 determined (Run (By n) kept) one = absurd one
 determined Replay one = tt
 determined (Draw picture) one = tt
-determined (Outcomes limit pick kept) one = absurd one
+determined Where one = tt
+determined Races one = tt
+determined (Tally seed runs) one = tt
+determined (Outcomes sets limit pick kept) one = absurd one
 
 module _ (t : Task) (bytes : List ℕ) (m : ModuleValue) (logged : List ℕ) (r s : Reply) (given : Gives t.form bytes m) where
   same_said : Said t bytes m logged r → Said t bytes m logged s → IsSameReply t.doing r s
@@ -309,44 +382,46 @@ module _ (t : Task) (bytes : List ℕ) (m : ModuleValue) (logged : List ℕ) (r 
   same_said (Refusing f asks p n e) (Misfit wants has run ok q d) = absurd (not_accepted m f ok p n)
   same_said (Refusing f asks p n e) (NoRun g reads ok taken q k d) = absurd (not_accepted m f ok p n)
   same_said (Refusing f asks p n e) (Does zero quiet q) = absurd (not_accepted m f (prints_accepted t.doing m t.arguments logged s.out s.log asks q) p n)
-  same_said (Refusing f asks p n e) (Telling zero quiet q none) = absurd (not_accepted m f (telling_accepted t.doing t.form t.file bytes m t.arguments logged s.out asks q) p n)
+  same_said (Refusing f asks p n e) (Telling whole zero quiet q none) = absurd (not_accepted m f (telling_accepted t.doing t.form t.file bytes m t.arguments logged (s.out, whole) asks q) p n)
   same_said (Misfit wants has run ok p e) (Refusing g again q k d) = absurd (not_accepted m g ok q k)
   same_said (Misfit wants has run ok p e) (Misfit other given again fine q d) =
       same_faults t.doing r s (fault.Arguments wants has) (fault.Arguments other given) e d refl (inl (same_misfits m t.arguments wants has other given p q))
   same_said (Misfit wants has run ok p e) (NoRun g reads fine taken q k d) = absurd (p.misfit taken)
   same_said (Misfit wants has run ok p e) (Does zero quiet q) = absurd (p.misfit (prints_taken t.doing m t.arguments logged s.out s.log run q))
-  same_said (Misfit wants has run ok p e) (Telling zero quiet q none) = absurd (p.misfit (telling_taken t.doing t.form t.file bytes m t.arguments logged s.out run q))
+  same_said (Misfit wants has run ok p e) (Telling whole zero quiet q none) = absurd (p.misfit (telling_taken t.doing t.form t.file bytes m t.arguments logged (s.out, whole) run q))
   same_said (NoRun f reads ok taken p n e) (Refusing g again q k d) = absurd (not_accepted m g ok q k)
   same_said (NoRun f reads ok taken p n e) (Misfit wants has run fine q d) = absurd (q.misfit taken)
   same_said (NoRun f reads ok taken p n e) (NoRun g again fine fits q k d) =
-      let same = no_run_once m t.arguments logged f g p q n k in
+      let same = no_run_once m t.arguments logged f g p.0 q.0 n k in
       same_faults t.doing r s f g e d (ap status_of same) (inl (ap fault_line same))
   same_said (NoRun f reads ok taken p n e) (Does zero quiet q) =
-      let whole = prints_whole t.doing m t.arguments logged s.out s.log reads q in absurd (whole_not_refused m t.arguments logged f whole.0 p n whole.1 whole.2)
-  same_said (NoRun f reads ok taken p n e) (Telling zero quiet q none) =
-      let whole = telling_whole t.doing t.form t.file bytes m t.arguments logged s.out reads q in absurd (whole_not_refused m t.arguments logged f whole.0 p n whole.1 whole.2)
+      let whole = prints_whole t.doing m t.arguments logged s.out s.log reads q in absurd (whole_not_refused m t.arguments logged f whole.0 p.0 n whole.1 whole.2)
+  same_said (NoRun f reads ok taken p n e) (Telling whole zero quiet q none) =
+      absurd (telling_stands t.doing t.form t.file bytes m t.arguments logged (s.out, whole) f reads q p.0 p.1 n)
   same_said (Does zero quiet p) (Refusing g again q k d) = absurd (not_accepted m g (prints_accepted t.doing m t.arguments logged r.out r.log again p) q k)
   same_said (Does zero quiet p) (Misfit wants has run ok q d) = absurd (q.misfit (prints_taken t.doing m t.arguments logged r.out r.log run p))
   same_said (Does zero quiet p) (NoRun g reads ok taken q k d) =
-      let whole = prints_whole t.doing m t.arguments logged r.out r.log reads p in absurd (whole_not_refused m t.arguments logged g whole.0 q k whole.1 whole.2)
+      let whole = prints_whole t.doing m t.arguments logged r.out r.log reads p in absurd (whole_not_refused m t.arguments logged g whole.0 q.0 k whole.1 whole.2)
   same_said (Does zero quiet p) (Does none silent q) = record {
     status = λ one. zero one ∙ sym (none one);
     err = inl (quiet ∙ sym silent);
     out = λ one. (prints_once t.doing m t.arguments logged r.out r.log s.out s.log (determined t.doing one) p q).0;
     log = λ orders. (prints_once t.doing m t.arguments logged r.out r.log s.out s.log orders p q).1;
   }
-  same_said (Does zero quiet p) (Telling none silent q log) = absurd (telling_unprinted t.doing t.form t.file bytes m t.arguments logged s.out r.out r.log q p)
-  same_said (Telling zero quiet p log) (Refusing g again q k d) = absurd (not_accepted m g (telling_accepted t.doing t.form t.file bytes m t.arguments logged r.out again p) q k)
-  same_said (Telling zero quiet p log) (Misfit wants has run ok q d) = absurd (q.misfit (telling_taken t.doing t.form t.file bytes m t.arguments logged r.out run p))
-  same_said (Telling zero quiet p log) (NoRun g reads ok taken q k d) =
-      let whole = telling_whole t.doing t.form t.file bytes m t.arguments logged r.out reads p in absurd (whole_not_refused m t.arguments logged g whole.0 q k whole.1 whole.2)
-  same_said (Telling zero quiet p log) (Does none silent q) = absurd (telling_unprinted t.doing t.form t.file bytes m t.arguments logged r.out s.out s.log p q)
-  same_said (Telling zero quiet p log) (Telling none silent q unlogged) = record {
-    status = λ one. zero ∙ sym none;
-    err = inl (quiet ∙ sym silent);
-    out = λ one. telling_once t.doing t.form t.file bytes m t.arguments logged r.out s.out given p q;
-    log = λ orders. log ∙ sym unlogged;
-  }
+  same_said (Does zero quiet p) (Telling whole none silent q log) = absurd (telling_unprinted t.doing t.form t.file bytes m t.arguments logged (s.out, whole) r.out r.log q p)
+  same_said (Telling whole zero quiet p log) (Refusing g again q k d) = absurd (not_accepted m g (telling_accepted t.doing t.form t.file bytes m t.arguments logged (r.out, whole) again p) q k)
+  same_said (Telling whole zero quiet p log) (Misfit wants has run ok q d) = absurd (q.misfit (telling_taken t.doing t.form t.file bytes m t.arguments logged (r.out, whole) run p))
+  same_said (Telling whole zero quiet p log) (NoRun g reads ok taken q k d) =
+      absurd (telling_stands t.doing t.form t.file bytes m t.arguments logged (r.out, whole) g reads p q.0 q.1 k)
+  same_said (Telling whole zero quiet p log) (Does none silent q) = absurd (telling_unprinted t.doing t.form t.file bytes m t.arguments logged (r.out, whole) s.out s.log p q)
+  same_said (Telling whole zero quiet p log) (Telling all none silent q unlogged) =
+      let same = telling_once t.doing t.form t.file bytes m t.arguments logged (r.out, whole) (s.out, all) given p q in
+      record {
+        status = λ one. zero ∙ ap (λ (tale : Tale). whole_status tale.1) same ∙ sym none;
+        err = inl (quiet ∙ sym silent);
+        out = λ one. ap (λ (tale : Tale). tale.0) same;
+        log = λ orders. log ∙ sym unlogged;
+      }
 
 -- ---- what is said of bytes
 
@@ -369,8 +444,8 @@ done_said t bytes m logged r d e (inl h) = Does (λ one. ap (λ (z : Reply). z.s
     (subst (λ (z : Reply). Prints t.doing m t.arguments logged z.out z.log) (sym e) (prints t.doing m t.arguments logged d h))
 done_said t bytes m logged r d e (inr h) =
     let told = text_told (IsTelling t.doing t.form t.file bytes m t.arguments logged) d h in
-    Telling (ap (λ (z : Reply). z.status) e ∙ told_zero (IsTelling t.doing t.form t.file bytes m t.arguments logged) d h) (ap (λ (z : Reply). z.err) e)
-    (subst (λ (z : Reply). IsTelling t.doing t.form t.file bytes m t.arguments logged z.out) (sym e) told.0) (ap (λ (z : Reply). z.log) e ∙ told.1)
+    Telling told.0 (ap (λ (z : Reply). z.status) e ∙ told.2) (ap (λ (z : Reply). z.err) e)
+    (subst (λ (z : Reply). IsTelling t.doing t.form t.file bytes m t.arguments logged (z.out, told.0)) (sym e) told.1) (ap (λ (z : Reply). z.log) e ∙ told.3)
 
 case_of : (t : Task) (bytes logged : List ℕ) (r : Reply) → r.status ≢ 4 → Answers t bytes logged r → Case t bytes logged r
 case_of t bytes logged r not4 (inl (d, s, e)) = Read s.of s.given (done_said t bytes s.of logged r d e s.done)
@@ -385,13 +460,13 @@ case_of t bytes logged r not4 (inr (fault.Refused (refusal.Bound f), h, e)) =
 case_of t bytes logged r not4 (inr (fault.Refused refusal.OutOfMemory, h, e)) = absurd h
 case_of t bytes logged r not4 (inr (fault.Arguments wants has, h, e)) = Read h.1.0 h.1.1 (Misfit wants has h.0 h.1.2 h.1.3 (reply_of t bytes r (fault.Arguments wants has) e))
 case_of t bytes logged r not4 (inr (fault.Grammar line, h, e)) =
-    Read h.1.0 h.1.1 (NoRun (fault.Grammar line) h.0 h.1.2 h.1.3.0 h.1.3.1 (status_not r (fault.Grammar line) e.0 e.2 not4) (reply_of t bytes r (fault.Grammar line) e))
+    Read h.1.0 h.1.1 (NoRun (fault.Grammar line) h.0 h.1.2 h.1.3.0 (h.1.3.1, tt) (status_not r (fault.Grammar line) e.0 e.2 not4) (reply_of t bytes r (fault.Grammar line) e))
 case_of t bytes logged r not4 (inr (fault.Truncated, h, e)) =
-    Read h.1.0 h.1.1 (NoRun fault.Truncated h.0 h.1.2 h.1.3.0 h.1.3.1 (status_not r fault.Truncated e.0 e.2 not4) (reply_of t bytes r fault.Truncated e))
+    Read h.1.0 h.1.1 (NoRun fault.Truncated h.0 h.1.2 h.1.3.0 (h.1.3.1, tt) (status_not r fault.Truncated e.0 e.2 not4) (reply_of t bytes r fault.Truncated e))
 case_of t bytes logged r not4 (inr (fault.NotEnabled i, h, e)) =
-    Read h.1.0 h.1.1 (NoRun (fault.NotEnabled i) h.0 h.1.2 h.1.3.0 h.1.3.1 (status_not r (fault.NotEnabled i) e.0 e.2 not4) (reply_of t bytes r (fault.NotEnabled i) e))
+    Read h.1.1.0 h.1.1.1 (NoRun (fault.NotEnabled i) h.1.0 h.1.1.2 h.1.1.3.0 (h.1.1.3.1, h.0) (status_not r (fault.NotEnabled i) e.0 e.2 not4) (reply_of t bytes r (fault.NotEnabled i) e))
 case_of t bytes logged r not4 (inr (fault.NotEnded, h, e)) =
-    Read h.1.0 h.1.1 (NoRun fault.NotEnded h.0 h.1.2 h.1.3.0 h.1.3.1 (status_not r fault.NotEnded e.0 e.2 not4) (reply_of t bytes r fault.NotEnded e))
+    Read h.1.1.0 h.1.1.1 (NoRun fault.NotEnded h.1.0 h.1.1.2 h.1.1.3.0 (h.1.1.3.1, h.0) (status_not r fault.NotEnded e.0 e.2 not4) (reply_of t bytes r fault.NotEnded e))
 case_of t bytes logged r not4 (inr (fault.OutOfMemory, h, e)) = absurd (not4 (ap (λ (z : Reply). z.status) e.2))
 case_of t bytes logged r not4 (inr (fault.Device, h, e)) = absurd h
 
@@ -497,19 +572,27 @@ one_source_answer t bytes logged r s of p q n k = same_source t bytes logged r s
 
 -- ---- logs of whole runs
 
--- The job is done: it prints this, or tells this.
+-- the job prints this
+abbrev pub IsPrinted : Task → ModuleValue → List ℕ → Reply → Type 0
+IsPrinted t m logged s = (HasOneStatus t.doing → s.status ≡ 0) × Prints t.doing m t.arguments logged s.out s.log
+
+-- or tells this
+abbrev pub IsTold : Task → List ℕ → ModuleValue → List ℕ → Reply → Type 0
+IsTold t bytes m logged s =
+    (whole : Bool) × (s.status ≡ whole_status whole) × IsTelling t.doing t.form t.file bytes m t.arguments logged (s.out, whole) × (s.log ≡ [])
+
+-- the job is done
 abbrev pub IsDone : Task → List ℕ → ModuleValue → List ℕ → Reply → Type 0
-IsDone t bytes m logged s = (HasOneStatus t.doing → s.status ≡ 0) × (s.err ≡ [])
-    × (Prints t.doing m t.arguments logged s.out s.log ⊎ (IsTelling t.doing t.form t.file bytes m t.arguments logged s.out × (s.log ≡ [])))
+IsDone t bytes m logged s = (s.err ≡ []) × (IsPrinted t m logged s ⊎ IsTold t bytes m logged s)
 
 -- where the log that is read is that of a whole run, nothing stands against the job
 whole_does : (t : Task) (bytes : List ℕ) (m : ModuleValue) (logged : List ℕ) (es : List Entry) (s : Reply) → reads_log t.doing ≡ true → IsAccepted m
     → AreArguments m t.arguments → IsLogText logged es → IsWhole m t.arguments es → Said t bytes m logged s → IsDone t bytes m logged s
 whole_does t bytes m logged es s is ok taken text whole (Refusing f asks p n e) = absurd (not_accepted m f ok p n)
 whole_does t bytes m logged es s is ok taken text whole (Misfit wants has run fine p e) = absurd (p.misfit taken)
-whole_does t bytes m logged es s is ok taken text whole (NoRun f reads fine fits p n e) = absurd (whole_not_refused m t.arguments logged f es p n text whole)
-whole_does t bytes m logged es s is ok taken text whole (Does zero quiet p) = (zero, quiet, inl p)
-whole_does t bytes m logged es s is ok taken text whole (Telling zero quiet p none) = (λ one. zero, quiet, inr (p, none))
+whole_does t bytes m logged es s is ok taken text whole (NoRun f reads fine fits p n e) = absurd (whole_not_refused m t.arguments logged f es p.0 n text whole)
+whole_does t bytes m logged es s is ok taken text whole (Does zero quiet p) = (quiet, inl (zero, p))
+whole_does t bytes m logged es s is ok taken text whole (Telling all zero quiet p none) = (quiet, inr (all, zero, p, none))
 
 pub whole_done : (t : Task) (bytes logged : List ℕ) (s : Reply) (m : ModuleValue) (out log : List ℕ) → reads_log t.doing ≡ true → Gives t.form bytes m
     → Prints Replay m t.arguments logged out log → s.status ≢ 4 → Answers t bytes logged s → IsDone t bytes m logged s

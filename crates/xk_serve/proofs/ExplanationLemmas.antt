@@ -60,7 +60,7 @@ quiet_by Listing kind file bytes said f h = λ e. h
 quiet_by (Run way kept) kind file bytes said f h = λ e. h
 quiet_by Replay kind file bytes said f h = λ e. h
 quiet_by (Draw picture) kind file bytes said f h = λ e. h
-quiet_by (Outcomes limit pick kept) kind file bytes said f h = λ e. h
+quiet_by (Outcomes sets limit pick kept) kind file bytes said f h = λ e. h
 
 -- the same of what a task says
 pub quiet_said : (t : Task) (bytes said : List ℕ) (f : Fault) → IsSaidOf t bytes f said → IsQuiet f said

@@ -43,6 +43,13 @@ same_entries es fs e = cc
 pub text_once : (logged : List ℕ) (es fs : List Entry) → IsLogText logged es → IsLogText logged fs → es ≡ fs
 text_once logged es fs p q = same_entries es fs (texts.one_verdict logged (places.Whole es) (places.Whole fs) p q)
 
+-- and no line of it is wrong, nor do they end too early
+pub text_not_wrong : (logged : List ℕ) (line : ℕ) (es : List Entry) → IsLogText logged es → IsWrongAt logged line → ⊥
+text_not_wrong logged line es p q = whole_not_wrong es line (texts.one_verdict logged (places.Whole es) (places.Wrong line) p q)
+
+pub text_not_cut : (logged : List ℕ) (es : List Entry) → IsLogText logged es → IsTruncated logged → ⊥
+text_not_cut logged es p q = whole_not_cut es (texts.one_verdict logged (places.Whole es) places.Cut p q)
+
 module _ (m : ModuleValue) (args : List ℤ) (logged : List ℕ) where
   one_verdict : (v w : Verdict) → Says m args logged v → Says m args logged w → v ≡ w
   one_verdict (Wrong n) (Wrong k) p q = ap Wrong (same_line n k (texts.one_verdict logged (places.Wrong n) (places.Wrong k) p q))

@@ -160,7 +160,7 @@ same_said Listing kind file bytes known said f e h = h
 same_said (Run way kept) kind file bytes known said f e h = h
 same_said Replay kind file bytes known said f e h = h
 same_said (Draw picture) kind file bytes known said f e h = h
-same_said (Outcomes limit pick kept) kind file bytes known said f e h = h
+same_said (Outcomes sets limit pick kept) kind file bytes known said f e h = h
 
 said_kept : (t : Task) (bytes known logged said : List ℕ) (f : Fault) → bytes ≡ kept t.form known → FailsBy t bytes logged f → IsSaidOf t bytes f said → IsSaidOf t known f said
 said_kept t bytes known logged said f e h =
@@ -175,7 +175,7 @@ memory_unsaid Listing kind file bytes = refl
 memory_unsaid (Run way kept) kind file bytes = refl
 memory_unsaid Replay kind file bytes = refl
 memory_unsaid (Draw picture) kind file bytes = refl
-memory_unsaid (Outcomes limit pick kept) kind file bytes = refl
+memory_unsaid (Outcomes sets limit pick kept) kind file bytes = refl
 
 -- of devices nothing is said
 device_unsaid : (what : Doing) (kind : Form) (file bytes said : List ℕ) → IsSaidBy what kind file bytes fault.Device said → said ≡ []
@@ -186,7 +186,7 @@ device_unsaid Listing kind file bytes said h = h
 device_unsaid (Run way kept) kind file bytes said h = h
 device_unsaid Replay kind file bytes said h = h
 device_unsaid (Draw picture) kind file bytes said h = h
-device_unsaid (Outcomes limit pick kept) kind file bytes said h = h
+device_unsaid (Outcomes sets limit pick kept) kind file bytes said h = h
 
 -- the same of the faults that are no device's
 stands : (t : Task) (known logged : Option (List ℕ)) (bytes : List ℕ) (n : Reads) (f : Fault) (said : List ℕ) → n.program_new ≡ n.program_old → n.log_new ≡ n.log_old

@@ -14,6 +14,7 @@ use Rattle.xk_scheduler.proofs.UnloggedRunLemmas.{follows_any, run_weaker}
 use Rattle.xk_cli.specs.declared.job.Form.{Form}
 use Rattle.xk_serve.specs.declared.picture.Picture.{Picture}
 use Rattle.xk_serve.specs.Answer.{Draw, IsLogText, IsPicture, IsTelling}
+use Rattle.xk_serve.specs.Explanation.{Tale}
 use Rattle.xk_serve.specs.OrderedRun.{IsReplay, IsWholeRun}
 
 -- ---- choosers without a state
@@ -50,7 +51,7 @@ worked_run m n args log numbers c steps same given run over counted =
     }
 
 -- the log of such a run is that of a whole run, and its picture is told of it
-pub pictured : (p : Picture) (kind : Form) (file bytes : List ℕ) (n m : ModuleValue) (args : List ℤ) (log : List Entry) (logged told : List ℕ) (c : CoreValue) {numbers : List ℤ}
+pub pictured : (p : Picture) (kind : Form) (file bytes : List ℕ) (n m : ModuleValue) (args : List ℤ) (log : List Entry) (logged : List ℕ) (told : Tale) (c : CoreValue) {numbers : List ℤ}
     → n ≡ m → c.world.arguments ≡ args → IsAccepted m → IsLogText logged log → IsRunOf n log numbers c → all_ended c.world ≡ true
     → IsPicture p kind bytes n c.world.arguments log c.world told → IsTelling (Draw p) kind file bytes m args logged told
 pictured p kind file bytes n m args log logged told c {numbers} same given accepted text run over is =

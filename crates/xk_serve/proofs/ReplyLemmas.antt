@@ -66,7 +66,7 @@ written_answers t program known d out_old out_new err_old err_new log_old log_ne
 pub parts_of_text : (d : Done) → done_front d ++ done_ending d ≡ done_text d
 parts_of_text (done.Compiled text) = refl
 parts_of_text (done.Accepted steps activities clocks) = refl
-parts_of_text (done.Told text) = append-nil text.items
+parts_of_text (done.Told text whole) = append-nil text.items
 parts_of_text (done.Outcomes text whole log) = append-nil text.items
 parts_of_text (done.Ended printed steps log) = refl
 

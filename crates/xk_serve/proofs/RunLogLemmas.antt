@@ -1,5 +1,5 @@
 -- The log that a run has written tells that run: `replay` and `chart` take it.
-use Rattle.std.proofs.Common.{◌≡◌, ◌≢◌, ◌∙◌, ℕ, ℤ, true, List, [], Some, None, inl, inr, refl, sym, ap, subst}
+use Rattle.std.proofs.Common.{◌≡◌, ◌≢◌, ◌∙◌, ℕ, ℤ, Bool, true, List, [], Some, None, inl, inr, refl, sym, ap, subst}
 use Rattle.std.specs.Prelude.{◌⊎◌}
 use Rattle.xk_types.specs.declared.world.Entry.{Entry}
 use Rattle.xk_types.specs.Acceptance.{IsAccepted}
@@ -18,7 +18,8 @@ use Rattle.xk_serve.specs.declared.job_result.Done.{Done}
 use Rattle.xk_serve.specs.declared.job_result.Done.TheVariants as done
 use Rattle.xk_serve.specs.declared.fault.Fault.{Fault}
 use Rattle.xk_serve.specs.declared.fault.Fault.TheVariants as fault
-use Rattle.xk_serve.specs.Answer.{Answers, ComesTo, IsLogText, IsTelling, IsText, Replay, Replays, Reply, Run, Task, done_reply}
+use Rattle.xk_serve.specs.Answer.{Answers, ComesTo, IsLogText, IsTelling, IsText, Replay, Replays, Reply, Run, Task, done_reply, whole_status}
+use Rattle.xk_serve.specs.Explanation.{Tale}
 use Rattle.xk_serve.specs.Lines.{done_log, done_text, status_of}
 use Rattle.xk_serve.specs.OneAnswer.{IsChartOf, IsCharted, MayChart, charting, done_with, replaying}
 use Rattle.xk_serve.specs.OrderedRun.{IsReplay, IsWholeRun}
@@ -95,7 +96,7 @@ ran t way bytes logged m d is (inl h) = subst (λ what. ComesTo what m t.argumen
 ran t way bytes logged m d is (inr h) = absurd (untold d (subst (λ what. IsText (IsTelling what t.form t.file bytes m t.arguments logged) d) is h))
   where
     untold : (d : Done) → IsText (λ text. ⊥) d → ⊥
-    untold (done.Told text) h = h
+    untold (done.Told text whole) h = h
     untold _ h = h
 
 written_of : (t : Task) (way : Way) (bytes logged : List ℕ) (r : Reply) → t.doing ≡ Run way true → Answers t bytes logged r → r.status ≡ 0 → IsWritten t bytes r
@@ -118,8 +119,13 @@ whole_run m args numbers steps es r = record { last = r.last; leads = subst (λ 
 
 charts : (t : Task) (bytes logged : List ℕ) (m : ModuleValue) (es : List Entry) → Gives t.form bytes m → IsAccepted m → IsLogText logged es → IsWholeRun m t.arguments es
     → (d : Done) → IsChartOf (chart_text m t.arguments es) d → Answers (charting t) bytes logged (done_reply d)
-charts t bytes logged m es given accepted log whole (done.Told found) is =
-    inl (done.Told found, record { of = m; given = given; done = inr (accepted, (es, log, whole, is)) }, refl)
+charts t bytes logged m es given accepted log whole (done.Told found all) is =
+    inl (done.Told found all, record { of = m; given = given; done = inr (accepted, (es, log, whole, pair is.0 is.1)) }, ap told_reply is.1)
+  where
+    pair : {a b : List ℕ} {x y : Bool} → a ≡ b → x ≡ y → (a, x) ≡ (b, y)
+    pair e d = cc
+    told_reply : Bool → Reply
+    told_reply w = done_reply (done.Told found w)
 charts t bytes logged m es given accepted log whole _ is = absurd is
 
 module _ (t : Task) (way : Way) (bytes logged : List ℕ) (r : Reply) (is : t.doing ≡ Run way true) (answers : Answers t bytes logged r) (zero : r.status ≡ 0) where
@@ -141,11 +147,11 @@ module _ (t : Task) (way : Way) (bytes logged : List ℕ) (r : Reply) (is : t.do
       let w = written_of t way bytes logged r is answers zero in
       let p = prints Replay w.of t.arguments r.log w.again w.comes in
       let q = whole_done (replaying t) bytes r.log s w.of (done_text w.again) (done_log w.again) refl w.given p not4 again in
-      elim q.2 [
+      elim q.1 [
         | inl printed ↦
-            let same = prints_once Replay w.of t.arguments r.log s.out s.log (done_text w.again) (done_log w.again) tt printed p in
-            reply_is s r.out (q.0 tt) (same.0 ∙ sym w.out) q.1 (same.1 ∙ p.7)
-        | inr told ↦ absurd told.0
+            let same = prints_once Replay w.of t.arguments r.log s.out s.log (done_text w.again) (done_log w.again) tt printed.1 p in
+            reply_is s r.out (printed.0 tt) (same.0 ∙ sym w.out) q.0 (same.1 ∙ p.7)
+        | inr told ↦ absurd told.2
       ]
 
   -- `chart` may print the chart of that run
@@ -161,7 +167,9 @@ module _ (t : Task) (way : Way) (bytes logged : List ℕ) (r : Reply) (is : t.do
       let w = written_of t way bytes logged r is answers zero in
       let p = prints Replay w.of t.arguments r.log w.again w.comes in
       let q = whole_done (charting t) bytes r.log s w.of (done_text w.again) (done_log w.again) refl w.given p not4 again in
-      elim q.2 [
-        | inl printed ↦ absurd printed
-        | inr told ↦ let c = told.0.1 in (w.of, c.0, w.given, c.1, reply_is s _ (q.0 tt) c.3 q.1 told.1)
+      elim q.1 [
+        | inl printed ↦ absurd printed.1
+        | inr told ↦
+            let c = told.2.1 in
+            (w.of, c.0, w.given, c.1, reply_is s _ (told.1 ∙ ap (λ (tale : Tale). whole_status tale.1) c.3) (ap (λ (tale : Tale). tale.0) c.3) q.0 told.3)
       ]

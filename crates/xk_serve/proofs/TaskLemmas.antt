@@ -17,13 +17,13 @@ use Rattle.xk_bounds.specs.declared.refusal.Refusal.TheVariants as refusal
 use Rattle.xk_serve.specs.declared.job_result.Done.{Done}
 use Rattle.xk_serve.specs.declared.fault.Fault.{Fault}
 use Rattle.xk_serve.specs.declared.fault.Fault.TheVariants as fault
-use Rattle.xk_serve.specs.Answer.{Check, ComesTo, Compile, Doing, Draw, Explain, FailsBy, IsLogText, IsNoRun, IsNotRun, IsRefusal, IsTelling, IsText, Listing, Outcomes, Replay, Run, Succeeds, Task, asks_verifier, reads_log, runs}
+use Rattle.xk_serve.specs.Answer.{Check, ComesTo, Compile, Doing, Draw, Explain, FailsBy, IsLogText, IsNoRun, IsNotRun, IsRefusal, IsTelling, IsText, Listing, Outcomes, Races, Replay, Run, Succeeds, Tally, Task, Where, asks_verifier, reads_log, runs, wants_whole}
 use Rattle.xk_serve.specs.Faults.{of_log, of_refusal, of_replay}
 use Rattle.xk_serve.specs.Lines.{status_of}
 use Rattle.std.proofs.lemmas.Result.{IfOk-weaker}
 use Rattle.std.proofs.lemmas.Bool.{false≢true}
 use Rattle.xk_serve.specs.Programs.{Gives}
-use Rattle.xk_serve.specs.Devices.{AgainstLog, AgainstModule, AgainstRun, read_of}
+use Rattle.xk_serve.specs.Devices.{AgainstLog, AgainstModule, AgainstReading, AgainstRun, AgainstText, read_of}
 
 -- ---- logs that may be known
 
@@ -89,6 +89,13 @@ pub done_of_text : (t : Task) (bytes : List ℕ) (known : Option (List ℕ)) (m 
     → IfOk r (λ d. IfSome (read_of t known) (λ logged. Succeeds t bytes logged d))
 done_of_text t bytes known m what (Ok d) is given h = of_any _ (read_of t known) (λ logged. tells t bytes logged m what t.arguments d is refl given (h logged))
 done_of_text t bytes known m what (Err f) is given h = tt
+
+-- what is told of its runs, whatever log there is
+pub done_of_told : (t : Task) (bytes : List ℕ) (known : Option (List ℕ)) (m : ModuleValue) (what : Doing) (args : List ℤ) (r : Result Done Fault) → t.doing ≡ what
+    → args ≡ t.arguments → Gives t.form bytes m → ((logged : List ℕ) → IfOk r (IsText (IsTelling what t.form t.file bytes m args logged)))
+    → IfOk r (λ d. IfSome (read_of t known) (λ logged. Succeeds t bytes logged d))
+done_of_told t bytes known m what args (Ok d) is told given h = of_any _ (read_of t known) (λ logged. tells t bytes logged m what args d is told given (h logged))
+done_of_told t bytes known m what args (Err f) is told given h = tt
 
 -- what is told of a run of it, by the log that is read
 pub done_of_run : (t : Task) (bytes : List ℕ) (known : Option (List ℕ)) (m : ModuleValue) (what : Doing) (args : List ℤ) (r : Result Done Fault) → t.doing ≡ what
@@ -167,7 +174,10 @@ runs_asks Listing h = absurd (false≢true h)
 runs_asks (Run way kept) h = refl
 runs_asks Replay h = refl
 runs_asks (Draw picture) h = refl
-runs_asks (Outcomes limit pick kept) h = refl
+runs_asks Where h = refl
+runs_asks Races h = refl
+runs_asks (Tally seed runs) h = refl
+runs_asks (Outcomes sets limit pick kept) h = refl
 
 against_not_run : (t : Task) (bytes : List ℕ) (known : Option (List ℕ)) (old new : ℕ) (m : ModuleValue) (f : Fault) → new ≡ old → runs t.doing ≡ true
     → Gives t.form bytes m → IsNotRun m t.arguments f → AgainstLog t bytes known old new f
@@ -181,38 +191,38 @@ against_run_of t bytes known n m what args (Ok d) is told runs_it given h = tt
 against_run_of t bytes known n m what args (Err f) is told runs_it given h =
     against_not_run t bytes known n n m f refl (ap runs is ∙ runs_it) given (subst (λ xs. IsNotRun m xs f) told h)
 
-no_run_fails : (t : Task) (bytes logged : List ℕ) (m : ModuleValue) (f : Fault) → reads_log t.doing ≡ true → Gives t.form bytes m → IsAccepted m → AreArguments m t.arguments
+no_run_fails : (t : Task) (bytes logged : List ℕ) (m : ModuleValue) (f : Fault) → reads_log t.doing ≡ true → wants_whole t.doing ≡ true → Gives t.form bytes m → IsAccepted m → AreArguments m t.arguments
     → IsNoRun m t.arguments logged f → FailsBy t bytes logged f
-no_run_fails t bytes logged m (fault.Text f) reads given accepted taken h = absurd h
-no_run_fails t bytes logged m (fault.Front f) reads given accepted taken h = absurd h
-no_run_fails t bytes logged m (fault.Refused r) reads given accepted taken h = absurd h
-no_run_fails t bytes logged m (fault.Arguments wants has) reads given accepted taken h = absurd h
-no_run_fails t bytes logged m (fault.Grammar line) reads given accepted taken h = (reads, (m, given, accepted, (taken, h)))
-no_run_fails t bytes logged m fault.Truncated reads given accepted taken h = (reads, (m, given, accepted, (taken, h)))
-no_run_fails t bytes logged m (fault.NotEnabled i) reads given accepted taken h = (reads, (m, given, accepted, (taken, h)))
-no_run_fails t bytes logged m fault.NotEnded reads given accepted taken h = (reads, (m, given, accepted, (taken, h)))
-no_run_fails t bytes logged m fault.OutOfMemory reads given accepted taken h = tt
-no_run_fails t bytes logged m fault.Device reads given accepted taken h = absurd h
+no_run_fails t bytes logged m (fault.Text f) reads wants given accepted taken h = absurd h
+no_run_fails t bytes logged m (fault.Front f) reads wants given accepted taken h = absurd h
+no_run_fails t bytes logged m (fault.Refused r) reads wants given accepted taken h = absurd h
+no_run_fails t bytes logged m (fault.Arguments wants has) reads wants given accepted taken h = absurd h
+no_run_fails t bytes logged m (fault.Grammar line) reads wants given accepted taken h = (reads, (m, given, accepted, (taken, h)))
+no_run_fails t bytes logged m fault.Truncated reads wants given accepted taken h = (reads, (m, given, accepted, (taken, h)))
+no_run_fails t bytes logged m (fault.NotEnabled i) reads wants given accepted taken h = (wants, (reads, (m, given, accepted, (taken, h))))
+no_run_fails t bytes logged m fault.NotEnded reads wants given accepted taken h = (wants, (reads, (m, given, accepted, (taken, h))))
+no_run_fails t bytes logged m fault.OutOfMemory reads wants given accepted taken h = tt
+no_run_fails t bytes logged m fault.Device reads wants given accepted taken h = absurd h
 
 -- what stands against a log, and is no device's, stands against the task
 no_run_stands : (t : Task) (bytes : List ℕ) (known : Option (List ℕ)) (old new : ℕ) (m : ModuleValue) (f : Fault) → reads_log t.doing ≡ true
-    → Gives t.form bytes m → IsAccepted m → AreArguments m t.arguments → (new ≡ old) × IfSome known (λ logged. IsNoRun m t.arguments logged f)
+    → wants_whole t.doing ≡ true → Gives t.form bytes m → IsAccepted m → AreArguments m t.arguments → (new ≡ old) × IfSome known (λ logged. IsNoRun m t.arguments logged f)
     → (new ≡ old) × IfSome (read_of t known) (λ logged. FailsBy t bytes logged f)
-no_run_stands t bytes known old new m f reads given accepted taken h =
-    (h.0, of_read t _ _ known reads (λ logged none. no_run_fails t bytes logged m f reads given accepted taken none) h.1)
+no_run_stands t bytes known old new m f reads wants given accepted taken h =
+    (h.0, of_read t _ _ known reads (λ logged none. no_run_fails t bytes logged m f reads wants given accepted taken none) h.1)
 
 against_run : (t : Task) (bytes : List ℕ) (known : Option (List ℕ)) (old new : ℕ) (m : ModuleValue) (f : Fault) → reads_log t.doing ≡ true
-    → Gives t.form bytes m → IsAccepted m → AreArguments m t.arguments → AgainstRun m t.arguments known old new f → AgainstLog t bytes known old new f
-against_run t bytes known old new m (fault.Text f) reads given accepted taken h = no_run_stands t bytes known old new m (fault.Text f) reads given accepted taken h
-against_run t bytes known old new m (fault.Front f) reads given accepted taken h = no_run_stands t bytes known old new m (fault.Front f) reads given accepted taken h
-against_run t bytes known old new m (fault.Refused r) reads given accepted taken h = no_run_stands t bytes known old new m (fault.Refused r) reads given accepted taken h
-against_run t bytes known old new m (fault.Arguments wants has) reads given accepted taken h = no_run_stands t bytes known old new m (fault.Arguments wants has) reads given accepted taken h
-against_run t bytes known old new m (fault.Grammar line) reads given accepted taken h = no_run_stands t bytes known old new m (fault.Grammar line) reads given accepted taken h
-against_run t bytes known old new m fault.Truncated reads given accepted taken h = no_run_stands t bytes known old new m fault.Truncated reads given accepted taken h
-against_run t bytes known old new m (fault.NotEnabled i) reads given accepted taken h = no_run_stands t bytes known old new m (fault.NotEnabled i) reads given accepted taken h
-against_run t bytes known old new m fault.NotEnded reads given accepted taken h = no_run_stands t bytes known old new m fault.NotEnded reads given accepted taken h
-against_run t bytes known old new m fault.OutOfMemory reads given accepted taken h = no_run_stands t bytes known old new m fault.OutOfMemory reads given accepted taken h
-against_run t bytes known old new m fault.Device reads given accepted taken h = h
+    → wants_whole t.doing ≡ true → Gives t.form bytes m → IsAccepted m → AreArguments m t.arguments → AgainstRun m t.arguments known old new f → AgainstLog t bytes known old new f
+against_run t bytes known old new m (fault.Text f) reads wants given accepted taken h = no_run_stands t bytes known old new m (fault.Text f) reads wants given accepted taken h
+against_run t bytes known old new m (fault.Front f) reads wants given accepted taken h = no_run_stands t bytes known old new m (fault.Front f) reads wants given accepted taken h
+against_run t bytes known old new m (fault.Refused r) reads wants given accepted taken h = no_run_stands t bytes known old new m (fault.Refused r) reads wants given accepted taken h
+against_run t bytes known old new m (fault.Arguments wants has) reads wants given accepted taken h = no_run_stands t bytes known old new m (fault.Arguments wants has) reads wants given accepted taken h
+against_run t bytes known old new m (fault.Grammar line) reads wants given accepted taken h = no_run_stands t bytes known old new m (fault.Grammar line) reads wants given accepted taken h
+against_run t bytes known old new m fault.Truncated reads wants given accepted taken h = no_run_stands t bytes known old new m fault.Truncated reads wants given accepted taken h
+against_run t bytes known old new m (fault.NotEnabled i) reads wants given accepted taken h = no_run_stands t bytes known old new m (fault.NotEnabled i) reads wants given accepted taken h
+against_run t bytes known old new m fault.NotEnded reads wants given accepted taken h = no_run_stands t bytes known old new m fault.NotEnded reads wants given accepted taken h
+against_run t bytes known old new m fault.OutOfMemory reads wants given accepted taken h = no_run_stands t bytes known old new m fault.OutOfMemory reads wants given accepted taken h
+against_run t bytes known old new m fault.Device reads wants given accepted taken h = h
 
 -- what reads a log is run
 reads_runs : (what : Doing) → reads_log what ≡ true → runs what ≡ true
@@ -223,19 +233,45 @@ reads_runs Listing h = absurd (false≢true h)
 reads_runs (Run way kept) h = refl
 reads_runs Replay h = refl
 reads_runs (Draw picture) h = refl
-reads_runs (Outcomes limit pick kept) h = refl
+reads_runs Where h = refl
+reads_runs Races h = refl
+reads_runs (Tally seed runs) h = refl
+reads_runs (Outcomes sets limit pick kept) h = refl
 
 against_either : (t : Task) (bytes : List ℕ) (known : Option (List ℕ)) (old new : ℕ) (m : ModuleValue) (f : Fault) → reads_log t.doing ≡ true
-    → Gives t.form bytes m → AgainstModule m t.arguments known old new f → AgainstLog t bytes known old new f
-against_either t bytes known old new m f reads given (inl h) = against_not_run t bytes known old new m f h.0 (reads_runs t.doing reads) given h.1
-against_either t bytes known old new m f reads given (inr h) = against_run t bytes known old new m f reads given h.0 h.1 h.2
+    → wants_whole t.doing ≡ true → Gives t.form bytes m → AgainstModule m t.arguments known old new f → AgainstLog t bytes known old new f
+against_either t bytes known old new m f reads wants given (inl h) = against_not_run t bytes known old new m f h.0 (reads_runs t.doing reads) given h.1
+against_either t bytes known old new m f reads wants given (inr h) = against_run t bytes known old new m f reads wants given h.0 h.1 h.2
 
 -- a module that isn't run, or a log that is none of its run
 pub against_log : (t : Task) (bytes : List ℕ) (known : Option (List ℕ)) (old new : ℕ) (m : ModuleValue) (what : Doing) (args : List ℤ) (r : Result Done Fault) → t.doing ≡ what
-    → args ≡ t.arguments → reads_log what ≡ true → Gives t.form bytes m → IfErr r (AgainstModule m args known old new) → IfErr r (AgainstLog t bytes known old new)
-against_log t bytes known old new m what args (Ok d) is told reads given h = tt
-against_log t bytes known old new m what args (Err f) is told reads given h =
-    against_either t bytes known old new m f (ap reads_log is ∙ reads) given (subst (λ xs. AgainstModule m xs known old new f) told h)
+    → args ≡ t.arguments → reads_log what ≡ true → wants_whole what ≡ true → Gives t.form bytes m → IfErr r (AgainstModule m args known old new) → IfErr r (AgainstLog t bytes known old new)
+against_log t bytes known old new m what args (Ok d) is told reads wants given h = tt
+against_log t bytes known old new m what args (Err f) is told reads wants given h =
+    against_either t bytes known old new m f (ap reads_log is ∙ reads) (ap wants_whole is ∙ wants) given (subst (λ xs. AgainstModule m xs known old new f) told h)
+
+-- a module that isn't run, or bytes that are the text of no log
+against_read : (t : Task) (bytes : List ℕ) (known : Option (List ℕ)) (old new : ℕ) (m : ModuleValue) (f : Fault) → reads_log t.doing ≡ true → Gives t.form bytes m
+    → AgainstText m t.arguments known old new f → AgainstLog t bytes known old new f
+against_read t bytes known old new m f reads given (inl h) = against_not_run t bytes known old new m f h.0 (reads_runs t.doing reads) given h.1
+against_read t bytes known old new m (fault.Text f) reads given (inr h) = absurd h.2
+against_read t bytes known old new m (fault.Front f) reads given (inr h) = absurd h.2
+against_read t bytes known old new m (fault.Refused r) reads given (inr h) = absurd h.2
+against_read t bytes known old new m (fault.Arguments wants has) reads given (inr h) = absurd h.2
+against_read t bytes known old new m (fault.Grammar line) reads given (inr h) =
+    (h.2.0, of_read t _ _ known reads (λ logged wrong. (reads, (m, given, h.0, (h.1, wrong)))) h.2.1)
+against_read t bytes known old new m fault.Truncated reads given (inr h) =
+    (h.2.0, of_read t _ _ known reads (λ logged cut. (reads, (m, given, h.0, (h.1, cut)))) h.2.1)
+against_read t bytes known old new m (fault.NotEnabled i) reads given (inr h) = absurd h.2
+against_read t bytes known old new m fault.NotEnded reads given (inr h) = absurd h.2
+against_read t bytes known old new m fault.OutOfMemory reads given (inr h) = (h.2, of_any _ (read_of t known) (λ logged. tt))
+against_read t bytes known old new m fault.Device reads given (inr h) = h.2
+
+pub against_text : (t : Task) (bytes : List ℕ) (known : Option (List ℕ)) (old new : ℕ) (m : ModuleValue) (what : Doing) (args : List ℤ) (r : Result Done Fault) → t.doing ≡ what
+    → args ≡ t.arguments → reads_log what ≡ true → Gives t.form bytes m → IfErr r (AgainstText m args known old new) → IfErr r (AgainstLog t bytes known old new)
+against_text t bytes known old new m what args (Ok d) is told reads given h = tt
+against_text t bytes known old new m what args (Err f) is told reads given h =
+    against_read t bytes known old new m f (ap reads_log is ∙ reads) given (subst (λ xs. AgainstText m xs known old new f) told h)
 
 -- ---- the verifier
 
@@ -251,6 +287,12 @@ pub run_stands : (m v : ModuleValue) (args : List ℤ) (known : Option (List ℕ
     → IfErr r (AgainstRun v args known old new) → IfErr r (AgainstModule m args known old new)
 run_stands m v args known old new (Ok d) is accepted taken h = tt
 run_stands m v args known old new (Err f) is accepted taken h = inr (accepted, taken, subst (λ x. AgainstRun x args known old new f) is h)
+
+-- what stands against reading the text of a log, where the module is run
+pub text_stands : (m : ModuleValue) (args : List ℤ) (known : Option (List ℕ)) (old new : ℕ) (r : Result Done Fault) → IsAccepted m → AreArguments m args
+    → IfErr r (AgainstReading known old new) → IfErr r (AgainstText m args known old new)
+text_stands m args known old new (Ok d) accepted taken h = tt
+text_stands m args known old new (Err f) accepted taken h = inr (accepted, taken, h)
 
 -- want of memory where no read failed
 pub run_wants : (m : ModuleValue) (args : List ℤ) (known : Option (List ℕ)) (old new : ℕ) (r : Result Done Fault) → new ≡ old → IfErr r (λ f. f ≡ fault.OutOfMemory)

@@ -1,5 +1,5 @@
 -- What is told of a program is one.
-use Rattle.std.proofs.Common.{◌≡◌, ◌∙◌, ℕ, ℤ, List, [], map, Option, Some, None, sym, ap, subst}
+use Rattle.std.proofs.Common.{◌≡◌, ◌∙◌, ℕ, ℤ, Bool, List, [], map, Option, Some, None, sym, ap, subst}
 use Rattle.xk_types.specs.Code.{ModuleValue}
 use Rattle.xk_tree.specs.Tree.{TreeValue}
 use Rattle.xk_syntax.proofs.TextLemmas.{one_tree}
@@ -12,12 +12,13 @@ use Rattle.xk_cli.specs.declared.job.Form.TheVariants as form
 use Rattle.xk_types.specs.declared.world.Entry.{Entry}
 use Rattle.xk_serve.specs.declared.picture.Picture.{Picture}
 use Rattle.xk_serve.specs.declared.picture.Picture.TheVariants as picture
-use Rattle.xk_serve.specs.Answer.{Check, Compile, Doing, Draw, Explain, IsPicture, IsTelling, Listing, Outcomes, Replay, Run}
-use Rattle.xk_serve.specs.Explanation.{HaveOrigins, IsByOrigins, IsListed, accepted_said, events_told, lanes_told}
+use Rattle.xk_serve.specs.Answer.{Check, Compile, Doing, Draw, Explain, IsPicture, IsTelling, Listing, Outcomes, Races, Replay, Run, Tally, Where}
+use Rattle.xk_serve.specs.Explanation.{HaveOrigins, IsByOrigins, IsListed, Tale, acceptance_told, events_told, image_told, lanes_told, races_told, where_told}
+use Rattle.xk_cli.specs.declared.job.Order.TheVariants as order
 use Rattle.xk_serve.specs.Programs.{Gives}
 use Rattle.xk_types.specs.World.{World}
 use Rattle.xk_serve.proofs.LogUniquenessLemmas.{text_once}
-use Rattle.xk_serve.proofs.RunUniquenessLemmas.{last_once}
+use Rattle.xk_serve.proofs.RunUniquenessLemmas.{last_once, logged_once}
 use Rattle.xk_serve.proofs.TextUniquenessLemmas.{unfit_none}
 
 -- a tree has one list of origins
@@ -34,7 +35,7 @@ origins_once form.Source bytes m (Some o) (Some p) given h k =
     let same = one_tree bytes k.0 h.0 k.1.1 h.1.1 in ap Some (same_origins h.0 o p h.2 (subst (λ (t : TreeValue). AreOrigins t p) same k.2))
 
 -- what is told by them is one text
-by_origins_once : (kind : Form) (bytes : List ℕ) (m : ModuleValue) (text : Option (List UnitOrigins) → List ℕ) (a b : List ℕ) → Gives kind bytes m
+by_origins_once : {X : Type 0} (kind : Form) (bytes : List ℕ) (m : ModuleValue) (text : Option (List UnitOrigins) → X) (a b : X) → Gives kind bytes m
     → IsByOrigins kind bytes text a → IsByOrigins kind bytes text b → a ≡ b
 by_origins_once kind bytes m text a b given h k = h.2 ∙ ap text (origins_once kind bytes m h.0 k.0 given h.1 k.1) ∙ sym k.2
 
@@ -43,24 +44,41 @@ listed_once text m (Some o) a b h k = one_listing text o m a b h k
 listed_once text m None a b h k = one_listing [] [] m a b h k
 
 -- a picture of a run is one
-picture_once : (p : Picture) (kind : Form) (bytes : List ℕ) (m : ModuleValue) (args : List ℤ) (es : List Entry) (last : World) (a b : List ℕ) → Gives kind bytes m
+picture_once : (p : Picture) (kind : Form) (bytes : List ℕ) (m : ModuleValue) (args : List ℤ) (es : List Entry) (last : World) (a b : Tale) → Gives kind bytes m
     → IsPicture p kind bytes m args es last a → IsPicture p kind bytes m args es last b → a ≡ b
 picture_once picture.Chart kind bytes m args es last a b given h k = h ∙ sym k
 picture_once picture.Events kind bytes m args es last a b given h k = by_origins_once kind bytes m (events_told bytes m args es) a b given h k
-picture_once picture.Lanes kind bytes m args es last a b given h k = by_origins_once kind bytes m (lanes_told bytes m es last) a b given h k
+picture_once (picture.Lanes window) kind bytes m args es last a b given h k = by_origins_once kind bytes m (lanes_told bytes window m es last) a b given h k
+picture_once (picture.Image window) kind bytes m args es last a b given h k = by_origins_once kind bytes m (image_told bytes window m es last) a b given h k
+picture_once picture.Races kind bytes m args es last a b given h k = by_origins_once kind bytes m (races_told bytes m args es) a b given h k
 
-pub telling_once : (what : Doing) (kind : Form) (file bytes : List ℕ) (m : ModuleValue) (args : List ℤ) (logged a b : List ℕ) → Gives kind bytes m
+pub telling_once : (what : Doing) (kind : Form) (file bytes : List ℕ) (m : ModuleValue) (args : List ℤ) (logged : List ℕ) (a b : Tale) → Gives kind bytes m
     → IsTelling what kind file bytes m args logged a → IsTelling what kind file bytes m args logged b → a ≡ b
-telling_once (Explain json) kind file bytes m args logged a b given h k = by_origins_once kind bytes m (accepted_said json file bytes m) a b given h.1 k.1
+telling_once (Explain json) kind file bytes m args logged a b given h k = by_origins_once kind bytes m (acceptance_told json file bytes m) a b given h.1 k.1
 telling_once Listing kind file bytes m args logged a b given h k =
-    let same = origins_once kind bytes m h.0 k.0 given h.1 k.1 in listed_once bytes m h.0 a b h.2 (subst (λ o. IsListed bytes m o b) (sym same) k.2)
+    let same = origins_once kind bytes m h.0.0 k.0.0 given h.0.1 k.0.1 in
+    pair (listed_once bytes m h.0.0 a.0 b.0 h.0.2 (subst (λ o. IsListed bytes m o b.0) (sym same) k.0.2)) (h.1 ∙ sym k.1)
+  where
+    pair : {x y : List ℕ} {v w : Bool} → x ≡ y → v ≡ w → (x, v) ≡ (y, w)
+    pair e d = cc
 telling_once (Draw picture) kind file bytes m args logged a b given h k =
     let same = text_once logged k.1.0 h.1.0 k.1.1 h.1.1 in
     let last = last_once m args k.1.0 h.1.0 same k.1.2 h.1.2 in
     picture_once picture kind bytes m args h.1.0 h.1.2.last a b given h.1.3
     (subst (λ w. IsPicture picture kind bytes m args h.1.0 w b) last (subst (λ es. IsPicture picture kind bytes m args es k.1.2.last b) same k.1.3))
+telling_once Where kind file bytes m args logged a b given h k =
+    let here = h.1.1 in
+    let there = k.1.1 in
+    let same = text_once logged there.0 here.0 there.1 here.1 in
+    by_origins_once kind bytes m (where_told bytes m args here.0) a b given here.2 (subst (λ es. IsByOrigins kind bytes (where_told bytes m args es) b) same there.2)
+telling_once Races kind file bytes m args logged a b given h k =
+    let here = h.1 in
+    let there = k.1 in
+    let same = logged_once order.First m args there.0 here.0 there.1 here.1 there.2 here.2 there.3 here.3 in
+    by_origins_once kind bytes m (races_told bytes m args here.2) a b given here.4 (subst (λ es. IsByOrigins kind bytes (races_told bytes m args es) b) same.2 there.4)
+telling_once (Tally seed runs) kind file bytes m args logged a b given h k = tallied_once m args seed runs a b h.2 k.2
 telling_once Check kind file bytes m args logged a b given h k = absurd h
 telling_once Compile kind file bytes m args logged a b given h k = absurd h
 telling_once (Run way kept) kind file bytes m args logged a b given h k = absurd h
 telling_once Replay kind file bytes m args logged a b given h k = absurd h
-telling_once (Outcomes limit pick kept) kind file bytes m args logged a b given h k = absurd h
+telling_once (Outcomes sets limit pick kept) kind file bytes m args logged a b given h k = absurd h

@@ -19,6 +19,8 @@ use Rattle.xk_bounds.specs.Refusals.{Refuses}
 use Rattle.xk_bounds.specs.declared.refusal.Refusal.TheVariants as refusal
 use Rattle.xk_serve.specs.declared.job_result.Done.{Done}
 use Rattle.xk_serve.specs.declared.job_result.Done.TheVariants as done
+use Rattle.xk_lanes.specs.declared.window.Window.{Window}
+use Rattle.xk_lanes.specs.Lanes.{whole_run}
 use Rattle.xk_serve.specs.declared.picture.Picture.{Picture}
 use Rattle.xk_serve.specs.declared.picture.Picture.TheVariants as picture
 use Rattle.xk_serve.specs.declared.fault.Fault.{Fault}
@@ -27,16 +29,19 @@ use Rattle.xk_types.specs.declared.world.Entry.{Entry}
 use Rattle.xk_log.specs.Verdicts.{IsTruncated, IsWrongAt, Says, Whole}
 use Rattle.xk_replay.specs.Chart.{chart_text}
 use Rattle.xk_outcomes.specs.Outcomes.{AreAll, AreDistinct, AreShown}
+use Rattle.xk_outcomes.specs.Sets.{AreSetsAll, AreSetsDistinct, AreSetsShown}
 use Rattle.xk_outcomes.specs.declared.listing.Outcome.{Outcome}
 use Rattle.xk_outcomes.specs.Text.{outcomes_text}
 use Rattle.xk_replay.specs.Replay.{IsStoppedAt, IsUnfinished}
 use Rattle.xk_serve.specs.OrderedRun.{IsLoggedRun, IsOrderedRun, IsReplay, IsSomeRun, IsWholeRun}
 use Rattle.xk_serve.specs.Lines.{done_log, done_text, fault_line, status_of}
 use Rattle.xk_serve.specs.Programs.{Gives, IsNoModule, IsNoSource}
-use Rattle.xk_serve.specs.Explanation.{IsByOrigins, IsExplanation, IsProgramListed, accepted_said, events_told, lanes_told}
+use Rattle.xk_serve.specs.Explanation.{IsByOrigins, IsExplanation, IsProgramListed, Tale, acceptance_told, all_told, events_told, image_told, lanes_told, races_told, where_told}
 
 -- what is to be done with a module; what is explained is a JSON value or not; a run is in an order, or by workers, and has its log kept or not; some
--- picture is drawn of one; of outcomes so many are looked for, and of one, counted from 1, the log is kept or not
+-- picture is drawn of one; it is told how things stand behind a log, which races the run in the order `first` has, or how often so many runs by chance,
+-- from this seed on, print what; of outcomes, as lists of numbers or without their order, so many are looked for, and of one, counted from 1, the log
+-- is kept or not
 pub data Doing : Type 0 where
   Check : Doing
   Explain : Bool → Doing
@@ -45,7 +50,10 @@ pub data Doing : Type 0 where
   Run : Way → Bool → Doing
   Replay : Doing
   Draw : Picture → Doing
-  Outcomes : ℕ → ℕ → Bool → Doing
+  Where : Doing
+  Races : Doing
+  Tally : ℕ → ℕ → Doing
+  Outcomes : Bool → ℕ → ℕ → Bool → Doing
 
 -- whether the module is run, and main given its arguments
 abbrev pub runs : Doing → Bool
@@ -65,11 +73,25 @@ asks_verifier _ = true
 abbrev pub reads_log : Doing → Bool
 reads_log Replay = true
 reads_log (Draw picture) = true
+reads_log Where = true
 reads_log _ = false
+
+-- whether the log that is read is to be that of a whole run
+abbrev pub wants_whole : Doing → Bool
+wants_whole Where = false
+wants_whole _ = true
 
 -- a run is in the order `first` where neither an order nor workers were given
 abbrev pub way_given : Option Drive → Way
 way_given given = unwrap_or (option_map way_value given) (In order.First)
+
+-- the steps that are drawn: from the first to the last of the run, where nothing else is said
+abbrev pub window_given : Option ℕ → Option ℕ → Window
+window_given from to = record { first = unwrap_or from whole_run.first; last = unwrap_or to whole_run.last }
+
+-- as a text, or as an image
+abbrev pub lanes_given : Option ℕ → Option ℕ → Bool → Picture
+lanes_given from to svg = if svg then picture.Image (window_given from to) else picture.Lanes (window_given from to)
 
 -- how many outcomes are looked for at most where nothing is said
 abbrev pub usual_limit : ℕ
@@ -85,8 +107,12 @@ doing_of (command.Run given path) = Run (way_given given) (is_some path)
 doing_of (command.Replay log) = Replay
 doing_of (command.Chart log) = Draw picture.Chart
 doing_of (command.Events log) = Draw picture.Events
-doing_of (command.Lanes log) = Draw picture.Lanes
-doing_of (command.Outcomes limit pick path) = Outcomes (unwrap_or limit usual_limit) (unwrap_or pick 1) (is_some path)
+doing_of (command.Lanes log from to svg) = Draw (lanes_given from to svg)
+doing_of (command.Where log) = Where
+doing_of (command.Races (Some log)) = Draw picture.Races
+doing_of (command.Races None) = Races
+doing_of (command.Tally seed runs) = Tally seed runs
+doing_of (command.Outcomes sets limit pick path) = Outcomes sets (unwrap_or limit usual_limit) (unwrap_or pick 1) (is_some path)
 
 -- what is to be done with a file, what it is called, what stands in it, and what main is given where it is run
 pub record Task : Type 0 where
@@ -123,24 +149,38 @@ kept_log false pick list = None
 abbrev pub lacks_log : Bool → ℕ → List Outcome → Bool
 lacks_log keeps pick list = keeps && not (is_some (kept_log keeps pick list))
 
--- What a module can print that is given these arguments: each list of numbers that is told is printed in a run to its end, which has the log beside it, and
--- is told once; where they are said to be all, every such run prints one of them. (Where they aren't, as many were looked for as the limit says.) The
--- answer is whole where they are all, and the log that is to be kept is there.
-pub record AreOutcomes (m : ModuleValue) (args : List ℤ) (pick : ℕ) (keeps : Bool) (text : List ℕ) (whole : Bool) (log : Option (List Entry)) : Type 0 where
+-- the numbers that are told are printed in a run to its end, which has the log beside them: in this order, or in some order
+abbrev pub AreShownAs : Bool → ModuleValue → List ℤ → List Outcome → Type 0
+AreShownAs false = AreShown
+AreShownAs true = AreSetsShown
+
+-- none are told twice, in this order, or in any order
+abbrev pub AreDistinctAs : Bool → List Outcome → Type 0
+AreDistinctAs false = AreDistinct
+AreDistinctAs true = AreSetsDistinct
+
+-- every run to its end prints some that are told, in this order, or in some order
+abbrev pub AreAllAs : Bool → ModuleValue → List ℤ → List Outcome → Type 0
+AreAllAs false = AreAll
+AreAllAs true = AreSetsAll
+
+-- What a module can print that is given these arguments, as lists of numbers or without their order. The answer is whole where they are all, and the log
+-- that is to be kept is there. (That as many were looked for as the limit says, where they aren't all, no field says.)
+pub record AreOutcomes (m : ModuleValue) (args : List ℤ) (sets : Bool) (pick : ℕ) (keeps : Bool) (text : List ℕ) (whole : Bool) (log : Option (List Entry)) : Type 0 where
   pub taken : AreArguments m args
   pub list : List Outcome
   pub complete : Bool
-  pub shown : AreShown m args list
-  pub distinct : AreDistinct list
-  pub all : complete ≡ true → AreAll m args list
+  pub shown : AreShownAs sets m args list
+  pub distinct : AreDistinctAs sets list
+  pub all : complete ≡ true → AreAllAs sets m args list
   pub text_is : text ≡ outcomes_text list complete
   pub whole_is : whole ≡ (complete && not (lacks_log keeps pick list))
   pub log_is : log ≡ kept_log keeps pick list
 
 -- that is what it comes to
-abbrev pub IsFoundOut : ModuleValue → List ℤ → ℕ → Bool → Done → Type 0
-IsFoundOut m args pick keeps (done.Outcomes text whole log) = AreOutcomes m args pick keeps text.items whole (option_map (λ es. es.items) log)
-IsFoundOut m args pick keeps _ = ⊥
+abbrev pub IsFoundOut : ModuleValue → List ℤ → Bool → ℕ → Bool → Done → Type 0
+IsFoundOut m args sets pick keeps (done.Outcomes text whole log) = AreOutcomes m args sets pick keeps text.items whole (option_map (λ es. es.items) log)
+IsFoundOut m args sets pick keeps _ = ⊥
 
 -- What is to be done with a module, whose main is given these arguments where it is run, and with the bytes of a log where one is read, comes
 -- to this: for `compile` the text of the module; where the module is accepted, for `check` its bounds, for `run` its run in the order, or, by workers,
@@ -154,27 +194,42 @@ ComesTo (Run (In o) true) m args logged (done.Ended numbers steps (Some log)) = 
 ComesTo (Run (By n) false) m args logged (done.Ended numbers steps None) = IsAccepted m × IsSomeRun m args numbers.items steps
 ComesTo (Run (By n) true) m args logged (done.Ended numbers steps (Some log)) = IsAccepted m × IsReplay m args log.items numbers.items steps
 ComesTo Replay m args logged (done.Ended numbers steps None) = IsAccepted m × Replays m args logged numbers.items steps
-ComesTo (Outcomes limit pick keeps) m args logged d = IsAccepted m × IsFoundOut m args pick keeps d
+ComesTo (Outcomes sets limit pick keeps) m args logged d = IsAccepted m × IsFoundOut m args sets pick keeps d
 ComesTo _ m args logged _ = ⊥
 
--- What is told of a run of the module that the bytes give, by their lines where they are a source text: its chart, what others see of its steps, or the
--- same with a lane for each activity.
-abbrev pub IsPicture : Picture → Form → List ℕ → ModuleValue → List ℤ → List Entry → World → List ℕ → Type 0
-IsPicture picture.Chart kind bytes m args es last told = told ≡ chart_text m args es
+-- What is told of a run of the module that the bytes give, by their lines where they are a source text: its chart, what others see of its steps, the
+-- same with a lane for each activity, as a text or as an image, or its races.
+abbrev pub IsPicture : Picture → Form → List ℕ → ModuleValue → List ℤ → List Entry → World → Tale → Type 0
+IsPicture picture.Chart kind bytes m args es last told = told ≡ all_told (chart_text m args es)
 IsPicture picture.Events kind bytes m args es last told = IsByOrigins kind bytes (events_told bytes m args es) told
-IsPicture picture.Lanes kind bytes m args es last told = IsByOrigins kind bytes (lanes_told bytes m es last) told
+IsPicture (picture.Lanes window) kind bytes m args es last told = IsByOrigins kind bytes (lanes_told bytes window m es last) told
+IsPicture (picture.Image window) kind bytes m args es last told = IsByOrigins kind bytes (image_told bytes window m es last) told
+IsPicture picture.Races kind bytes m args es last told = IsByOrigins kind bytes (races_told bytes m args es) told
+
+-- Where things stand behind the steps of a log, which need not be that of a whole run, is told by the lines of a source text.
+abbrev pub IsWhereabouts : Form → List ℕ → ModuleValue → List ℤ → List ℕ → Tale → Type 0
+IsWhereabouts kind bytes m args logged told =
+    AreArguments m args × ((es : List Entry) × IsLogText logged es × IsByOrigins kind bytes (where_told bytes m args es) told)
+
+-- the races of the run in the order `first` are told
+abbrev pub AreFirstRaces : Form → List ℕ → ModuleValue → List ℤ → Tale → Type 0
+AreFirstRaces kind bytes m args told = (numbers : List ℤ) × (steps : ℕ) × (es : List Entry) × IsLoggedRun order.First m args numbers steps es
+    × IsByOrigins kind bytes (races_told bytes m args es) told
 
 -- What is told of the module that the bytes give, by their lines and names where they are a source text: for `explain`, where the module is accepted,
--- its bounds, and for `listing` its instructions; for `chart`, `events` and `lanes`, where it is accepted, the run that the log has.
-abbrev pub IsTelling : Doing → Form → List ℕ → List ℕ → ModuleValue → List ℤ → List ℕ → List ℕ → Type 0
-IsTelling (Explain json) kind file bytes m args logged told = IsAccepted m × IsByOrigins kind bytes (accepted_said json file bytes m) told
-IsTelling Listing kind file bytes m args logged told = IsProgramListed kind bytes m told
+-- its bounds, and for `listing` its instructions; for all others, where it is accepted, the run that the log has, or the runs in their orders.
+abbrev pub IsTelling : Doing → Form → List ℕ → List ℕ → ModuleValue → List ℤ → List ℕ → Tale → Type 0
+IsTelling (Explain json) kind file bytes m args logged told = IsAccepted m × IsByOrigins kind bytes (acceptance_told json file bytes m) told
+IsTelling Listing kind file bytes m args logged told = IsProgramListed kind bytes m told.0 × (told.1 ≡ true)
 IsTelling (Draw picture) kind file bytes m args logged told = IsAccepted m × OfRun m args logged (λ es last. IsPicture picture kind bytes m args es last told)
+IsTelling Where kind file bytes m args logged told = IsAccepted m × IsWhereabouts kind bytes m args logged told
+IsTelling Races kind file bytes m args logged told = IsAccepted m × AreFirstRaces kind bytes m args told
+IsTelling (Tally seed runs) kind file bytes m args logged told = IsAccepted m × AreArguments m args × IsTallied m args seed runs told
 IsTelling _ kind file bytes m args logged told = ⊥
 
 -- it is a text of which this holds
-abbrev pub IsText : (List ℕ → Type 0) → Done → Type 0
-IsText P (done.Told text) = P text.items
+abbrev pub IsText : (Tale → Type 0) → Done → Type 0
+IsText P (done.Told text whole) = P (text.items, whole)
 IsText P _ = ⊥
 
 -- the bytes give a module, and the task on it, and on the log, comes to that, or tells that of it
@@ -221,7 +276,7 @@ FailsByLog t bytes logged f =
 
 -- The fault is one of the bytes, or of main's arguments where the module is run, or of the log's bytes where a log is read, or want of
 -- memory, of which nothing is claimed. `compile` and `listing` ask nothing of the verifier. The arguments are looked at only where the module is accepted,
--- and a log only where they are as many as main takes.
+-- and a log only where they are as many as main takes; `where` takes one that is none of a whole run.
 abbrev pub FailsBy : Task → List ℕ → List ℕ → Fault → Type 0
 FailsBy t bytes logged (fault.Text f) = (t.form ≡ form.Module) × IsNoModule bytes f
 FailsBy t bytes logged (fault.Front f) = (t.form ≡ form.Source) × IsNoSource bytes f
@@ -230,8 +285,8 @@ FailsBy t bytes logged (fault.Refused r) = (asks_verifier t.doing ≡ true) × (
 FailsBy t bytes logged (fault.Arguments wants has) = (runs t.doing ≡ true) × GivesAccepted t bytes (λ m. IsMisfit m t.arguments wants has)
 FailsBy t bytes logged (fault.Grammar line) = FailsByLog t bytes logged (fault.Grammar line)
 FailsBy t bytes logged fault.Truncated = FailsByLog t bytes logged fault.Truncated
-FailsBy t bytes logged (fault.NotEnabled i) = FailsByLog t bytes logged (fault.NotEnabled i)
-FailsBy t bytes logged fault.NotEnded = FailsByLog t bytes logged fault.NotEnded
+FailsBy t bytes logged (fault.NotEnabled i) = (wants_whole t.doing ≡ true) × FailsByLog t bytes logged (fault.NotEnabled i)
+FailsBy t bytes logged fault.NotEnded = (wants_whole t.doing ≡ true) × FailsByLog t bytes logged fault.NotEnded
 FailsBy t bytes logged fault.OutOfMemory = ⊤
 FailsBy t bytes logged fault.Device = ⊥
 
@@ -251,8 +306,12 @@ pub record Reply : Type 0 where
   pub log : List ℕ
 
 -- an answer that isn't whole has a status of its own
+abbrev pub whole_status : Bool → ℕ
+whole_status whole = if whole then status_done else status_partial
+
 abbrev pub done_status : Done → ℕ
-done_status (done.Outcomes text whole log) = if whole then status_done else status_partial
+done_status (done.Told text whole) = whole_status whole
+done_status (done.Outcomes text whole log) = whole_status whole
 done_status _ = status_done
 
 abbrev pub done_reply : Done → Reply

@@ -11,6 +11,7 @@ use Rattle.xk_cli.specs.declared.words_fault.WordsFault.TheVariants as words
 use Rattle.xk_serve.specs.declared.job_result.Done.{Done}
 use Rattle.xk_serve.specs.declared.fault.Fault.{Fault}
 use Rattle.xk_serve.specs.declared.fault.Fault.TheVariants as fault
+use Rattle.xk_log.specs.Verdicts.{IsTruncated, IsWrongAt}
 use Rattle.xk_log.specs.Writing.{AppendsBeginning}
 use Rattle.xk_serve.specs.Answer.{Answers, FailsBy, IsNoRun, IsNotRun, Reply, Succeeds, Task, IsSaidOf, reads_log}
 use Rattle.xk_serve.specs.Lines.{device_line, done_log, done_text, excluded_line, fault_line, memory_line, seed_line, status_of}
@@ -68,6 +69,20 @@ AgainstRun m args known old new f = (new ≡ old) × IfSome known (λ logged. Is
 abbrev pub AgainstModule : ModuleValue → List ℤ → Option (List ℕ) → ℕ → ℕ → Fault → Type 0
 AgainstModule m args known old new f =
     ((new ≡ old) × IsNotRun m args f) ⊎ (IsAccepted m × AreArguments m args × AgainstRun m args known old new f)
+
+-- bytes that are read as the text of a log, and are none; of want of memory nothing is claimed
+abbrev pub AgainstReading : Option (List ℕ) → ℕ → ℕ → Fault → Type 0
+AgainstReading known old new fault.Device = Rose old new
+AgainstReading known old new fault.OutOfMemory = new ≡ old
+AgainstReading known old new (fault.Grammar line) = (new ≡ old) × IfSome known (λ logged. IsWrongAt logged line)
+AgainstReading known old new fault.Truncated = (new ≡ old) × IfSome known IsTruncated
+AgainstReading known old new _ = ⊥
+
+-- What stands against a log that need not be that of a whole run: the module isn't run with these arguments, and no log was read; or it is accepted, main
+-- takes as many, and the bytes are the text of no log.
+abbrev pub AgainstText : ModuleValue → List ℤ → Option (List ℕ) → ℕ → ℕ → Fault → Type 0
+AgainstText m args known old new f =
+    ((new ≡ old) × IsNotRun m args f) ⊎ (IsAccepted m × AreArguments m args × AgainstReading known old new f)
 
 -- The line was written, the sink didn't fail and the status is this one; or a beginning of the line was written, the sink
 -- failed and the status is that of a device.

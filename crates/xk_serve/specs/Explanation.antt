@@ -21,7 +21,11 @@ use Rattle.xk_declarations.specs.Notes.{front_notes}
 use Rattle.xk_sums.specs.Notes.{accepted_notes, module_notes, refusal_notes}
 use Rattle.xk_listing.specs.Listing.{IsListing}
 use Rattle.xk_events.specs.Events.{PlacesValue, events_text, no_text}
-use Rattle.xk_lanes.specs.Lanes.{lanes_text}
+use Rattle.xk_lanes.specs.Lanes.{are_lanes_whole, lanes_text}
+use Rattle.xk_lanes.specs.declared.window.Window.{Window}
+use Rattle.xk_picture.specs.Picture.{is_drawn, picture_text}
+use Rattle.xk_races.specs.Races.{is_race_free, races_text}
+use Rattle.xk_where.specs.Where.{are_steps_legal, where_text}
 use Rattle.xk_types.specs.declared.world.Entry.{Entry}
 use Rattle.xk_cli.specs.declared.job.Form.{Form}
 use Rattle.xk_cli.specs.declared.job.Form.TheVariants as form
@@ -39,8 +43,16 @@ HaveOrigins form.Module bytes origins = origins ≡ None
 HaveOrigins form.Source bytes (Some origins) = (tree : TreeValue) × IsSource bytes tree × AreOrigins tree origins
 HaveOrigins form.Source bytes None = (f : FrontFault) × IsNoSource bytes f
 
+-- what is told: a text, and whether that is a whole answer
+abbrev pub Tale : Type 0
+Tale = List ℕ × Bool
+
+-- a whole answer
+abbrev pub all_told : List ℕ → Tale
+all_told text = (text, true)
+
 -- what is told is a function of these
-abbrev pub IsByOrigins : Form → List ℕ → (Option (List UnitOrigins) → List ℕ) → List ℕ → Type 0
+abbrev pub IsByOrigins : {X : Type 0} → Form → List ℕ → (Option (List UnitOrigins) → X) → X → Type 0
 IsByOrigins kind bytes text told = (origins : Option (List UnitOrigins)) × HaveOrigins kind bytes origins × (told ≡ text origins)
 
 -- A program: its module, and where its instructions come from.
@@ -119,6 +131,9 @@ abbrev pub accepted_said : Bool → List ℕ → List ℕ → ModuleValue → Op
 accepted_said json file text m None = acceptance_said json file None m (accepted_notes m [])
 accepted_said json file text m (Some origins) = acceptance_said json file (Some text) m (accepted_notes m origins)
 
+abbrev pub acceptance_told : Bool → List ℕ → List ℕ → ModuleValue → Option (List UnitOrigins) → Tale
+acceptance_told json file text m origins = all_told (accepted_said json file text m origins)
+
 -- ---- listings
 
 -- the module's instructions, and of a source text where they come from
@@ -137,9 +152,21 @@ places_in text None = no_text
 places_in text (Some origins) = record { text = text; origins = origins }
 
 -- what others see of the run of a log
-abbrev pub events_told : List ℕ → ModuleValue → List ℤ → List Entry → Option (List UnitOrigins) → List ℕ
-events_told text m args log origins = events_text (places_in text origins) m args log
+abbrev pub events_told : List ℕ → ModuleValue → List ℤ → List Entry → Option (List UnitOrigins) → Tale
+events_told text m args log origins = all_told (events_text (places_in text origins) m args log)
 
--- the same, with a lane for each activity; the run ends in this world
-abbrev pub lanes_told : List ℕ → ModuleValue → List Entry → World → Option (List UnitOrigins) → List ℕ
-lanes_told text m log last origins = lanes_text (places_in text origins) m log last
+-- the same, with a lane for each activity, of the steps in this window; the run ends in this world
+abbrev pub lanes_told : List ℕ → Window → ModuleValue → List Entry → World → Option (List UnitOrigins) → Tale
+lanes_told text window m log last origins = (lanes_text (places_in text origins) window m log last, are_lanes_whole last)
+
+-- the same as an image
+abbrev pub image_told : List ℕ → Window → ModuleValue → List Entry → World → Option (List UnitOrigins) → Tale
+image_told text window m log last origins = (picture_text (places_in text origins) window m log last, is_drawn window m log last)
+
+-- its races
+abbrev pub races_told : List ℕ → ModuleValue → List ℤ → List Entry → Option (List UnitOrigins) → Tale
+races_told text m args log origins = (races_text (places_in text origins) m args log, is_race_free m args log)
+
+-- how things stand behind the steps of a log, as far as they can be taken
+abbrev pub where_told : List ℕ → ModuleValue → List ℤ → List Entry → Option (List UnitOrigins) → Tale
+where_told text m args log origins = (where_text (places_in text origins) m args log, are_steps_legal m args log)

@@ -32,7 +32,7 @@ ended_line steps = codes "ended steps " ++ (decimal steps ++ codes "\n")
 abbrev pub done_text : Done → List ℕ
 done_text (done.Compiled text) = string_bytes text ++ codes "\n"
 done_text (done.Accepted steps activities clocks) = accepted_line steps activities clocks
-done_text (done.Told text) = text.items
+done_text (done.Told text whole) = text.items
 done_text (done.Outcomes text whole log) = text.items
 done_text (done.Ended printed steps log) = number_lines printed.items ++ ended_line steps
 
@@ -40,14 +40,14 @@ done_text (done.Ended printed steps log) = number_lines printed.items ++ ended_l
 abbrev pub done_front : Done → List ℕ
 done_front (done.Compiled text) = string_bytes text
 done_front (done.Accepted steps activities clocks) = []
-done_front (done.Told text) = text.items
+done_front (done.Told text whole) = text.items
 done_front (done.Outcomes text whole log) = text.items
 done_front (done.Ended printed steps log) = number_lines printed.items
 
 abbrev pub done_ending : Done → List ℕ
 done_ending (done.Compiled text) = codes "\n"
 done_ending (done.Accepted steps activities clocks) = accepted_line steps activities clocks
-done_ending (done.Told text) = []
+done_ending (done.Told text whole) = []
 done_ending (done.Outcomes text whole log) = []
 done_ending (done.Ended printed steps log) = ended_line steps
 

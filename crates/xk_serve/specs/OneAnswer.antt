@@ -1,6 +1,6 @@
 -- When two answers to one job are the same. Which walk to a refusal of kinds is told is left open, and so is which run workers take, and which fault
 -- is told of a source text that spells no tree, or has several recursive calls. This project's own.
-use Rattle.std.specs.Prelude.{◌≡◌, ℕ, ⊤, ◌⊎◌, List, [], length}
+use Rattle.std.specs.Prelude.{◌≡◌, ℕ, ⊤, ◌⊎◌, true, List, [], length}
 use Rattle.xk_types.specs.declared.world.Entry.{Entry}
 use Rattle.xk_types.specs.Code.{ModuleValue}
 use Rattle.xk_tree.specs.Tree.{TreeValue}
@@ -42,19 +42,19 @@ IsSameLine a b = (a ≡ b) ⊎ TellWalks a b
 -- what it comes to is one: no workers take the steps, and no outcomes are looked for, which may be told in any order, and of which one may be without all
 abbrev pub ComesToOne : Doing → Type 0
 ComesToOne (Run (By n) kept) = ⊥
-ComesToOne (Outcomes limit pick kept) = ⊥
+ComesToOne (Outcomes sets limit pick kept) = ⊥
 ComesToOne _ = ⊤
 
 -- what goes to standard output is one: what it comes to is, and no refusal is explained, to which there may be several walks
 abbrev pub IsDetermined : Doing → Type 0
 IsDetermined (Run (By n) kept) = ⊥
-IsDetermined (Outcomes limit pick kept) = ⊥
+IsDetermined (Outcomes sets limit pick kept) = ⊥
 IsDetermined (Explain json) = ⊥
 IsDetermined _ = ⊤
 
 -- the status is one: no outcomes are looked for, which may be all or not
 abbrev pub HasOneStatus : Doing → Type 0
-HasOneStatus (Outcomes limit pick kept) = ⊥
+HasOneStatus (Outcomes sets limit pick kept) = ⊥
 HasOneStatus _ = ⊤
 
 -- Two replies to a job are one, but for the walk to a refusal of kinds; where workers take the steps, but for the numbers and the log of the run; where
@@ -98,7 +98,7 @@ done_with out = record { status = status_done; out = out; err = []; log = [] }
 
 -- it is a chart, and has these bytes
 abbrev pub IsChartOf : List ℕ → Done → Type 0
-IsChartOf text (done.Told found) = found.items ≡ text
+IsChartOf text (done.Told found whole) = (found.items ≡ text) × (whole ≡ true)
 IsChartOf text _ = ⊥
 
 -- the bytes of a log are the text of one, and whatever has the chart of its run may be the answer of `chart`

@@ -7,6 +7,7 @@ ghost use Rattle.xk_serve.specs.Answer.{Check, ComesTo, Compile, Explain, IsLogT
 ghost use Rattle.xk_cli.specs.CommandLine.{By, In};
 ghost use Rattle.xk_cli.specs.Status.{status_program};
 ghost use Rattle.xk_serve.specs.Lines.{status_of};
+ghost use Rattle.xk_serve.specs.declared.job_result.Done.TheVariants.{Told};
 ghost use Rattle.xk_serve.specs.Devices.{AgainstLog, AgainstModule, AgainstRun, read_of};
 ghost use Rattle.xk_serve.specs.declared.fault.Fault.TheVariants.{OutOfMemory};
 
@@ -16,7 +17,10 @@ use crate::job_result::Done;
 use crate::logged_run::{run_by_workers, run_with_log, steps_of};
 use crate::ordered_run::run_in_order;
 use crate::outcome_search::searched;
-use crate::picture::{Picture, drawn};
+use crate::first_races::raced;
+use crate::picture::{Picture, drawn, lanes_given};
+use crate::tally::tallied;
+use crate::whereabouts::stood;
 use crate::program_loader::module_in;
 use std::alloc::{AllocError, Global};
 use std::sync::Wait;
@@ -67,13 +71,23 @@ pub(crate) fn answer<R: Threads + Wait + Sync, L: Source>(
             let events = Picture::Events;
             drawn(alloc, events, job.form, bytes, module, arguments, log_in)
         }
-        Command::Lanes { .. } => {
-            let lanes = Picture::Lanes;
+        Command::Lanes { from, to, svg, .. } => {
+            let lanes = lanes_given(from, to, svg);
             drawn(alloc, lanes, job.form, bytes, module, arguments, log_in)
         }
-        Command::Outcomes { limit, pick, log } => {
-            searched(alloc, limit, pick, log.is_some(), module, arguments)
+        Command::Where { .. } => stood(alloc, job.form, bytes, module, arguments, log_in),
+        Command::Races { log: Some(_) } => {
+            let races = Picture::Races;
+            drawn(alloc, races, job.form, bytes, module, arguments, log_in)
         }
+        Command::Races { log: None } => raced(alloc, job.form, bytes, module, arguments),
+        Command::Tally { seed, runs } => tallied(alloc, seed, runs, module, arguments),
+        Command::Outcomes {
+            sets,
+            limit,
+            pick,
+            log,
+        } => searched(alloc, sets, limit, pick, log.is_some(), module, arguments),
     }
 }
 
@@ -86,13 +100,20 @@ fn compiled(alloc: Global, m: &Module) -> Result<Done, Fault>
     Ok(Done::Compiled(write_module(alloc, m)?))
 }
 
+/// A whole answer that is a text.
+pub(crate) fn whole(text: Vec<u8>) -> Done
+    ensures { result ≡ Told text true }
+{
+    Done::Told { text, whole: true }
+}
+
 /// The listing of a module that these bytes give, which are such a text.
 fn listed(alloc: Global, form: Form, bytes: &[u8], m: Module) -> Result<Done, Fault>
     ensures done { (file : List ℕ) (args : List ℤ) (logged : List ℕ) → IfOk result
         (IsText (IsTelling Listing form file bytes.now m args logged)) }
     ensures fault { IfErr result (λ f. f ≡ OutOfMemory) }
 {
-    Ok(Done::Told(listing(alloc, form, bytes, m)?))
+    Ok(whole(listing(alloc, form, bytes, m)?))
 }
 
 /// What `explain` says of a module that these bytes give, which are such a text, if it is accepted.
@@ -109,7 +130,7 @@ fn explained(
     ensures fault { IfErr result (IsRefusal m) }
 {
     let verified = accepted(alloc, m)?;
-    Ok(Done::Told(acceptance(alloc, json, form, file, bytes, &verified)?))
+    Ok(whole(acceptance(alloc, json, form, file, bytes, &verified)?))
 }
 
 /// The bounds on the runs of a module, if it is accepted.

@@ -75,6 +75,9 @@ fn said_of(alloc: Global, job: &Job<'_>, bytes: &[u8], fault: &Fault) -> Result<
         | Command::Chart { .. }
         | Command::Events { .. }
         | Command::Lanes { .. }
+        | Command::Where { .. }
+        | Command::Races { .. }
+        | Command::Tally { .. }
         | Command::Outcomes { .. } => Ok(Vec::new(alloc)),
     }
 }

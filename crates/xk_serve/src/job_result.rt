@@ -26,8 +26,13 @@ pub(crate) enum Done {
         activities: u32,
         clocks: u32,
     },
-    /// `explain`, `listing`: this is told of the module; `chart`, `events`, `lanes`: of the run that the log has.
-    Told(Vec<u8>),
+    /// `explain`, `listing`: this is told of the module; `chart`, `events`, `lanes`, `where`, `races`: of the run that the log has; `run --runs`: of
+    /// many runs.
+    Told {
+        text: Vec<u8>,
+        /// Whether that is a whole answer: nothing is left out, and a run has no races.
+        whole: bool,
+    },
     /// `run`, `replay`: the module ran to its end, and printed these numbers.
     Ended {
         printed: Vec<i64>,
@@ -56,7 +61,7 @@ impl Done {
             | Done::Outcomes { log: None, .. }
             | Done::Compiled(_)
             | Done::Accepted { .. }
-            | Done::Told(_) => None,
+            | Done::Told { .. } => None,
         }
     }
 
@@ -65,11 +70,13 @@ impl Done {
         ensures { result ≡ done_status self.now }
     {
         match self {
-            Done::Outcomes { whole: false, .. } => status::PARTIAL,
-            Done::Outcomes { whole: true, .. }
+            Done::Told { whole: false, .. } | Done::Outcomes { whole: false, .. } => {
+                status::PARTIAL
+            }
+            Done::Told { whole: true, .. }
+            | Done::Outcomes { whole: true, .. }
             | Done::Compiled(_)
             | Done::Accepted { .. }
-            | Done::Told(_)
             | Done::Ended { .. } => status::DONE,
         }
     }
@@ -85,7 +92,7 @@ impl Done {
                 activities,
                 clocks,
             } => accepted_line(alloc, *steps, *activities, *clocks),
-            Done::Told(_) | Done::Outcomes { .. } => Ok(String::new(alloc)),
+            Done::Told { .. } | Done::Outcomes { .. } => Ok(String::new(alloc)),
             Done::Ended { steps, .. } => ended_line(alloc, *steps),
         }
     }
@@ -117,7 +124,7 @@ impl Done {
         match self {
             Done::Compiled(text) => write_all(out, text.as_bytes()),
             Done::Accepted { .. } => Ok(()),
-            Done::Told(text) => write_all(out, text),
+            Done::Told { text, .. } => write_all(out, text),
             Done::Outcomes { text, .. } => write_all(out, text),
             Done::Ended { printed, .. } => write_numbers(printed, out),
         }

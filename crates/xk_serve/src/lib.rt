@@ -6,6 +6,7 @@ mod commands;
 mod devices;
 mod explanation;
 mod fault;
+mod first_races;
 mod job_result;
 pub mod laws;
 mod logged_run;
@@ -13,6 +14,8 @@ mod ordered_run;
 mod outcome_search;
 mod picture;
 mod program_loader;
+mod tally;
+mod whereabouts;
 
 pub use devices::{report, serve, tell, tell_words};
 pub use fault::Fault;

@@ -1,15 +1,17 @@
 //! What a module can print.
 
-ghost use Rattle.std.specs.Prelude.{◌≡◌, ◌&&◌, not, ℕ, List, IfOk, IfErr, option_map, unwrap_or};
+ghost use Rattle.std.specs.Prelude.{◌≡◌, ◌&&◌, not, true, ℕ, List, IfOk, IfErr, option_map, unwrap_or};
 ghost use Rattle.xk_types.specs.World.{AreArguments};
-ghost use Rattle.xk_serve.specs.Answer.{ComesTo, IsFoundOut, IsNotRun, Outcomes, kept_log, usual_limit};
+ghost use Rattle.xk_serve.specs.Answer.{AreAllAs, AreDistinctAs, AreShownAs, ComesTo, IsFoundOut, IsNotRun, Outcomes, kept_log, usual_limit};
 
 use crate::commands::runnable;
 use crate::fault::Fault;
 use crate::job_result::Done;
 use std::alloc::{AllocError, Global};
 use xk_bounds::Verified;
-use xk_outcomes::{Limit, Outcome, outcomes, outcomes_text};
+use xk_outcomes::{
+    Limit, Outcome, Outcomes as OutcomeList, outcome_sets, outcomes, outcomes_text,
+};
 use xk_types::{Entry, Module};
 
 /// How many worlds are kept at most, and how many outcomes are told, where nothing is said.
@@ -24,6 +26,7 @@ const BYTES_EACH: u64 = 1_000;
 /// kept.
 pub(crate) fn searched(
     alloc: Global,
+    sets: bool,
     limit: Option<u64>,
     pick: Option<u64>,
     keeps_log: bool,
@@ -31,7 +34,7 @@ pub(crate) fn searched(
     arguments: &[i64],
 ) -> Result<Done, Fault>
     ensures done { IfOk result (λ d. (logged : List ℕ)
-        → ComesTo (Outcomes (unwrap_or limit usual_limit) (unwrap_or pick 1) keeps_log)
+        → ComesTo (Outcomes sets (unwrap_or limit usual_limit) (unwrap_or pick 1) keeps_log)
         m arguments.now logged d) }
     ensures fault { IfErr result (IsNotRun m arguments.now) }
 {
@@ -40,12 +43,13 @@ pub(crate) fn searched(
     let usual = (USUAL_BYTES / bytes).min(USUAL_LIMIT);
     let most = limit.unwrap_or(usual) as usize;
     let pick = pick.unwrap_or(1) as usize;
-    Ok(found_out(alloc, most, pick, keeps_log, &verified, arguments)?)
+    Ok(found_out(alloc, sets, most, pick, keeps_log, &verified, arguments)?)
 }
 
 /// The same of an accepted module.
 fn found_out(
     alloc: Global,
+    sets: bool,
     most: usize,
     pick: usize,
     keeps_log: bool,
@@ -53,17 +57,38 @@ fn found_out(
     arguments: &[i64],
 ) -> Result<Done, AllocError>
     requires { AreArguments verified.now arguments.now }
-    ensures { IfOk result (IsFoundOut verified.now arguments.now pick keeps_log) }
+    ensures { IfOk result (IsFoundOut verified.now arguments.now sets pick keeps_log) }
 {
     let limit = Limit {
         entries: most,
         outcomes: most,
     };
-    let found = outcomes(alloc, verified, arguments, limit)?;
+    let found = found_as(alloc, sets, verified, arguments, limit)?;
     let text = outcomes_text(alloc, &found.list, found.complete)?;
     let log = kept_log(alloc, keeps_log, pick, &found.list)?;
     let whole = is_whole(found.complete, keeps_log, log.is_some());
     Ok(Done::Outcomes { text, whole, log })
+}
+
+/// The outcomes as lists of numbers, or without their order.
+fn found_as(
+    alloc: Global,
+    sets: bool,
+    verified: &Verified,
+    arguments: &[i64],
+    limit: Limit,
+) -> Result<OutcomeList, AllocError>
+    requires { AreArguments verified.now arguments.now }
+    ensures shown { IfOk result
+        (λ r. AreShownAs sets verified.now arguments.now r.list.items) }
+    ensures distinct { IfOk result (λ r. AreDistinctAs sets r.list.items) }
+    ensures all { IfOk result
+        (λ r. r.complete ≡ true → AreAllAs sets verified.now arguments.now r.list.items) }
+{
+    if sets {
+        return outcome_sets(alloc, verified, arguments, limit);
+    }
+    outcomes(alloc, verified, arguments, limit)
 }
 
 /// Whether an answer is whole: all is told, and the log is there if it is to be kept.

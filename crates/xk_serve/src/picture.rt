@@ -1,11 +1,12 @@
 //! What is told of the run that a log has.
 
-ghost use Rattle.std.specs.Prelude.{◌≡◌, ◌≢◌, ℕ, List, IfOk, IfErr, IfSome, OnOk};
+ghost use Rattle.std.specs.Prelude.{◌≡◌, ◌≢◌, ℕ, List, true, IfOk, IfErr, IfSome, OnOk};
 ghost use Rattle.xk_types.specs.Acceptance.{IsAccepted};
 ghost use Rattle.xk_types.specs.World.{AreArguments};
 ghost use Rattle.xk_cli.specs.Status.{status_program};
-ghost use Rattle.xk_serve.specs.Answer.{Draw, IsPicture, IsTelling, IsText};
+ghost use Rattle.xk_serve.specs.Answer.{Draw, IsPicture, IsTelling, IsText, lanes_given};
 ghost use Rattle.xk_serve.specs.Devices.{AgainstModule, AgainstRun};
+ghost use Rattle.xk_serve.specs.Explanation.{IsByOrigins, events_told, image_told, lanes_told, races_told};
 ghost use Rattle.xk_serve.specs.Lines.{status_of};
 
 use crate::commands::{run_again, runnable};
@@ -16,7 +17,9 @@ use std::alloc::{AllocError, Global};
 use xk_bounds::Verified;
 use xk_cli::Form;
 use xk_events::{module_events, source_events};
-use xk_lanes::{module_lanes, source_lanes};
+use xk_lanes::{Window, module_lanes, source_lanes};
+use xk_picture::{module_picture, source_picture};
+use xk_races::{module_races, source_races};
 use xk_replay::chart;
 use xk_scheduler::Ended;
 use xk_types::{Module, Source};
@@ -28,8 +31,42 @@ pub(crate) enum Picture {
     Chart,
     /// What others see of its steps.
     Events,
-    /// The same, with a lane for each activity.
-    Lanes,
+    /// The same, with a lane for each activity, of the steps in a window.
+    Lanes(Window),
+    /// The same as an image.
+    Image(Window),
+    /// Its races.
+    Races,
+}
+
+/// What is told, and whether that is a whole answer.
+#[derive(Drop)]
+pub(crate) struct Tale {
+    pub(crate) text: Vec<u8>,
+    pub(crate) whole: bool,
+}
+
+/// A whole answer.
+pub(crate) fn all_told(text: Vec<u8>) -> Tale
+    ensures text { result.text.items ≡ text.items }
+    ensures whole { result.whole ≡ true }
+{
+    Tale { text, whole: true }
+}
+
+/// The lanes of the steps from one to another, each of which may be left out, as a text or as an image.
+pub(crate) fn lanes_given(from: Option<u64>, to: Option<u64>, svg: bool) -> Picture
+    ensures { result ≡ lanes_given from to svg }
+{
+    let run = Window::whole();
+    let window = Window {
+        first: from.unwrap_or(run.first),
+        last: to.unwrap_or(run.last),
+    };
+    if svg {
+        return Picture::Image(window);
+    }
+    Picture::Lanes(window)
 }
 
 /// This picture of the run with these arguments that the log has, of the module that these bytes give, if it is accepted and main takes as many.
@@ -77,7 +114,11 @@ fn drawn_by<L: Source>(
     ensures of_log { IfErr result (λ f. status_of f ≢ status_program) }
 {
     let ended = run_again(alloc, verified, arguments, log_in)?;
-    Ok(Done::Told(picture_of(alloc, picture, form, bytes, &ended)?))
+    let tale = picture_of(alloc, picture, form, bytes, &ended)?;
+    Ok(Done::Told {
+        text: tale.text,
+        whole: tale.whole,
+    })
 }
 
 /// This picture of a run that came to its end.
@@ -87,21 +128,99 @@ fn picture_of(
     form: Form,
     bytes: &[u8],
     ended: &Ended<'_>,
-) -> Result<Vec<u8>, AllocError>
-    ensures { IfOk result (λ told. IsPicture picture form bytes.now ended.now.module.now
-        ended.now.core.world.arguments ended.now.log.items ended.now.core.world told.items) }
+) -> Result<Tale, AllocError>
+    ensures { IfOk result (λ tale. IsPicture picture form bytes.now ended.now.module.now
+        ended.now.core.world.arguments ended.now.log.items ended.now.core.world
+        (tale.text.items, tale.whole)) }
 {
     match picture {
-        Picture::Chart => Ok(chart(alloc, ended)?.into_bytes()),
-        Picture::Events => match origins_in(alloc, form, bytes)? {
-            Some(origins) => {
-                Ok(source_events(alloc, bytes, origins.units(), ended)?.into_bytes())
-            }
-            None => Ok(module_events(alloc, ended)?.into_bytes()),
-        },
-        Picture::Lanes => match origins_in(alloc, form, bytes)? {
-            Some(origins) => source_lanes(alloc, bytes, origins.units(), ended),
-            None => module_lanes(alloc, ended),
-        },
+        Picture::Chart => Ok(all_told(chart(alloc, ended)?.into_bytes())),
+        Picture::Events => events_of(alloc, form, bytes, ended),
+        Picture::Lanes(window) => lanes_of(alloc, form, bytes, ended, window),
+        Picture::Image(window) => image_of(alloc, form, bytes, ended, window),
+        Picture::Races => races_of(alloc, form, bytes, ended),
     }
+}
+
+/// What others see of its steps.
+fn events_of(
+    alloc: Global,
+    form: Form,
+    bytes: &[u8],
+    ended: &Ended<'_>,
+) -> Result<Tale, AllocError>
+    ensures { IfOk result (λ tale. IsByOrigins form bytes.now
+        (events_told bytes.now ended.now.module.now ended.now.core.world.arguments
+        ended.now.log.items) (tale.text.items, tale.whole)) }
+{
+    let text = match origins_in(alloc, form, bytes)? {
+        Some(origins) => source_events(alloc, bytes, origins.units(), ended)?,
+        None => module_events(alloc, ended)?,
+    };
+    Ok(all_told(text.into_bytes()))
+}
+
+/// The same, with a lane for each activity, of the steps in this window.
+fn lanes_of(
+    alloc: Global,
+    form: Form,
+    bytes: &[u8],
+    ended: &Ended<'_>,
+    window: Window,
+) -> Result<Tale, AllocError>
+    ensures { IfOk result (λ tale. IsByOrigins form bytes.now
+        (lanes_told bytes.now window ended.now.module.now ended.now.log.items
+        ended.now.core.world) (tale.text.items, tale.whole)) }
+{
+    let drawing = match origins_in(alloc, form, bytes)? {
+        Some(origins) => source_lanes(alloc, bytes, origins.units(), ended, window)?,
+        None => module_lanes(alloc, ended, window)?,
+    };
+    Ok(Tale {
+        text: drawing.text,
+        whole: drawing.whole,
+    })
+}
+
+/// The same as an image.
+fn image_of(
+    alloc: Global,
+    form: Form,
+    bytes: &[u8],
+    ended: &Ended<'_>,
+    window: Window,
+) -> Result<Tale, AllocError>
+    ensures { IfOk result (λ tale. IsByOrigins form bytes.now
+        (image_told bytes.now window ended.now.module.now ended.now.log.items
+        ended.now.core.world) (tale.text.items, tale.whole)) }
+{
+    let drawing = match origins_in(alloc, form, bytes)? {
+        Some(origins) => source_picture(alloc, bytes, origins.units(), ended, window)?,
+        None => module_picture(alloc, ended, window)?,
+    };
+    Ok(Tale {
+        text: drawing.text,
+        whole: drawing.whole,
+    })
+}
+
+/// The races of a run that came to its end.
+pub(crate) fn races_of(
+    alloc: Global,
+    form: Form,
+    bytes: &[u8],
+    ended: &Ended<'_>,
+) -> Result<Tale, AllocError>
+    ensures { IfOk result (λ tale. IsByOrigins form bytes.now
+        (races_told bytes.now ended.now.module.now ended.now.core.world.arguments
+        ended.now.log.items) (tale.text.items, tale.whole)) }
+{
+    let report = match origins_in(alloc, form, bytes)? {
+        Some(origins) => source_races(alloc, bytes, origins.units(), ended)?,
+        None => module_races(alloc, ended)?,
+    };
+    Ok(Tale {
+        text: report.text,
+        whole: report.free,
+    })
 }

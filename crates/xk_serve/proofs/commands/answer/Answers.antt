@@ -2,8 +2,8 @@ use Rattle.std.proofs.Common.{◌∙◌, refl, ap, sym}
 use Rattle.std.specs.Prelude.{unwrap_or}
 use Rattle.xk_serve.specs.declared.picture.Picture.TheVariants as picture
 use Rattle.std.proofs.lemmas.Result.{err_from_is_err_and}
-use Rattle.xk_serve.specs.Answer.{Check, Compile, Draw, Outcomes, Replay, Run, doing_of, task_of, usual_limit, way_given}
-use Rattle.xk_serve.proofs.TaskLemmas.{against_any, against_log, against_memory, against_refused, against_run_of, done_of_any, done_of_log, done_of_none, done_of_run, done_of_text}
+use Rattle.xk_serve.specs.Answer.{Check, Compile, Draw, Outcomes, Races, Replay, Run, Where, doing_of, task_of, usual_limit, way_given}
+use Rattle.xk_serve.proofs.TaskLemmas.{against_any, against_log, against_memory, against_refused, against_run_of, against_text, done_of_any, done_of_log, done_of_none, done_of_run, done_of_text, done_of_told}
 use Rattle.xk_serve.proofs.commands.answer.Goals as goal
 
 pub returns-in_err-module-clause-fault : goal.returns-in_err-module-clause-fault
@@ -60,7 +60,7 @@ returns-in-Replay-clause-done g c =
 
 pub returns-in-Replay-clause-fault : goal.returns-in-Replay-clause-fault
 returns-in-Replay-clause-fault g c =
-    against_log (task_of c.args.job.now) c.args.bytes.now (g.L.Source.remaining c.args.log_in.now) _ _ _ Replay c.as_slice-arguments.result.now c.replayed.result (ap doing_of c.in-Replay.is) c.as_slice-arguments.ensures.value refl c.in_ok-module.ensures.module c.replayed.ensures.fault
+    against_log (task_of c.args.job.now) c.args.bytes.now (g.L.Source.remaining c.args.log_in.now) _ _ _ Replay c.as_slice-arguments.result.now c.replayed.result (ap doing_of c.in-Replay.is) c.as_slice-arguments.ensures.value refl refl c.in_ok-module.ensures.module c.replayed.ensures.fault
 
 pub returns-in-Chart-clause-done : goal.returns-in-Chart-clause-done
 returns-in-Chart-clause-done g c =
@@ -68,7 +68,7 @@ returns-in-Chart-clause-done g c =
 
 pub returns-in-Chart-clause-fault : goal.returns-in-Chart-clause-fault
 returns-in-Chart-clause-fault g c =
-    against_log (task_of c.args.job.now) c.args.bytes.now (g.L.Source.remaining c.args.log_in.now) _ _ _ (Draw picture.Chart) c.as_slice-arguments.result.now c.drawn.result (ap doing_of c.in-Chart.is) c.as_slice-arguments.ensures.value refl c.in_ok-module.ensures.module c.drawn.ensures.fault
+    against_log (task_of c.args.job.now) c.args.bytes.now (g.L.Source.remaining c.args.log_in.now) _ _ _ (Draw picture.Chart) c.as_slice-arguments.result.now c.drawn.result (ap doing_of c.in-Chart.is) c.as_slice-arguments.ensures.value refl refl c.in_ok-module.ensures.module c.drawn.ensures.fault
 
 pub returns-in-Events-clause-done : goal.returns-in-Events-clause-done
 returns-in-Events-clause-done g c =
@@ -76,20 +76,55 @@ returns-in-Events-clause-done g c =
 
 pub returns-in-Events-clause-fault : goal.returns-in-Events-clause-fault
 returns-in-Events-clause-fault g c =
-    against_log (task_of c.args.job.now) c.args.bytes.now (g.L.Source.remaining c.args.log_in.now) _ _ _ (Draw picture.Events) c.as_slice-arguments.result.now c.drawn-in-Events.result (ap doing_of c.in-Events.is) c.as_slice-arguments.ensures.value refl c.in_ok-module.ensures.module c.drawn-in-Events.ensures.fault
+    against_log (task_of c.args.job.now) c.args.bytes.now (g.L.Source.remaining c.args.log_in.now) _ _ _ (Draw picture.Events) c.as_slice-arguments.result.now c.drawn-in-Events.result (ap doing_of c.in-Events.is) c.as_slice-arguments.ensures.value refl refl c.in_ok-module.ensures.module c.drawn-in-Events.ensures.fault
 
 pub returns-in-Lanes-clause-done : goal.returns-in-Lanes-clause-done
 returns-in-Lanes-clause-done g c =
-    done_of_run (task_of c.args.job.now) c.args.bytes.now (g.L.Source.remaining c.args.log_in.now) _ (Draw picture.Lanes) c.as_slice-arguments.result.now c.drawn-in-Lanes.result (ap doing_of c.in-Lanes.is) c.as_slice-arguments.ensures.value refl c.in_ok-module.ensures.module (c.drawn-in-Lanes.ensures.done c.args.job.now.file.now)
+    let is = ap doing_of c.in-Lanes.is ∙ ap (λ p. Draw p) (sym c.lanes_given-lanes.ensures) in
+    done_of_run (task_of c.args.job.now) c.args.bytes.now (g.L.Source.remaining c.args.log_in.now) _ (Draw c.lanes_given-lanes.lanes) c.as_slice-arguments.result.now c.drawn-in-Lanes.result is c.as_slice-arguments.ensures.value refl c.in_ok-module.ensures.module (c.drawn-in-Lanes.ensures.done c.args.job.now.file.now)
 
 pub returns-in-Lanes-clause-fault : goal.returns-in-Lanes-clause-fault
 returns-in-Lanes-clause-fault g c =
-    against_log (task_of c.args.job.now) c.args.bytes.now (g.L.Source.remaining c.args.log_in.now) _ _ _ (Draw picture.Lanes) c.as_slice-arguments.result.now c.drawn-in-Lanes.result (ap doing_of c.in-Lanes.is) c.as_slice-arguments.ensures.value refl c.in_ok-module.ensures.module c.drawn-in-Lanes.ensures.fault
+    let is = ap doing_of c.in-Lanes.is ∙ ap (λ p. Draw p) (sym c.lanes_given-lanes.ensures) in
+    against_log (task_of c.args.job.now) c.args.bytes.now (g.L.Source.remaining c.args.log_in.now) _ _ _ (Draw c.lanes_given-lanes.lanes) c.as_slice-arguments.result.now c.drawn-in-Lanes.result is c.as_slice-arguments.ensures.value refl refl c.in_ok-module.ensures.module c.drawn-in-Lanes.ensures.fault
+
+pub returns-in-Where-clause-done : goal.returns-in-Where-clause-done
+returns-in-Where-clause-done g c =
+    done_of_run (task_of c.args.job.now) c.args.bytes.now (g.L.Source.remaining c.args.log_in.now) _ Where c.as_slice-arguments.result.now c.stood.result (ap doing_of c.in-Where.is) c.as_slice-arguments.ensures.value refl c.in_ok-module.ensures.module (c.stood.ensures.done c.args.job.now.file.now)
+
+pub returns-in-Where-clause-fault : goal.returns-in-Where-clause-fault
+returns-in-Where-clause-fault g c =
+    against_text (task_of c.args.job.now) c.args.bytes.now (g.L.Source.remaining c.args.log_in.now) _ _ _ Where c.as_slice-arguments.result.now c.stood.result (ap doing_of c.in-Where.is) c.as_slice-arguments.ensures.value refl c.in_ok-module.ensures.module c.stood.ensures.fault
+
+pub returns-in-Races-clause-done : goal.returns-in-Races-clause-done
+returns-in-Races-clause-done g c =
+    done_of_run (task_of c.args.job.now) c.args.bytes.now (g.L.Source.remaining c.args.log_in.now) _ (Draw picture.Races) c.as_slice-arguments.result.now c.drawn-in-Races.result (ap doing_of c.in-Races.is) c.as_slice-arguments.ensures.value refl c.in_ok-module.ensures.module (c.drawn-in-Races.ensures.done c.args.job.now.file.now)
+
+pub returns-in-Races-clause-fault : goal.returns-in-Races-clause-fault
+returns-in-Races-clause-fault g c =
+    against_log (task_of c.args.job.now) c.args.bytes.now (g.L.Source.remaining c.args.log_in.now) _ _ _ (Draw picture.Races) c.as_slice-arguments.result.now c.drawn-in-Races.result (ap doing_of c.in-Races.is) c.as_slice-arguments.ensures.value refl refl c.in_ok-module.ensures.module c.drawn-in-Races.ensures.fault
+
+pub returns-in-Races-2-clause-done : goal.returns-in-Races-2-clause-done
+returns-in-Races-2-clause-done g c =
+    done_of_told (task_of c.args.job.now) c.args.bytes.now (g.L.Source.remaining c.args.log_in.now) _ Races c.as_slice-arguments.result.now c.raced.result (ap doing_of c.in-Races-2.is) c.as_slice-arguments.ensures.value c.in_ok-module.ensures.module (c.raced.ensures.done c.args.job.now.file.now)
+
+pub returns-in-Races-2-clause-fault : goal.returns-in-Races-2-clause-fault
+returns-in-Races-2-clause-fault g c =
+    against_run_of (task_of c.args.job.now) c.args.bytes.now (g.L.Source.remaining c.args.log_in.now) _ _ _ c.as_slice-arguments.result.now c.raced.result (ap doing_of c.in-Races-2.is) c.as_slice-arguments.ensures.value refl c.in_ok-module.ensures.module c.raced.ensures.fault
+
+pub returns-in-Tally-clause-done : goal.returns-in-Tally-clause-done
+returns-in-Tally-clause-done g c =
+    done_of_told (task_of c.args.job.now) c.args.bytes.now (g.L.Source.remaining c.args.log_in.now) _ _ c.as_slice-arguments.result.now c.tallied.result (ap doing_of c.in-Tally.is) c.as_slice-arguments.ensures.value c.in_ok-module.ensures.module
+    (c.tallied.ensures.done c.args.job.now.form c.args.job.now.file.now c.args.bytes.now)
+
+pub returns-in-Tally-clause-fault : goal.returns-in-Tally-clause-fault
+returns-in-Tally-clause-fault g c =
+    against_run_of (task_of c.args.job.now) c.args.bytes.now (g.L.Source.remaining c.args.log_in.now) _ _ _ c.as_slice-arguments.result.now c.tallied.result (ap doing_of c.in-Tally.is) c.as_slice-arguments.ensures.value refl c.in_ok-module.ensures.module c.tallied.ensures.fault
 
 pub returns-in-Outcomes-clause-done : goal.returns-in-Outcomes-clause-done
 returns-in-Outcomes-clause-done g c =
-    let what = Outcomes (unwrap_or c.in-Outcomes.limit usual_limit) (unwrap_or c.in-Outcomes.pick 1) c.is_some-in-Outcomes.result in
-    let is = ap doing_of c.in-Outcomes.is ∙ ap (λ kept. Outcomes (unwrap_or c.in-Outcomes.limit usual_limit) (unwrap_or c.in-Outcomes.pick 1) kept) (sym c.is_some-in-Outcomes.ensures) in
+    let what = Outcomes c.in-Outcomes.sets (unwrap_or c.in-Outcomes.limit usual_limit) (unwrap_or c.in-Outcomes.pick 1) c.is_some-in-Outcomes.result in
+    let is = ap doing_of c.in-Outcomes.is ∙ ap (λ kept. Outcomes c.in-Outcomes.sets (unwrap_or c.in-Outcomes.limit usual_limit) (unwrap_or c.in-Outcomes.pick 1) kept) (sym c.is_some-in-Outcomes.ensures) in
     done_of_any (task_of c.args.job.now) c.args.bytes.now (g.L.Source.remaining c.args.log_in.now) _ what c.as_slice-arguments.result.now c.searched.result is c.as_slice-arguments.ensures.value c.in_ok-module.ensures.module c.searched.ensures.done
 
 pub returns-in-Outcomes-clause-fault : goal.returns-in-Outcomes-clause-fault
