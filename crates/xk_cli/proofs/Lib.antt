@@ -1,2 +1,3 @@
 mod WorkerCountLemmas
 mod NumeralLemmas
+mod SubcommandLemmas

@@ -113,9 +113,21 @@ by_chance names = with_rule (by_order names) seed_option
 abbrev pub workers_option : Rule
 workers_option = record (option (codes "N") (codes "workers")) { parser = Some (parser.Unsigned 1 most_workers) }
 
+-- an option of a long name that takes a whole number of 64 bits but 0
+abbrev pub count_option : Text → Text → Rule
+count_option name long = record (option name long) { parser = Some (parser.Unsigned 1 most_count) }
+
+-- `--runs RUNS`
+abbrev pub runs_option : Rule
+runs_option = count_option (codes "RUNS") (codes "runs")
+
+-- the same, maybe so many times
+abbrev pub repeated : Names → App
+repeated names = with_rule (by_chance names) runs_option
+
 -- the same, whose steps may be taken by workers
 abbrev pub by_workers : Names → App
-by_workers names = with_rule (by_chance names) workers_option
+by_workers names = with_rule (repeated names) workers_option
 
 -- the same, whose log may be written
 abbrev pub with_log : Names → App
@@ -125,17 +137,17 @@ with_log names = with_rule (by_workers names) log_option
 abbrev pub run_line : Names → App
 run_line names = with_rule (with_log names) arg_option
 
--- `--limit LIMIT`, which takes a whole number of 64 bits but 0
+-- `--limit LIMIT`
 abbrev pub limit_option : Rule
-limit_option = record (option (codes "LIMIT") (codes "limit")) { parser = Some (parser.Unsigned 1 most_count) }
+limit_option = count_option (codes "LIMIT") (codes "limit")
 
 -- the command on FILE that tells its outcomes, so many at most
 abbrev pub limited : App
 limited = with_rule (on_either (codes "outcomes")) limit_option
 
--- `--pick K`, which takes a whole number of 64 bits but 0
+-- `--pick K`
 abbrev pub pick_option : Rule
-pick_option = record (option (codes "K") (codes "pick")) { parser = Some (parser.Unsigned 1 most_count) }
+pick_option = count_option (codes "K") (codes "pick")
 
 -- the same, of which one may be picked
 abbrev pub picked : App
@@ -145,20 +157,78 @@ picked = with_rule limited pick_option
 abbrev pub with_outcome_log : App
 with_outcome_log = with_rule picked log_option
 
+-- `--sets`
+abbrev pub sets_flag : Rule
+sets_flag = flag (codes "sets")
+
+-- the same, where the order of numbers may not count
+abbrev pub with_sets : App
+with_sets = with_rule with_outcome_log sets_flag
+
+-- `--expect FILE2`
+abbrev pub expect_option : Rule
+expect_option = option (codes "FILE2") (codes "expect")
+
+-- the same, of which some may be expected
+abbrev pub with_expected : App
+with_expected = with_rule with_sets expect_option
+
 -- the same, whose main may be given numbers
 abbrev pub outcomes_line : App
-outcomes_line = with_rule with_outcome_log arg_option
+outcomes_line = with_rule with_expected arg_option
+
+-- LOG, which needn't be there
+abbrev pub log_choice : Rule
+log_choice = record (new_rule (codes "LOG")) { action = Some action.Set }
+
+-- the command on FILE, and maybe LOG, that tells races
+abbrev pub maybe_on_log : App
+maybe_on_log = with_rule (on_either (codes "races")) log_choice
+
+-- the same, whose main may be given numbers
+abbrev pub races_line : App
+races_line = with_rule maybe_on_log arg_option
+
+-- `--from STEP`
+abbrev pub from_option : Rule
+from_option = record (count_option (codes "FROM") (codes "from")) { value_names = 1 }
+
+-- the command on FILE and LOG that draws lanes, maybe from a step on
+abbrev pub lanes_from : App
+lanes_from = with_rule (on_run (codes "lanes")) from_option
+
+-- `--to STEP`
+abbrev pub to_option : Rule
+to_option = record (count_option (codes "TO") (codes "to")) { value_names = 1 }
+
+-- the same, maybe up to a step
+abbrev pub lanes_within : App
+lanes_within = with_rule lanes_from to_option
+
+-- `--svg`
+abbrev pub svg_flag : Rule
+svg_flag = flag (codes "svg")
+
+-- the same, maybe as a picture
+abbrev pub lanes_line : App
+lanes_line = with_rule lanes_within svg_flag
 
 -- the program with a command that has to be there, and a version that it tells
 abbrev pub program : App
 program = record (new_app (codes "x10clock")) { top = record (new_app (codes "x10clock")).top { has_version = true; subcommand_required = true } }
 
+-- the program with the commands that need no log
+abbrev pub without_logs : Names → App
+without_logs names =
+    with_subcommand (with_subcommand (with_subcommand (with_subcommand (with_subcommand (with_subcommand
+    (with_subcommand program (on_either (codes "check")).top) explain_line.top) (on_file (codes "compile")).top)
+    (on_either (codes "listing")).top) (run_line names).top) outcomes_line.top) races_line.top
+
+-- the same, and those on a log
 abbrev pub command_line : Names → App
 command_line names =
-    with_subcommand (with_subcommand (with_subcommand (with_subcommand (with_subcommand (with_subcommand (with_subcommand (with_subcommand
-    (with_subcommand (with_subcommand program (on_either (codes "check")).top) explain_line.top) (on_file (codes "compile")).top)
-    (on_either (codes "listing")).top) (run_line names).top) outcomes_line.top) (on_run (codes "replay")).top) (on_run (codes "chart")).top)
-    (on_run (codes "events")).top) (on_run (codes "lanes")).top
+    with_subcommand (with_subcommand (with_subcommand (with_subcommand (with_subcommand (without_logs names) (on_run (codes "replay")).top)
+    (on_run (codes "chart")).top) (on_run (codes "events")).top) lanes_line.top) (on_run (codes "where")).top
 
 -- no argument of the command is one of its subcommands too
 abbrev pub HasNoGlobals : clap_Command → Type 0
@@ -193,18 +263,23 @@ way_value (drive.Order o) = In o
 way_value (drive.Workers w) = By w.count
 
 -- A command without where its texts lie in memory. What is explained may be a JSON value. A run has who takes its steps, and the log's path, where
--- they were given; outcomes have how many there are at most, which is picked, and the path of its log; the others on a log have its path.
+-- they were given; a tally has the first seed, and how many runs there are. Lanes have the log's path, the first step and the last, where they were
+-- given, and may be a picture; races have the log's path, where it was given; the others on a log have its path. Outcomes have how many there are at
+-- most, which is picked, and the path of its log; numbers of them may have no order, and some may be expected by a file of this path.
 pub data Task : Type 0 where
   Check : Task
   Compile : Task
   Explain : Bool → Task
   Listing : Task
   Run : Option Way → Option Text → Task
+  Tally : ℕ → ℕ → Task
   Replay : Text → Task
   Chart : Text → Task
   Events : Text → Task
-  Lanes : Text → Task
-  Outcomes : Option ℕ → Option ℕ → Option Text → Task
+  Lanes : Text → Option ℕ → Option ℕ → Bool → Task
+  Where : Text → Task
+  Races : Option Text → Task
+  Outcomes : Option ℕ → Option ℕ → Option Text → Bool → Option Text → Task
 
 abbrev pub task_value : Command → Task
 task_value command.Check = Check
@@ -212,11 +287,15 @@ task_value command.Compile = Compile
 task_value (command.Explain json) = Explain json
 task_value command.Listing = Listing
 task_value (command.Run given log) = Run (option_map way_value given) (option_map (λ s. s.now) log)
+task_value (command.Tally seed runs) = Tally seed runs
 task_value (command.Replay log) = Replay log.now
 task_value (command.Chart log) = Chart log.now
 task_value (command.Events log) = Events log.now
-task_value (command.Lanes log) = Lanes log.now
-task_value (command.Outcomes limit pick log) = Outcomes limit pick (option_map (λ s. s.now) log)
+task_value (command.Lanes log from to svg) = Lanes log.now from to svg
+task_value (command.Where log) = Where log.now
+task_value (command.Races log) = Races (option_map (λ s. s.now) log)
+task_value (command.Outcomes limit pick log sets expected) =
+    Outcomes limit pick (option_map (λ s. s.now) log) sets (option_map (λ s. s.now) expected)
 
 -- a job without where its texts and numbers lie in memory
 pub record Asked : Type 0 where
@@ -240,9 +319,9 @@ form_named value = if is_true value then form.Module else form.Source
 abbrev pub form_in : List Row → Form
 form_in given = option_map_or form_named (first_of (codes "module") given) form.Source
 
--- whether `--json` was given
-abbrev pub is_json : List Row → Bool
-is_json given = option_map_or is_true (first_of (codes "json") given) false
+-- whether the flag of a name was given
+abbrev pub is_flagged : Text → List Row → Bool
+is_flagged name given = option_map_or is_true (first_of name given) false
 
 -- the whole number that was given under a name
 abbrev pub count_in : Text → List Row → Option ℕ
@@ -271,6 +350,10 @@ is_random given = option_map_or (λ name. bytes_eq name (codes "random")) (first
 abbrev pub is_seed_alone : List Row → Bool
 is_seed_alone given = is_some (first_of (codes "SEED") given) && not (is_random given)
 
+-- a number of runs was given, and no order by chance or a log's path
+abbrev pub are_runs_misplaced : List Row → Bool
+are_runs_misplaced given = is_some (first_of (codes "RUNS") given) && (not (is_random given) || is_some (first_of (codes "PATH") given))
+
 -- so many workers as a numeral says, before which a plus may stand
 abbrev pub workers_named : Text → Option ℕ
 workers_named text = let ds = without_leading_plus text in if is_numeral ds then count_within (digits_value 10 ds) else None
@@ -296,27 +379,52 @@ way_of None n = option_map By n
 abbrev pub drive_in : List Row → Option Way
 drive_in given = way_of (order_in given) (workers_in given)
 
--- `run` with what was given to it; an order and workers exclude each other, and a seed is for an order by chance
+-- so many runs from this seed on, or else one
+abbrev pub runs_of : Option ℕ → ℕ → Option Way → Option Text → Task
+runs_of (Some runs) seed given log = Tally seed runs
+runs_of None seed given log = Run given log
+
+-- `run` with what was given to it
+abbrev pub run_in : List Row → Task
+run_in given = runs_of (count_in (codes "RUNS") given) (seed_in given) (drive_in given) (first_of (codes "PATH") given)
+
+-- An order and workers exclude each other, a seed is for an order by chance, and so is a number of runs, which have no log.
 abbrev pub run_by : List Row → Option Task
-run_by given = if is_both given || is_seed_alone given then None else Some (Run (drive_in given) (first_of (codes "PATH") given))
+run_by given = if is_both given || is_seed_alone given || are_runs_misplaced given then None else Some (run_in given)
 
 -- `outcomes` with what was given to it
 abbrev pub outcomes_in : List Row → Task
-outcomes_in given = Outcomes (count_in (codes "LIMIT") given) (count_in (codes "K") given) (first_of (codes "PATH") given)
+outcomes_in given =
+    Outcomes (count_in (codes "LIMIT") given) (count_in (codes "K") given) (first_of (codes "PATH") given) (is_flagged (codes "sets") given)
+    (first_of (codes "FILE2") given)
+
+-- `lanes` on a log, with what else was given to it
+abbrev pub lanes_on : Text → List Row → Task
+lanes_on log given = Lanes log (count_in (codes "FROM") given) (count_in (codes "TO") given) (is_flagged (codes "svg") given)
+
+-- the command of a name on a log, with what else was given to it
+abbrev pub command_on : Text → Text → List Row → Option Task
+command_on name log given =
+    if bytes_eq name (codes "replay") then Some (Replay log)
+    else (if bytes_eq name (codes "chart") then Some (Chart log)
+    else (if bytes_eq name (codes "events") then Some (Events log)
+    else (if bytes_eq name (codes "lanes") then Some (lanes_on log given)
+    else (if bytes_eq name (codes "where") then Some (Where log) else None))))
+
+-- the command of a name that wants a log
+abbrev pub command_by_log : Text → List Row → Option Task
+command_by_log name given = option_and_then (λ log. command_on name log given) (first_of (codes "LOG") given)
 
 -- the command of a name, with what else was given to it
 abbrev pub command_by : Text → List Row → Option Task
 command_by name given =
     if bytes_eq name (codes "check") then Some Check
     else (if bytes_eq name (codes "compile") then Some Compile
-    else (if bytes_eq name (codes "explain") then Some (Explain (is_json given))
+    else (if bytes_eq name (codes "explain") then Some (Explain (is_flagged (codes "json") given))
     else (if bytes_eq name (codes "listing") then Some Listing
     else (if bytes_eq name (codes "run") then run_by given
-    else (if bytes_eq name (codes "replay") then option_map Replay (first_of (codes "LOG") given)
-    else (if bytes_eq name (codes "chart") then option_map Chart (first_of (codes "LOG") given)
-    else (if bytes_eq name (codes "events") then option_map Events (first_of (codes "LOG") given)
-    else (if bytes_eq name (codes "lanes") then option_map Lanes (first_of (codes "LOG") given)
-    else (if bytes_eq name (codes "outcomes") then Some (outcomes_in given) else None)))))))))
+    else (if bytes_eq name (codes "outcomes") then Some (outcomes_in given)
+    else (if bytes_eq name (codes "races") then Some (Races (first_of (codes "LOG") given)) else command_by_log name given))))))
 
 -- this command on this file, with what else was given to it
 abbrev pub asked_of : Task → Text → List Row → Option Asked
@@ -349,6 +457,14 @@ strays_by found = option_map_or (λ p. is_seed_alone p.1) found false
 unfoldable pub strays_in : Names → List Text → Bool
 strays_in names words = strays_by (subcommand_of (command_line names) words)
 
+-- a number of runs was given to the command that was found, and no order by chance or a log's path
+abbrev pub misplaces_by : Option (Text × List Row) → Bool
+misplaces_by found = option_map_or (λ p. are_runs_misplaced p.1) found false
+
+-- the words have a number of runs for no order by chance or beside a log's path, as `clap` takes them apart
+unfoldable pub misplaces_in : Names → List Text → Bool
+misplaces_in names words = misplaces_by (subcommand_of (command_line names) words)
+
 -- ---- why words are refused
 
 -- the fault fits the kind of `clap`'s error
@@ -357,6 +473,7 @@ FitsKind k (fault.Help text) = (k ≡ kind.DisplayHelp) ⊎ (k ≡ kind.DisplayV
 FitsKind k (fault.NotUnderstood text) = (k ≢ kind.DisplayHelp) × (k ≢ kind.DisplayVersion) × (k ≢ kind.OutOfMemory)
 FitsKind k fault.OrderAndWorkers = ⊥
 FitsKind k fault.SeedAlone = ⊥
+FitsKind k fault.MisplacedRuns = ⊥
 FitsKind k fault.OutOfMemory = ⊤
 
 -- a mistake is among the kinds: one that is no request for help or for the version
@@ -364,14 +481,16 @@ abbrev pub HasMistake : Kinds → Type 0
 HasMistake kinds = (k : ErrorKind) × IsAmong k kinds × (k ≢ kind.DisplayHelp) × (k ≢ kind.DisplayVersion)
 
 -- Help is told only where it was asked for, words are called not understood only where `clap` finds a mistake in them, or where it finds
--- nothing wrong and no job. The order and the workers are called to exclude each other only where both were given, and a seed to stand alone only where
--- it does, and nothing is wrong else.
-abbrev pub IsRefused : Kinds → Option Asked → Bool → Bool → WordsFault → Type 0
-IsRefused kinds asked both alone (fault.Help text) = IsAmong kind.DisplayHelp kinds ⊎ IsAmong kind.DisplayVersion kinds
-IsRefused kinds asked both alone (fault.NotUnderstood text) = HasMistake kinds ⊎ ((kinds ≡ []) × (asked ≡ None) × (both ≡ false) × (alone ≡ false))
-IsRefused kinds asked both alone fault.OrderAndWorkers = (kinds ≡ []) × (both ≡ true)
-IsRefused kinds asked both alone fault.SeedAlone = (kinds ≡ []) × (alone ≡ true)
-IsRefused kinds asked both alone fault.OutOfMemory = ⊤
+-- nothing wrong and no job. The order and the workers are called to exclude each other only where both were given, a seed to stand alone only where
+-- it does, and a number of runs to be misplaced only where it is, and nothing is wrong else.
+abbrev pub IsRefused : Kinds → Option Asked → Bool → Bool → Bool → WordsFault → Type 0
+IsRefused kinds asked both alone misplaced (fault.Help text) = IsAmong kind.DisplayHelp kinds ⊎ IsAmong kind.DisplayVersion kinds
+IsRefused kinds asked both alone misplaced (fault.NotUnderstood text) =
+    HasMistake kinds ⊎ ((kinds ≡ []) × (asked ≡ None) × (both ≡ false) × (alone ≡ false) × (misplaced ≡ false))
+IsRefused kinds asked both alone misplaced fault.OrderAndWorkers = (kinds ≡ []) × (both ≡ true)
+IsRefused kinds asked both alone misplaced fault.SeedAlone = (kinds ≡ []) × (alone ≡ true)
+IsRefused kinds asked both alone misplaced fault.MisplacedRuns = (kinds ≡ []) × (misplaced ≡ true)
+IsRefused kinds asked both alone misplaced fault.OutOfMemory = ⊤
 
 -- the status that the program ends with
 abbrev pub status_of : WordsFault → ℕ
@@ -379,4 +498,5 @@ status_of (fault.Help text) = status_done
 status_of (fault.NotUnderstood text) = status_words
 status_of fault.OrderAndWorkers = status_words
 status_of fault.SeedAlone = status_words
+status_of fault.MisplacedRuns = status_words
 status_of fault.OutOfMemory = status_memory

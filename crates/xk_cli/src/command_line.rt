@@ -2,7 +2,7 @@
 
 ghost use Rattle.std.specs.Prelude.{◌≡◌, [], false, Some, None, IfOk, OnOk, IfErr, IsOkAnd, option_map};
 ghost use Rattle.clap.specs.Words.{app_of, first_of, found_of, kind_of, rows_of, rule_of, subcommand_rows_of, with_subcommand};
-ghost use Rattle.xk_cli.specs.CommandLine.{FitsKind, HasNoGlobals, IsRefused, WithOrders, arg_option, arguments_in, asked_by, asked_in, asked_of, asked_value, by_chance, by_order, by_workers, command_by, command_line, count_in, drive_in, excludes_by, excludes_in, explain_line, faults_in, flag, form_in, form_named, is_both, is_json, is_random, is_seed_alone, is_true, job_of, json_flag, limit_option, limited, log_option, module_flag, on_either, on_file, on_log, on_run, option, order_in, order_named, order_option, outcomes_in, outcomes_line, pick_option, picked, place, program, run_by, run_line, seed_in, seed_option, strays_by, strays_in, task_value, texts, way_value, with_log, with_outcome_log, workers_in, workers_named, workers_option};
+ghost use Rattle.xk_cli.specs.CommandLine.{FitsKind, HasNoGlobals, IsRefused, WithOrders, are_runs_misplaced, arg_option, arguments_in, asked_by, asked_in, asked_of, asked_value, by_chance, by_order, by_workers, command_by, command_by_log, command_line, command_on, count_in, count_option, drive_in, excludes_by, excludes_in, expect_option, explain_line, faults_in, flag, form_in, form_named, from_option, is_both, is_flagged, is_random, is_seed_alone, is_true, job_of, json_flag, lanes_from, lanes_line, lanes_within, limit_option, limited, log_choice, log_option, maybe_on_log, misplaces_by, misplaces_in, module_flag, on_either, on_file, on_log, on_run, option, order_in, order_named, order_option, outcomes_in, outcomes_line, pick_option, picked, place, program, races_line, repeated, run_by, run_in, run_line, runs_option, seed_in, seed_option, sets_flag, strays_by, strays_in, svg_flag, task_value, texts, to_option, way_value, with_expected, with_log, with_outcome_log, with_sets, without_logs, workers_in, workers_named, workers_option};
 
 use crate::job::{Command, Drive, Form, Job, MOST_WORKERS, Order, Workers};
 use crate::numbers::{count_named, numbers_named};
@@ -28,7 +28,7 @@ pub fn read_job<'a>(alloc: Global, words: &'a [&'a str]) -> Result<Job<'a>, Word
     ensures refused { IfErr result (λ fault. WithOrders (λ names. IsRefused
         (faults_in names (texts words.entry.now)) (job_of names (texts words.entry.now))
         (excludes_in names (texts words.entry.now)) (strays_in names (texts words.entry.now))
-        fault)) }
+        (misplaces_in names (texts words.entry.now)) fault)) }
 {
     let command_line = line(alloc)?;
     match command_line.try_get_matches_from(words) {
@@ -40,6 +40,38 @@ pub fn read_job<'a>(alloc: Global, words: &'a [&'a str]) -> Result<Job<'a>, Word
 /// The program's command line.
 fn line<'a>(alloc: Global) -> Result<clap::Command<'a>, AllocError>
     ensures { IfOk result (λ c. WithOrders (λ names. app_of c ≡ command_line names)) }
+{
+    let programs = without_logs(alloc)?;
+    let replay = on_run(
+        alloc,
+        "replay",
+        "Runs a program again as a log has it, and prints what it prints.",
+    );
+    let replays = add(programs, replay)?;
+    let chart = on_run(
+        alloc,
+        "chart",
+        "Prints when the clocks advanced in the run that a log has.",
+    );
+    let charts = add(replays, chart)?;
+    let events = on_run(
+        alloc,
+        "events",
+        "Prints what others see of each step of the run that a log has.",
+    );
+    let told = add(charts, events)?;
+    let lanes = add(told, lanes_line(alloc))?;
+    let stands = on_run(
+        alloc,
+        "where",
+        "Prints where each activity stands behind the steps that a log has.",
+    );
+    add(lanes, stands)
+}
+
+/// The command line without the commands that want a log.
+fn without_logs<'a>(alloc: Global) -> Result<clap::Command<'a>, AllocError>
+    ensures { IfOk result (λ c. WithOrders (λ names. app_of c ≡ without_logs names)) }
 {
     let check = on_either(alloc, "check", "Says whether a program is accepted.");
     let checks = add(program(alloc), check)?;
@@ -58,30 +90,7 @@ fn line<'a>(alloc: Global) -> Result<clap::Command<'a>, AllocError>
     let listings = add(compiles, listing)?;
     let runs = add(listings, run_line(alloc))?;
     let outcomes = add(runs, outcomes_line(alloc))?;
-    let replay = on_run(
-        alloc,
-        "replay",
-        "Runs a program again as a log has it, and prints what it prints.",
-    );
-    let replays = add(outcomes, replay)?;
-    let chart = on_run(
-        alloc,
-        "chart",
-        "Prints when the clocks advanced in the run that a log has.",
-    );
-    let charts = add(replays, chart)?;
-    let events = on_run(
-        alloc,
-        "events",
-        "Prints what others see of each step of the run that a log has.",
-    );
-    let told = add(charts, events)?;
-    let lanes = on_run(
-        alloc,
-        "lanes",
-        "Draws the run that a log has, with a lane for each activity.",
-    );
-    add(told, lanes)
+    add(outcomes, races_line(alloc))
 }
 
 /// The program without its commands, of which one has to be there.
@@ -140,11 +149,20 @@ fn by_workers<'a>(alloc: Global) -> Result<clap::Command<'a>, AllocError>
     ensures shape { IfOk result (λ c. WithOrders (λ names. app_of c ≡ by_workers names)) }
     ensures local { IfOk result HasNoGlobals }
 {
-    let command = by_chance(alloc)?;
+    let command = repeated(alloc)?;
     command.arg(workers_option(alloc))
 }
 
 /// The command `run` without `--workers`, `--log` and `--arg`.
+fn repeated<'a>(alloc: Global) -> Result<clap::Command<'a>, AllocError>
+    ensures shape { IfOk result (λ c. WithOrders (λ names. app_of c ≡ repeated names)) }
+    ensures local { IfOk result HasNoGlobals }
+{
+    let command = by_chance(alloc)?;
+    command.arg(runs_option(alloc))
+}
+
+/// The command `run` with `--module`, `--order` and `--seed` alone.
 fn by_chance<'a>(alloc: Global) -> Result<clap::Command<'a>, AllocError>
     ensures shape { IfOk result (λ c. WithOrders (λ names. app_of c ≡ by_chance names)) }
     ensures local { IfOk result HasNoGlobals }
@@ -167,11 +185,29 @@ fn outcomes_line<'a>(alloc: Global) -> Result<clap::Command<'a>, AllocError>
     ensures shape { IfOk result (λ c. app_of c ≡ outcomes_line) }
     ensures local { IfOk result HasNoGlobals }
 {
-    let command = with_outcome_log(alloc)?;
+    let command = with_expected(alloc)?;
     command.arg(arg_option(alloc))
 }
 
 /// The command `outcomes` without `--arg`.
+fn with_expected<'a>(alloc: Global) -> Result<clap::Command<'a>, AllocError>
+    ensures shape { IfOk result (λ c. app_of c ≡ with_expected) }
+    ensures local { IfOk result HasNoGlobals }
+{
+    let command = with_sets(alloc)?;
+    command.arg(expect_option(alloc))
+}
+
+/// The command `outcomes` without `--expect` and `--arg`.
+fn with_sets<'a>(alloc: Global) -> Result<clap::Command<'a>, AllocError>
+    ensures shape { IfOk result (λ c. app_of c ≡ with_sets) }
+    ensures local { IfOk result HasNoGlobals }
+{
+    let command = with_outcome_log(alloc)?;
+    command.arg(sets_flag(alloc))
+}
+
+/// The command `outcomes` with `--module`, `--limit`, `--pick` and `--log` alone.
 fn with_outcome_log<'a>(alloc: Global) -> Result<clap::Command<'a>, AllocError>
     ensures shape { IfOk result (λ c. app_of c ≡ with_outcome_log) }
     ensures local { IfOk result HasNoGlobals }
@@ -180,7 +216,7 @@ fn with_outcome_log<'a>(alloc: Global) -> Result<clap::Command<'a>, AllocError>
     command.arg(log_option(alloc))
 }
 
-/// The command `outcomes` without `--log` and `--arg`.
+/// The command `outcomes` with `--module`, `--limit` and `--pick` alone.
 fn picked<'a>(alloc: Global) -> Result<clap::Command<'a>, AllocError>
     ensures shape { IfOk result (λ c. app_of c ≡ picked) }
     ensures local { IfOk result HasNoGlobals }
@@ -196,6 +232,59 @@ fn limited<'a>(alloc: Global) -> Result<clap::Command<'a>, AllocError>
 {
     let command = on_either(alloc, "outcomes", "Prints all that a program can print.")?;
     command.arg(limit_option(alloc))
+}
+
+/// The command `races`.
+fn races_line<'a>(alloc: Global) -> Result<clap::Command<'a>, AllocError>
+    ensures shape { IfOk result (λ c. app_of c ≡ races_line) }
+    ensures local { IfOk result HasNoGlobals }
+{
+    let command = maybe_on_log(alloc)?;
+    command.arg(arg_option(alloc))
+}
+
+/// The command `races` without `--arg`.
+fn maybe_on_log<'a>(alloc: Global) -> Result<clap::Command<'a>, AllocError>
+    ensures shape { IfOk result (λ c. app_of c ≡ maybe_on_log) }
+    ensures local { IfOk result HasNoGlobals }
+{
+    let command = on_either(
+        alloc,
+        "races",
+        "Prints which steps of a run race with one another.",
+    )?;
+    command.arg(log_choice(alloc))
+}
+
+/// The command `lanes`.
+fn lanes_line<'a>(alloc: Global) -> Result<clap::Command<'a>, AllocError>
+    ensures shape { IfOk result (λ c. app_of c ≡ lanes_line) }
+    ensures local { IfOk result HasNoGlobals }
+{
+    let command = lanes_within(alloc)?;
+    command.arg(svg_flag(alloc))
+}
+
+/// The command `lanes` without `--svg`.
+fn lanes_within<'a>(alloc: Global) -> Result<clap::Command<'a>, AllocError>
+    ensures shape { IfOk result (λ c. app_of c ≡ lanes_within) }
+    ensures local { IfOk result HasNoGlobals }
+{
+    let command = lanes_from(alloc)?;
+    command.arg(to_option(alloc))
+}
+
+/// The command `lanes` without `--to` and `--svg`.
+fn lanes_from<'a>(alloc: Global) -> Result<clap::Command<'a>, AllocError>
+    ensures shape { IfOk result (λ c. app_of c ≡ lanes_from) }
+    ensures local { IfOk result HasNoGlobals }
+{
+    let command = on_run(
+        alloc,
+        "lanes",
+        "Draws the run that a log has, with a lane for each activity.",
+    )?;
+    command.arg(from_option(alloc))
 }
 
 /// A command on FILE and on LOG, which is the log of a run of it with these arguments.
@@ -273,13 +362,12 @@ fn limit_option<'a>(alloc: Global) -> Arg<'a>
     ensures rule { rule_of result ≡ limit_option }
     ensures local { result.global ≡ false }
 {
-    let limit = option(
+    count_option(
         alloc,
         "LIMIT",
         "limit",
         "How many worlds are kept at most, and how many outcomes are told: 40000 where nothing is said, and fewer where there may be many activities",
-    );
-    limit.value_parser(ValueParser::unsigned(1, u64::MAX))
+    )
 }
 
 /// `--pick K`.
@@ -287,13 +375,70 @@ fn pick_option<'a>(alloc: Global) -> Arg<'a>
     ensures rule { rule_of result ≡ pick_option }
     ensures local { result.global ≡ false }
 {
-    let pick = option(
+    count_option(
         alloc,
         "K",
         "pick",
         "The outcome whose log is written, counted from 1: the first where nothing is said",
+    )
+}
+
+/// `--expect FILE2`.
+fn expect_option<'a>(alloc: Global) -> Arg<'a>
+    ensures rule { rule_of result ≡ expect_option }
+    ensures local { result.global ≡ false }
+{
+    option(
+        alloc,
+        "FILE2",
+        "expect",
+        "A file with the outcomes that are expected, as this command prints them",
+    )
+}
+
+/// `--from STEP`.
+fn from_option<'a>(alloc: Global) -> Arg<'a>
+    ensures rule { rule_of result ≡ from_option }
+    ensures local { result.global ≡ false }
+{
+    let from = count_option(
+        alloc,
+        "FROM",
+        "from",
+        "The first step that is drawn, counted from 1",
     );
-    pick.value_parser(ValueParser::unsigned(1, u64::MAX))
+    from.value_name("STEP")
+}
+
+/// `--to STEP`.
+fn to_option<'a>(alloc: Global) -> Arg<'a>
+    ensures rule { rule_of result ≡ to_option }
+    ensures local { result.global ≡ false }
+{
+    let to = count_option(alloc, "TO", "to", "The last step that is drawn");
+    to.value_name("STEP")
+}
+
+/// `--runs RUNS`.
+fn runs_option<'a>(alloc: Global) -> Arg<'a>
+    ensures rule { rule_of result ≡ runs_option }
+    ensures local { result.global ≡ false }
+{
+    count_option(
+        alloc,
+        "RUNS",
+        "runs",
+        "So many runs where the order is random, each from the next seed: tells how often what was printed",
+    )
+}
+
+/// An option of this long name that takes a whole number from 1 on.
+fn count_option<'a>(alloc: Global, name: &'a str, long: &'a str, help: &'a str) -> Arg<'a>
+    ensures rule { rule_of result ≡ count_option name.entry.now long.entry.now }
+    ensures local { result.global ≡ false }
+{
+    let count = option(alloc, name, long, help);
+    count.value_parser(ValueParser::unsigned(1, u64::MAX))
 }
 
 /// `--seed SEED`.
@@ -354,6 +499,26 @@ fn json_flag<'a>(alloc: Global) -> Arg<'a>
     flag(alloc, "json", "Says it as a JSON value on one line")
 }
 
+/// `--svg`.
+fn svg_flag<'a>(alloc: Global) -> Arg<'a>
+    ensures rule { rule_of result ≡ svg_flag }
+    ensures local { result.global ≡ false }
+{
+    flag(alloc, "svg", "Draws it as an SVG picture")
+}
+
+/// `--sets`.
+fn sets_flag<'a>(alloc: Global) -> Arg<'a>
+    ensures rule { rule_of result ≡ sets_flag }
+    ensures local { result.global ≡ false }
+{
+    flag(
+        alloc,
+        "sets",
+        "Tells outcomes with the same numbers, in whatever order, as one",
+    )
+}
+
 /// A flag of this name, which is its long name too.
 fn flag<'a>(alloc: Global, name: &'a str, help: &'a str) -> Arg<'a>
     ensures rule { rule_of result ≡ flag name.entry.now }
@@ -376,6 +541,16 @@ fn option<'a>(alloc: Global, name: &'a str, long: &'a str, help: &'a str) -> Arg
         .action(ArgAction::Set)
 }
 
+/// LOG, which needn't be there.
+fn log_choice<'a>(alloc: Global) -> Arg<'a>
+    ensures rule { rule_of result ≡ log_choice }
+    ensures local { result.global ≡ false }
+{
+    Arg::new(alloc, "LOG")
+        .help("The log of a run of FILE: the run in the order first where nothing is said")
+        .action(ArgAction::Set)
+}
+
 /// An argument without a long name, which has to be there.
 fn place<'a>(alloc: Global, name: &'a str, help: &'a str) -> Arg<'a>
     ensures rule { rule_of result ≡ place name.entry.now }
@@ -393,7 +568,8 @@ fn asked<'a>(alloc: Global, matches: &ArgMatches<'a>) -> Result<Job<'a>, WordsFa
         (λ job. asked_in (subcommand_rows_of matches.now) ≡ Some (asked_value job)) }
     ensures refused { IfErr result (IsRefused [] (asked_in (subcommand_rows_of matches.now))
         (excludes_by (subcommand_rows_of matches.now))
-        (strays_by (subcommand_rows_of matches.now))) }
+        (strays_by (subcommand_rows_of matches.now))
+        (misplaces_by (subcommand_rows_of matches.now))) }
 {
     match job_in(alloc, matches)? {
         Some(job) => Ok(job),
@@ -470,23 +646,43 @@ fn command_by<'a>(name: &str, given: &ArgMatches<'a>) -> Option<Command<'a>>
         "check" => Some(Command::Check),
         "compile" => Some(Command::Compile),
         "explain" => Some(Command::Explain {
-            json: is_json(given),
+            json: is_flagged(given, "json"),
         }),
         "listing" => Some(Command::Listing),
         "run" => run_by(given),
-        "replay" => Some(Command::Replay {
-            log: given_in(given, "LOG")?,
-        }),
-        "chart" => Some(Command::Chart {
-            log: given_in(given, "LOG")?,
-        }),
-        "events" => Some(Command::Events {
-            log: given_in(given, "LOG")?,
-        }),
-        "lanes" => Some(Command::Lanes {
-            log: given_in(given, "LOG")?,
-        }),
         "outcomes" => Some(outcomes_in(given)),
+        "races" => Some(Command::Races {
+            log: given_in(given, "LOG"),
+        }),
+        _ => command_by_log(name, given),
+    }
+}
+
+/// The command of this name that wants a log, with what else was given to it.
+fn command_by_log<'a>(name: &str, given: &ArgMatches<'a>) -> Option<Command<'a>>
+    ensures { option_map task_value result
+        ≡ command_by_log name.now (rows_of (found_of given.now)) }
+{
+    let log = given_in(given, "LOG")?;
+    command_on(name, log, given)
+}
+
+/// The command of this name on this log, with what else was given to it.
+fn command_on<'a>(name: &str, log: &'a str, given: &ArgMatches<'a>) -> Option<Command<'a>>
+    ensures { option_map task_value result
+        ≡ command_on name.now log.entry.now (rows_of (found_of given.now)) }
+{
+    match name {
+        "replay" => Some(Command::Replay { log }),
+        "chart" => Some(Command::Chart { log }),
+        "events" => Some(Command::Events { log }),
+        "lanes" => Some(Command::Lanes {
+            log,
+            from: count_in(given, "FROM"),
+            to: count_in(given, "TO"),
+            svg: is_flagged(given, "svg"),
+        }),
+        "where" => Some(Command::Where { log }),
         _ => None,
     }
 }
@@ -499,20 +695,35 @@ fn outcomes_in<'a>(given: &ArgMatches<'a>) -> Command<'a>
         limit: count_in(given, "LIMIT"),
         pick: count_in(given, "K"),
         log: given_in(given, "PATH"),
+        sets: is_flagged(given, "sets"),
+        expected: given_in(given, "FILE2"),
     }
 }
 
-/// The command `run` with what was given to it. None where both an order and workers were, or a seed for no order by chance.
+/// The command `run` with what was given to it. None where both an order and workers were, or a seed or a number of runs that has no place there.
 fn run_by<'a>(given: &ArgMatches<'a>) -> Option<Command<'a>>
     ensures { option_map task_value result ≡ run_by (rows_of (found_of given.now)) }
 {
-    if is_both(given) || is_seed_alone(given) {
+    if is_both(given) || is_seed_alone(given) || are_runs_misplaced(given) {
         return None;
     }
-    Some(Command::Run {
-        drive: drive_in(given),
-        log: given_in(given, "PATH"),
-    })
+    Some(run_in(given))
+}
+
+/// The command `run` with what was given to it: one run, or so many as were asked for.
+fn run_in<'a>(given: &ArgMatches<'a>) -> Command<'a>
+    ensures { task_value result ≡ run_in (rows_of (found_of given.now)) }
+{
+    match count_in(given, "RUNS") {
+        Some(runs) => Command::Tally {
+            seed: seed_in(given),
+            runs,
+        },
+        None => Command::Run {
+            drive: drive_in(given),
+            log: given_in(given, "PATH"),
+        },
+    }
 }
 
 /// Whether both an order and workers were given.
@@ -527,6 +738,13 @@ fn is_seed_alone(given: &ArgMatches<'_>) -> bool
     ensures { result ≡ is_seed_alone (rows_of (found_of given.now)) }
 {
     given_in(given, "SEED").is_some() && !is_random(given)
+}
+
+/// Whether a number of runs was given, and no order by chance or a log's path.
+fn are_runs_misplaced(given: &ArgMatches<'_>) -> bool
+    ensures { result ≡ are_runs_misplaced (rows_of (found_of given.now)) }
+{
+    given_in(given, "RUNS").is_some() && (!is_random(given) || given_in(given, "PATH").is_some())
 }
 
 /// Whether the order was given that goes by chance.
@@ -592,11 +810,11 @@ fn given_in<'a>(given: &ArgMatches<'a>, name: &str) -> Option<&'a str>
     given.get_str(name)
 }
 
-/// Whether `--json` was given.
-fn is_json(given: &ArgMatches<'_>) -> bool
-    ensures { result ≡ is_json (rows_of (found_of given.now)) }
+/// Whether the flag of this name was given.
+fn is_flagged(given: &ArgMatches<'_>, name: &str) -> bool
+    ensures { result ≡ is_flagged name.now (rows_of (found_of given.now)) }
 {
-    match given_in(given, "json") {
+    match given_in(given, name) {
         Some(value) => is_true(value),
         None => false,
     }
@@ -650,16 +868,21 @@ fn order_named(name: &str, seed: u64) -> Option<Order>
     }
 }
 
-/// What is said where `clap` took the words and they name no job: they have both an order and workers, or a seed for no order by chance.
+/// What is said where `clap` took the words and they name no job: they have both an order and workers, or a seed or a number of runs that has no
+/// place there.
 fn no_job(alloc: Global, matches: &ArgMatches<'_>) -> WordsFault
     ensures { IsRefused [] None (excludes_by (subcommand_rows_of matches.now))
-        (strays_by (subcommand_rows_of matches.now)) result }
+        (strays_by (subcommand_rows_of matches.now))
+        (misplaces_by (subcommand_rows_of matches.now)) result }
 {
     if excludes(matches) {
         return WordsFault::OrderAndWorkers;
     }
     if strays(matches) {
         return WordsFault::SeedAlone;
+    }
+    if misplaces(matches) {
+        return WordsFault::MisplacedRuns;
     }
     not_a_job(alloc)
 }
@@ -684,9 +907,19 @@ fn strays(matches: &ArgMatches<'_>) -> bool
     }
 }
 
+/// Whether a number of runs was given to the command, and no order by chance or a log's path.
+fn misplaces(matches: &ArgMatches<'_>) -> bool
+    ensures { result ≡ misplaces_by (subcommand_rows_of matches.now) }
+{
+    match matches.subcommand() {
+        Some((_, given)) => are_runs_misplaced(given),
+        None => false,
+    }
+}
+
 /// What is said where `clap` took the words, they name no job, and that isn't for what excludes one another. It doesn't come to that.
 fn not_a_job(alloc: Global) -> WordsFault
-    ensures { IsRefused [] None false false result }
+    ensures { IsRefused [] None false false false result }
 {
     match String::from_str(alloc, "error: no command on a file was given\n") {
         Ok(text) => WordsFault::NotUnderstood(text),

@@ -24,6 +24,13 @@ pub enum Command<'a> {
         /// Where the run's log goes, if anywhere: a file's path.
         log: Option<&'a str>,
     },
+    /// `run --order random --runs K`: run FILE so often by chance, and tell how often what was printed.
+    Tally {
+        /// What the first run is drawn from; each further one from the next number, and 0 follows the greatest.
+        seed: u64,
+        /// How many runs there are: at least 1.
+        runs: u64,
+    },
     /// `replay`: run FILE again as a log has it, and print what it prints.
     Replay {
         /// The log's path.
@@ -43,6 +50,22 @@ pub enum Command<'a> {
     Lanes {
         /// The log's path.
         log: &'a str,
+        /// `--from`: the first step that is drawn, counted from 1, where that was given.
+        from: Option<u64>,
+        /// `--to`: the last one, where that was given.
+        to: Option<u64>,
+        /// `--svg`: as an SVG picture.
+        svg: bool,
+    },
+    /// `where`: print where in FILE each activity stands behind the steps that a log has.
+    Where {
+        /// The log's path.
+        log: &'a str,
+    },
+    /// `races`: print which steps of a run of FILE race with one another.
+    Races {
+        /// The path of the log of the run that is looked at, where that was given.
+        log: Option<&'a str>,
     },
     /// `outcomes`: print all that FILE can print.
     Outcomes {
@@ -52,6 +75,10 @@ pub enum Command<'a> {
         pick: Option<u64>,
         /// Where the log of a run with that outcome goes, if anywhere: a file's path.
         log: Option<&'a str>,
+        /// `--sets`: outcomes that differ in the order of their numbers alone are one.
+        sets: bool,
+        /// `--expect`: the path of a file with the outcomes that are expected, if any.
+        expected: Option<&'a str>,
     },
 }
 

@@ -21,6 +21,9 @@ pub enum WordsFault {
     /// `--seed` stands without `--order random`.
     #[error("x10clock: --seed goes with --order random\n")]
     SeedAlone,
+    /// `--runs` stands without `--order random`, or beside `--log`.
+    #[error("x10clock: --runs goes with --order random, and not with --log\n")]
+    MisplacedRuns,
     /// Memory ran out.
     #[error("out of memory")]
     OutOfMemory,
@@ -35,8 +38,10 @@ impl WordsFault {
     {
         match self {
             WordsFault::Help(_) => status::DONE,
-            WordsFault::NotUnderstood(_) | WordsFault::OrderAndWorkers | WordsFault::SeedAlone =>
-                status::WORDS,
+            WordsFault::NotUnderstood(_)
+            | WordsFault::OrderAndWorkers
+            | WordsFault::SeedAlone
+            | WordsFault::MisplacedRuns => status::WORDS,
             WordsFault::OutOfMemory => status::MEMORY,
         }
     }

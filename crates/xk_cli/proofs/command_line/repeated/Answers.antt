@@ -1,0 +1,12 @@
+use Rattle.std.proofs.Common.{◌||◌, ap₂, ◌∙◌}
+use Rattle.std.proofs.lemmas.Result.{IfOk-weaker}
+use Rattle.clap.specs.Words.{with_rule}
+use Rattle.xk_cli.proofs.command_line.repeated.Goals as goal
+
+pub returns-clause-shape : goal.returns-clause-shape
+returns-clause-shape c =
+    let orders = c.in_ok-command.ensures.shape in
+    IfOk-weaker c.arg.result _ _ (λ r h. (orders.0, orders.1, h.shape c.runs_option.ensures.local ∙ ap₂ with_rule orders.2 c.runs_option.ensures.rule)) c.arg.ensures
+
+pub returns-clause-local : goal.returns-clause-local
+returns-clause-local c = IfOk-weaker c.arg.result _ _ (λ r h. h.globals ∙ ap₂ ◌||◌ c.in_ok-command.ensures.local c.runs_option.ensures.local) c.arg.ensures
