@@ -14,7 +14,7 @@ use Rattle.xk_serve.specs.declared.fault.Fault.TheVariants as fault
 use Rattle.xk_log.specs.Verdicts.{IsTruncated, IsWrongAt}
 use Rattle.xk_log.specs.Writing.{AppendsBeginning}
 use Rattle.xk_serve.specs.Answer.{Answers, FailsBy, IsNoRun, IsNotRun, Reply, Succeeds, Task, IsSaidOf, reads_log}
-use Rattle.xk_serve.specs.Lines.{device_line, done_log, done_text, excluded_line, fault_line, memory_line, seed_line, status_of}
+use Rattle.xk_serve.specs.Lines.{device_line, done_log, done_text, excluded_line, fault_line, memory_line, runs_line, seed_line, status_of}
 
 -- all that is printed of it went to standard output, and its log to the log's device
 abbrev pub IsWritten : Done → Option (List ℕ) → Option (List ℕ) → Option (List ℕ) → Option (List ℕ) → Type 0
@@ -148,4 +148,5 @@ TellsWords (words.Help text) On_out On_err = On_out (string_bytes text) status_d
 TellsWords (words.NotUnderstood text) On_out On_err = On_err (string_bytes text) status_words
 TellsWords words.OrderAndWorkers On_out On_err = On_err excluded_line status_words
 TellsWords words.SeedAlone On_out On_err = On_err seed_line status_words
+TellsWords words.MisplacedRuns On_out On_err = On_err runs_line status_words
 TellsWords words.OutOfMemory On_out On_err = On_err memory_line status_memory

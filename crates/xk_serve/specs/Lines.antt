@@ -103,6 +103,10 @@ excluded_line = codes "x10clock: --workers and --order exclude each other\n"
 abbrev pub seed_line : List ℕ
 seed_line = codes "x10clock: --seed goes with --order random\n"
 
+-- they have a number of runs, and no order by chance, or a log
+abbrev pub runs_line : List ℕ
+runs_line = codes "x10clock: --runs goes with --order random, and not with --log\n"
+
 -- a fault of the module text, and want of memory where it is none
 abbrev pub label_line : Option (List ℕ) → List ℕ
 label_line (Some label) = line label

@@ -87,6 +87,7 @@ pub(crate) fn answer<R: Threads + Wait + Sync, L: Source>(
             limit,
             pick,
             log,
+            expected: _,
         } => searched(alloc, sets, limit, pick, log.is_some(), module, arguments),
     }
 }

@@ -13,7 +13,7 @@ ghost use Rattle.xk_serve.specs.Devices.{AgainstLog, Answered, ErrBegins, Explai
 use crate::bounded_read::read_front;
 use crate::commands::answer;
 use crate::explanation::{Refused, refused_by, unsaid};
-use crate::fault::{DEVICE_LINE, EXCLUDED_LINE, Fault, MEMORY_LINE, SEED_LINE};
+use crate::fault::{DEVICE_LINE, EXCLUDED_LINE, Fault, MEMORY_LINE, RUNS_LINE, SEED_LINE};
 use crate::job_result::Done;
 use crate::program_loader::{LONGEST_MODULE, LONGEST_SOURCE};
 use std::alloc::Global;
@@ -308,6 +308,7 @@ pub fn tell_words<O: Sink, E: Sink>(fault: &WordsFault, out: &mut O, err: &mut E
         WordsFault::NotUnderstood(text) => tell(text.as_str(), status::WORDS, err),
         WordsFault::OrderAndWorkers => tell(EXCLUDED_LINE, status::WORDS, err),
         WordsFault::SeedAlone => tell(SEED_LINE, status::WORDS, err),
+        WordsFault::MisplacedRuns => tell(RUNS_LINE, status::WORDS, err),
         WordsFault::OutOfMemory => tell(MEMORY_LINE, status::MEMORY, err),
     }
 }

@@ -61,6 +61,10 @@ pub(crate) const EXCLUDED_LINE: &str = "x10clock: --workers and --order exclude 
 /// The line of words that have a seed, and no order by chance.
 pub(crate) const SEED_LINE: &str = "x10clock: --seed goes with --order random\n";
 
+/// The words have a number of runs, and no order by chance, or a log.
+pub(crate) const RUNS_LINE: &str =
+    "x10clock: --runs goes with --order random, and not with --log\n";
+
 impl Fault {
     /// The status that the program ends with.
     pub(crate) fn status(&self) -> u8
