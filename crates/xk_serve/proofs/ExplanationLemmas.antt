@@ -8,7 +8,7 @@ use Rattle.xk_serve.specs.declared.fault.Fault.TheVariants as fault
 use Rattle.xk_origins.specs.UnitOrigins.{UnitOrigins}
 use Rattle.xk_explain.specs.Notes.{NoteValue}
 use Rattle.xk_sums.specs.Notes.{module_notes, refusal_notes}
-use Rattle.xk_serve.specs.Answer.{Check, Compile, Doing, Draw, Explain, IsSaidBy, IsSaidOf, Listing, Outcomes, Replay, Run, Task}
+use Rattle.xk_serve.specs.Answer.{Check, Compile, Doing, Draw, Explain, IsSaidBy, IsSaidOf, Listing, Outcomes, Races, Replay, Run, Tally, Task, Where}
 use Rattle.xk_serve.specs.Explanation.{IsExplanation, Program, plain_said, refusal_said, source_said}
 use Rattle.xk_serve.specs.Devices.{IsQuiet}
 
@@ -60,6 +60,9 @@ quiet_by Listing kind file bytes said f h = λ e. h
 quiet_by (Run way kept) kind file bytes said f h = λ e. h
 quiet_by Replay kind file bytes said f h = λ e. h
 quiet_by (Draw picture) kind file bytes said f h = λ e. h
+quiet_by Where kind file bytes said f h = λ e. h
+quiet_by Races kind file bytes said f h = λ e. h
+quiet_by (Tally seed runs) kind file bytes said f h = λ e. h
 quiet_by (Outcomes sets limit pick kept) kind file bytes said f h = λ e. h
 
 -- the same of what a task says

@@ -15,7 +15,7 @@ use Rattle.xk_serve.specs.declared.fault.Fault.TheVariants as fault
 use Rattle.xk_module.specs.declared.fault.ModuleFault.{ModuleFault}
 use Rattle.xk_serve.specs.Programs.{Gives, IsNoModule, IsNoSource, IsNoText, IsTooLong, longest_module, longest_source}
 use Rattle.xk_serve.specs.Bytes.{kept}
-use Rattle.xk_serve.specs.Answer.{Check, ComesTo, Compile, Doing, Draw, Explain, FailsBy, GivesAccepted, IsSaidBy, IsSaidOf, IsTelling, IsText, Listing, Outcomes, Replay, Run, Succeeds, Task}
+use Rattle.xk_serve.specs.Answer.{Check, ComesTo, Compile, Doing, Draw, Explain, FailsBy, GivesAccepted, IsSaidBy, IsSaidOf, IsTelling, IsText, Listing, Outcomes, Races, Replay, Run, Succeeds, Tally, Task, Where}
 use Rattle.xk_serve.specs.Explanation.{IsByProgram, IsByTree, IsExplanation, fault_said, front_said, refusal_said}
 use Rattle.xk_tree.specs.declared.fault.FrontRule.TheVariants as rule
 use Rattle.xk_serve.specs.Devices.{AgainstLog, IfKnown, IsRead, IsSaid, Reads, StandsAgainst, read_of}
@@ -68,8 +68,8 @@ kept_fails t bytes known logged (fault.Refused refusal.OutOfMemory) e h = absurd
 kept_fails t bytes known logged (fault.Arguments wants has) e h = (h.0, kept_accepted t bytes known _ e h.1)
 kept_fails t bytes known logged (fault.Grammar line) e h = (h.0, kept_accepted t bytes known _ e h.1)
 kept_fails t bytes known logged fault.Truncated e h = (h.0, kept_accepted t bytes known _ e h.1)
-kept_fails t bytes known logged (fault.NotEnabled i) e h = (h.0, kept_accepted t bytes known _ e h.1)
-kept_fails t bytes known logged fault.NotEnded e h = (h.0, kept_accepted t bytes known _ e h.1)
+kept_fails t bytes known logged (fault.NotEnabled i) e h = (h.0, (h.1.0, kept_accepted t bytes known _ e h.1.1))
+kept_fails t bytes known logged fault.NotEnded e h = (h.0, (h.1.0, kept_accepted t bytes known _ e h.1.1))
 kept_fails t bytes known logged fault.OutOfMemory e h = tt
 kept_fails t bytes known logged fault.Device e h = absurd h
 
@@ -160,6 +160,9 @@ same_said Listing kind file bytes known said f e h = h
 same_said (Run way kept) kind file bytes known said f e h = h
 same_said Replay kind file bytes known said f e h = h
 same_said (Draw picture) kind file bytes known said f e h = h
+same_said Where kind file bytes known said f e h = h
+same_said Races kind file bytes known said f e h = h
+same_said (Tally seed runs) kind file bytes known said f e h = h
 same_said (Outcomes sets limit pick kept) kind file bytes known said f e h = h
 
 said_kept : (t : Task) (bytes known logged said : List ℕ) (f : Fault) → bytes ≡ kept t.form known → FailsBy t bytes logged f → IsSaidOf t bytes f said → IsSaidOf t known f said
@@ -175,6 +178,9 @@ memory_unsaid Listing kind file bytes = refl
 memory_unsaid (Run way kept) kind file bytes = refl
 memory_unsaid Replay kind file bytes = refl
 memory_unsaid (Draw picture) kind file bytes = refl
+memory_unsaid Where kind file bytes = refl
+memory_unsaid Races kind file bytes = refl
+memory_unsaid (Tally seed runs) kind file bytes = refl
 memory_unsaid (Outcomes sets limit pick kept) kind file bytes = refl
 
 -- of devices nothing is said
@@ -186,6 +192,9 @@ device_unsaid Listing kind file bytes said h = h
 device_unsaid (Run way kept) kind file bytes said h = h
 device_unsaid Replay kind file bytes said h = h
 device_unsaid (Draw picture) kind file bytes said h = h
+device_unsaid Where kind file bytes said h = h
+device_unsaid Races kind file bytes said h = h
+device_unsaid (Tally seed runs) kind file bytes said h = h
 device_unsaid (Outcomes sets limit pick kept) kind file bytes said h = h
 
 -- the same of the faults that are no device's
