@@ -165,17 +165,9 @@ sets_flag = flag (codes "sets")
 abbrev pub with_sets : App
 with_sets = with_rule with_outcome_log sets_flag
 
--- `--expect FILE2`
-abbrev pub expect_option : Rule
-expect_option = option (codes "FILE2") (codes "expect")
-
--- the same, of which some may be expected
-abbrev pub with_expected : App
-with_expected = with_rule with_sets expect_option
-
 -- the same, whose main may be given numbers
 abbrev pub outcomes_line : App
-outcomes_line = with_rule with_expected arg_option
+outcomes_line = with_rule with_sets arg_option
 
 -- LOG, which needn't be there
 abbrev pub log_choice : Rule
@@ -265,7 +257,7 @@ way_value (drive.Workers w) = By w.count
 -- A command without where its texts lie in memory. What is explained may be a JSON value. A run has who takes its steps, and the log's path, where
 -- they were given; a tally has the first seed, and how many runs there are. Lanes have the log's path, the first step and the last, where they were
 -- given, and may be a picture; races have the log's path, where it was given; the others on a log have its path. Outcomes have how many there are at
--- most, which is picked, and the path of its log; numbers of them may have no order, and some may be expected by a file of this path.
+-- most, which is picked, and the path of its log; numbers of them may have no order.
 pub data Task : Type 0 where
   Check : Task
   Compile : Task
@@ -279,7 +271,7 @@ pub data Task : Type 0 where
   Lanes : Text → Option ℕ → Option ℕ → Bool → Task
   Where : Text → Task
   Races : Option Text → Task
-  Outcomes : Option ℕ → Option ℕ → Option Text → Bool → Option Text → Task
+  Outcomes : Option ℕ → Option ℕ → Option Text → Bool → Task
 
 abbrev pub task_value : Command → Task
 task_value command.Check = Check
@@ -294,8 +286,7 @@ task_value (command.Events log) = Events log.now
 task_value (command.Lanes log from to svg) = Lanes log.now from to svg
 task_value (command.Where log) = Where log.now
 task_value (command.Races log) = Races (option_map (λ s. s.now) log)
-task_value (command.Outcomes limit pick log sets expected) =
-    Outcomes limit pick (option_map (λ s. s.now) log) sets (option_map (λ s. s.now) expected)
+task_value (command.Outcomes limit pick log sets) = Outcomes limit pick (option_map (λ s. s.now) log) sets
 
 -- a job without where its texts and numbers lie in memory
 pub record Asked : Type 0 where
@@ -396,7 +387,6 @@ run_by given = if is_both given || is_seed_alone given || are_runs_misplaced giv
 abbrev pub outcomes_in : List Row → Task
 outcomes_in given =
     Outcomes (count_in (codes "LIMIT") given) (count_in (codes "K") given) (first_of (codes "PATH") given) (is_flagged (codes "sets") given)
-    (first_of (codes "FILE2") given)
 
 -- `lanes` on a log, with what else was given to it
 abbrev pub lanes_on : Text → List Row → Task

@@ -2,7 +2,7 @@
 
 ghost use Rattle.std.specs.Prelude.{◌≡◌, [], false, Some, None, IfOk, OnOk, IfErr, IsOkAnd, option_map};
 ghost use Rattle.clap.specs.Words.{app_of, first_of, found_of, kind_of, rows_of, rule_of, subcommand_rows_of, with_subcommand};
-ghost use Rattle.xk_cli.specs.CommandLine.{FitsKind, HasNoGlobals, IsRefused, WithOrders, are_runs_misplaced, arg_option, arguments_in, asked_by, asked_in, asked_of, asked_value, by_chance, by_order, by_workers, command_by, command_by_log, command_line, command_on, count_in, count_option, drive_in, excludes_by, excludes_in, expect_option, explain_line, faults_in, flag, form_in, form_named, from_option, is_both, is_flagged, is_random, is_seed_alone, is_true, job_of, json_flag, lanes_from, lanes_line, lanes_within, limit_option, limited, log_choice, log_option, maybe_on_log, misplaces_by, misplaces_in, module_flag, on_either, on_file, on_log, on_run, option, order_in, order_named, order_option, outcomes_in, outcomes_line, pick_option, picked, place, program, races_line, repeated, run_by, run_in, run_line, runs_option, seed_in, seed_option, sets_flag, strays_by, strays_in, svg_flag, task_value, texts, to_option, way_value, with_expected, with_log, with_outcome_log, with_sets, without_logs, workers_in, workers_named, workers_option};
+ghost use Rattle.xk_cli.specs.CommandLine.{FitsKind, HasNoGlobals, IsRefused, WithOrders, are_runs_misplaced, arg_option, arguments_in, asked_by, asked_in, asked_of, asked_value, by_chance, by_order, by_workers, command_by, command_by_log, command_line, command_on, count_in, count_option, drive_in, excludes_by, excludes_in, explain_line, faults_in, flag, form_in, form_named, from_option, is_both, is_flagged, is_random, is_seed_alone, is_true, job_of, json_flag, lanes_from, lanes_line, lanes_within, limit_option, limited, log_choice, log_option, maybe_on_log, misplaces_by, misplaces_in, module_flag, on_either, on_file, on_log, on_run, option, order_in, order_named, order_option, outcomes_in, outcomes_line, pick_option, picked, place, program, races_line, repeated, run_by, run_in, run_line, runs_option, seed_in, seed_option, sets_flag, strays_by, strays_in, svg_flag, task_value, texts, to_option, way_value, with_log, with_outcome_log, with_sets, without_logs, workers_in, workers_named, workers_option};
 
 use crate::job::{Command, Drive, Form, Job, MOST_WORKERS, Order, Workers};
 use crate::numbers::{count_named, numbers_named};
@@ -185,20 +185,11 @@ fn outcomes_line<'a>(alloc: Global) -> Result<clap::Command<'a>, AllocError>
     ensures shape { IfOk result (λ c. app_of c ≡ outcomes_line) }
     ensures local { IfOk result HasNoGlobals }
 {
-    let command = with_expected(alloc)?;
+    let command = with_sets(alloc)?;
     command.arg(arg_option(alloc))
 }
 
 /// The command `outcomes` without `--arg`.
-fn with_expected<'a>(alloc: Global) -> Result<clap::Command<'a>, AllocError>
-    ensures shape { IfOk result (λ c. app_of c ≡ with_expected) }
-    ensures local { IfOk result HasNoGlobals }
-{
-    let command = with_sets(alloc)?;
-    command.arg(expect_option(alloc))
-}
-
-/// The command `outcomes` without `--expect` and `--arg`.
 fn with_sets<'a>(alloc: Global) -> Result<clap::Command<'a>, AllocError>
     ensures shape { IfOk result (λ c. app_of c ≡ with_sets) }
     ensures local { IfOk result HasNoGlobals }
@@ -380,19 +371,6 @@ fn pick_option<'a>(alloc: Global) -> Arg<'a>
         "K",
         "pick",
         "The outcome whose log is written, counted from 1: the first where nothing is said",
-    )
-}
-
-/// `--expect FILE2`.
-fn expect_option<'a>(alloc: Global) -> Arg<'a>
-    ensures rule { rule_of result ≡ expect_option }
-    ensures local { result.global ≡ false }
-{
-    option(
-        alloc,
-        "FILE2",
-        "expect",
-        "A file with the outcomes that are expected, as this command prints them",
     )
 }
 
@@ -696,7 +674,6 @@ fn outcomes_in<'a>(given: &ArgMatches<'a>) -> Command<'a>
         pick: count_in(given, "K"),
         log: given_in(given, "PATH"),
         sets: is_flagged(given, "sets"),
-        expected: given_in(given, "FILE2"),
     }
 }
 

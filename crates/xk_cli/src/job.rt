@@ -77,8 +77,6 @@ pub enum Command<'a> {
         log: Option<&'a str>,
         /// `--sets`: outcomes that differ in the order of their numbers alone are one.
         sets: bool,
-        /// `--expect`: the path of a file with the outcomes that are expected, if any.
-        expected: Option<&'a str>,
     },
 }
 
