@@ -14,7 +14,8 @@ use Rattle.xk_serve.specs.declared.fault.Fault.TheVariants as fault
 use Rattle.xk_log.specs.Verdicts.{IsTruncated, IsWrongAt}
 use Rattle.xk_log.specs.Writing.{AppendsBeginning}
 use Rattle.xk_serve.specs.Answer.{Answers, FailsBy, IsNoRun, IsNotRun, Reply, Succeeds, Task, IsSaidOf, reads_log}
-use Rattle.xk_serve.specs.Lines.{device_line, done_log, done_text, excluded_line, fault_line, memory_line, runs_line, seed_line, status_of}
+use Rattle.xk_serve.specs.Lines.{device_line, done_log, done_text, excluded_line, fault_line, runs_line, seed_line, status_of}
+use Rattle.xk_diagnostics.specs.Lines.{memory_line}
 
 -- all that is printed of it went to standard output, and its log to the log's device
 abbrev pub IsWritten : Done → Option (List ℕ) → Option (List ℕ) → Option (List ℕ) → Option (List ℕ) → Type 0

@@ -7,19 +7,21 @@ ghost use Rattle.xk_log.specs.Writing.{AppendsBeginning};
 ghost use Rattle.xk_cli.specs.Status.{status_device, status_done, status_memory, status_partial, status_program};
 ghost use Rattle.xk_serve.specs.Answer.{Succeeds, done_status, reads_log, task_of};
 ghost use Rattle.xk_serve.specs.Bytes.{FailsRead, IsReadToLimit, kept};
-ghost use Rattle.xk_serve.specs.Lines.{device_line, done_ending, done_log, memory_line, status_of};
+ghost use Rattle.xk_serve.specs.Lines.{device_line, done_ending, done_log, status_of};
+ghost use Rattle.xk_diagnostics.specs.Lines.{memory_line};
 ghost use Rattle.xk_serve.specs.Devices.{AgainstLog, Answered, ErrBegins, Explained, IfKnown, IsBegun, IsQuiet, IsWritten, OutBegins, Reports, StandsAgainst, Tells, TellsWords, read_of};
 
 use crate::bounded_read::read_front;
 use crate::commands::answer;
 use crate::explanation::{Refused, refused_by, unsaid};
-use crate::fault::{DEVICE_LINE, EXCLUDED_LINE, Fault, MEMORY_LINE, RUNS_LINE, SEED_LINE};
+use crate::fault::{DEVICE_LINE, EXCLUDED_LINE, Fault, RUNS_LINE, SEED_LINE};
 use crate::job_result::Done;
 use crate::program_loader::{LONGEST_MODULE, LONGEST_SOURCE};
 use std::alloc::Global;
 use std::sync::Wait;
 use std::thread::Threads;
 use xk_cli::{Form, Job, WordsFault, status};
+use xk_diagnostics::MEMORY_LINE;
 use xk_log::{Device, write_all, write_entries};
 use xk_types::{Sink, Source};
 

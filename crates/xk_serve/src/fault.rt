@@ -2,17 +2,21 @@
 
 ghost use Rattle.std.specs.Prelude.{◌≡◌, IfOk, string_bytes};
 ghost use Rattle.xk_module.specs.Faults.{fault_label};
-ghost use Rattle.xk_serve.specs.Lines.{arguments_line, bound_text, fault_line, front_text, kind_text, label_line, label_status, grammar_line, line, not_enabled_line, place_text, refusal_line, refusal_status, rule_text, status_of, walk_text};
+ghost use Rattle.xk_serve.specs.Lines.{fault_line, label_status, refusal_status, status_of};
 
 use std::alloc::{AllocError, Global};
 use thiserror::Error;
-use xk_bounds::{BoundFault, KindFault, Refusal};
+use xk_bounds::Refusal;
 use xk_cli::status;
+use xk_diagnostics::{
+    MEMORY_LINE, arguments_line, front_text, grammar_line, label_line, line, not_enabled_line,
+    refusal_line,
+};
 use xk_log::{Log, LogFault};
 use xk_module::ModuleFault;
 use xk_replay::ReplayFault;
 use xk_tree::{FrontError, FrontFault};
-use xk_types::{Failed, Module, Rule, Visit};
+use xk_types::{Failed, Module};
 
 /// What stands against a job.
 #[derive(Debug, Drop, Error)]
@@ -48,9 +52,6 @@ pub enum Fault {
     #[error("a device failed")]
     Device,
 }
-
-/// The line of want of memory.
-pub(crate) const MEMORY_LINE: &str = "x10clock: out of memory\n";
 
 /// The line of a device that failed.
 pub(crate) const DEVICE_LINE: &str = "x10clock: device\n";
@@ -193,36 +194,6 @@ impl From<(Log, ReplayFault)> for Fault {
     }
 }
 
-/// `A1 Arguments wants 1 has 0`.
-fn arguments_line(alloc: Global, wants: u32, has: usize) -> Result<String, AllocError>
-    ensures { IfOk result (λ text. string_bytes text ≡ arguments_line wants has) }
-{
-    line(
-        alloc,
-        format!(in alloc; "A1 Arguments wants {wants} has {has}")?.as_str(),
-    )
-}
-
-/// `L1 Grammar line 2`.
-fn grammar_line(alloc: Global, number: u64) -> Result<String, AllocError>
-    ensures { IfOk result (λ text. string_bytes text ≡ grammar_line number) }
-{
-    line(
-        alloc,
-        format!(in alloc; "L1 Grammar line {number}")?.as_str(),
-    )
-}
-
-/// `L4 NotEnabled entry 3`.
-fn not_enabled_line(alloc: Global, entry: u64) -> Result<String, AllocError>
-    ensures { IfOk result (λ text. string_bytes text ≡ not_enabled_line entry) }
-{
-    line(
-        alloc,
-        format!(in alloc; "L4 NotEnabled entry {entry}")?.as_str(),
-    )
-}
-
 /// The status of a fault of the module text.
 fn label_status(fault: ModuleFault) -> u8
     ensures { result ≡ label_status (fault_label fault) }
@@ -241,95 +212,4 @@ fn refusal_status(refusal: &Refusal) -> u8
         Refusal::Shape(_) | Refusal::Kind(_) | Refusal::Bound(_) => status::PROGRAM,
         Refusal::OutOfMemory => status::MEMORY,
     }
-}
-
-/// The line of a fault of the module text.
-fn label_line(alloc: Global, fault: ModuleFault) -> Result<String, AllocError>
-    ensures { IfOk result (λ text. string_bytes text ≡ label_line (fault_label fault)) }
-{
-    match fault.label() {
-        Some(label) => line(alloc, label),
-        None => String::from_str(alloc, MEMORY_LINE),
-    }
-}
-
-/// The line of a refusal.
-fn refusal_line(alloc: Global, refusal: &Refusal) -> Result<String, AllocError>
-    ensures { IfOk result (λ text. string_bytes text ≡ refusal_line refusal.now) }
-{
-    match refusal {
-        Refusal::Shape(fault) => {
-            let text = place_text(alloc, fault.rule, fault.unit, fault.at)?;
-            line(alloc, text.as_str())
-        }
-        Refusal::Kind(fault) => line(alloc, kind_text(alloc, fault)?.as_str()),
-        Refusal::Bound(fault) => line(alloc, bound_text(alloc, fault)?.as_str()),
-        Refusal::OutOfMemory => String::from_str(alloc, MEMORY_LINE),
-    }
-}
-
-/// A line of the program's own.
-fn line(alloc: Global, text: &str) -> Result<String, AllocError>
-    ensures { IfOk result (λ whole. string_bytes whole ≡ line text.now) }
-{
-    format!(in alloc; "x10clock: {text}\n")
-}
-
-/// `F10 Recursive at 10`.
-fn front_text(alloc: Global, fault: FrontFault) -> Result<String, AllocError>
-    ensures { IfOk result (λ text. string_bytes text ≡ front_text fault) }
-{
-    let number = fault.number();
-    let name = fault.name();
-    let at = fault.offset();
-    format!(in alloc; "F{number} {name} at {at}")
-}
-
-/// `V9 Registers`.
-fn rule_text(alloc: Global, rule: Rule) -> Result<String, AllocError>
-    ensures { IfOk result (λ text. string_bytes text ≡ rule_text rule) }
-{
-    let number = rule.number();
-    let name = rule.name();
-    format!(in alloc; "V{number} {name}")
-}
-
-/// `V9 Registers unit 0 at 2`.
-fn place_text(alloc: Global, rule: Rule, unit: u16, at: u16) -> Result<String, AllocError>
-    ensures { IfOk result (λ text. string_bytes text ≡ place_text rule unit at) }
-{
-    let rule = rule_text(alloc, rule)?;
-    format!(in alloc; "{rule} unit {unit} at {at}")
-}
-
-/// `V12 Held unit 0 at 3 slot 0 live walk 0 1 2 3`.
-fn kind_text(alloc: Global, fault: &KindFault) -> Result<String, AllocError>
-    ensures { IfOk result (λ text. string_bytes text ≡ kind_text fault.now) }
-{
-    let place = place_text(alloc, fault.rule, fault.unit, fault.at)?;
-    let slot = fault.slot;
-    let kind = fault.kind.name();
-    let walk = walk_text(alloc, &fault.walk)?;
-    format!(in alloc; "{place} slot {slot} {kind} walk{walk}")
-}
-
-/// The instructions of a walk, each after a blank.
-fn walk_text(alloc: Global, walk: &[Visit]) -> Result<String, AllocError>
-    ensures { IfOk result (λ text. string_bytes text ≡ walk_text walk.now) }
-{
-    let mut text = String::new(alloc);
-    for visit in walk {
-        let at = visit.at;
-        text.push_str(format!(in alloc; " {at}")?.as_str())?;
-    }
-    Ok(text)
-}
-
-/// `V14 Steps over 1000000000`.
-fn bound_text(alloc: Global, fault: &BoundFault) -> Result<String, AllocError>
-    ensures { IfOk result (λ text. string_bytes text ≡ bound_text fault.now) }
-{
-    let rule = rule_text(alloc, fault.rule)?;
-    let limit = fault.limit;
-    format!(in alloc; "{rule} over {limit}")
 }
