@@ -7,6 +7,7 @@ use Rattle.xk_simulation.proofs.CompiledOnceLaw.{one_units}
 use Rattle.xk_origins.specs.UnitOrigins.{UnitOrigins, unit_origins}
 use Rattle.xk_origins.specs.Laws.{AreOrigins}
 use Rattle.xk_listing.proofs.ListingLemmas.{one_listing}
+use Rattle.xk_tally.proofs.RunLemmas.{tally_once}
 use Rattle.xk_cli.specs.declared.job.Form.{Form}
 use Rattle.xk_cli.specs.declared.job.Form.TheVariants as form
 use Rattle.xk_types.specs.declared.world.Entry.{Entry}
@@ -43,6 +44,9 @@ listed_once : (text : List ℕ) (m : ModuleValue) (o : Option (List UnitOrigins)
 listed_once text m (Some o) a b h k = one_listing text o m a b h k
 listed_once text m None a b h k = one_listing [] [] m a b h k
 
+same_tale : {x y : List ℕ} {v w : Bool} → x ≡ y → v ≡ w → (x, v) ≡ (y, w)
+same_tale e d = cc
+
 -- a picture of a run is one
 picture_once : (p : Picture) (kind : Form) (bytes : List ℕ) (m : ModuleValue) (args : List ℤ) (es : List Entry) (last : World) (a b : Tale) → Gives kind bytes m
     → IsPicture p kind bytes m args es last a → IsPicture p kind bytes m args es last b → a ≡ b
@@ -57,10 +61,7 @@ pub telling_once : (what : Doing) (kind : Form) (file bytes : List ℕ) (m : Mod
 telling_once (Explain json) kind file bytes m args logged a b given h k = by_origins_once kind bytes m (acceptance_told json file bytes m) a b given h.1 k.1
 telling_once Listing kind file bytes m args logged a b given h k =
     let same = origins_once kind bytes m h.0.0 k.0.0 given h.0.1 k.0.1 in
-    pair (listed_once bytes m h.0.0 a.0 b.0 h.0.2 (subst (λ o. IsListed bytes m o b.0) (sym same) k.0.2)) (h.1 ∙ sym k.1)
-  where
-    pair : {x y : List ℕ} {v w : Bool} → x ≡ y → v ≡ w → (x, v) ≡ (y, w)
-    pair e d = cc
+    same_tale (listed_once bytes m h.0.0 a.0 b.0 h.0.2 (subst (λ o. IsListed bytes m o b.0) (sym same) k.0.2)) (h.1 ∙ sym k.1)
 telling_once (Draw picture) kind file bytes m args logged a b given h k =
     let same = text_once logged k.1.0 h.1.0 k.1.1 h.1.1 in
     let last = last_once m args k.1.0 h.1.0 same k.1.2 h.1.2 in
@@ -76,7 +77,7 @@ telling_once Races kind file bytes m args logged a b given h k =
     let there = k.1 in
     let same = logged_once order.First m args there.0 here.0 there.1 here.1 there.2 here.2 there.3 here.3 in
     by_origins_once kind bytes m (races_told bytes m args here.2) a b given here.4 (subst (λ es. IsByOrigins kind bytes (races_told bytes m args es) b) same.2 there.4)
-telling_once (Tally seed runs) kind file bytes m args logged a b given h k = tallied_once m args seed runs a b h.2 k.2
+telling_once (Tally seed runs) kind file bytes m args logged a b given h k = same_tale (tally_once m args seed runs a.0 b.0 h.2.0 k.2.0) (h.2.1 ∙ sym k.2.1)
 telling_once Check kind file bytes m args logged a b given h k = absurd h
 telling_once Compile kind file bytes m args logged a b given h k = absurd h
 telling_once (Run way kept) kind file bytes m args logged a b given h k = absurd h

@@ -32,6 +32,7 @@ use Rattle.xk_outcomes.specs.Outcomes.{AreAll, AreDistinct, AreShown}
 use Rattle.xk_outcomes.specs.Sets.{AreSetsAll, AreSetsDistinct, AreSetsShown}
 use Rattle.xk_outcomes.specs.declared.listing.Outcome.{Outcome}
 use Rattle.xk_outcomes.specs.Text.{outcomes_text}
+use Rattle.xk_tally.specs.Runs.{IsTallyText}
 use Rattle.xk_replay.specs.Replay.{IsStoppedAt, IsUnfinished}
 use Rattle.xk_serve.specs.OrderedRun.{IsLoggedRun, IsOrderedRun, IsReplay, IsSomeRun, IsWholeRun}
 use Rattle.xk_serve.specs.Lines.{done_log, done_text, fault_line, status_of}
@@ -215,6 +216,10 @@ IsWhereabouts kind bytes m args logged told =
 abbrev pub AreFirstRaces : Form → List ℕ → ModuleValue → List ℤ → Tale → Type 0
 AreFirstRaces kind bytes m args told = (numbers : List ℤ) × (steps : ℕ) × (es : List Entry) × IsLoggedRun order.First m args numbers steps es
     × IsByOrigins kind bytes (races_told bytes m args es) told
+
+-- so many runs by chance, from this seed on, are told as a tally
+abbrev pub IsTallied : ModuleValue → List ℤ → ℕ → ℕ → Tale → Type 0
+IsTallied m args seed runs told = IsTallyText m args seed runs told.0 × (told.1 ≡ true)
 
 -- What is told of the module that the bytes give, by their lines and names where they are a source text: for `explain`, where the module is accepted,
 -- its bounds, and for `listing` its instructions; for all others, where it is accepted, the run that the log has, or the runs in their orders.
