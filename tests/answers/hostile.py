@@ -91,7 +91,10 @@ def full_devices(tried: Tried) -> None:
     tried.answers("exec $x outcomes in-step.x10 > /dev/full", 5, err=DEVICE)
     tried.answers("exec $x outcomes --log /dev/full in-step.x10", 5, OUTCOMES, DEVICE)
     tried.answers("exec $x events in-step.x10 log > /dev/full", 5, err=DEVICE)
-    tried.answers("exec $x lanes in-step.x10 log > /dev/full", 5, err=DEVICE)
+    for command in ("lanes", "lanes --svg", "where", "races"):
+        tried.answers(f"exec $x {command} in-step.x10 log > /dev/full", 5, err=DEVICE)
+    tried.answers("exec $x races in-step.x10 > /dev/full", 5, err=DEVICE)
+    tried.answers("exec $x run --order random --runs 3 in-step.x10 > /dev/full", 5, err=DEVICE)
     tried.answers("exec $x explain --json in-step.x10 > /dev/full", 5, err=DEVICE)
     tried.answers("exec $x explain --json bad.x10 > /dev/full", 5, err=DEVICE)
     tried.answers("exec $x check no.x10 2> /dev/full", 5)
@@ -141,7 +144,8 @@ def over_file(tried: Tried) -> None:
 
 
 def strange_files(tried: Tried) -> None:
-    for command in ("check", "explain", "explain --json", "listing", "compile", "run", "outcomes", "check --module"):
+    for command in ("check", "explain", "explain --json", "listing", "compile", "run", "outcomes", "outcomes --sets", "races",
+                    "run --order random --runs 2", "check --module"):
         tried.answers(f"exec $x {command} .", 5, err=DEVICE)
         tried.answers(f"exec $x {command} no-such-file", 5, err=DEVICE)
     tried.answers("exec $x check /dev/null", 1, err="x10clock: F9 NoMain at 0\n")
@@ -153,7 +157,7 @@ def strange_files(tried: Tried) -> None:
     tried.answers("exec $x listing /dev/zero", 1, err="x10clock: F4 TooLong at 0\n")
     tried.answers("exec $x listing --module /dev/zero", 1, err="x10clock: M3 Limit\n")
     tried.answers("exec $x listing /dev/null", 1, err="x10clock: F9 NoMain at 0\n")
-    for command in ("replay", "chart", "events", "lanes"):
+    for command in ("replay", "chart", "events", "lanes", "lanes --svg", "where", "races"):
         tried.answers(f"exec $x {command} in-step.x10 .", 5, err=DEVICE)
         tried.answers(f"exec $x {command} in-step.x10 no-such-file", 5, err=DEVICE)
         tried.answers(f"exec $x {command} in-step.x10 /dev/zero", 3, err="x10clock: L1 Grammar line 1\n")

@@ -218,16 +218,20 @@ def each_log(calls: Calls, folder: str) -> None:
         charted = calls.ask(f"{name}, chart", ["chart", *words, "-", str(kept)], text)
         if charted.status:
             raise Wrong(f"{name}, chart: {charted}")
-        for command in ("events", "lanes"):
-            told = calls.ask(f"{name}, {command}", [command, *words, "-", str(kept)], text)
-            if told.status or not told.out:
+        for command in ("events", "lanes", "lanes --svg", "where", "races"):
+            told = calls.ask(f"{name}, {command}", [*command.split(), *words, "-", str(kept)], text)
+            if told.status not in ((0, 6) if command == "races" else (0,)) or not told.out:
                 raise Wrong(f"{name}, {command}: {told}")
     text = (ROWS / "in-step.x10").read_bytes()
     for log, line in (("zero-steps", "L1 Grammar line 2"), ("no-end", "L2 Truncated"),
                       ("waits", "L4 NotEnabled entry 3"), ("stops", "L5 NotEnded")):
-        for command in ("replay", "chart", "events", "lanes"):
+        for command in ("replay", "chart", "events", "lanes", "races"):
             err = f"x10clock: {line}\n".encode()
             calls.need(f"{command}, {log}", [command, "-", str(LOGS / f"{log}.log")], text, 3, b"", err)
+    for log, status in (("zero-steps", 3), ("no-end", 3), ("waits", 6), ("stops", 0)):
+        stood = calls.ask(f"where, {log}", ["where", "-", str(LOGS / f"{log}.log")], text)
+        if stood.status != status:
+            raise Wrong(f"where, {log}: {stood}")
 
 
 def each_mismatch(calls: Calls, folder: str) -> None:
@@ -247,6 +251,9 @@ def each_search(calls: Calls) -> None:
         if found.status != status or not found.out or status == 0 and not found.log:
             raise Wrong(f"{name}, outcomes: {found}")
         calls.ask(f"{name}, by chance", ["run", *given(row), "--order", "random", "--seed", "5", "--log", LOG, "-"], row.read_bytes())
+        calls.ask(f"{name}, a tally", ["run", *given(row), "--order", "random", "--runs", "3", "-"], row.read_bytes())
+        calls.ask(f"{name}, races", ["races", *given(row), "-"], row.read_bytes())
+        calls.ask(f"{name}, outcomes without order", ["outcomes", *given(row), "--sets", "--limit", limit, "-"], row.read_bytes())
 
 
 def each_worker(calls: Calls) -> None:
@@ -278,6 +285,7 @@ def each_mistake(calls: Calls) -> None:
             ("workers beside an order", ["run", "--module", "--workers", "2", "--order", "first", "-"],
              "x10clock: --workers and --order exclude each other"),
             ("a seed without chance", ["run", "--module", "--seed", "2", "-"], "x10clock: --seed goes with --order random"),
+            ("a tally without chance", ["run", "--runs", "2", "-"], "x10clock: --runs goes with --order random, and not with --log"),
             ("no outcomes", ["outcomes", "--limit", "0", "-"],
              "error: invalid value '0' for '--limit <LIMIT>': 0 is not in 1..18446744073709551615")):
         calls.begins(name, words, 2, "", err)
