@@ -113,7 +113,7 @@ doing_of (command.Where log) = Where
 doing_of (command.Races (Some log)) = Draw picture.Races
 doing_of (command.Races None) = Races
 doing_of (command.Tally seed runs) = Tally seed runs
-doing_of (command.Outcomes limit pick path sets expected) = Outcomes sets (unwrap_or limit usual_limit) (unwrap_or pick 1) (is_some path)
+doing_of (command.Outcomes limit pick path sets) = Outcomes sets (unwrap_or limit usual_limit) (unwrap_or pick 1) (is_some path)
 
 -- what is to be done with a file, what it is called, what stands in it, and what main is given where it is run
 pub record Task : Type 0 where

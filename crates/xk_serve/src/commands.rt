@@ -87,7 +87,6 @@ pub(crate) fn answer<R: Threads + Wait + Sync, L: Source>(
             limit,
             pick,
             log,
-            expected: _,
         } => searched(alloc, sets, limit, pick, log.is_some(), module, arguments),
     }
 }

@@ -63,7 +63,7 @@ fn stood_by<L: Source>(
     ensures of_log { IfErr result (λ f. status_of f ≢ status_program) }
 {
     let log = read_log(alloc, log_in)?;
-    let tale = whereabouts(alloc, form, bytes, verified, arguments, &log)?;
+    let tale = whereabouts(alloc, form, bytes, verified, arguments, log.entries())?;
     Ok(Done::Told {
         text: tale.text,
         whole: tale.whole,
