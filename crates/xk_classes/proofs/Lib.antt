@@ -1,0 +1,6 @@
+pub mod StepEventLemmas
+pub mod SwapLemmas
+pub mod ClassLemmas
+pub mod ClassLaw
+pub mod OneRunLaw
+pub mod Examples
