@@ -2,5 +2,8 @@ pub mod StepEventLemmas
 pub mod SwapLemmas
 pub mod ClassLemmas
 pub mod ClassLaw
+pub mod EdgeLaw
+pub mod StartEdgeLaw
 pub mod OneRunLaw
+pub mod BeginningLaw
 pub mod Examples
