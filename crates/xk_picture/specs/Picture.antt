@@ -1,7 +1,7 @@
 -- The picture of a run: what its lanes tell (`xk_lanes`), drawn. Time goes down. A row for each step that others can see, and below it one for each
 -- clock that advanced in it; a column for each activity. Who can take a step and when clocks advance, `xk_types` says in `Step.antt`; that it is
 -- drawn so is this project's own.
-use Rattle.std.specs.Prelude.{ℕ, ◌+◌, ◌-◌, ◌*◌, ◌%◌, min, nat_eq, nat_lt, nat_le, Bool, true, false, not, ◌&&◌, ◌||◌, ℤ, List, [], ◌∷◌, ◌++◌, length, count_by, flat_map, replicate, codes, if◌then◌else◌}
+use Rattle.std.specs.Prelude.{ℕ, ◌+◌, ◌-◌, ◌*◌, ◌%◌, min, nat_eq, nat_lt, nat_le, Bool, not, ◌&&◌, ◌||◌, ℤ, List, [], ◌∷◌, ◌++◌, length, count_by, flat_map, replicate, codes, if◌then◌else◌}
 use Rattle.xk_types.specs.declared.world.Entry.{Entry}
 use Rattle.xk_types.specs.declared.world.Event.{Event}
 use Rattle.xk_types.specs.declared.world.Event.TheVariants as event
@@ -83,8 +83,8 @@ kind event.Passed = codes "clock"
 kind event.Ended = codes "life"
 
 -- the box in the lane of who took it
-unfoldable pub box : Sheet → ℕ → RunStep → List ℕ → List ℕ → List ℕ
-box s k r place words =
+unfoldable pub boxed : Sheet → ℕ → RunStep → List ℕ → List ℕ → List ℕ
+boxed s k r place words =
     box_head (kind r.event) r.number r.act place words
     ++ (box_frame (lane_left s r.act + 4) (top k + 2) (2 * s.half - 8) ++ box_words (middle s r.act) (top k + 16) words)
 
@@ -99,10 +99,10 @@ other_line s m v r k b = if nat_eq b r.act then [] else line s m v k b
 
 unfoldable pub row_at : Sheet → PlacesValue → ModuleValue → World → RunStep → ℕ → List ℕ
 row_at s p m v r k =
-    (((each_below (other_line s m v r k) s.lanes ++ bands s v k) ++ front (top k + 16) r.number (spot p r)) ++ box s k r (spot p r) (event_words r)) ++ start_by s k r r.event
+    (((each_below (other_line s m v r k) s.lanes ++ bands s v k) ++ front (top k + 16) r.number (spot p r)) ++ boxed s k r (spot p r) (event_words r)) ++ start_by s k r r.event
 
-abbrev pub row : Sheet → List ℕ → PlacesValue → ModuleValue → World → RunStep → List ℕ
-row s rows p m v r = if is_local r.event then [] else row_at s p m v r (row_of rows r.number)
+abbrev pub step_row : Sheet → List ℕ → PlacesValue → ModuleValue → World → RunStep → List ℕ
+step_row s rows p m v r = if is_local r.event then [] else row_at s p m v r (row_of rows r.number)
 
 -- ---- the row of a bar
 
@@ -131,7 +131,7 @@ bar s rows m v a c = bar_at s m v a c (bar_row rows v c)
 -- ---- the picture
 
 abbrev pub row_and_bars : Sheet → List ℕ → PlacesValue → ModuleValue → World → RunStep → List ℕ
-row_and_bars s rows p m v r = row s rows p m v r ++ flat_map (bar s rows m v r.act) (advanced_now v)
+row_and_bars s rows p m v r = step_row s rows p m v r ++ flat_map (bar s rows m v r.act) (advanced_now v)
 
 -- of a step that is shown: its row, and below it the bars
 abbrev pub tell_picture : Sheet → List ℕ → PlacesValue → ModuleValue → Teller ℕ

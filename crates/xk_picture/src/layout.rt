@@ -1,6 +1,6 @@
 //! Which rows a picture has, from the top.
 
-ghost use Rattle.std.specs.Prelude.{◌≡◌, true, ◌++◌, replicate, IfOk, OnOk};
+ghost use Rattle.std.specs.Prelude.{◌≡◌, true, ◌∷◌, ◌++◌, length, replicate, IfOk, OnOk};
 ghost use Rattle.xk_types.specs.Schedule.{Through, is_enabled, run};
 ghost use Rattle.xk_core.specs.Core.{StepsTo, advanced_now};
 ghost use Rattle.xk_events.specs.Steps.{IsLegalFrom, told};
@@ -30,6 +30,15 @@ fn push_times(list: &mut Vec<u64>, number: u64, count: usize) -> Result<(), Allo
     Ok(())
 }
 
+/// Adds a number for a step's own row, and for that of each of these clocks.
+fn push_number(list: &mut Vec<u64>, number: u64, clocks: &[u32]) -> Result<(), AllocError>
+    ensures { OnOk result (list.new.items
+        ≡ list.old.items ++ number ∷ replicate (length clocks.now) number) }
+{
+    list.push(number)?;
+    push_times(list, number, clocks.len())
+}
+
 /// Adds the rows of the step that led to the core.
 fn push_rows(
     alloc: Global,
@@ -45,8 +54,7 @@ fn push_rows(
         return Ok(());
     }
     let clocks = advanced(alloc, core)?;
-    rows.push(core.steps_done())?;
-    push_times(rows, core.steps_done(), clocks.len())
+    push_number(rows, core.steps_done(), &clocks)
 }
 
 /// Takes a step, and adds its rows; what it was seen to do.

@@ -193,11 +193,11 @@ fn sheet_for(
     Ok(sheet_of(grid, ended.core.clocks()))
 }
 
-/// Whether no more rows and activities than are drawn.
-fn fits(rows: usize, activities: u32) -> bool
-    ensures { result ≡ fits rows activities }
+/// Whether there are no more rows and activities than are drawn.
+fn fits(rows: &[u64], activities: u32) -> bool
+    ensures { result ≡ fits (length rows.now) activities }
 {
-    rows <= ROWS && activities <= LANES
+    rows.len() <= ROWS && activities <= LANES
 }
 
 /// The picture, or what is told in its place, which has these rows.
@@ -233,7 +233,7 @@ fn picture(
         ended.now.module.now ended.now.log.items ended.now.core.world) }
 {
     let rows = rows_of(alloc, ended, window)?;
-    let whole = fits(rows.len(), ended.core.activities());
+    let whole = fits(&rows, ended.core.activities());
     let text = picture_by(alloc, whole, places, ended, window, &rows)?;
     Ok(Drawing { text, whole })
 }

@@ -1,10 +1,10 @@
 //! The rows of steps.
 
-ghost use Rattle.std.specs.Prelude.{◌≡◌, ◌++◌, IfOk, OnOk, string_bytes};
+ghost use Rattle.std.specs.Prelude.{◌≡◌, ◌+◌, ◌++◌, IfOk, OnOk, string_bytes};
 ghost use Rattle.xk_events.specs.Events.{event_words};
 ghost use Rattle.xk_lanes.specs.Lanes.{spot};
 ghost use Rattle.xk_picture.specs.Shapes.{front, top};
-ghost use Rattle.xk_picture.specs.Picture.{box, kind, row, row_at, start_by};
+ghost use Rattle.xk_picture.specs.Picture.{boxed, kind, row_at, start_by, step_row};
 
 use crate::layout::row_of;
 use crate::lines::{push_bands, push_other_lines, put};
@@ -39,7 +39,7 @@ fn kind(event: Event) -> &'static str
 }
 
 /// The box of a step, in the lane of who took it.
-#[tactic(auto, unfolding(crate::specs::Picture::box))]
+#[tactic(auto, unfolding(crate::specs::Picture::boxed))]
 fn box_of(
     alloc: Global,
     sheet: Sheet,
@@ -48,7 +48,7 @@ fn box_of(
     spot: &str,
     words: &str,
 ) -> Result<String, AllocError>
-    ensures { IfOk result (λ t. string_bytes t ≡ box sheet row step.now spot.now words.now) }
+    ensures { IfOk result (λ t. string_bytes t ≡ boxed sheet row step.now spot.now words.now) }
 {
     let left = lane_left(sheet, step.act) + 4;
     let wide = (2 * u32::from(sheet.half)).saturating_sub(8);
@@ -88,16 +88,16 @@ fn push_step_itself(
 ) -> Result<(), AllocError>
     ensures { OnOk result (out.new.items ≡ ((out.old.items
         ++ front (top row + 16) step.now.number (spot places.now step.now))
-        ++ box sheet row step.now (spot places.now step.now) (event_words step.now))
+        ++ boxed sheet row step.now (spot places.now step.now) (event_words step.now))
         ++ start_by sheet row step.now step.now.event) }
 {
     let spot = spot(alloc, places, step)?;
     let words = event_words(alloc, step)?;
     let front = front(alloc, top(row) + 16, step.number, spot.as_str())?;
-    let boxed = box_of(alloc, sheet, row, step, spot.as_str(), words.as_str())?;
+    let frame = box_of(alloc, sheet, row, step, spot.as_str(), words.as_str())?;
     let start = start_by(alloc, sheet, row, step, step.event)?;
     put(out, front.as_str())?;
-    put(out, boxed.as_str())?;
+    put(out, frame.as_str())?;
     put(out, start.as_str())
 }
 
@@ -131,7 +131,7 @@ pub(crate) fn push_row(
     step: &RunStep,
 ) -> Result<(), AllocError>
     ensures { OnOk result (out.new.items ≡ out.old.items
-        ++ row sheet rows.now places.now core.now.module_run core.now.world step.now) }
+        ++ step_row sheet rows.now places.now core.now.module_run core.now.world step.now) }
 {
     if !is_seen(step.event) {
         return Ok(());
