@@ -28,6 +28,13 @@ pub fn are_same(a: &[i64], b: &[i64]) -> bool
     a == b
 }
 
+/// The digest of one.
+fn found_digest(x: &Found<'_>) -> u64
+    ensures { result ≡ found_digest x.now }
+{
+    digest_of(&x.core, &x.printed)
+}
+
 /// Whether the two, which have these digests, are in worlds that are alike, the same numbers being printed by then.
 fn is_same(x: &Found<'_>, known: u64, new: &Found<'_>, digest: u64) -> bool
     requires known { known ≡ found_digest x.now }
@@ -85,7 +92,7 @@ fn add<'m>(
     ensures different { (start : CoreValue) → AreFound start all.old.items
         → IsFound start new.entry → AreDifferent all.old.items → AreDifferent all.new.items }
 {
-    let digest = digest_of(&new.core, &new.printed);
+    let digest = found_digest(&new);
     if is_known(all, digests, &new, digest) {
         return Ok(());
     }
