@@ -7,7 +7,7 @@ use Rattle.xk_types.specs.declared.world.Value.TheVariants as value
 use Rattle.xk_types.specs.World.{Activity, World}
 
 -- with a word more
-abbrev pub mixed : ℕ → ℕ → ℕ
+unfoldable pub mixed : ℕ → ℕ → ℕ
 mixed digest word = let product = (bit_xor digest word * 11400714819323198485) % 2 ^ 64 in bit_xor product (product / 2 ^ 29)
 
 -- with a number more

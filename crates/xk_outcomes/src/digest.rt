@@ -13,6 +13,7 @@ use xk_types::{Act, Value};
 const FACTOR: u64 = 11_400_714_819_323_198_485;
 
 /// The digest with a word more.
+#[tactic(auto, unfolding(crate::specs::Digest::mixed))]
 fn mixed(digest: u64, word: u64) -> u64
     ensures { result ≡ mixed digest word }
 {
@@ -59,6 +60,7 @@ fn slots_of(verified: &Verified, unit: u16) -> u16
 }
 
 /// The digest with the slots of an activity more, which has so many.
+#[tactic(auto, using(crate::proofs::DigestLemmas::values_more))]
 fn with_slots(core: &Core<'_>, act: Act, slots: u16, digest: u64) -> u64
     requires there { act < length core.now.world.activities }
     requires slots { slots ≡ length (act_at core.now.world.activities act).frame.slots }
@@ -74,6 +76,7 @@ fn with_slots(core: &Core<'_>, act: Act, slots: u16, digest: u64) -> u64
 }
 
 /// The digest with an activity more: where it stands, and its slots.
+#[tactic(auto, using(crate::proofs::DigestLemmas::unit_there, crate::proofs::DigestLemmas::slots_there))]
 fn with_activity(core: &Core<'_>, act: Act, digest: u64) -> u64
     requires { act < length core.now.world.activities }
     ensures { result ≡ with_activity digest (act_at core.now.world.activities act) }
@@ -88,6 +91,7 @@ fn with_activity(core: &Core<'_>, act: Act, digest: u64) -> u64
 }
 
 /// The digest of a core, these numbers being printed by then.
+#[tactic(auto, using(std::proofs::lemmas::List::Sums::fold_more))]
 pub fn digest_of(core: &Core<'_>, printed: &[i64]) -> u64
     ensures { result ≡ world_digest core.now.world printed.now }
 {

@@ -1,7 +1,8 @@
-use Rattle.std.proofs.Common.{◌≡◌, ◌∙◌, length, true≢false, sym, subst, List}
+use Rattle.std.proofs.Common.{◌≡◌, ◌∙◌, length, true≢false, sym, subst, List, arith}
 use Rattle.xk_core.specs.Core.{CoreValue}
 use Rattle.xk_outcomes.specs.declared.found.Found.{Found}
 use Rattle.xk_outcomes.specs.Listing.{AreOf, AreNoted}
+use Rattle.xk_outcomes.specs.Outcomes.{HasApart}
 use Rattle.xk_outcomes.specs.Search.{AreFound, AreAllFound}
 use Rattle.xk_outcomes.proofs.ListingLemmas.{all_shown, all_listed, all_apart}
 use Rattle.xk_outcomes.proofs.all_outcomes.told_in.Goals.{then-explored, else-explored}
@@ -31,5 +32,7 @@ returns-clause-all c done =
 pub returns-clause-kept : goal.returns-clause-kept
 returns-clause-kept c =
     let all = c.in_ok-explored.explored.all.items in
-    all_apart c.args.verified.now c.args.arguments.now all
-    (subst (λ (s : CoreValue). AreFound s all) c.in_ok-start.ensures c.in_ok-explored.ensures.found) c.in_ok-explored.ensures.different
+    let many : length all ≡ c.len.result = omega arith in
+    subst (HasApart c.args.verified.now c.args.arguments.now) many
+    (all_apart c.args.verified.now c.args.arguments.now all
+    (subst (λ (s : CoreValue). AreFound s all) c.in_ok-start.ensures c.in_ok-explored.ensures.found) c.in_ok-explored.ensures.different)
