@@ -1,0 +1,139 @@
+-- What one run without a race tells of others, from the class law.
+use Rattle.std.proofs.Common.{◌≡◌, ℕ, ℤ, Bool, true, false, true≢false, List, [], ◌∷◌, ◌++◌, Some, None, Option, refl, sym, ap, ◌∙◌, subst}
+use Rattle.std.specs.Prelude.{slice_get, option_and_then, All}
+use Rattle.std.specs.List.{filter_map}
+use Rattle.std.specs.Option.{option_map_or}
+use Rattle.std.proofs.lemmas.List.{append-nil}
+use Rattle.std.proofs.lemmas.List.Elements.{All-get_or}
+use Rattle.std.proofs.lemmas.Option.{get_or_from_slice_get, slice_get_within, none-some}
+use Rattle.xk_types.specs.declared.instr.Instr.{Instr}
+use Rattle.xk_types.specs.declared.instr.Instr.TheVariants as instr
+use Rattle.xk_types.specs.Acceptance.{IsAccepted}
+use Rattle.xk_types.specs.Code.{UnitValue, ModuleValue, IsWithinLimits}
+use Rattle.xk_types.specs.World.{Activity, World, AreArguments, opening, instruction_at}
+use Rattle.xk_types.specs.Step.{step}
+use Rattle.xk_types.specs.Schedule.{Through, run, all_ended, number_printed, printed}
+use Rattle.xk_laws.proofs.ReachabilityLemmas.{same_through, first_step, opening_reached}
+use Rattle.xk_squares.specs.Conflicts.{reads, puts, next_instruction, AreConflictFree}
+use Rattle.xk_squares.proofs.ExplorationLaw.{nobody_steps}
+use Rattle.xk_classes.specs.Moments.{is_make, is_start, is_print, BeginsInOrder}
+use Rattle.xk_classes.specs.Classes.{AreOneClass, HasNoRace, HasNeverTwo}
+use Rattle.xk_classes.specs.OneRun.{GoesAsWell, IsBegun, IsWholeRun, ComeToOne, gets_or_puts, AddsInUnit, AddsAtMost}
+use Rattle.xk_classes.proofs.SwapLemmas.{run_first}
+use Rattle.xk_classes.proofs.ClassLemmas.{class_as_well, class_prints}
+use Rattle.xk_classes.proofs.ClassLaw.{in_order, every}
+use Rattle.xk_classes.proofs.EdgeLaw.{ordered_free}
+use Rattle.xk_classes.specs.Edges.{StepName, AreSound, AreOrdered}
+
+pub one_of : {X : Type 0} (P : X → Type 0) (xs : List X) (k : ℕ) (x : X) → slice_get xs k ≡ Some x → All P xs → P x
+one_of P xs k x h all = subst P (get_or_from_slice_get xs k x x h) (All-get_or P xs k x (slice_get_within xs k x h) all)
+
+-- ---- whole runs
+
+-- nothing follows where all have ended
+run_on_ended : (m : ModuleValue) (t rest : List ℕ) (w y z : World) → run m t w ≡ Through y → all_ended y ≡ true → run m (t ++ rest) w ≡ Through z → rest ≡ []
+run_on_ended m [] [] w y z h ended g = refl
+run_on_ended m [] (a ∷ rest) w y z h ended g =
+    let x = first_step w z (step m w a) (run m rest) g in
+    absurd (nobody_steps m w x.0 a x.1 x.2 (ap all_ended (same_through w y h) ∙ ended))
+run_on_ended m (a ∷ t) rest w y z h ended g =
+    let x = first_step w y (step m w a) (run m t) h in
+    run_on_ended m t rest x.0 y z x.3 ended (sym (run_first m (t ++ rest) w x.0 a x.1 x.2) ∙ g)
+
+module _ (m : ModuleValue) (args : List ℤ) (limits : IsWithinLimits m) (ok : IsAccepted m) (taken : AreArguments m args) where
+  pub same : (s t : List ℕ) (z : World) → run m s (opening m args) ≡ Through z → AreOneClass m (opening m args) s t → GoesAsWell m (opening m args) s t z
+  same s t z legal h = class_as_well m limits ok (opening m args) z (opening_reached m args taken) s t h legal
+
+  pub prints : (s t : List ℕ) (z : World) → run m s (opening m args) ≡ Through z → AreOneClass m (opening m args) s t → HasNeverTwo is_print m (opening m args) s
+      → printed m s (opening m args) ≡ printed m t (opening m args)
+  prints s t z legal h never = class_prints m limits ok (opening m args) z (opening_reached m args taken) s t h legal never
+
+  pub begun_in_order : (s t : List ℕ) (z y : World) → IsWholeRun m args s z → HasNoRace m (opening m args) s → run m t (opening m args) ≡ Through y
+      → BeginsInOrder m (opening m args) t s → IsBegun m (opening m args) s t
+  begun_in_order s t z y one free goes order = in_order m limits ok t s (opening m args) y z (opening_reached m args taken) one.legal one.ended free goes order
+
+  pub begun_every : (s t : List ℕ) (z y : World) → IsWholeRun m args s z → HasNoRace m (opening m args) s → HasNeverTwo is_make m (opening m args) s
+      → HasNeverTwo is_start m (opening m args) s → run m t (opening m args) ≡ Through y → IsBegun m (opening m args) s t
+  begun_every s t z y one free made started goes = every m limits ok t s (opening m args) y z (opening_reached m args taken) one.legal one.ended free made started goes
+
+  pub ordered_run : (s : List ℕ) (z : World) (edges : List (StepName × StepName)) → IsWholeRun m args s z → AreSound m (opening m args) s edges
+      → AreOrdered m (opening m args) s edges → HasNoRace m (opening m args) s
+  ordered_run s z edges one sound ordered = ordered_free m limits ok (opening m args) z (opening_reached m args taken) s one.legal one.ended edges sound ordered
+
+  -- a whole run with which a schedule of a class begins is one of the class
+  whole_member : (s t : List ℕ) (z y : World) → IsWholeRun m args s z → IsWholeRun m args t y → IsBegun m (opening m args) s t → AreOneClass m (opening m args) s t
+  whole_member s t z y one other begun =
+      let g : GoesAsWell m (opening m args) s (t ++ begun.rest) z = same s (t ++ begun.rest) z one.legal begun.member in
+      let none : begun.rest ≡ [] = run_on_ended m t begun.rest (opening m args) y g.last other.legal other.ended g.legal in
+      subst (AreOneClass m (opening m args) s) (ap (λ l. t ++ l) none ∙ append-nil t) begun.member
+
+  pub come_to_one : (s t : List ℕ) (z y : World) → IsWholeRun m args s z → IsWholeRun m args t y → AreOneClass m (opening m args) s t → ComeToOne m args s t z y
+  come_to_one s t z y one other member =
+      let g : GoesAsWell m (opening m args) s t z = same s t z one.legal member in
+      record {
+        cells = ap (λ (x : World). x.cells) g.alike ∙ ap (λ (x : World). x.cells) (same_through g.last y (sym g.legal ∙ other.legal));
+        prints = λ a. ap (filter_map number_printed) (g.same.each a);
+      }
+
+  pub one_in_order : (s t : List ℕ) (z y : World) → IsWholeRun m args s z → HasNoRace m (opening m args) s → IsWholeRun m args t y
+      → BeginsInOrder m (opening m args) t s → ComeToOne m args s t z y
+  one_in_order s t z y one free other order =
+      come_to_one s t z y one other (whole_member s t z y one other (begun_in_order s t z y one free other.legal order))
+
+  pub one_every : (s t : List ℕ) (z y : World) → IsWholeRun m args s z → HasNoRace m (opening m args) s → HasNeverTwo is_make m (opening m args) s
+      → HasNeverTwo is_start m (opening m args) s → IsWholeRun m args t y → ComeToOne m args s t z y
+  one_every s t z y one free made started other =
+      come_to_one s t z y one other (whole_member s t z y one other (begun_every s t z y one free made started other.legal))
+
+  pub one_prints : (s t : List ℕ) (z y : World) → IsWholeRun m args s z → HasNoRace m (opening m args) s → HasNeverTwo is_print m (opening m args) s
+      → IsWholeRun m args t y → BeginsInOrder m (opening m args) t s → printed m s (opening m args) ≡ printed m t (opening m args)
+  one_prints s t z y one free never other order =
+      prints s t z one.legal (whole_member s t z y one other (begun_in_order s t z y one free other.legal order)) never
+
+-- ---- modules that add to shared numbers at most
+
+adder_reads : (i : Instr) (c : ℕ) → gets_or_puts i ≡ false → reads i c ≡ true → ⊥
+adder_reads (instr.Get d s) c h g = true≢false h
+adder_reads _ c h g = true≢false (sym g)
+
+adder_puts : (i : Instr) (c : ℕ) → gets_or_puts i ≡ false → puts i c ≡ true → ⊥
+adder_puts (instr.Put s x) c h g = true≢false h
+adder_puts _ c h g = true≢false (sym g)
+
+-- what an activity stands at is one of the module's instructions
+next_adds : (m : ModuleValue) → AddsAtMost m → (w : World) (a : ℕ) (i : Instr) → next_instruction m w a ≡ Some i → gets_or_puts i ≡ false
+next_adds m adds w a i h = of_act (slice_get w.activities a) h
+  where
+    of_code : (u : UnitValue) (at : ℕ) (is : AddsInUnit u) → slice_get u.code at ≡ Some i → gets_or_puts i ≡ false
+    of_code u at is g = one_of (λ j. gets_or_puts j ≡ false) u.code at i g is
+
+    of_unit : (at : ℕ) (o : Option UnitValue) → ((u : UnitValue) → o ≡ Some u → AddsInUnit u) → option_and_then (λ (u : UnitValue). slice_get u.code at) o ≡ Some i
+        → gets_or_puts i ≡ false
+    of_unit at None is g = absurd (none-some i g)
+    of_unit at (Some u) is g = of_code u at (is u refl) g
+
+    of_act : (o : Option Activity) → option_and_then (λ (x : Activity). instruction_at m x.frame) o ≡ Some i → gets_or_puts i ≡ false
+    of_act None g = absurd (none-some i g)
+    of_act (Some x) g = of_unit x.frame.place (slice_get m.units x.frame.unit) (λ u is. one_of AddsInUnit m.units x.frame.unit u is adds) g
+
+-- so two next instructions never conflict
+of_next : (o : Option Instr) (test : Instr → Bool) → ((i : Instr) → o ≡ Some i → test i ≡ true → ⊥) → option_map_or test o false ≡ true → ⊥
+of_next None test h g = true≢false (sym g)
+of_next (Some i) test h g = h i refl g
+
+adders_apart : (m : ModuleValue) → AddsAtMost m → (w : World) (a b : ℕ) → AreConflictFree m w a b
+adders_apart m adds w a b = record {
+  second_reads = λ c h g. read b c g;
+  first_reads = λ c h g. read a c g;
+  first_puts = λ c h g. put a c h;
+  second_puts = λ c h g. put b c h;
+}
+  where
+    read : (d c : ℕ) → option_map_or (λ i. reads i c) (next_instruction m w d) false ≡ true → ⊥
+    read d c = of_next (next_instruction m w d) (λ i. reads i c) (λ i is. adder_reads i c (next_adds m adds w d i is))
+
+    put : (d c : ℕ) → option_map_or (λ i. puts i c) (next_instruction m w d) false ≡ true → ⊥
+    put d c = of_next (next_instruction m w d) (λ i. puts i c) (λ i is. adder_puts i c (next_adds m adds w d i is))
+
+pub adders_free : (m : ModuleValue) (w : World) (s : List ℕ) → AddsAtMost m → HasNoRace m w s
+adders_free m w s adds v met a b differs h g = adders_apart m adds v a b

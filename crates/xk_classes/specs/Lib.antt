@@ -1,0 +1,4 @@
+pub mod Moments
+pub mod Classes
+pub mod OneRun
+pub mod Edges
