@@ -27,7 +27,7 @@ loop-k-preserved c start found here =
     below_more (λ (j : ℕ). (y : Found) → slice_get c.args.all.now j ≡ Some y → IsAt y c.args.new.now.core.world c.args.new.now.printed.items → ⊥) c.loop-k.k
     (c.loop-k.invariant start found here)
     (λ y also at. c.if-is_same.ensures.no (here.module_is ∙ sym (found c.loop-k.k c.at_place.result.now there).module_is) refl
-        (subst (λ (z : Found). IsAt z c.args.new.now.core.world c.args.new.now.printed.items) (sym (same_Some c.at_place.result.now y (sym there ∙ also))) at))
+    (subst (λ (z : Found). IsAt z c.args.new.now.core.world c.args.new.now.printed.items) (sym (same_Some c.at_place.result.now y (sym there ∙ also))) at))
 
 pub returns-clause-yes : goal.returns-clause-yes
 returns-clause-yes c h = absurd (true≢false (sym h))
