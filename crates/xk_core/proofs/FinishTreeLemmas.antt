@@ -108,7 +108,7 @@ since_told ns w width a = by (told_at ns w.activities width a)
     by (Somebody n x h e g) = ap (option_map (λ (x : Activity). x.since)) g ∙ sym (ap (option_map (λ (x : Activity). x.since)) e)
 
 -- the tree tells of the activities as the definition has them
-nodes_told : (m : ModuleValue) (ns : List NodeValue) (xs : List Activity) → AreTold m ns xs → AreNodesOf (with_nodes ns xs) ns
+pub nodes_told : (m : ModuleValue) (ns : List NodeValue) (xs : List Activity) → AreTold m ns xs → AreNodesOf (with_nodes ns xs) ns
 nodes_told m ns xs t = from ns xs t.width (λ a n x h g. (t.each a n x h g).ended)
   where
     from : (ks : List NodeValue) (ys : List Activity) → length ks ≡ length ys

@@ -3,7 +3,7 @@
 ghost use Rattle.std.specs.Prelude.{◌≡◌, ◌⊎◌, true, false, ◌+◌, ◌<◌, ◌≤◌, Some, None, length, option_map, option_copied, slice_get, is_some, vec_capacity, IsTrue, IfOk, IfSome, IfNone, OnOk, OnErr};
 ghost use Rattle.std.specs.Bool.{Decides};
 ghost use Rattle.xk_types.specs.World.{AreArguments, opening, standing_of};
-ghost use Rattle.xk_types.specs.Step.{Stepped, step, waits};
+ghost use Rattle.xk_types.specs.Step.{Stepped, innermost, is_under, step, waits};
 ghost use Rattle.xk_types.specs.Schedule.{IsReached, is_enabled, all_ended};
 ghost use Rattle.xk_types.specs.Bound.{steps_bound};
 ghost use Rattle.xk_core.specs.Core.{is_living, is_running, IsBeyond, Locally, next_instruction, next_of, governor, opening_core, StepsTo, WantsMemory, IsCore, IsLeastEnabled, is_quiet, advanced_now, is_held_back_by, is_registered_on, is_next_local, with_world, is_waiting};
@@ -95,7 +95,7 @@ impl<'m> Core<'m> {
     }
 
     /// The shared numbers.
-    pub(crate) fn cells(&self) -> &[i64]
+    pub fn cells(&self) -> &[i64]
         ensures { result.now ≡ self.now.world.cells }
     {
         self.state.cells()
@@ -206,7 +206,7 @@ impl<'m> Core<'m> {
     }
 
     /// Where the activity stands on the clock.
-    pub(crate) fn standing(&self, act: Act, clock: ClockId) -> Standing
+    pub fn standing(&self, act: Act, clock: ClockId) -> Standing
         requires activity { act < length self.now.world.activities }
         requires clock { clock < length self.now.world.clocks }
         ensures { option_map (λ c. standing_of c act) (slice_get self.now.world.clocks clock)
@@ -263,6 +263,16 @@ impl<'m> Core<'m> {
         ensures { result ≡ governor self.now.world act }
     {
         self.finishes.governor(act)
+    }
+
+    /// Whether the activity is under the finish that the owner opened last: it was started while that was the innermost one, by the owner
+    /// or by somebody under it.
+    pub fn is_under(&self, owner: Act, act: Act) -> bool
+        requires { owner < length self.now.world.activities }
+        ensures { result ≡ is_under self.now.world.activities
+            (innermost owner (act_at self.now.world.activities owner)) act }
+    {
+        self.finishes.is_under(owner, act)
     }
 
     /// Whether nobody else can see the next step of the activity. It can take that step then.

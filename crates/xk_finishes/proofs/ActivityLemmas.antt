@@ -140,3 +140,10 @@ pub awaits_innermost_same : (acts : List Activity) (nodes : List NodeValue) → 
     → tree.awaits_innermost nodes a ≡ step.awaits acts (step.innermost a act)
 awaits_innermost_same acts nodes are a act h =
     awaits_same acts nodes are (tree.innermost_of a (node_at nodes a)) ∙ ap (λ (n : NodeValue). step.awaits acts (tree.innermost_of a n)) (node_is acts nodes are a act h)
+
+-- and somebody is under that finish where the tree says so
+pub under_innermost_same : (acts : List Activity) (nodes : List NodeValue) → AreNodesOf acts nodes → (a : ℕ) (act : Activity) → slice_get acts a ≡ Some act
+    → (b : ℕ) → tree.is_under nodes (tree.innermost_of a (node_at nodes a)) b ≡ step.is_under acts (step.innermost a act) b
+under_innermost_same acts nodes are a act h b =
+    ap (λ (n : NodeValue). tree.is_under nodes (tree.innermost_of a n) b) (node_is acts nodes are a act h)
+    ∙ is_under_same acts nodes (step.innermost a act) are b

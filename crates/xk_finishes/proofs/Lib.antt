@@ -3,4 +3,5 @@ pub mod CounterLemmas
 pub mod CounterStepLemmas
 pub mod OpenFinishLemmas
 pub mod OwnerLemmas
+pub mod UnderLemmas
 pub mod CounterListLemmas

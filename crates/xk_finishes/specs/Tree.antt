@@ -5,7 +5,7 @@
 --
 -- `specs/Step` of xk_types says the same of whole activities. The tree knows of an activity only what concerns finishes, so it is
 -- said here of that; the laws in `src/laws.rt` join the two.
-use Rattle.std.specs.Prelude.{◌≡◌, ℕ, zero, suc, ◌+◌, ◌-◌, ◌<◌, ◌==◌, Bool, true, false, not, ◌&&◌, ◌||◌, List, [], ◌∷◌, length, Some, slice_get, slice_set, slice_index_or, if◌then◌else◌}
+use Rattle.std.specs.Prelude.{◌≡◌, ℕ, zero, suc, ◌+◌, ◌-◌, ◌<◌, ◌==◌, Bool, true, false, not, ◌&&◌, ◌||◌, List, [], ◌∷◌, length, Option, Some, option_map, option_and_then, slice_get, slice_set, slice_index_or, if◌then◌else◌}
 use Rattle.std.specs.Option.{option_map_or}
 use Rattle.xk_types.specs.World.{Finish, Activity, root, is_ended}
 use Rattle.xk_types.specs.Step.{same_finish}
@@ -33,6 +33,10 @@ innermost_of a node = record { owner = Some a; depth = node.opened }
 -- the finish that governs what activity a starts: the innermost that it has open, else the one that governs it
 abbrev pub governing_of : ℕ → NodeValue → Finish
 governing_of a node = if node.opened == 0 then node.governed else innermost_of a node
+
+-- the finish that governs an activity, if there is one
+abbrev pub governed_of : List NodeValue → Option ℕ → Option Finish
+governed_of nodes o = option_and_then (λ b. option_map (λ node. node.governed) (slice_get nodes b)) o
 
 -- two activities, or one in two trees, have as many finishes open, and the same governs them
 abbrev pub HaveSameFinishes : NodeValue → NodeValue → Type 0

@@ -3,6 +3,7 @@
 ghost use Rattle.std.specs.Prelude.{◌≡◌, Some};
 ghost use Rattle.std.specs.Bool.{Decides};
 ghost use Rattle.xk_types.specs.World.{root};
+ghost use Rattle.xk_types.specs.Step.{same_finish, same_owner};
 
 use std::marker::Model;
 use xk_types::Act;
@@ -27,7 +28,8 @@ impl Model for Finish {
 
 /// Whether it is the same activity, or nobody both times.
 fn is_same_owner(owner: Option<Act>, other: Option<Act>) -> bool
-    ensures { Decides result (owner ≡ other) }
+    ensures decides { Decides result (owner ≡ other) }
+    ensures same { result ≡ same_owner owner other }
 {
     match owner {
         None => other.is_none(),
@@ -75,8 +77,10 @@ impl Finish {
 
     /// Whether it is the other one.
     pub fn is_same(self, other: Finish) -> bool
-        ensures { Decides result (self ≡ other) }
+        ensures decides { Decides result (self ≡ other) }
+        // The same in the terms of a step.
+        ensures same { result ≡ same_finish self other }
     {
-        self.depth == other.depth && is_same_owner(self.owner, other.owner)
+        is_same_owner(self.owner, other.owner) && self.depth == other.depth
     }
 }

@@ -4,7 +4,7 @@ ghost use Rattle.std.specs.Prelude.{◌≡◌, ◌<◌, ◌^◌, false, not, Lis
 ghost use Rattle.std.specs.Bool.{Decides};
 ghost use Rattle.xk_types.specs.World.{Activity, root};
 ghost use Rattle.xk_types.specs.Step as step;
-ghost use Rattle.xk_finishes.specs.Tree.{fresh_node, node_at, node_entered, node_left, node_ended, changed_at, governing_of, awaits_innermost, AreNodesOf, HaveSameFinishes};
+ghost use Rattle.xk_finishes.specs.Tree.{fresh_node, node_at, node_entered, node_left, node_ended, changed_at, governing_of, governed_of, innermost_of, is_under, awaits_innermost, AreNodesOf, HaveSameFinishes};
 
 use crate::counters::Counters;
 use crate::finish::Finish;
@@ -118,6 +118,52 @@ impl FinishTree {
     {
         let depth = self.nodes[act.0 as usize].opened();
         self.counters.of(act, depth) == 0
+    }
+
+    /// Whether the activity is under the finish that the owner opened last.
+    pub fn is_under(&self, owner: Act, act: Act) -> bool
+        requires { owner < length self.now }
+        ensures under { result
+            ≡ is_under self.now (innermost_of owner (node_at self.now owner)) act }
+        // The same in the terms of a step, whatever else the activities are.
+        ensures step { (acts : List Activity) (a : Activity) → AreNodesOf acts self.now
+            → slice_get acts owner ≡ Some a
+            → result ≡ step.is_under acts (step.innermost owner a) act }
+    {
+        let depth = self.nodes[owner.0 as usize].opened();
+        self.has_below(Finish::opened_by(owner, depth), act)
+    }
+
+    /// Whether the activity is under the finish: that governs it, or one that its owner is under. Goes up from owner to owner.
+    fn has_below(&self, finish: Finish, act: Act) -> bool
+        ensures { result ≡ is_under self.now finish act }
+    {
+        let mut member = Some(act);
+        for _above in 0..self.nodes.len() {
+            match self.governed(member) {
+                None => return false,
+                Some(governed) => {
+                    if governed.is_same(finish) {
+                        return true;
+                    }
+                    member = governed.owner();
+                }
+            }
+        }
+        false
+    }
+
+    /// The finish that governs an activity, if there is one.
+    fn governed(&self, act: Option<Act>) -> Option<Finish>
+        ensures { result ≡ governed_of self.now act }
+    {
+        match act {
+            None => None,
+            Some(number) => match self.nodes.get(number.0 as usize) {
+                None => None,
+                Some(node) => Some(node.governed()),
+            },
+        }
     }
 
     /// The activity that opened the finish which governs this one; None where nobody did, as for main.
