@@ -1,5 +1,5 @@
 #!/usr/bin/env python3
-"""A second telling, in Python, of what is told of a logged run: `replay`, `chart`, `events` and `lanes`.
+"""A second telling, in Python, of what is told of a logged run: `replay`, `chart`, `events`, `lanes` and `races`.
 
     python3 tests/reference/telling_runs.py events [--module] FILE LOG [--arg=N]..
 """
@@ -14,16 +14,18 @@ import telling
 import telling_events
 import telling_lanes
 import telling_log
+import telling_races
 import telling_source
 from telling_events import Program
 from telling_log import Played, Teller
 
+# Those that the program has; `races` is told here alone.
 COMMANDS = ("replay", "chart", "events", "lanes")
 
 
 def teller(command: str, data: bytes, is_module: bool) -> Teller:
     """What a command tells of a run of this program, whose bytes are looked at where there is one."""
-    of_program = {"events": telling_events.events, "lanes": telling_lanes.lanes}
+    of_program = {"events": telling_events.events, "lanes": telling_lanes.lanes, "races": telling_races.races}
     if command in of_program:
         return partial(of_program[command], Program(data, is_module))
     return {"replay": Played.output, "chart": Played.chart}[command]
