@@ -60,8 +60,8 @@ pub fn event_words(alloc: Global, step: &RunStep) -> Result<String, AllocError>
     format!(in alloc; "{name}{operand}")
 }
 
-/// Where an instruction stands: `at 6:5`, or `unit 0 place 3`.
-fn place_words(
+/// Where an instruction stands: `at 6:5`, or `unit 0 place 3`. Err where memory was refused.
+pub fn place_words(
     alloc: Global,
     unit: u16,
     place: u32,

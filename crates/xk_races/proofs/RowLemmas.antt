@@ -37,13 +37,11 @@ below_length f (suc n) = omega (arith, length-append (each_below (λ k. f k ∷ 
 
 below_at : (f : ℕ → ℕ) (n j : ℕ) → j < n → get_or (each_below (λ k. f k ∷ []) n) j 0 ≡ f j
 below_at f zero j lt = absurd (omega (arith, lt))
-below_at f (suc n) j lt = of (cases_lt j n)
+below_at f (suc n) j lt = of (below_at f n j) (cases_lt j n)
   where
-    xs : List ℕ
-    xs = each_below (λ k. f k ∷ []) n
-    of : (j < n) ⊎ (n ≤ j) → get_or (each_below (λ k. f k ∷ []) n ++ f n ∷ []) j 0 ≡ f j
-    of (inl less) = get_or_append_left (each_below (λ k. f k ∷ []) n) (f n ∷ []) 0 j (subst (λ m. j < m) (sym (below_length f n)) less) ∙ below_at f n j less
-    of (inr ge) =
+    of : (j < n → get_or (each_below (λ k. f k ∷ []) n) j 0 ≡ f j) → (j < n) ⊎ (n ≤ j) → get_or (each_below (λ k. f k ∷ []) n ++ f n ∷ []) j 0 ≡ f j
+    of rest (inl less) = get_or_append_left (each_below (λ k. f k ∷ []) n) (f n ∷ []) 0 j (subst (λ m. j < m) (sym (below_length f n)) less) ∙ rest less
+    of rest (inr ge) =
         let is : n ≡ j = omega (arith, lt, ge) in
         subst (λ i. get_or (each_below (λ k. f k ∷ []) n ++ f n ∷ []) i 0 ≡ f i) is
         (subst (λ i. get_or (each_below (λ k. f k ∷ []) n ++ f n ∷ []) i 0 ≡ f n) (below_length f n) (get_or-append_seam (each_below (λ k. f k ∷ []) n) (f n) [] 0))

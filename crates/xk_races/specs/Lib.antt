@@ -1,5 +1,6 @@
 pub mod Lists
 pub mod Deeds
 pub mod Knowledge
+pub mod Order
 pub mod Races
 pub mod Text
