@@ -1,2 +1,5 @@
+pub mod GrowthLemmas
 pub mod RowLemmas
 pub mod OrderLemmas
+pub mod KnowledgeLemmas
+pub mod SightLemmas

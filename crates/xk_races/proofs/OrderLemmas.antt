@@ -1,5 +1,5 @@
 -- Rows that tell of each activity its last deed that came before, are exactly the least order.
-use Rattle.std.proofs.Common.{◌≡◌, ◌∙◌, ℕ, zero, suc, ◌+◌, ◌<◌, ◌≤◌, List, [], ◌∷◌, max, Some, slice_get, ◌⊎◌, inl, inr, refl, sym, ap, subst, arith}
+use Rattle.std.proofs.Common.{◌≡◌, ◌∙◌, ℕ, zero, suc, ◌+◌, ◌<◌, ◌≤◌, List, [], ◌∷◌, ◌++◌, max, Some, slice_get, ◌⊎◌, inl, inr, refl, sym, ap, subst, arith}
 use Rattle.std.proofs.lemmas.Bool.{cases_eq, cases_lt}
 use Rattle.std.proofs.lemmas.Option.{same_Some}
 use Rattle.xk_races.specs.declared.deeds.Deed.{Deed}
@@ -108,3 +108,22 @@ tells_marked ds r n e here t = record { true_of = known; all_of = knows }
         subst (λ x. i < x) (sym (with_at_other 0 r e.step.act d.step.act (suc n) other)) (t.all_of i d at (f.0, f.2, f.1))
     knows : (i : ℕ) (d : Deed) → IsAt ds i d → Reaches ds (λ k. k ≡ n) i → i < number_at (with_at 0 r e.step.act (suc n)) d.step.act
     knows i d at h = knows_by i d at (cases_eq d.step.act e.step.act) (subst (λ m. IsUpTo ds i m) h.1 h.2)
+
+-- ---- by way of others
+
+leads_through : (ds : List Deed) (i k : ℕ) (ks js : List ℕ) (m : ℕ) → Leads ds i ks k → Leads ds k js m → Leads ds i (js ++ k ∷ ks) m
+leads_through ds i k ks [] m h g = (h, g)
+leads_through ds i k ks (j ∷ js) m h g = (leads_through ds i k ks js j h g.0, g.1)
+
+up_to_through : (ds : List Deed) (i k m : ℕ) → IsUpTo ds i k → IsUpTo ds k m → IsUpTo ds i m
+up_to_through ds i k m (inl is) g = subst (λ j. IsUpTo ds j m) (sym is) g
+up_to_through ds i k m (inr h) (inl is) = inr (subst (λ j. Before ds i j) is h)
+up_to_through ds i k m (inr h) (inr g) = inr (g.0 ++ k ∷ h.0, leads_through ds i k h.0 g.0 m h.1 g.1)
+
+-- of deeds each of which comes up to one of the others
+pub tells_within : (ds : List Deed) (row : List ℕ) (S T : ℕ → Type 0) → ((k : ℕ) → S k → Reaches ds T k) → ((k : ℕ) → T k → Reaches ds S k)
+    → Tells ds row S → Tells ds row T
+tells_within ds row S T to from t = record {
+  true_of = λ i d at lt. let h = t.true_of i d at lt in let g = to h.0 h.1 in (g.0, g.1, up_to_through ds i h.0 g.0 h.2 g.2);
+  all_of = λ i d at h. let g = from h.0 h.1 in t.all_of i d at (g.0, g.1, up_to_through ds i h.0 g.0 h.2 g.2);
+}

@@ -1,6 +1,6 @@
 -- What each activity knows of a run, deed by deed: of each activity, its last deed that came before. Deeds are numbered from 1 in order of the
 -- run; a row has the number of that deed for each activity, and 0 where there is none.
-use Rattle.std.specs.Prelude.{ℕ, suc, nat_le, Bool, true, false, if◌then◌else◌, List, [], ◌∷◌, ◌++◌, length, slice_set}
+use Rattle.std.specs.Prelude.{ℕ, suc, nat_le, Bool, true, false, if◌then◌else◌, List, [], ◌∷◌, ◌++◌, length}
 use Rattle.xk_races.specs.declared.deeds.Deed.{Deed}
 use Rattle.xk_races.specs.declared.deeds.Part.{Part}
 use Rattle.xk_races.specs.declared.deeds.Part.TheVariants as part
@@ -47,15 +47,11 @@ pub record Known : Type 0 where
 
 -- before the first deed
 abbrev pub nothing_known : Known
-nothing_known = record { acts = []; signals = []; advances = []; ends = [] ∷ []; scopes = record { within = []; around = 0 ∷ [] } }
+nothing_known = record { acts = []; signals = []; advances = []; ends = []; scopes = record { within = []; around = 0 ∷ [] } }
 
 -- row k learns what another row knows
 abbrev pub told_to : List (List ℕ) → ℕ → List ℕ → List (List ℕ)
 told_to rows k row = with_at [] rows k (joined (row_at rows k) row)
-
--- the same where there is such a row
-abbrev pub told_there : List (List ℕ) → ℕ → List ℕ → List (List ℕ)
-told_there rows k row = slice_set rows k (joined (row_at rows k) row)
 
 -- the finish that activity a is in
 abbrev pub finish_of : ℕ → Known → ℕ
@@ -87,8 +83,8 @@ abbrev pub told : ℕ → Part → Known → Known
 told a (part.Start b) k = started a b k
 told a (part.Signal c) k = record k { signals = told_to k.signals c (row_at k.acts a) }
 told a (part.Advance c) k = record k { advances = told_to k.advances c (row_at k.signals c) }
-told a part.End k = record k { ends = told_there k.ends (finish_of a k) (row_at k.acts a) }
-told a part.Open k = record k { ends = k.ends ++ [] ∷ [] }
+told a part.End k = record k { ends = told_to k.ends (finish_of a k) (row_at k.acts a) }
+told a part.Open k = k
 told a (part.Pass c) k = k
 told a part.Close k = k
 told a (part.Access x) k = k

@@ -214,21 +214,21 @@ fn cell_in(code: &[Instr], place: u32) -> u32
 }
 
 /// Which shared number a step had to do with.
-fn cell_at(module: &Module, step: &RunStep) -> u32
-    ensures { result ≡ cell_at module.now step.now }
+fn cell_at(program: &Module, step: &RunStep) -> u32
+    ensures { result ≡ cell_at program.now step.now }
 {
-    match module.units().get(step.unit as usize) {
+    match program.units().get(step.unit as usize) {
         Some(unit) => cell_in(&unit.code, step.place),
         None => 0,
     }
 }
 
 /// What a step did that has to do with no clock, if it did.
-fn plain_part(module: &Module, step: &RunStep) -> Option<Part>
-    ensures { result ≡ plain_part module.now step.now step.now.event }
+fn plain_part(program: &Module, step: &RunStep) -> Option<Part>
+    ensures { result ≡ plain_part program.now step.now step.now.event }
 {
     match step.event {
-        Event::Got | Event::Put | Event::Added => Some(Part::Access(cell_at(module, step))),
+        Event::Got | Event::Put | Event::Added => Some(Part::Access(cell_at(program, step))),
         Event::Printed(_) => Some(Part::Print),
         Event::Opened => Some(Part::Open),
         Event::Closed => Some(Part::Close),
@@ -239,11 +239,11 @@ fn plain_part(module: &Module, step: &RunStep) -> Option<Part>
 }
 
 /// Adds that part of a step.
-fn push_plain(list: &mut Vec<Deed>, module: &Module, step: &RunStep) -> Result<(), AllocError>
+fn push_plain(list: &mut Vec<Deed>, program: &Module, step: &RunStep) -> Result<(), AllocError>
     ensures { OnOk result (list.new.items ≡ list.old.items
-        ++ plain module.now step.now) }
+        ++ plain program.now step.now) }
 {
-    if let Some(part) = plain_part(module, step) {
+    if let Some(part) = plain_part(program, step) {
         list.push(Deed { step: *step, part })?;
     }
     Ok(())
@@ -274,19 +274,19 @@ fn push_seen(
     alloc: Global,
     list: &mut Vec<Deed>,
     core: &mut Core<'_>,
-    module: &Module,
+    program: &Module,
     act: Act,
 ) -> Result<Event, AllocError>
     requires enabled { is_enabled core.old.module_run core.old.world act ≡ true }
-    requires module { core.old.module_run ≡ module.now }
+    requires same { core.old.module_run ≡ program.now }
     ensures stepped { IfOk result (StepsTo core.old act core.new) }
     ensures told { IfOk result (λ e. list.new.items ≡ list.old.items
-        ++ tell_deeds module.now act core.old.world core.new.world e) }
+        ++ tell_deeds program.now act core.old.world core.new.world e) }
     ensures same_module { core.new.module_run ≡ core.old.module_run }
 {
     let awaiting = awaiting(alloc, core, act)?;
     let step = take_step(core, act)?;
-    push_plain(list, module, &step)?;
+    push_plain(list, program, &step)?;
     push_at_clocks(alloc, list, core, &step, &awaiting)?;
     Ok(step.event)
 }
@@ -296,20 +296,20 @@ fn push_step(
     alloc: Global,
     list: &mut Vec<Deed>,
     core: &mut Core<'_>,
-    module: &Module,
+    program: &Module,
     act: Act,
 ) -> Result<Event, AllocError>
     requires enabled { is_enabled core.old.module_run core.old.world act ≡ true }
-    requires module { core.old.module_run ≡ module.now }
+    requires same { core.old.module_run ≡ program.now }
     ensures stepped { IfOk result (StepsTo core.old act core.new) }
     ensures told { IfOk result (λ e. list.new.items ≡ list.old.items
-        ++ tell_deeds module.now act core.old.world core.new.world e) }
+        ++ tell_deeds program.now act core.old.world core.new.world e) }
     ensures same_module { core.new.module_run ≡ core.old.module_run }
 {
     if core.next_local(act) {
         return core.step(act);
     }
-    push_seen(alloc, list, core, module, act)
+    push_seen(alloc, list, core, program, act)
 }
 
 /// Takes the steps of an entry, and adds their deeds.
@@ -317,19 +317,19 @@ fn push_entry(
     alloc: Global,
     list: &mut Vec<Deed>,
     core: &mut Core<'_>,
-    module: &Module,
+    program: &Module,
     entry: Entry,
 ) -> Result<(), AllocError>
     requires legal { IsLegalFrom core.old (replicate entry.steps entry.act) }
-    requires module { core.old.module_run ≡ module.now }
-    ensures told { OnOk result (list.new.items ≡ list.old.items ++ told (tell_deeds module.now)
+    requires same { core.old.module_run ≡ program.now }
+    ensures told { OnOk result (list.new.items ≡ list.old.items ++ told (tell_deeds program.now)
         core.old.module_run (replicate entry.steps entry.act) core.old.world) }
     ensures led { OnOk result (run core.old.module_run (replicate entry.steps entry.act)
         core.old.world ≡ Through core.new.world) }
     ensures same_module { core.new.module_run ≡ core.old.module_run }
 {
     for _done in 0..entry.steps {
-        push_step(alloc, list, core, module, Act(entry.act))?;
+        push_step(alloc, list, core, program, Act(entry.act))?;
     }
     Ok(())
 }

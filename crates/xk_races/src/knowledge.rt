@@ -5,7 +5,7 @@ ghost use Rattle.xk_races.specs.Lists.{number_at, row_at};
 ghost use Rattle.xk_races.specs.Knowledge.{after, heard, nothing_known, scope_closed, scope_opened, scoped, started, told, with_acts};
 
 use crate::deeds::{Deed, Part};
-use crate::rows::{Row, copied, empty_row, number_at, row_at, set_in, set_number, tell, tell_there};
+use crate::rows::{Row, copied, number_at, row_at, set_in, set_number, tell};
 use std::alloc::{AllocError, Global};
 use std::marker::Model;
 
@@ -99,15 +99,13 @@ impl Knowledge {
     pub fn new(alloc: Global) -> Result<Knowledge, AllocError>
         ensures { IfOk result (λ k. k ≡ nothing_known) }
     {
-        let mut ends = Vec::new(alloc);
-        ends.push(empty_row(alloc))?;
         let mut around = Vec::new(alloc);
         around.push(0)?;
         Ok(Knowledge {
             acts: Vec::new(alloc),
             signals: Vec::new(alloc),
             advances: Vec::new(alloc),
-            ends,
+            ends: Vec::new(alloc),
             scopes: Scopes {
                 within: Vec::new(alloc),
                 around,
@@ -129,11 +127,11 @@ impl Knowledge {
         match part {
             Part::Pass(c) => {
                 let row = row_at(&self.advances, c as usize);
-                tell(alloc, &mut self.acts, act, row)
+                tell(alloc, &mut self.acts, act as usize, row)
             }
             Part::Close => {
                 let row = row_at(&self.ends, self.scopes.of(act));
-                tell(alloc, &mut self.acts, act, row)
+                tell(alloc, &mut self.acts, act as usize, row)
             }
             _ => Ok(()),
         }
@@ -144,7 +142,7 @@ impl Knowledge {
         ensures { OnOk result (self.new ≡ started act child self.old) }
     {
         let row = copied(alloc, row_at(&self.acts, act as usize))?;
-        tell(alloc, &mut self.acts, child, &row)
+        tell(alloc, &mut self.acts, child as usize, &row)
     }
 
     /// Who learns by a deed what its activity knows.
@@ -154,16 +152,12 @@ impl Knowledge {
         let row = row_at(&self.acts, act as usize);
         match part {
             Part::Start(child) => self.start(alloc, act, child),
-            Part::Signal(c) => tell(alloc, &mut self.signals, c, row),
+            Part::Signal(c) => tell(alloc, &mut self.signals, c as usize, row),
             Part::Advance(c) => {
                 let signals = row_at(&self.signals, c as usize);
-                tell(alloc, &mut self.advances, c, signals)
+                tell(alloc, &mut self.advances, c as usize, signals)
             }
-            Part::End => tell_there(alloc, &mut self.ends, self.scopes.of(act), row),
-            Part::Open => {
-                self.ends.push(empty_row(alloc))?;
-                Ok(())
-            }
+            Part::End => tell(alloc, &mut self.ends, self.scopes.of(act), row),
             _ => Ok(()),
         }
     }

@@ -2,7 +2,7 @@
 
 ghost use Rattle.std.specs.Prelude.{◌≡◌, ℕ, [], suc, ◌-◌, ◌++◌, length, max, replicate, slice_set, IfOk, OnOk};
 ghost use Rattle.xk_races.specs.Lists.{joined, number_at, row_at, with_at};
-ghost use Rattle.xk_races.specs.Knowledge.{told_there, told_to};
+ghost use Rattle.xk_races.specs.Knowledge.{told_to};
 
 use std::alloc::{AllocError, Global};
 use std::marker::Model;
@@ -109,12 +109,17 @@ fn replace(rows: &mut Vec<Row>, k: usize, row: Row)
 }
 
 /// There are rows up to number k.
-fn grow(alloc: Global, rows: &mut Vec<Row>, k: u32) -> Result<(), AllocError>
+#[tactic(auto, using(crate::proofs::GrowthLemmas::grown, crate::proofs::GrowthLemmas::long_enough))]
+fn grow(alloc: Global, rows: &mut Vec<Row>, k: usize) -> Result<(), AllocError>
     ensures { OnOk result (rows.new.items ≡ rows.old.items
         ++ replicate (suc k - length rows.old.items) []) }
 {
-    let missing = (k as usize + 1).saturating_sub(rows.len());
-    push_empty(alloc, rows, missing)
+    if k < rows.len() {
+        return Ok(());
+    }
+    push_empty(alloc, rows, k - rows.len())?;
+    rows.push(empty_row(alloc))?;
+    Ok(())
 }
 
 /// Number x becomes n in row k.
@@ -130,7 +135,7 @@ pub fn set_in(
 {
     let mut numbers = copied(alloc, row_at(rows, k as usize))?;
     set_number(&mut numbers, x, n)?;
-    grow(alloc, rows, k)?;
+    grow(alloc, rows, k as usize)?;
     replace(rows, k as usize, Row { numbers });
     Ok(())
 }
@@ -147,25 +152,11 @@ pub fn copied(alloc: Global, numbers: &[usize]) -> Result<Vec<usize>, AllocError
 }
 
 /// Row k learns what another row knows.
-pub fn tell(alloc: Global, rows: &mut Vec<Row>, k: u32, row: &[usize]) -> Result<(), AllocError>
+pub fn tell(alloc: Global, rows: &mut Vec<Row>, k: usize, row: &[usize]) -> Result<(), AllocError>
     ensures { OnOk result (rows.new.items ≡ told_to rows.old.items k row.now) }
 {
-    let joined = joined(alloc, row_at(rows, k as usize), row)?;
-    grow(alloc, rows, k)?;
-    replace(rows, k as usize, joined);
-    Ok(())
-}
-
-/// The same where there is such a row.
-pub fn tell_there(
-    alloc: Global,
-    rows: &mut Vec<Row>,
-    k: usize,
-    row: &[usize],
-) -> Result<(), AllocError>
-    ensures { OnOk result (rows.new.items ≡ told_there rows.old.items k row.now) }
-{
     let joined = joined(alloc, row_at(rows, k), row)?;
+    grow(alloc, rows, k)?;
     replace(rows, k, joined);
     Ok(())
 }

@@ -1,5 +1,6 @@
 use Rattle.std.proofs.Common.{◌≡◌, ◌∙◌, ◌<◌, ◌++◌, [], length, replicate, get_or, ap, sym, subst, arith}
 use Rattle.xk_types.specs.declared.world.Entry.{Entry}
+use Rattle.xk_types.specs.Code.{ModuleValue}
 use Rattle.xk_types.specs.World.{World}
 use Rattle.xk_types.specs.Schedule.{Through, run}
 use Rattle.xk_core.specs.Core.{opening_core}
@@ -15,8 +16,8 @@ loop-entry-init c =
     (told_starts (tell_deeds e.module.now) e.module.now e.log.items e.printed.items c.in_ok-core.core e.core [] e.run
     (c.in_ok-core.ensures ∙ ap (opening_core e.module.now) c.arguments.ensures))
 
-pub push_entry-requires-legal : goal.push_entry-requires-legal
-push_entry-requires-legal c =
+pub push_entry-requires-clause-legal : goal.push_entry-requires-clause-legal
+push_entry-requires-clause-legal c =
     let m = c.args.ended.now.module.now in
     let log = c.args.ended.now.log.items in
     let i = c.loop-entry.entry-index in
@@ -42,4 +43,5 @@ loop-entry-preserved c =
     entry_told tell m c.args.ended.now.core.world.arguments log [] i x d c.push_entry.new.core old more lt c.loop-entry.invariant
     (subst (λ (z : Entry). run d.module_run (replicate z.steps z.act) d.world ≡ Through c.push_entry.new.core.world) is c.in_ok-push_entry.ensures.led)
     c.push_entry.ensures.same_module
-    (subst (λ (z : Entry). more ≡ old ++ told tell d.module_run (replicate z.steps z.act) d.world) is c.in_ok-push_entry.ensures.told)
+    (subst (λ (z : Entry). more ≡ old ++ told tell d.module_run (replicate z.steps z.act) d.world) is
+    (subst (λ (k : ModuleValue). more ≡ old ++ told (tell_deeds k) d.module_run (replicate x.steps x.act) d.world) c.module.ensures.same c.in_ok-push_entry.ensures.told))

@@ -6,8 +6,8 @@ use Rattle.xk_events.proofs.StepLemmas.{can_step, rest_run, rest_told}
 use Rattle.xk_races.specs.Deeds.{tell_deeds}
 use Rattle.xk_races.proofs.deeds.push_entry.Goals as goal
 
-pub push_step-requires-enabled : goal.push_step-requires-enabled
-push_step-requires-enabled c =
+pub push_step-requires-clause-enabled : goal.push_step-requires-clause-enabled
+push_step-requires-clause-enabled c =
     let m = c.args.core.now.module_run in
     let a = c.args.entry.act in
     let w = c.loop-done.core.world in
@@ -16,8 +16,8 @@ push_step-requires-enabled c =
     let more : n ≡ suc k = omega arith in
     subst (λ j. is_enabled j w a ≡ true) (sym c.loop-done.invariant.0) (can_step m a n k w c.requires.legal.0 more (c.loop-done.invariant.1 ∙ c.requires.legal.1))
 
-pub push_step-requires-module : goal.push_step-requires-module
-push_step-requires-module c = c.loop-done.invariant.0 ∙ c.requires.module
+pub push_step-requires-clause-same : goal.push_step-requires-clause-same
+push_step-requires-clause-same c = c.loop-done.invariant.0 ∙ c.requires.same
 
 pub loop-done-preserved : goal.loop-done-preserved
 loop-done-preserved c =
@@ -26,7 +26,7 @@ loop-done-preserved c =
     let w = c.loop-done.core.world in
     let v = c.push_step.new.core.world in
     let e = c.in_ok-push_step.field-0 in
-    let tell = tell_deeds c.args.module.now in
+    let tell = tell_deeds c.args.program.now in
     let n = c.args.entry.steps - c.loop-done._done in
     let k = c.args.entry.steps - (c.loop-done._done + 1) in
     let more : n ≡ suc k = omega arith in

@@ -10,5 +10,5 @@ invariant-loop-done l =
     (l.core.module_run ≡ l.fn.core.module_run)
     × (run l.fn.core.module_run (replicate (l.fn.entry.steps - l._done) l.fn.entry.act) l.core.world
     ≡ run l.fn.core.module_run (replicate l.fn.entry.steps l.fn.entry.act) l.fn.core.world)
-    × (l.list.items ++ told (tell_deeds l.module) l.fn.core.module_run (replicate (l.fn.entry.steps - l._done) l.fn.entry.act) l.core.world
-    ≡ l.fn.list.items ++ told (tell_deeds l.module) l.fn.core.module_run (replicate l.fn.entry.steps l.fn.entry.act) l.fn.core.world)
+    × (l.list.items ++ told (tell_deeds l.program) l.fn.core.module_run (replicate (l.fn.entry.steps - l._done) l.fn.entry.act) l.core.world
+    ≡ l.fn.list.items ++ told (tell_deeds l.program) l.fn.core.module_run (replicate l.fn.entry.steps l.fn.entry.act) l.fn.core.world)
