@@ -6,7 +6,7 @@ tests/answers/logs.rows want, and, with `--program`, whether the program says th
 
 2,000 cases, seed 1 and 2 jobs where nothing else is said. A case is a program, as a source text or a module, and the log of a run by an order
 or by chance, which may be changed: an entry, a line, or a byte. Five cases in a row have the same program, which is run with `--log` in some
-order; the program is asked of each log for `replay`, `chart`, `events` and `lanes`. The telling is held against itself, too: what is written is read
+order; the program is asked of each log for what telling_runs.py names (`COMMANDS`). The telling is held against itself, too: what is written is read
 back, no beginning of a text is a text, and entries that are joined give the same run. The rows are asked of the program twice: as they are, and of
 the modules that their programs are compiled to; and so are runs with about as many activities as have lanes. `--tally` tells how often the program gave each answer.
 """
@@ -43,7 +43,7 @@ ROWS = TESTS / "answers/logs.rows"
 IN_STEP = TESTS / "answers/rows/in-step.x10"
 NEW_LINE = b"\n"
 MOST_STEPS = 600
-# Of the edges of a log events and lanes are asked for at one in so many.
+# Of the edges of a log all but the replay and the chart is asked for at one in so many.
 SPARED = 10
 CHUNK = 100
 LOGS_OF_A_PROGRAM = 5
@@ -98,7 +98,7 @@ class Told:
         return (0, telling.run(module, way, text.arguments).text(), ""), telling_log.text_of(log)
 
     def answer(self, text: Text, log: bytes, command: str) -> Answer:
-        return telling_log.answer(text.judged(), log, telling_runs.teller(command, text.data, text.is_module), text.arguments)
+        return telling_runs.answer(command, text.judged(), text.data, text.is_module, log, text.arguments)
 
 
 class Program:
@@ -190,7 +190,8 @@ def edge_differences(who: Told | Program) -> tuple[int, list[str]]:
     asked = [(log[:end], "x10clock: L2 Truncated") for end in range(len(log))]
     behind = f"x10clock: L1 Grammar line {log.count(NEW_LINE) + 1}"
     asked += [(log + bytes([more]), behind) for more in range(256)]
-    questions = [*itertools.product(asked, ("replay", "chart")), *itertools.product(asked[::SPARED], ("events", "lanes"))]
+    spared = [command for command in telling_runs.COMMANDS if command not in ("replay", "chart")]
+    questions = [*itertools.product(asked, ("replay", "chart")), *itertools.product(asked[::SPARED], spared)]
     differing = []
     for (given, line), command in questions:
         got = who.answer(text, given, command)
@@ -359,13 +360,28 @@ def against_itself(rng: random.Random, text: Text, written: bytes, way: Way) -> 
     if played.output() != telling.run(module, way, text.arguments).text():
         yield f"another run: {written!r}"
     again = telling_log.replay(module, joined(rng, log), text.arguments)
-    for command in telling_runs.COMMANDS:
+    for command in telling_runs.OF_RUNS:
         tell = telling_runs.teller(command, text.data, text.is_module)
         if tell(again) != tell(played):
             yield f"joined entries give another run, by {command}: {written!r}"
+    yield from where_against_itself(rng, text, log)
     for end in (0, 1, len(written) - 1, *(rng.randrange(len(written)) for _ in range(3))):
         yield from refused_so(written[:end], "L2 Truncated")
     yield from refused_so(written + bytes([rng.randrange(256)]), f"L1 Grammar line {len(log) + 3}")
+
+
+def where_against_itself(rng: random.Random, text: Text, log: Log) -> Iterator[str]:
+    """Of the beginning of a log each step can be taken; joined entries lead to the same place; and behind all of it nobody can step."""
+    begun = log[: rng.randrange(len(log))]
+    status, told, _ = answer = Told().answer(text, telling_log.text_of(begun), telling_runs.WHERE)
+    if status or not told.startswith(f"steps {sum(entry.steps for entry in begun)}\n"):
+        yield f"not the place behind these steps: {begun} {told}"
+    if Told().answer(text, telling_log.text_of(joined(rng, begun)), telling_runs.WHERE) != answer:
+        yield f"joined entries lead elsewhere: {begun}"
+    more = Entry(rng.choice(log).activity, 2)
+    status, told, _ = Told().answer(text, telling_log.text_of([*log, more]), telling_runs.WHERE)
+    if not status or not told.endswith(f"entry {len(log)} step 1 of 2: act {more.activity} has ended\n"):
+        yield f"a step behind the end: {log} {told}"
 
 
 def refused_so(text: bytes, line: str) -> Iterator[str]:

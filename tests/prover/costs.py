@@ -98,6 +98,7 @@ def show_edits(crate: pathlib.Path, rows: int) -> None:
     found, seconds = functions_of(crate), collections.Counter()
     for cost, part in parts(crate):
         key = name_of(part).lower()
+        key = key if key in found else key.replace("+", "")
         while key and key not in found:
             key = key.rpartition(".")[0]
         seconds[key] += cost

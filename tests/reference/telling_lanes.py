@@ -12,21 +12,25 @@ from telling_log import Advance, Played, Taken
 NUMBER, GAP = 6, 2
 MOST_LANES, NARROWEST = 64, 8
 
+# The numbers of the steps that are asked for.
+Window = range
+WHOLE = range(1 << 64)
+
 
 class Grid:
     """The widths of the columns, and how many lanes there are."""
 
-    def __init__(self, program: Program, played: Played) -> None:
-        seen = telling_events.seen(played)
-        self.place = GAP + max(len(spot(program, taken)) for taken in seen)
-        self.lane = max(NARROWEST, GAP + max(len(telling_events.words(taken)) for taken in seen))
+    def __init__(self, program: Program, played: Played, window: Window) -> None:
+        seen = asked(played, window)
+        self.place = GAP + max((len(spot(program, taken)) for taken in seen), default=0)
+        self.lane = max(NARROWEST, GAP + max((len(telling_events.words(taken)) for taken in seen), default=0))
         self.lanes = range(min(MOST_LANES, len(played.world.activities)))
         self.left_out = len(played.world.activities) - len(self.lanes)
 
-    def line(self, number: object, place: str, cells: list[str]) -> str:
+    def line(self, number: object, place: str, cells: list[str], behind: str = "") -> str:
         """A line by its fields, without blanks at its end."""
         fields = "".join(cell.ljust(self.lane) for cell in cells)
-        return f"{number:>{NUMBER}}{'':{GAP}}{place:{self.place}}{fields}".rstrip() + "\n"
+        return f"{number:>{NUMBER}}{'':{GAP}}{place:{self.place}}{fields}{behind}".rstrip() + "\n"
 
     def bar(self, who: int, advance: Advance) -> str:
         """The bar of a clock: from the first lane to the last of those who are registered on it."""
@@ -46,6 +50,15 @@ def spot(program: Program, taken: Taken) -> str:
     return program.position(frame) or f"{frame.unit}.{frame.place}"
 
 
+def asked(played: Played, window: Window) -> list[Taken]:
+    """The steps that are asked for and that others see."""
+    return [taken for taken in telling_events.seen(played) if taken.number in window]
+
+
+def title(lane: int) -> str:
+    return "main" if lane == 0 else f"act {lane}"
+
+
 def mark(module: Module, world: World, who: int) -> str:
     """What an activity shows where another one took the step that led to this world."""
     if who >= len(world.activities) or world.activities[who].status is Status.ENDED:
@@ -54,16 +67,23 @@ def mark(module: Module, world: World, who: int) -> str:
 
 
 def rows(program: Program, played: Played, grid: Grid, taken: Taken) -> str:
-    """The row of a step that others see, and its bars."""
+    """The row of a step that others see, and its bars. One who has no lane is told behind all lanes."""
     others = [mark(played.module, taken.step.world, lane) for lane in grid.lanes]
-    cells = [telling_events.words(taken) if lane == taken.who else other for lane, other in zip(grid.lanes, others, strict=True)]
+    words = telling_events.words(taken)
+    cells = [words if lane == taken.who else other for lane, other in zip(grid.lanes, others, strict=True)]
+    behind = "" if taken.who in grid.lanes else f"{title(taken.who)} {words}"
     bars = [grid.bar(taken.who, advance) for advance in taken.advances]
-    return grid.line(taken.number, spot(program, taken), cells) + "".join(bars)
+    return grid.line(taken.number, spot(program, taken), cells, behind) + "".join(bars)
+
+
+def drawing(program: Program, played: Played, window: Window = WHOLE) -> tuple[str, bool]:
+    """The lanes of the steps that are asked for, and whether each activity has one."""
+    grid = Grid(program, played, window)
+    titles = [title(lane) for lane in grid.lanes]
+    drawn = "".join(rows(program, played, grid, taken) for taken in asked(played, window))
+    rest = f"lanes left out: {grid.left_out}\n" if grid.left_out else ""
+    return grid.line("step", "at", titles) + drawn + rest, not grid.left_out
 
 
 def lanes(program: Program, played: Played) -> str:
-    grid = Grid(program, played)
-    titles = ["main" if lane == 0 else f"act {lane}" for lane in grid.lanes]
-    drawn = "".join(rows(program, played, grid, taken) for taken in telling_events.seen(played))
-    rest = f"lanes left out: {grid.left_out}\n" if grid.left_out else ""
-    return grid.line("step", "at", titles) + drawn + rest
+    return drawing(program, played)[0]

@@ -1,5 +1,5 @@
 #!/usr/bin/env python3
-"""A second telling, in Python, of what is told of a logged run: `replay`, `chart`, `events`, `lanes` and `races`.
+"""A second telling, in Python, of what is told of a log: `replay`, `chart`, `events`, `lanes` and `races` of a whole run, and `where` of any.
 
     python3 tests/reference/telling_runs.py events [--module] FILE LOG [--arg=N]..
 """
@@ -16,10 +16,14 @@ import telling_lanes
 import telling_log
 import telling_races
 import telling_source
+import telling_where
+from telling import Accepted, Arguments, Refused
 from telling_events import Program
-from telling_log import Played, Teller
+from telling_log import Answer, Played, Teller
 
-# Those that the program has; `races` is told here alone.
+# What is told of whole runs, and of any log.
+OF_RUNS, WHERE = ("replay", "chart", "events", "lanes", "races"), "where"
+# What the program is asked for: `races` and `where` once it has them.
 COMMANDS = ("replay", "chart", "events", "lanes")
 
 
@@ -31,13 +35,20 @@ def teller(command: str, data: bytes, is_module: bool) -> Teller:
     return {"replay": Played.output, "chart": Played.chart}[command]
 
 
+def answer(command: str, judged: Accepted | Refused, data: bytes, is_module: bool, log: bytes, arguments: Arguments = ()) -> Answer:
+    """What a command answers of a log and this program."""
+    if command == WHERE:
+        return telling_where.answer(Program(data, is_module), judged, log, arguments)
+    return telling_log.answer(judged, log, teller(command, data, is_module), arguments)
+
+
 def main(words: list[str]) -> int:
     """Answers as the program does."""
     more, arguments = telling.parted(words)
     command, *flags, file, log = more
     data, is_module = pathlib.Path(file).read_bytes(), "--module" in flags
     judged = telling.judge(data) if is_module else telling_source.judge(data)
-    status, out, err = telling_log.answer(judged, pathlib.Path(log).read_bytes(), teller(command, data, is_module), arguments)
+    status, out, err = answer(command, judged, data, is_module, pathlib.Path(log).read_bytes(), arguments)
     sys.stdout.write(out)
     sys.stderr.write(err)
     return status

@@ -412,8 +412,7 @@ def answered(job: Job, data: bytes, log_in: BinaryIO | None, log_out: BinaryIO |
         return Told(0, accepted(job, data, judged.bounds.line() + "\n"))
     if job.command in ("run", "outcomes"):
         return ran(job, judged, log_out) if job.command == "run" else outcomes(job, judged, log_out)
-    tell = telling_runs.teller(job.command, data, "module" in job.flags)
-    status, out, err = telling_log.answer(judged, contents(log_in), tell, tuple(job.numbers))
+    status, out, err = telling_runs.answer(job.command, judged, data, "module" in job.flags, contents(log_in), tuple(job.numbers))
     return Told(status, out, err.removesuffix("\n"))
 
 

@@ -1,5 +1,5 @@
 -- Classes: a step put in front, one class after another, and what all schedules of a class have in common.
-use Rattle.std.proofs.Common.{◌≡◌, ℕ, ℤ, ◌==◌, Bool, true, false, cond, List, [], ◌∷◌, ◌++◌, map, refl, sym, ap, ◌∙◌, subst, eqb-true}
+use Rattle.std.proofs.Common.{◌≡◌, ℕ, ℤ, ◌==◌, Bool, true, false, cond, List, [], ◌∷◌, ◌++◌, map, Option, refl, sym, ap, ◌∙◌, subst, eqb-true}
 use Rattle.std.specs.Prelude.{filter, not}
 use Rattle.std.specs.List.{filter_map}
 use Rattle.std.proofs.lemmas.List.Elements.{filter-append}
@@ -7,14 +7,14 @@ use Rattle.xk_types.specs.declared.world.Event.{Event}
 use Rattle.xk_types.specs.declared.world.Event.TheVariants as event
 use Rattle.xk_types.specs.Acceptance.{IsAccepted}
 use Rattle.xk_types.specs.Code.{ModuleValue, IsWithinLimits}
-use Rattle.xk_types.specs.World.{World}
+use Rattle.xk_types.specs.World.{Activity, World}
 use Rattle.xk_types.specs.Step.{Stepped, step}
 use Rattle.xk_types.specs.Schedule.{Through, run, IsReached, is_local, events, number_printed, printed}
 use Rattle.xk_squares.specs.PlainWorlds.{AreAlike}
 use Rattle.xk_classes.specs.Moments.{is_print, is_make, is_start}
 use Rattle.xk_classes.specs.Classes.{DoCommute, AreSwapped, AreJoined, AreOneClass, IsMet, HasNeverTwo}
 use Rattle.xk_classes.specs.OneRun.{GoesAsWell}
-use Rattle.xk_classes.proofs.SwapLemmas.{run_first, IsExchange, exchange}
+use Rattle.xk_classes.proofs.SwapLemmas.{Entry, entries, event_in, events_filtered, first_entry, second_entry, run_first, IsExchange, exchange}
 
 -- ---- one class after another
 
@@ -73,7 +73,7 @@ met_behind m w u v a e s h g = record {
 -- ---- what all schedules of a class have in common
 
 -- two entries of which not both pass, in either order
-crossed : (p : ℕ × Event → Bool) (front back : List (ℕ × Event)) (x y : ℕ × Event) → (p x ≡ true → p y ≡ true → ⊥)
+crossed : (p : Entry → Bool) (front back : List (Entry)) (x y : Entry) → (p x ≡ true → p y ≡ true → ⊥)
     → filter p (front ++ x ∷ y ∷ back) ≡ filter p (front ++ y ∷ x ∷ back)
 crossed p front back x y h =
     filter-append p front (x ∷ y ∷ back) ∙ ap (λ l. filter p front ++ l) (by (p x) (p y) h) ∙ sym (filter-append p front (y ∷ x ∷ back))
@@ -86,27 +86,27 @@ crossed p front back x y h =
     by false r g = refl
 
 -- of two steps that change places not both pass
-abbrev pub NeverCrosses : (ℕ × Event → Bool) → ModuleValue → World → List ℕ → Type 0
-NeverCrosses p m w s = (v : World) → IsMet m w s v → (a b : ℕ) (c : DoCommute m v a b) → p (a, c.first_event) ≡ true → p (b, c.second_event) ≡ true → ⊥
+abbrev pub NeverCrosses : (Entry → Bool) → ModuleValue → World → List ℕ → Type 0
+NeverCrosses p m w s = (v : World) → IsMet m w s v → (a b : ℕ) (c : DoCommute m v a b) → p (first_entry m v a b c) ≡ true → p (second_entry m v a b c) ≡ true → ⊥
 
 -- the other schedule is legal, leads to a world that is alike, and has the same entries that pass
-pub record GoesOn (p : ℕ × Event → Bool) (m : ModuleValue) (w z : World) (s t : List ℕ) : Type 0 where
+pub record GoesOn (p : Entry → Bool) (m : ModuleValue) (w z : World) (s t : List ℕ) : Type 0 where
   pub last : World
   pub legal : run m t w ≡ Through last
   pub alike : AreAlike z last
-  pub same : filter p (events m s w) ≡ filter p (events m t w)
+  pub same : filter p (entries m s w) ≡ filter p (entries m t w)
 
-module _ (m : ModuleValue) (limits : IsWithinLimits m) (ok : IsAccepted m) (p : ℕ × Event → Bool) (w : World) (reached : IsReached m w) where
+module _ (m : ModuleValue) (limits : IsWithinLimits m) (ok : IsAccepted m) (p : Entry → Bool) (w : World) (reached : IsReached m w) where
   joined_goes : (us : List (List ℕ)) (s t : List ℕ) (z : World) → AreJoined m w s us t → run m s w ≡ Through z → NeverCrosses p m w s → GoesOn p m w z s t
   joined_goes [] s t z h legal never = record {
     last = z;
     legal = ap (λ l. run m l w) (sym h) ∙ legal;
     alike = refl;
-    same = ap (λ l. filter p (events m l w)) h;
+    same = ap (λ l. filter p (entries m l w)) h;
   }
   joined_goes (x ∷ us) s t z h legal never =
       let k : AreSwapped m w s x = h.0 in
-      let r : IsExchange m w z k.before k.after k.first k.second k.commute.first_event k.commute.second_event =
+      let r : IsExchange m w z k.before k.after (first_entry m k.here k.first k.second k.commute) (second_entry m k.here k.first k.second k.commute) =
       exchange m limits ok k.before w k.here z k.after k.first k.second k.commute reached k.leads (ap (λ l. run m l w) (sym k.this) ∙ legal) in
       let met : IsMet m w s k.here =
       record { before = k.before; after = k.first ∷ k.second ∷ k.after; member = class_same m w s (k.before ++ k.first ∷ k.second ∷ k.after) k.this; leads = k.leads } in
@@ -116,9 +116,10 @@ module _ (m : ModuleValue) (limits : IsWithinLimits m) (ok : IsAccepted m) (p : 
         last = rest.last;
         legal = rest.legal;
         alike = r.alike ∙ rest.alike;
-        same = ap (λ l. filter p (events m l w)) k.this ∙ ap (filter p) r.this
-            ∙ crossed p r.front r.back (k.first, k.commute.first_event) (k.second, k.commute.second_event) (never k.here met k.first k.second k.commute)
-            ∙ sym (ap (λ l. filter p (events m l w)) k.other ∙ ap (filter p) r.other) ∙ rest.same;
+        same = ap (λ l. filter p (entries m l w)) k.this ∙ ap (filter p) r.this
+            ∙ crossed p r.front r.back (first_entry m k.here k.first k.second k.commute) (second_entry m k.here k.first k.second k.commute)
+            (never k.here met k.first k.second k.commute)
+            ∙ sym (ap (λ l. filter p (entries m l w)) k.other ∙ ap (filter p) r.other) ∙ rest.same;
       }
 
   pub class_goes : (s t : List ℕ) (z : World) → AreOneClass m w s t → run m s w ≡ Through z → NeverCrosses p m w s → GoesOn p m w z s t
@@ -126,11 +127,17 @@ module _ (m : ModuleValue) (limits : IsWithinLimits m) (ok : IsAccepted m) (p : 
 
 -- ---- of each activity, of clocks that are made, of activities that are started, of prints
 
-abbrev pub by_event : (Event → Bool) → ℕ × Event → Bool
+abbrev pub by_event : (Event → Bool) → Entry → Bool
 by_event test x = test x.1
 
-abbrev pub by_taker : ℕ → ℕ × Event → Bool
+abbrev pub by_taker : ℕ → Entry → Bool
 by_taker a x = x.0 == a
+
+abbrev pub state_in : Entry → Option Activity
+state_in x = x.2
+
+abbrev pub states_by : ModuleValue → List ℕ → World → ℕ → List (Option Activity)
+states_by m list w a = map state_in (filter (by_taker a) (entries m list w))
 
 pub never_one : (m : ModuleValue) (w : World) (s : List ℕ) (d : ℕ) → NeverCrosses (by_taker d) m w s
 never_one m w s d v met a b c h g = c.differ (eqb-true b d g ∙ sym (eqb-true a d h))
@@ -151,34 +158,39 @@ abbrev numbers_of : List (ℕ × Event) → List ℤ
 numbers_of es = filter_map (λ x. number_printed x.1) es
 
 -- what is printed goes by prints alone
-prints_alone : (es : List (ℕ × Event)) → numbers_of (seen_of es) ≡ numbers_of (filter (by_event is_print) es)
+prints_alone : (es : List (ℕ × Event)) → numbers_of (seen_of es) ≡ numbers_of (filter (λ x. is_print x.1) es)
 prints_alone [] = refl
 prints_alone (x ∷ es) = by x.1 (prints_alone es)
   where
-    by : (e : Event) → numbers_of (seen_of es) ≡ numbers_of (filter (by_event is_print) es)
-        → numbers_of (seen_of ((x.0, e) ∷ es)) ≡ numbers_of (filter (by_event is_print) ((x.0, e) ∷ es))
+    by : (e : Event) → numbers_of (seen_of es) ≡ numbers_of (filter (λ x. is_print x.1) es)
+        → numbers_of (seen_of ((x.0, e) ∷ es)) ≡ numbers_of (filter (λ y. is_print y.1) ((x.0, e) ∷ es))
     by (event.Printed n) h = ap (λ ns. n ∷ ns) h
     by event.Local h = h
     by _ h = h
 
 module _ (m : ModuleValue) (limits : IsWithinLimits m) (ok : IsAccepted m) (w z : World) (reached : IsReached m w) (s t : List ℕ) (h : AreOneClass m w s t) (legal : run m s w ≡ Through z) where
+  -- events that pass, and how activities stand as they take their steps
+  pub same_events : (p : ℕ × Event → Bool) → NeverCrosses (λ x. p (event_in x)) m w s → filter p (events m s w) ≡ filter p (events m t w)
+  same_events p never =
+      events_filtered p m s w ∙ ap (map event_in) (class_goes m limits ok (λ x. p (event_in x)) w reached s t z h legal never).same ∙ sym (events_filtered p m t w)
+
+  pub same_states : (a : ℕ) → states_by m s w a ≡ states_by m t w a
+  same_states a = ap (map state_in) (class_goes m limits ok (by_taker a) w reached s t z h legal (never_one m w s a)).same
+
   pub class_as_well : GoesAsWell m w s t z
   class_as_well =
-      let made : GoesOn (by_event is_make) m w z s t = class_goes m limits ok (by_event is_make) w reached s t z h legal (never_makes m w s) in
-      let started : GoesOn (by_event is_start) m w z s t = class_goes m limits ok (by_event is_start) w reached s t z h legal (never_starts m w s) in
+      let g : GoesOn (by_event is_make) m w z s t = class_goes m limits ok (by_event is_make) w reached s t z h legal (never_makes m w s) in
       record {
-        last = made.last;
-        legal = made.legal;
-        alike = made.alike;
+        last = g.last;
+        legal = g.legal;
+        alike = g.alike;
         same = record {
-          each = λ a. ap (map (λ (x : ℕ × Event). x.1)) (class_goes m limits ok (by_taker a) w reached s t z h legal (never_one m w s a)).same;
-          made = ap (map (λ (x : ℕ × Event). x.0)) made.same;
-          started = ap (map (λ (x : ℕ × Event). x.0)) started.same;
+          each = λ a. ap (map (λ (x : ℕ × Event). x.1)) (same_events (λ x. x.0 == a) (never_one m w s a));
+          made = ap (map (λ (x : ℕ × Event). x.0)) (same_events (λ x. is_make x.1) (never_makes m w s));
+          started = ap (map (λ (x : ℕ × Event). x.0)) (same_events (λ x. is_start x.1) (never_starts m w s));
         };
       }
 
   pub class_prints : HasNeverTwo is_print m w s → printed m s w ≡ printed m t w
   class_prints never =
-      prints_alone (events m s w)
-      ∙ ap numbers_of (class_goes m limits ok (by_event is_print) w reached s t z h legal (never_two is_print m w s never)).same
-      ∙ sym (prints_alone (events m t w))
+      prints_alone (events m s w) ∙ ap numbers_of (same_events (λ x. is_print x.1) (never_two is_print m w s never)) ∙ sym (prints_alone (events m t w))

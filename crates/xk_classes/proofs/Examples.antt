@@ -1,5 +1,7 @@
 -- Two schedules of one class, and why a race is looked for in the whole class: by evaluation.
-use Rattle.std.proofs.Common.{◌≡◌, ℕ, zero, suc, pos, ◌==◌, Bool, true, false, not, ◌&&◌, ◌||◌, List, [], ◌∷◌, refl, arith}
+use Rattle.std.proofs.Common.{◌≡◌, ℕ, zero, suc, pos, ◌==◌, Bool, true, false, not, ◌&&◌, ◌||◌, List, [], ◌∷◌, refl, subst, arith}
+use Rattle.std.specs.Prelude.{All}
+use Rattle.std.proofs.lemmas.Option.{none-some, same_Some}
 use Rattle.std.proofs.lemmas.List.Elements.{All-cons, All-nil, All-from_recursion}
 use Rattle.xk_types.specs.declared.instr.Instr.TheVariants as instr
 use Rattle.xk_types.specs.declared.rules.Kind.{Kind}
@@ -13,7 +15,7 @@ use Rattle.xk_types.proofs.Examples.Notation.{fresh, main_with, body_with}
 use Rattle.xk_laws.proofs.Examples.AcceptanceTest.{HasFewArguments, accepted_by}
 use Rattle.xk_squares.specs.Conflicts.{reads_next, stores_next}
 use Rattle.xk_classes.specs.Moments.{takers, is_start, printed_by}
-use Rattle.xk_classes.specs.OneRun.{ComeToOne, gets_or_puts, AddsInUnit, AddsAtMost}
+use Rattle.xk_classes.specs.OneRun.{ComeToOne, gets_or_puts, AddsInUnit, AddsAtMost, begins, OnlyMainBegins}
 use Rattle.xk_classes.proofs.OneRunLaw.{adders_free, one_in_order}
 
 -- the world that a run comes to, if it comes through
@@ -77,6 +79,14 @@ sum_same : ComeToOne sum [] main_first main_last (last sum main_first) (last sum
 sum_same = one_in_order sum [] sum_limits sum_accepted refl main_first main_last (last sum main_first) (last sum main_last)
     (record { legal = refl; ended = refl }) (adders_free sum (fresh sum) main_first sum_adds) (record { legal = refl; ended = refl })
     (record { made = record { rest = []; whole = refl }; started = record { rest = []; whole = refl } })
+
+-- main alone starts somebody: so it says that of any two schedules by which all have ended
+sum_main : OnlyMainBegins sum
+sum_main zero u at = subst AreQuiet (same_Some helper u at) (All-from_recursion (λ i. begins i ≡ false) helper.code (refl, (refl, (refl, (refl, tt)))))
+  where
+    AreQuiet : UnitValue → Type 0
+    AreQuiet v = All (λ i. begins i ≡ false) v.code
+sum_main (suc k) u at = absurd (none-some u at)
 
 -- ---- a writes a number and ends; b starts c, which reads it
 

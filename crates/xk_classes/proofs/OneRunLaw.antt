@@ -22,8 +22,10 @@ use Rattle.xk_classes.specs.OneRun.{GoesAsWell, IsBegun, IsWholeRun, ComeToOne, 
 use Rattle.xk_classes.proofs.SwapLemmas.{run_first}
 use Rattle.xk_classes.proofs.ClassLemmas.{class_as_well, class_prints}
 use Rattle.xk_classes.proofs.ClassLaw.{in_order, every}
+use Rattle.xk_classes.proofs.EdgeLaw.{ordered_free}
+use Rattle.xk_classes.specs.Edges.{StepName, AreSound, AreOrdered}
 
-one_of : {X : Type 0} (P : X → Type 0) (xs : List X) (k : ℕ) (x : X) → slice_get xs k ≡ Some x → All P xs → P x
+pub one_of : {X : Type 0} (P : X → Type 0) (xs : List X) (k : ℕ) (x : X) → slice_get xs k ≡ Some x → All P xs → P x
 one_of P xs k x h all = subst P (get_or_from_slice_get xs k x x h) (All-get_or P xs k x (slice_get_within xs k x h) all)
 
 -- ---- whole runs
@@ -54,6 +56,10 @@ module _ (m : ModuleValue) (args : List ℤ) (limits : IsWithinLimits m) (ok : I
       → HasNeverTwo is_start m (opening m args) s → run m t (opening m args) ≡ Through y → IsBegun m (opening m args) s t
   begun_every s t z y one free made started goes = every m limits ok t s (opening m args) y z (opening_reached m args taken) one.legal one.ended free made started goes
 
+  pub ordered_run : (s : List ℕ) (z : World) (edges : List (StepName × StepName)) → IsWholeRun m args s z → AreSound m (opening m args) s edges
+      → AreOrdered m (opening m args) s edges → HasNoRace m (opening m args) s
+  ordered_run s z edges one sound ordered = ordered_free m limits ok (opening m args) z (opening_reached m args taken) s one.legal one.ended edges sound ordered
+
   -- a whole run with which a schedule of a class begins is one of the class
   whole_member : (s t : List ℕ) (z y : World) → IsWholeRun m args s z → IsWholeRun m args t y → IsBegun m (opening m args) s t → AreOneClass m (opening m args) s t
   whole_member s t z y one other begun =
@@ -78,6 +84,11 @@ module _ (m : ModuleValue) (args : List ℤ) (limits : IsWithinLimits m) (ok : I
       → HasNeverTwo is_start m (opening m args) s → IsWholeRun m args t y → ComeToOne m args s t z y
   one_every s t z y one free made started other =
       come_to_one s t z y one other (whole_member s t z y one other (begun_every s t z y one free made started other.legal))
+
+  pub one_prints : (s t : List ℕ) (z y : World) → IsWholeRun m args s z → HasNoRace m (opening m args) s → HasNeverTwo is_print m (opening m args) s
+      → IsWholeRun m args t y → BeginsInOrder m (opening m args) t s → printed m s (opening m args) ≡ printed m t (opening m args)
+  one_prints s t z y one free never other order =
+      prints s t z one.legal (whole_member s t z y one other (begun_in_order s t z y one free other.legal order)) never
 
 -- ---- modules that add to shared numbers at most
 

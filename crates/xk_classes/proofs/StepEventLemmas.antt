@@ -1,5 +1,6 @@
--- A step at an instruction that makes a clock has that event, and so has one at an instruction that starts an activity.
-use Rattle.std.proofs.Common.{◌≡◌, ℕ, Bool, true, false, true≢false, Some, None, Option, length, refl, sym, ap, ◌∙◌, subst}
+-- A step at an instruction that makes a clock has that event, and so has one at an instruction that starts an activity. A step leaves all other
+-- activities as they are.
+use Rattle.std.proofs.Common.{◌≡◌, ℕ, [], ◌∷◌, set, Bool, true, false, true≢false, Some, None, Option, length, refl, sym, ap, ◌∙◌, subst}
 use Rattle.std.specs.Prelude.{slice_get, option_and_then}
 use Rattle.std.specs.Option.{option_map_or}
 use Rattle.xk_types.specs.declared.instr.Instr.{Instr}
@@ -9,17 +10,22 @@ use Rattle.xk_types.specs.declared.world.Value.TheVariants as value
 use Rattle.xk_types.specs.declared.world.Status.{Status}
 use Rattle.xk_types.specs.declared.world.Status.TheVariants as status
 use Rattle.xk_types.specs.declared.world.Event.{Event}
+use Rattle.xk_types.specs.declared.world.Event.TheVariants as event
 use Rattle.xk_types.specs.Acceptance.{IsAccepted}
 use Rattle.xk_types.specs.Code.{UnitValue, ModuleValue, IsWithinLimits}
 use Rattle.xk_types.specs.World.{Activity, World, instruction_at}
-use Rattle.xk_types.specs.Step.{Outcome, Blocked, Wrong, Stepped, slot_at, put_in, made, run_at, step_by, step_of, step}
+use Rattle.xk_types.specs.Step.{child, onward, Outcome, Blocked, Wrong, Stepped, slot_at, put_in, made, run_at, step_by, step_of, step}
 use Rattle.xk_types.specs.Schedule.{IsReached}
+use Rattle.xk_types.proofs.ListLemmas.{get-set_other, get-append_left}
 use Rattle.xk_laws.proofs.Invariant.{IsSound}
 use Rattle.xk_laws.proofs.ReachabilityLemmas.{reached_sound}
 use Rattle.xk_laws.proofs.StepFormLemmas.{finishes_of, spawning_form}
 use Rattle.xk_squares.specs.Conflicts.{next_instruction}
 use Rattle.xk_squares.specs.Squares.{makes, starts, makes_next, starts_next}
-use Rattle.xk_squares.proofs.ChangeSquareLemmas.{found_of}
+use Rattle.xk_squares.proofs.StepEffect.{enacted}
+use Rattle.xk_squares.proofs.ChangeSquareLemmas.{same_step, not_none, found_of}
+use Rattle.xk_squares.proofs.StartSquareLemmas.{made_world, started_world, maker}
+use Rattle.xk_squares.proofs.ViewLemmas.{Goes, IsNone, DoesAct, DoesMake, DoesStart, goes, sees_itself}
 use Rattle.xk_classes.specs.Moments.{is_make, is_start}
 
 -- it isn't a step, or its event passes
@@ -48,7 +54,7 @@ started_has m w a act (Some _) h = absurd (true≢false (sym h))
 -- ---- by the world
 
 -- one that has arrived stands at an `advance`
-at_advance : (m : ModuleValue) (act : Activity) (u : UnitValue) → slice_get m.units act.frame.unit ≡ Some u → slice_get u.code act.frame.place ≡ Some instr.Advance
+pub at_advance : (m : ModuleValue) (act : Activity) (u : UnitValue) → slice_get m.units act.frame.unit ≡ Some u → slice_get u.code act.frame.place ≡ Some instr.Advance
     → instruction_at m act.frame ≡ Some instr.Advance
 at_advance m act u unit at = ap (option_and_then (λ (v : UnitValue). slice_get v.code act.frame.place)) unit ∙ at
 
@@ -83,3 +89,24 @@ module _ (m : ModuleValue) (limits : IsWithinLimits m) (ok : IsAccepted m) (w u 
 
   pub event_started : starts_next m w a ≡ true → is_start e ≡ true
   event_started = has_by starts is_start refl (started_has m w a act)
+
+-- ---- others
+
+pub others_stay : (m : ModuleValue) (w u : World) (a b : ℕ) (e : Event) (act : Activity) → step m w a ≡ Stepped u e → (b ≡ a → ⊥) → slice_get w.activities b ≡ Some act
+    → slice_get u.activities b ≡ Some act
+others_stay m w u a b e act h differs at = by (goes m w w a x.0 x.0.since (sees_itself m w a x.0 x.1))
+  where
+    x : (z : Activity) × (slice_get w.activities a ≡ Some z)
+    x = found_of m w a u e h
+
+    by : Goes m w w a x.0 x.0.since (step m w a) (step m w a) → slice_get u.activities b ≡ Some act
+    by (IsNone g) = absurd (not_none (step m w a) u e h g)
+    by (DoesAct A) =
+        ap (λ (z : World). slice_get z.activities b) (same_step u (enacted w a A.next A.move A.writes) e A.e (sym h ∙ A.here)).0
+        ∙ get-set_other w.activities a b A.next differs ∙ at
+    by (DoesMake M) =
+        ap (λ (z : World). slice_get z.activities b) (same_step u (made_world w a (maker x.0 M.d (length w.clocks))) e event.Made (sym h ∙ M.here)).0
+        ∙ get-set_other w.activities a b (maker x.0 M.d (length w.clocks)) differs ∙ at
+    by (DoesStart S) =
+        ap (λ (z : World). slice_get z.activities b) (same_step u (started_world m w a x.0 S.unit S.values) e event.Spawned (sym h ∙ S.here)).0
+        ∙ get-append_left (set w.activities a (onward x.0)) (child m a x.0 S.unit S.values ∷ []) b act (get-set_other w.activities a b (onward x.0) differs ∙ at)

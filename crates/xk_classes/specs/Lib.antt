@@ -1,3 +1,4 @@
 pub mod Moments
 pub mod Classes
 pub mod OneRun
+pub mod Edges

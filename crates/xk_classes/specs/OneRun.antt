@@ -1,5 +1,5 @@
 -- What one run without a race tells of others.
-use Rattle.std.specs.Prelude.{◌≡◌, ℕ, ℤ, Bool, true, false, List, ◌++◌, All}
+use Rattle.std.specs.Prelude.{◌≡◌, ℕ, suc, ℤ, Bool, true, false, List, ◌++◌, All, Some, slice_get}
 use Rattle.xk_types.specs.declared.instr.Instr.{Instr}
 use Rattle.xk_types.specs.declared.instr.Instr.TheVariants as instr
 use Rattle.xk_types.specs.Code.{UnitValue, ModuleValue}
@@ -50,3 +50,13 @@ AddsInUnit u = All (λ i. gets_or_puts i ≡ false) u.code
 
 abbrev pub AddsAtMost : ModuleValue → Type 0
 AddsAtMost m = All AddsInUnit m.units
+
+-- it makes a clock, or starts an activity
+abbrev pub begins : Instr → Bool
+begins (instr.Make d) = true
+begins (instr.Spawn t args) = true
+begins _ = false
+
+-- No unit but main's, the first one, makes clocks or starts activities. (Methods don't either; bodies don't.)
+abbrev pub OnlyMainBegins : ModuleValue → Type 0
+OnlyMainBegins m = (k : ℕ) (u : UnitValue) → slice_get m.units (suc k) ≡ Some u → All (λ i. begins i ≡ false) u.code

@@ -3,8 +3,10 @@
 
 ghost use Rattle.std.specs.Prelude.{◌≡◌, ℕ, ℤ, List};
 ghost use Rattle.xk_classes.specs.Classes.{AreOneClass, HasNeverTwo, HasNoRace};
+ghost use Rattle.xk_classes.specs.Edges.{AreOneByOne, AreOrdered, AreSound, IsCause, IsEdge, StepName};
 ghost use Rattle.xk_classes.specs.Moments.{BeginsInOrder, is_make, is_print, is_start};
-ghost use Rattle.xk_classes.specs.OneRun.{AddsAtMost, ComeToOne, GoesAsWell, IsBegun, IsWholeRun};
+ghost use Rattle.xk_classes.specs.OneRun.{AddsAtMost, ComeToOne, GoesAsWell, IsBegun, IsWholeRun, OnlyMainBegins};
+ghost use Rattle.xk_squares.specs.Squares.{makes, starts};
 ghost use Rattle.xk_types.specs.Acceptance.{IsAccepted};
 ghost use Rattle.xk_types.specs.Code.{IsWithinLimits, ModuleValue};
 ghost use Rattle.xk_types.specs.Schedule.{Through, printed, run};
@@ -43,7 +45,8 @@ pub fn class_law()
 
 /// One run without a race speaks for others: the shared numbers are the same at the end, and each activity prints the same, whoever
 /// took the steps by which all have ended, if clocks were made and activities started in the same order; and if no two clocks could
-/// be made at once, nor two activities started, there is no other order.
+/// be made at once, nor two activities started, there is no other order. Where no two numbers could be printed at once either, the
+/// printed list is the same.
 pub fn one_run()
     ensures in_order { (m : ModuleValue) (args : List ℤ) (s t : List ℕ) (z y : World)
         → IsWithinLimits m → IsAccepted m → AreArguments m args
@@ -55,6 +58,40 @@ pub fn one_run()
         → IsWholeRun m args s z → HasNoRace m (opening m args) s
         → HasNeverTwo is_make m (opening m args) s → HasNeverTwo is_start m (opening m args) s
         → IsWholeRun m args t y → ComeToOne m args s t z y }
+    ensures prints { (m : ModuleValue) (args : List ℤ) (s t : List ℕ) (z y : World)
+        → IsWithinLimits m → IsAccepted m → AreArguments m args
+        → IsWholeRun m args s z → HasNoRace m (opening m args) s
+        → HasNeverTwo is_print m (opening m args) s
+        → IsWholeRun m args t y → BeginsInOrder m (opening m args) t s
+        → printed m s (opening m args) ≡ printed m t (opening m args) }
+{}
+
+/// What orders one run orders its class. Where edges between the steps of a run are sound, and all steps of different activities that
+/// conflict on a shared number are ordered by them and by the order of each activity's own steps, the class of the run has no race.
+/// Where they also order all steps that make clocks, and all that start activities, that one run speaks for all.
+pub fn ordered_run()
+    ensures no_race { (m : ModuleValue) (args : List ℤ) (s : List ℕ) (z : World)
+        (edges : List (StepName × StepName))
+        → IsWithinLimits m → IsAccepted m → AreArguments m args → IsWholeRun m args s z
+        → AreSound m (opening m args) s edges → AreOrdered m (opening m args) s edges
+        → HasNoRace m (opening m args) s }
+    ensures every { (m : ModuleValue) (args : List ℤ) (s t : List ℕ) (z y : World)
+        (edges : List (StepName × StepName))
+        → IsWithinLimits m → IsAccepted m → AreArguments m args → IsWholeRun m args s z
+        → AreSound m (opening m args) s edges → AreOrdered m (opening m args) s edges
+        → AreOneByOne makes m (opening m args) s edges
+        → AreOneByOne starts m (opening m args) s edges
+        → IsWholeRun m args t y → ComeToOne m args s t z y }
+{}
+
+/// Edges of starts and of finishes are sound: from the start of an activity to its first step, and from each step of an activity
+/// under a finish to the end of that finish.
+pub fn sound_edges()
+    ensures { (m : ModuleValue) (args : List ℤ) (s : List ℕ) (z : World)
+        (edges : List (StepName × StepName))
+        → IsWithinLimits m → IsAccepted m → AreArguments m args → IsWholeRun m args s z
+        → ((x y : StepName) → IsEdge edges x y → IsCause m (opening m args) s x y)
+        → AreSound m (opening m args) s edges }
 {}
 
 /// X10's promise for clocks, finishes and starts alone: an accepted module that neither reads nor writes shared numbers, but adds to them
@@ -67,4 +104,19 @@ pub fn only_additions()
         → IsWithinLimits m → IsAccepted m → AreArguments m args → AddsAtMost m
         → IsWholeRun m args s z → IsWholeRun m args t y → BeginsInOrder m (opening m args) t s
         → ComeToOne m args s t z y }
+{}
+
+/// Where main's unit alone makes clocks and starts activities, there is no other order of these: no two could be made or started at once.
+/// So one run without a race speaks for all; and where shared numbers are added to at most, any run does.
+pub fn only_main_begins()
+    ensures never_two { (m : ModuleValue) (args : List ℤ) (s : List ℕ)
+        → IsAccepted m → OnlyMainBegins m
+        → HasNeverTwo is_make m (opening m args) s × HasNeverTwo is_start m (opening m args) s }
+    ensures same { (m : ModuleValue) (args : List ℤ) (s t : List ℕ) (z y : World)
+        → IsWithinLimits m → IsAccepted m → AreArguments m args → OnlyMainBegins m
+        → IsWholeRun m args s z → HasNoRace m (opening m args) s
+        → IsWholeRun m args t y → ComeToOne m args s t z y }
+    ensures adds { (m : ModuleValue) (args : List ℤ) (s t : List ℕ) (z y : World)
+        → IsWithinLimits m → IsAccepted m → AreArguments m args → OnlyMainBegins m → AddsAtMost m
+        → IsWholeRun m args s z → IsWholeRun m args t y → ComeToOne m args s t z y }
 {}

@@ -12,7 +12,7 @@ use xk_core::Core;
 use xk_types::{Act, ClockId};
 
 /// Whether an activity has started, and is registered on the clock.
-fn is_on(core: &Core<'_>, clock: ClockId, act: u32) -> bool
+pub fn is_on(core: &Core<'_>, clock: ClockId, act: u32) -> bool
     requires { clock < length core.now.world.clocks }
     ensures { result ≡ is_on core.now.world clock act }
 {
@@ -20,7 +20,7 @@ fn is_on(core: &Core<'_>, clock: ClockId, act: u32) -> bool
 }
 
 /// Whether one of the first n activities is.
-fn any_below(core: &Core<'_>, clock: ClockId, n: u32) -> bool
+pub fn any_below(core: &Core<'_>, clock: ClockId, n: u32) -> bool
     requires { clock < length core.now.world.clocks }
     ensures { result ≡ any_below (is_on core.now.world clock) n }
 {
@@ -33,7 +33,7 @@ fn any_below(core: &Core<'_>, clock: ClockId, n: u32) -> bool
 }
 
 /// Whether one behind activity b is, out of n.
-fn any_behind(core: &Core<'_>, clock: ClockId, b: u32, n: u32) -> bool
+pub fn any_behind(core: &Core<'_>, clock: ClockId, b: u32, n: u32) -> bool
     requires { clock < length core.now.world.clocks }
     ensures { result ≡ any_behind (is_on core.now.world clock) b n }
 {
@@ -107,14 +107,19 @@ fn push_bar_lanes(
 
 /// What stands behind a bar: `clock 0 phase 1 by 1`.
 #[tactic(auto, unfolding(crate::specs::Lanes::bar_label))]
-fn bar_label(alloc: Global, core: &Core<'_>, act: u32, clock: ClockId) -> Result<String, AllocError>
+pub fn bar_label(
+    alloc: Global,
+    core: &Core<'_>,
+    act: u32,
+    clock: ClockId,
+) -> Result<String, AllocError>
     requires { clock < length core.now.world.clocks }
     ensures { IfOk result (λ text. string_bytes text
         ≡ bar_label core.now.world act clock) }
 {
     let number = clock.0;
     let phase = core.phase(clock);
-    format!(in alloc; "clock {number} phase {phase} by {act}\n")
+    format!(in alloc; "clock {number} phase {phase} by {act}")
 }
 
 /// Adds the bar of a clock that advanced in the last step, which this activity took.
@@ -135,11 +140,12 @@ fn push_bar(
     push_times(out, b' ', 8)?;
     push_times(out, b' ', grid.place)?;
     push_bar_lanes(out, core, grid, clock)?;
-    push_text(out, label.as_str())
+    push_text(out, label.as_str())?;
+    push_text(out, "\n")
 }
 
 /// The clocks that advanced in the last step.
-fn advanced(alloc: Global, core: &Core<'_>) -> Result<Vec<u32>, AllocError>
+pub fn advanced(alloc: Global, core: &Core<'_>) -> Result<Vec<u32>, AllocError>
     ensures { IfOk result (λ v. v.items ≡ advanced_now core.now.world) }
 {
     let mut clocks = Vec::with_capacity(alloc, core.clocks() as usize)?;

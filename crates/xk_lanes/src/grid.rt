@@ -5,6 +5,7 @@ ghost use Rattle.xk_events.specs.Events.{event_words};
 ghost use Rattle.xk_lanes.specs.Fields.{longest};
 ghost use Rattle.xk_lanes.specs.Lanes.{grid_of, spot, spot_by};
 
+use crate::window::Window;
 use std::alloc::{AllocError, Global};
 use xk_events::{Places, RunStep, event_words};
 use xk_positions::Position;
@@ -12,9 +13,10 @@ use xk_positions::Position;
 /// How many lanes are drawn at most.
 const DRAWN: u32 = 64;
 
-/// How wide the column of places is, and each lane, and how many lanes are drawn.
+/// Which steps are drawn, how wide the column of places is, and each lane, and how many lanes are drawn.
 #[derive(Clone, Copy)]
 pub struct Grid {
+    pub window: Window,
     pub place: usize,
     pub lane: usize,
     pub lanes: u32,
@@ -41,7 +43,7 @@ fn spot_by(
 
 /// Where a step was taken.
 #[tactic(auto, unfolding(crate::specs::Lanes::spot))]
-pub(crate) fn spot(alloc: Global, places: &Places<'_>, step: &RunStep) -> Result<String, AllocError>
+pub fn spot(alloc: Global, places: &Places<'_>, step: &RunStep) -> Result<String, AllocError>
     ensures { IfOk result (λ text. string_bytes text ≡ spot places.now step.now) }
 {
     spot_by(
@@ -89,14 +91,16 @@ fn longest_words(alloc: Global, steps: &[RunStep]) -> Result<usize, AllocError>
 pub(crate) fn grid_of(
     alloc: Global,
     places: &Places<'_>,
+    window: Window,
     steps: &[RunStep],
     activities: u32,
 ) -> Result<Grid, AllocError>
-    ensures { IfOk result (λ g. g ≡ grid_of places.now steps.now activities) }
+    ensures { IfOk result (λ g. g ≡ grid_of places.now window steps.now activities) }
 {
     let place = longest_spot(alloc, places, steps)?;
     let words = longest_words(alloc, steps)?;
     Ok(Grid {
+        window,
         place: 2 + place,
         lane: (2 + words).max(8),
         lanes: activities.min(DRAWN),

@@ -1,24 +1,48 @@
 //! The whole text: head, rows and bars.
 
-ghost use Rattle.std.specs.Prelude.{◌≡◌, true, ◌++◌, replicate, IfOk, OnOk};
+ghost use Rattle.std.specs.Prelude.{◌≡◌, true, ◌++◌, filter, replicate, IfOk, OnOk};
 ghost use Rattle.xk_types.specs.Schedule.{Through, is_enabled, run};
 ghost use Rattle.xk_core.specs.Core.{StepsTo};
 ghost use Rattle.xk_events.specs.Steps.{IsLegalFrom, told, told_of_run};
 ghost use Rattle.xk_events.specs.Events.{no_text, places_of};
-ghost use Rattle.xk_lanes.specs.Lanes.{grid_for, lanes_in, lanes_text, left_out_by, tell_lanes};
+ghost use Rattle.xk_lanes.specs.Lanes.{are_lanes_whole, grid_for, is_asked, lanes_in, lanes_text, left_out_by, row_and_bars, tell_lanes};
 
 use crate::bars::push_bars;
 use crate::fields::push_text;
 use crate::grid::{Grid, grid_of};
 use crate::rows::{push_head, push_row_if_seen};
+use crate::window::Window;
 use std::alloc::{AllocError, Global};
 use xk_core::Core;
-use xk_events::{Places, seen_steps, take_step};
+use xk_events::{Places, RunStep, seen_steps, take_step};
 use xk_origins::UnitOrigins;
 use xk_scheduler::Ended;
 use xk_types::{Act, Entry, Event};
 
-/// Takes a step, and adds its row and bars; what it was seen to do.
+/// What is drawn, and whether it is whole: no lane is left out. (A step that wasn't asked for isn't left out.)
+#[derive(Debug, Drop)]
+pub struct Drawing {
+    pub text: Vec<u8>,
+    pub whole: bool,
+}
+
+/// Adds the row and bars of a step that led to the core.
+fn push_row_and_bars(
+    alloc: Global,
+    out: &mut Vec<u8>,
+    core: &Core<'_>,
+    grid: Grid,
+    places: &Places<'_>,
+    step: &RunStep,
+) -> Result<(), AllocError>
+    ensures { OnOk result (out.new.items ≡ out.old.items
+        ++ row_and_bars grid places.now core.now.module_run core.now.world step.now) }
+{
+    push_row_if_seen(alloc, out, core, grid, places, step)?;
+    push_bars(alloc, out, core, grid, step.act)
+}
+
+/// Takes a step, and adds its row and bars, if it is asked for; what it was seen to do.
 fn push_step(
     alloc: Global,
     out: &mut Vec<u8>,
@@ -34,8 +58,9 @@ fn push_step(
     ensures same_module { core.new.module_run ≡ core.old.module_run }
 {
     let step = take_step(core, act)?;
-    push_row_if_seen(alloc, out, core, grid, places, &step)?;
-    push_bars(alloc, out, core, grid, act.0)?;
+    if grid.window.asks(step.number) {
+        push_row_and_bars(alloc, out, core, grid, places, &step)?;
+    }
     Ok(step.event)
 }
 
@@ -111,47 +136,76 @@ fn lanes_in(
     Ok(out)
 }
 
-/// The columns for a run.
-fn grid_for(alloc: Global, places: &Places<'_>, ended: &Ended<'_>) -> Result<Grid, AllocError>
-    ensures { IfOk result (λ g. g ≡ grid_for places.now ended.now.module.now
-        ended.now.log.items ended.now.core.world) }
+/// Those of these steps that are asked for.
+fn asked(alloc: Global, steps: &[RunStep], window: Window) -> Result<Vec<RunStep>, AllocError>
+    ensures { IfOk result (λ v. v.items
+        ≡ filter (λ s. is_asked window s.number) steps.now) }
 {
-    let steps = seen_steps(alloc, ended)?;
-    grid_of(alloc, places, &steps, ended.core.activities())
+    steps
+        .iter()
+        .copied()
+        .filter(|step| window.asks(step.number))
+        .collect(alloc)
 }
 
-/// The lanes of a run.
-fn lanes(alloc: Global, places: &Places<'_>, ended: &Ended<'_>) -> Result<Vec<u8>, AllocError>
-    ensures { IfOk result (λ v. v.items ≡ lanes_text places.now ended.now.module.now
+/// The columns for these steps of a run.
+pub fn grid_for(
+    alloc: Global,
+    places: &Places<'_>,
+    ended: &Ended<'_>,
+    window: Window,
+) -> Result<Grid, AllocError>
+    ensures { IfOk result (λ g. g ≡ grid_for places.now window ended.now.module.now
         ended.now.log.items ended.now.core.world) }
 {
-    let grid = grid_for(alloc, places, ended)?;
-    lanes_in(alloc, grid, places, ended)
+    let seen = seen_steps(alloc, ended)?;
+    let steps = asked(alloc, &seen, window)?;
+    grid_of(alloc, places, window, &steps, ended.core.activities())
 }
 
-/// The lanes of a run of a source text's module: a column for each activity, and a row for each step that others can see, with its number, where
-/// it was taken, and what was done in the lane of who did it. Behind a step an activity that could go on shows `|`, one that is held back `:`, and
-/// one that hasn't started or has ended nothing. Where a clock advanced, a bar joins the lanes of those who are registered on it, and says in whose
-/// step that was. Err where memory was refused.
+/// The lanes of these steps of a run.
+fn lanes(
+    alloc: Global,
+    places: &Places<'_>,
+    ended: &Ended<'_>,
+    window: Window,
+) -> Result<Drawing, AllocError>
+    ensures text { IfOk result (λ d. d.text.items ≡ lanes_text places.now window
+        ended.now.module.now ended.now.log.items ended.now.core.world) }
+    ensures whole { IfOk result (λ d. d.whole ≡ are_lanes_whole ended.now.core.world) }
+{
+    let grid = grid_for(alloc, places, ended, window)?;
+    let text = lanes_in(alloc, grid, places, ended)?;
+    let whole = ended.core.activities() < 65;
+    Ok(Drawing { text, whole })
+}
+
+/// The lanes of these steps of a run of a source text's module: a column for each activity, and a row for each step that others can see, with its
+/// number, where it was taken, and what was done in the lane of who did it. Behind a step an activity that could go on shows `|`, one that is held
+/// back `:`, and one that hasn't started or has ended nothing. Where a clock advanced, a bar joins the lanes of those who are registered on it, and
+/// says in whose step that was. It is whole where each activity has a lane. Err where memory was refused.
 pub fn source_lanes(
     alloc: Global,
     text: &[u8],
     origins: &[UnitOrigins<'_>],
     ended: &Ended<'_>,
-) -> Result<Vec<u8>, AllocError>
-    ensures { IfOk result (λ v. v.items
-        ≡ lanes_text (places_of text.now origins.now)
+    window: Window,
+) -> Result<Drawing, AllocError>
+    ensures text { IfOk result (λ d. d.text.items
+        ≡ lanes_text (places_of text.now origins.now) window
         ended.now.module.now ended.now.log.items ended.now.core.world) }
+    ensures whole { IfOk result (λ d. d.whole ≡ are_lanes_whole ended.now.core.world) }
 {
     let places = Places::of_source(alloc, text, origins)?;
-    lanes(alloc, &places, ended)
+    lanes(alloc, &places, ended, window)
 }
 
 /// The same of a module without a text, with the unit and place of each step. Err where memory was refused.
-pub fn module_lanes(alloc: Global, ended: &Ended<'_>) -> Result<Vec<u8>, AllocError>
-    ensures { IfOk result (λ v. v.items ≡ lanes_text no_text ended.now.module.now
-        ended.now.log.items ended.now.core.world) }
+pub fn module_lanes(alloc: Global, ended: &Ended<'_>, window: Window) -> Result<Drawing, AllocError>
+    ensures text { IfOk result (λ d. d.text.items ≡ lanes_text no_text window
+        ended.now.module.now ended.now.log.items ended.now.core.world) }
+    ensures whole { IfOk result (λ d. d.whole ≡ are_lanes_whole ended.now.core.world) }
 {
     let places = Places::of_module(alloc)?;
-    lanes(alloc, &places, ended)
+    lanes(alloc, &places, ended, window)
 }

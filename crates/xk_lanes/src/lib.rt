@@ -6,5 +6,10 @@ mod fields;
 mod grid;
 mod lanes;
 mod rows;
+mod window;
 
-pub use lanes::{module_lanes, source_lanes};
+pub use bars::{advanced, any_behind, any_below, bar_label, is_on};
+pub use grid::{Grid, spot};
+pub use lanes::{Drawing, grid_for, module_lanes, source_lanes};
+pub use rows::title;
+pub use window::Window;

@@ -3,7 +3,7 @@
 ghost use Rattle.std.specs.Prelude.{◌≡◌, ◌++◌, decimal, IfOk, OnOk, string_bytes};
 ghost use Rattle.xk_events.specs.Events.{event_words};
 ghost use Rattle.xk_lanes.specs.Fields.{at_left, at_right, each_below};
-ghost use Rattle.xk_lanes.specs.Lanes.{cell, head_line, lane_line, line_front, mark, row, row_if_seen, spot, title};
+ghost use Rattle.xk_lanes.specs.Lanes.{cell, head_line, lane_line, line_front, mark, row, row_if_seen, spot, title, words_behind};
 
 use crate::fields::{push_at_left, push_at_right, push_line, push_text};
 use crate::grid::{Grid, spot};
@@ -25,7 +25,7 @@ fn line_front(alloc: Global, grid: Grid, number: &[u8], place: &[u8]) -> Result<
 }
 
 /// `main`, `act 1`.
-fn title(alloc: Global, lane: u32) -> Result<String, AllocError>
+pub fn title(alloc: Global, lane: u32) -> Result<String, AllocError>
     ensures { IfOk result (λ text. string_bytes text ≡ title lane) }
 {
     if lane == 0 {
@@ -127,6 +127,25 @@ fn row_front(
     line_front(alloc, grid, number.as_bytes(), place.as_bytes())
 }
 
+/// Adds who took the step and what was done, words that are given, if that one has no lane.
+fn push_words_behind(
+    alloc: Global,
+    line: &mut Vec<u8>,
+    grid: Grid,
+    step: &RunStep,
+    words: &[u8],
+) -> Result<(), AllocError>
+    requires { words.now ≡ event_words step.now }
+    ensures { OnOk result (line.new.items ≡ line.old.items ++ words_behind grid step.now) }
+{
+    if step.act < grid.lanes {
+        return Ok(());
+    }
+    push_text(line, title(alloc, step.act)?.as_str())?;
+    push_text(line, " ")?;
+    line.extend_from_slice(words)
+}
+
 /// Adds the row of a step that led to the core.
 #[tactic(auto, unfolding(crate::specs::Lanes::row, crate::specs::Lanes::lane_line))]
 fn push_row(
@@ -143,6 +162,7 @@ fn push_row(
     let words = event_words(alloc, step)?;
     let mut line = row_front(alloc, grid, places, step)?;
     push_cells(&mut line, core, grid, step, words.as_bytes())?;
+    push_words_behind(alloc, &mut line, grid, step, words.as_bytes())?;
     push_line(out, &line)
 }
 

@@ -1,0 +1,129 @@
+-- What orders the steps of a run in each schedule of its class.
+use Rattle.std.specs.Prelude.{◌≡◌, ℕ, ◌<◌, ◌==◌, ◌⊎◌, Bool, true, false, List, [], ◌∷◌, ◌++◌, length, map, filter, slice_get, Option, Some, option_and_then}
+use Rattle.std.specs.Option.{option_map_or}
+use Rattle.xk_types.specs.declared.instr.Instr.{Instr}
+use Rattle.xk_types.specs.declared.instr.Instr.TheVariants as instr
+use Rattle.xk_types.specs.declared.world.Event.{Event}
+use Rattle.xk_types.specs.declared.world.Event.TheVariants as event
+use Rattle.xk_types.specs.Code.{ModuleValue}
+use Rattle.xk_types.specs.World.{Activity, World, instruction_at}
+use Rattle.xk_types.specs.Step.{Outcome, Blocked, Wrong, Stepped, innermost, is_under, step}
+use Rattle.xk_types.specs.Schedule.{Through, run, is_enabled}
+use Rattle.xk_squares.specs.Conflicts.{reads, puts, stores, next_instruction}
+use Rattle.xk_classes.specs.Classes.{AreOneClass}
+
+-- ---- steps by name
+
+-- A step is named by who takes it, and by how many steps that one took before: so it has the same name in each schedule of a class.
+abbrev pub StepName : Type 0
+StepName = ℕ × ℕ
+
+-- how many of these steps activity a takes
+abbrev pub turns_of : ℕ → List ℕ → ℕ
+turns_of a list = length (filter (λ b. b == a) list)
+
+-- the step is one of these
+abbrev pub IsTaken : List ℕ → StepName → Type 0
+IsTaken list x = x.1 < turns_of x.0 list
+
+-- who takes each step, and the instruction that it carries out
+abbrev pub carried_on : ℕ × Option Instr → Outcome → (World → List (ℕ × Option Instr)) → List (ℕ × Option Instr)
+carried_on entry Blocked go = []
+carried_on entry (Wrong c) go = []
+carried_on entry (Stepped next e) go = entry ∷ go next
+
+abbrev pub carried : ModuleValue → List ℕ → World → List (ℕ × Option Instr)
+carried m [] w = []
+carried m (a ∷ list) w = carried_on (a, next_instruction m w a) (step m w a) (carried m list)
+
+-- what activity a carries out, in its order
+abbrev pub carried_by : ModuleValue → List ℕ → World → ℕ → List (Option Instr)
+carried_by m list w a = map (λ p. p.1) (filter (λ p. p.0 == a) (carried m list w))
+
+-- the instruction that a step of the schedule carries out
+abbrev pub instruction_of : ModuleValue → List ℕ → World → StepName → Option Instr
+instruction_of m list w x = option_and_then (λ i. i) (slice_get (carried_by m list w x.0) x.1)
+
+-- ---- what they do to shared numbers
+
+abbrev pub does : (Instr → ℕ → Bool) → Option Instr → ℕ → Bool
+does test o c = option_map_or (λ i. test i c) o false
+
+-- The two instructions don't conflict on a shared number, as in `AreConflictFree` those that two activities stand at.
+pub record AreApart (o p : Option Instr) : Type 0 where
+  pub second_reads : (c : ℕ) → does stores o c ≡ true → does reads p c ≡ true → ⊥
+  pub first_reads : (c : ℕ) → does stores p c ≡ true → does reads o c ≡ true → ⊥
+  pub first_puts : (c : ℕ) → does puts o c ≡ true → does stores p c ≡ true → ⊥
+  pub second_puts : (c : ℕ) → does puts p c ≡ true → does stores o c ≡ true → ⊥
+
+-- ---- edges
+
+-- it is one of these edges, each from a step to a later one
+abbrev pub IsEdge : List (StepName × StepName) → StepName → StepName → Type 0
+IsEdge edges x y = (k : ℕ) × (slice_get edges k ≡ Some (x, y))
+
+-- an edge leads from one step to the other, or one activity takes them in this order
+abbrev pub IsLink : List (StepName × StepName) → StepName → StepName → Type 0
+IsLink edges x y = IsEdge edges x y ⊎ ((x.0 ≡ y.0) × (x.1 < y.1))
+
+-- from step x by way of these steps to y
+abbrev pub IsWay : List (StepName × StepName) → StepName → List StepName → StepName → Type 0
+IsWay edges x [] y = IsLink edges x y
+IsWay edges x (z ∷ zs) y = IsLink edges x z × IsWay edges z zs y
+
+-- step x is before y, by edges and by the order of each activity's own steps
+pub record IsBefore (edges : List (StepName × StepName)) (x y : StepName) : Type 0 where
+  pub between : List StepName
+  pub way : IsWay edges x between y
+
+-- Edges are sound if no schedule of the class of s comes to a world where the second step of an edge could be taken and the first one wasn't.
+abbrev pub AreSound : ModuleValue → World → List ℕ → List (StepName × StepName) → Type 0
+AreSound m w s edges = (x y : StepName) → IsEdge edges x y → (before after : List ℕ) (v : World) → AreOneClass m w s (before ++ after) → run m before w ≡ Through v
+    → turns_of y.0 before ≡ y.1 → is_enabled m v y.0 ≡ true → IsTaken before x
+
+-- of two steps of different activities that conflict on a shared number, one is before the other
+abbrev pub AreOrdered : ModuleValue → World → List ℕ → List (StepName × StepName) → Type 0
+AreOrdered m w s edges = (x y : StepName) → (y.0 ≡ x.0 → ⊥)
+    → AreApart (instruction_of m s w x) (instruction_of m s w y) ⊎ (IsBefore edges x y ⊎ IsBefore edges y x)
+
+-- of two steps of different activities whose instructions both pass, one is before the other
+abbrev pub AreOneByOne : (Instr → Bool) → ModuleValue → World → List ℕ → List (StepName × StepName) → Type 0
+AreOneByOne test m w s edges = (x y : StepName) → (y.0 ≡ x.0 → ⊥) → option_map_or test (instruction_of m s w x) false ≡ true
+    → option_map_or test (instruction_of m s w y) false ≡ true → IsBefore edges x y ⊎ IsBefore edges y x
+
+-- step x of the schedule starts an activity, and y is the first one that this takes
+pub record IsStart (m : ModuleValue) (w : World) (s : List ℕ) (x y : StepName) : Type 0 where
+  pub before : List ℕ
+  pub after : List ℕ
+  pub here : World
+  pub there : World
+  pub whole : s ≡ before ++ x.0 ∷ after
+  pub leads : run m before w ≡ Through here
+  pub turn : turns_of x.0 before ≡ x.1
+  pub starts : step m here x.0 ≡ Stepped there event.Spawned
+  pub child : y.0 ≡ length here.activities
+  pub first : y.1 ≡ 0
+
+-- step x of the schedule is taken by an activity under the finish that step y closes
+pub record IsUnderFinish (m : ModuleValue) (w : World) (s : List ℕ) (x y : StepName) : Type 0 where
+  pub before : List ℕ
+  pub after : List ℕ
+  pub here : World
+  pub there : World
+  pub closed : Event
+  pub whole : s ≡ before ++ y.0 ∷ after
+  pub leads : run m before w ≡ Through here
+  pub turn : turns_of y.0 before ≡ y.1
+  pub takes : step m here y.0 ≡ Stepped there closed
+  pub closer : Activity
+  pub found : slice_get here.activities y.0 ≡ Some closer
+  pub first : ℕ
+  pub closes : instruction_at m closer.frame ≡ Some (instr.EndFinish first)
+  pub child : Activity
+  pub known : slice_get here.activities x.0 ≡ Some child
+  pub under : is_under here.activities (innermost y.0 closer) x.0 ≡ true
+  pub taken : IsTaken s x
+
+-- what an edge stands for: a start, or a finish
+abbrev pub IsCause : ModuleValue → World → List ℕ → StepName → StepName → Type 0
+IsCause m w s x y = IsStart m w s x y ⊎ IsUnderFinish m w s x y

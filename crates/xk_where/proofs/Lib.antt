@@ -1,0 +1,4 @@
+pub mod PieceLemmas
+pub mod ProgressLemmas
+pub mod WaitingLaw
+mod WhereExamples

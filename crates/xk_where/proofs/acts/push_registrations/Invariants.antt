@@ -1,0 +1,7 @@
+use Rattle.std.proofs.Common.{◌≡◌, ◌++◌}
+use Rattle.xk_where.specs.Where.{each_below, registration}
+use Rattle.xk_where.proofs.acts.push_registrations.Given as goal
+
+-- the clocks so far were added
+abbrev pub invariant-loop-clock : goal.invariant-loop-clock
+invariant-loop-clock l = l.out.items ≡ l.fn.out.items ++ each_below (registration l.condition l.core.world l.act) l.clock

@@ -1,0 +1,14 @@
+//! How things stand behind the steps of a log: who is where, who waits for whom, clocks, shared numbers.
+#![tactic(auto)]
+
+mod acts;
+mod condition;
+mod holders;
+pub mod laws;
+mod progress;
+mod standings;
+mod texts;
+
+pub use condition::Condition;
+pub use progress::Stop;
+pub use standings::{Whereabouts, module_where, source_where};
