@@ -1,5 +1,5 @@
 -- What is known deed by deed is exactly the least order.
-use Rattle.std.proofs.Common.{◌≡◌, ◌∙◌, ℕ, zero, suc, ◌+◌, ◌<◌, ◌≤◌, Bool, true, false, List, [], ◌∷◌, ◌++◌, take, drop, length, Some, slice_get, ◌⊎◌, inl, inr, refl, sym, ap, subst, arith, false≢true}
+use Rattle.std.proofs.Common.{◌≡◌, ◌∙◌, ℕ, zero, suc, ◌+◌, ◌<◌, ◌≤◌, Bool, true, false, List, [], ◌∷◌, ◌++◌, take, drop, length, Some, slice_get, ◌⊎◌, inl, inr, refl, sym, ap, subst, arith, true≢false}
 use Rattle.std.proofs.lemmas.Bool.{cases_eq, cases_lt}
 use Rattle.std.proofs.lemmas.Option.{same_Some}
 use Rattle.xk_races.specs.declared.deeds.Deed.{Deed}
@@ -13,31 +13,31 @@ use Rattle.xk_races.proofs.OrderLemmas.{IsUpTo, Reaches, Tells, tells_none, tell
 
 -- ---- parts of steps
 
-is_start : Part → Bool
+abbrev is_start : Part → Bool
 is_start (part.Start b) = true
 is_start _ = false
 
-is_signal : Part → Bool
+abbrev is_signal : Part → Bool
 is_signal (part.Signal c) = true
 is_signal _ = false
 
-is_advance : Part → Bool
+abbrev is_advance : Part → Bool
 is_advance (part.Advance c) = true
 is_advance _ = false
 
-is_pass : Part → Bool
+abbrev is_pass : Part → Bool
 is_pass (part.Pass c) = true
 is_pass _ = false
 
-is_close : Part → Bool
+abbrev is_close : Part → Bool
 is_close part.Close = true
 is_close _ = false
 
-is_end : Part → Bool
+abbrev is_end : Part → Bool
 is_end part.End = true
 is_end _ = false
 
-number_in : Part → ℕ
+abbrev number_in : Part → ℕ
 number_in (part.Start b) = b
 number_in (part.Signal c) = c
 number_in (part.Advance c) = c
@@ -47,7 +47,7 @@ number_in _ = 0
 
 -- two parts that a test tells apart
 apart : {A : Type 0} (test : Part → Bool) (p q : Part) → test p ≡ false → test q ≡ true → p ≡ q → A
-apart test p q no yes same = absurd (false≢true (sym no ∙ ap test same ∙ yes))
+apart test p q never yes same = absurd (true≢false (sym yes ∙ sym (ap test same) ∙ never))
 
 -- ---- what holds behind some deeds
 
@@ -59,7 +59,7 @@ pub record IsKnown (ds : List Deed) (n : ℕ) (k : Known) : Type 0 where
   pub scopes : k.scopes ≡ scopes_after (take n ds) nothing_known.scopes
 
 nothing : (ds : List Deed) (S : ℕ → Type 0) → ((m : ℕ) → S m → ⊥) → Tells ds [] S
-nothing ds S no = tells_same ds [] (λ m. ⊥) S (λ m h. absurd h) (λ m h. no m h) (tells_none ds)
+nothing ds S never = tells_same ds [] (λ m. ⊥) S (λ m h. absurd h) (λ m h. never m h) (tells_none ds)
 
 pub known_first : (ds : List Deed) → IsKnown ds 0 nothing_known
 known_first ds = record {
@@ -92,6 +92,7 @@ tells_told ds rows x y row S T s t = of (cases_eq y x)
         to : y ≡ x → (m : ℕ) → S m ⊎ T m → S m ⊎ ((y ≡ x) × T m)
         to e m (inl h) = inl h
         to e m (inr h) = inr (e, h)
+
         from : (m : ℕ) → S m ⊎ ((y ≡ x) × T m) → S m ⊎ T m
         from m (inl h) = inl h
         from m (inr h) = inr h.1
@@ -106,7 +107,7 @@ tells_told ds rows x y row S T s t = of (cases_eq y x)
 -- ---- one more deed
 
 -- before n, or n itself
-at_last : (m n : ℕ) → m < suc n → (m < n) ⊎ (m ≡ n)
+pub at_last : (m n : ℕ) → m < suc n → (m < n) ⊎ (m ≡ n)
 at_last m n lt = of (cases_lt m n)
   where
     of : (m < n) ⊎ (n ≤ m) → (m < n) ⊎ (m ≡ n)
@@ -190,6 +191,7 @@ edges_passed ds n c e row here is t =
     to : (m : ℕ) → IsOf ds n e.step.act m ⊎ ((e.step.act ≡ e.step.act) × IsCounted ds n c m) → Edge ds m n
     to m (inl h) = (e, here, Own h)
     to m (inr h) = (e, here, Passed c is h.1)
+
     by : (m : ℕ) → Reason ds m n e → IsOf ds n e.step.act m ⊎ ((e.step.act ≡ e.step.act) × IsCounted ds n c m)
     by m (Own h) = inl h
     by m (Passed b was h) = inr (refl, subst (λ x. IsCounted ds n x m) (ap number_in (sym was ∙ is)) h)
@@ -204,6 +206,7 @@ edges_closed ds n f e row here is finish t =
     to : (m : ℕ) → IsOf ds n e.step.act m ⊎ ((e.step.act ≡ e.step.act) × IsEnd ds n f m) → Edge ds m n
     to m (inl h) = (e, here, Own h)
     to m (inr h) = (e, here, Closed is (subst (λ x. IsEnd ds n x m) finish h.1))
+
     by : (m : ℕ) → Reason ds m n e → IsOf ds n e.step.act m ⊎ ((e.step.act ≡ e.step.act) × IsEnd ds n f m)
     by m (Own h) = inl h
     by m (Passed c was h) = apart is_pass e.part (part.Pass c) (ap is_pass is) refl was
@@ -255,12 +258,15 @@ marked_all ds n e k here known y = of (cases_eq y e.step.act)
   where
     to : e.step.act ≡ y → (m : ℕ) → m ≡ n → Reaches ds (λ i. IsOf ds n y i ⊎ ((e.step.act ≡ y) × (i ≡ n))) m
     to is m h = (m, inr (is, h), inl refl)
+
     from : e.step.act ≡ y → (m : ℕ) → IsOf ds n y m ⊎ ((e.step.act ≡ y) × (m ≡ n)) → Reaches ds (λ i. i ≡ n) m
     from is m (inl h) = (n, refl, inr ([], (e, here, Own (subst (λ x. IsOf ds n x m) (sym is) h))))
     from is m (inr h) = (m, h.1, inl refl)
+
     less : (e.step.act ≡ y → ⊥) → (m : ℕ) → IsOf ds n y m ⊎ ((e.step.act ≡ y) × (m ≡ n)) → IsOf ds n y m
     less ne m (inl h) = h
     less ne m (inr h) = absurd (ne h.0)
+
     of : (y ≡ e.step.act) ⊎ (y ≡ e.step.act → ⊥)
         → Tells ds (row_at (marked e.step.act (suc n) (heard e.step.act e.part k)) y) (λ m. IsOf ds n y m ⊎ ((e.step.act ≡ y) × (m ≡ n)))
     of (inl is) =
@@ -288,17 +294,18 @@ record IsHeard (ds : List Deed) (n : ℕ) (e : Deed) (k : Known) : Type 0 where
   finish : finish_of e.step.act k ≡ finish_at ds n e.step.act
 
 acts_plain : (ds : List Deed) (n y : ℕ) (e : Deed) (k : Known) → IsHeard ds n e k → is_start e.part ≡ false → Tells ds (row_at k.acts y) (IsOf ds (suc n) y)
-acts_plain ds n y e k h no =
+acts_plain ds n y e k h never =
     tells_same ds (row_at k.acts y) (λ m. IsOf ds n y m ⊎ ((e.step.act ≡ y) × (m ≡ n))) (IsOf ds (suc n) y) (λ m x. of_more ds n y e h.here m (to m x))
     (λ m x. from m (of_less ds n y e h.here m x)) (h.all y)
   where
     to : (m : ℕ) → IsOf ds n y m ⊎ ((e.step.act ≡ y) × (m ≡ n)) → IsOf ds n y m ⊎ (((e.step.act ≡ y) ⊎ (e.part ≡ part.Start y)) × (m ≡ n))
     to m (inl x) = inl x
     to m (inr x) = inr (inl x.0, x.1)
+
     from : (m : ℕ) → IsOf ds n y m ⊎ (((e.step.act ≡ y) ⊎ (e.part ≡ part.Start y)) × (m ≡ n)) → IsOf ds n y m ⊎ ((e.step.act ≡ y) × (m ≡ n))
     from m (inl x) = inl x
     from m (inr (inl is, at)) = inr (is, at)
-    from m (inr (inr is, at)) = apart is_start e.part (part.Start y) no refl is
+    from m (inr (inr is, at)) = apart is_start e.part (part.Start y) never refl is
 
 acts_told : (ds : List Deed) (n y : ℕ) (e : Deed) (k : Known) → IsHeard ds n e k → (p : Part) → e.part ≡ p
     → Tells ds (row_at (told e.step.act p k).acts y) (IsOf ds (suc n) y)
@@ -312,6 +319,7 @@ acts_told ds n y e k h (part.Start b) is =
     to m (inl (inl x)) = inl x
     to m (inl (inr x)) = inr (inl x.0, x.1)
     to m (inr x) = inr (inr (is ∙ ap (λ i. part.Start i) (sym x.0)), x.1)
+
     from : (m : ℕ) → IsOf ds n y m ⊎ (((e.step.act ≡ y) ⊎ (e.part ≡ part.Start y)) × (m ≡ n))
         → (IsOf ds n y m ⊎ ((e.step.act ≡ y) × (m ≡ n))) ⊎ ((y ≡ b) × (m ≡ n))
     from m (inl x) = inl (inl x)
@@ -328,13 +336,13 @@ acts_told ds n y e k h part.Print is = acts_plain ds n y e k h (ap is_start is)
 
 signals_plain : (ds : List Deed) (n c : ℕ) (e : Deed) (k : Known) → IsHeard ds n e k → is_signal e.part ≡ false
     → Tells ds (row_at k.signals c) (IsSignal ds (suc n) c)
-signals_plain ds n c e k h no =
+signals_plain ds n c e k h never =
     tells_same ds (row_at k.signals c) (IsSignal ds n c) (IsSignal ds (suc n) c) (λ m x. signal_more ds n c e h.here m (inl x))
     (λ m x. from m (signal_less ds n c e h.here m x)) (h.signals c)
   where
     from : (m : ℕ) → IsSignal ds n c m ⊎ ((e.part ≡ part.Signal c) × (m ≡ n)) → IsSignal ds n c m
     from m (inl x) = x
-    from m (inr x) = apart is_signal e.part (part.Signal c) no refl x.0
+    from m (inr x) = apart is_signal e.part (part.Signal c) never refl x.0
 
 signals_told : (ds : List Deed) (n c : ℕ) (e : Deed) (k : Known) → IsHeard ds n e k → (p : Part) → e.part ≡ p
     → Tells ds (row_at (told e.step.act p k).signals c) (IsSignal ds (suc n) c)
@@ -346,6 +354,7 @@ signals_told ds n c e k h (part.Signal b) is =
     to : (m : ℕ) → IsSignal ds n c m ⊎ ((c ≡ b) × (m ≡ n)) → IsSignal ds n c m ⊎ ((e.part ≡ part.Signal c) × (m ≡ n))
     to m (inl x) = inl x
     to m (inr x) = inr (is ∙ ap (λ i. part.Signal i) (sym x.0), x.1)
+
     from : (m : ℕ) → IsSignal ds n c m ⊎ ((e.part ≡ part.Signal c) × (m ≡ n)) → IsSignal ds n c m ⊎ ((c ≡ b) × (m ≡ n))
     from m (inl x) = inl x
     from m (inr x) = inr (ap number_in (sym x.0 ∙ is), x.1)
@@ -360,13 +369,13 @@ signals_told ds n c e k h part.Print is = signals_plain ds n c e k h (ap is_sign
 
 advances_plain : (ds : List Deed) (n c : ℕ) (e : Deed) (k : Known) → IsHeard ds n e k → is_advance e.part ≡ false
     → Tells ds (row_at k.advances c) (IsCounted ds (suc n) c)
-advances_plain ds n c e k h no =
+advances_plain ds n c e k h never =
     tells_same ds (row_at k.advances c) (IsCounted ds n c) (IsCounted ds (suc n) c) (λ m x. counted_more ds n c e h.here m (inl x))
     (λ m x. from m (counted_less ds n c e h.here m x)) (h.advances c)
   where
     from : (m : ℕ) → IsCounted ds n c m ⊎ ((e.part ≡ part.Advance c) × IsSignal ds n c m) → IsCounted ds n c m
     from m (inl x) = x
-    from m (inr x) = apart is_advance e.part (part.Advance c) no refl x.0
+    from m (inr x) = apart is_advance e.part (part.Advance c) never refl x.0
 
 advances_told : (ds : List Deed) (n c : ℕ) (e : Deed) (k : Known) → IsHeard ds n e k → (p : Part) → e.part ≡ p
     → Tells ds (row_at (told e.step.act p k).advances c) (IsCounted ds (suc n) c)
@@ -378,6 +387,7 @@ advances_told ds n c e k h (part.Advance b) is =
     to : (m : ℕ) → IsCounted ds n c m ⊎ ((c ≡ b) × IsSignal ds n b m) → IsCounted ds n c m ⊎ ((e.part ≡ part.Advance c) × IsSignal ds n c m)
     to m (inl x) = inl x
     to m (inr x) = inr (is ∙ ap (λ i. part.Advance i) (sym x.0), subst (λ i. IsSignal ds n i m) (sym x.0) x.1)
+
     from : (m : ℕ) → IsCounted ds n c m ⊎ ((e.part ≡ part.Advance c) × IsSignal ds n c m) → IsCounted ds n c m ⊎ ((c ≡ b) × IsSignal ds n b m)
     from m (inl x) = inl x
     from m (inr x) = let same : c ≡ b = ap number_in (sym x.0 ∙ is) in inr (same, subst (λ i. IsSignal ds n i m) same x.1)
@@ -391,13 +401,13 @@ advances_told ds n c e k h (part.Access s) is = advances_plain ds n c e k h (ap 
 advances_told ds n c e k h part.Print is = advances_plain ds n c e k h (ap is_advance is)
 
 ends_plain : (ds : List Deed) (n f : ℕ) (e : Deed) (k : Known) → IsHeard ds n e k → is_end e.part ≡ false → Tells ds (row_at k.ends f) (IsEnd ds (suc n) f)
-ends_plain ds n f e k h no =
+ends_plain ds n f e k h never =
     tells_same ds (row_at k.ends f) (IsEnd ds n f) (IsEnd ds (suc n) f) (λ m x. end_more ds n f e h.here m (inl x))
     (λ m x. from m (end_less ds n f e h.here m x)) (h.ends f)
   where
     from : (m : ℕ) → IsEnd ds n f m ⊎ ((e.part ≡ part.End) × (finish_at ds n e.step.act ≡ f) × (m ≡ n)) → IsEnd ds n f m
     from m (inl x) = x
-    from m (inr x) = apart is_end e.part part.End no refl x.0
+    from m (inr x) = apart is_end e.part part.End never refl x.0
 
 ends_told : (ds : List Deed) (n f : ℕ) (e : Deed) (k : Known) → IsHeard ds n e k → (p : Part) → e.part ≡ p
     → Tells ds (row_at (told e.step.act p k).ends f) (IsEnd ds (suc n) f)
@@ -411,6 +421,7 @@ ends_told ds n f e k h part.End is =
         → IsEnd ds n f m ⊎ ((e.part ≡ part.End) × (finish_at ds n e.step.act ≡ f) × (m ≡ n))
     to m (inl x) = inl x
     to m (inr x) = inr (is, sym h.finish ∙ sym x.0, x.1)
+
     from : (m : ℕ) → IsEnd ds n f m ⊎ ((e.part ≡ part.End) × (finish_at ds n e.step.act ≡ f) × (m ≡ n))
         → IsEnd ds n f m ⊎ ((f ≡ finish_of e.step.act k) × (m ≡ n))
     from m (inl x) = inl x

@@ -73,6 +73,7 @@ tells_joined ds r s S T t u = record { true_of = known; all_of = knows }
         of : (i < number_at r d.step.act) ⊎ (number_at r d.step.act ≤ i) → Reaches ds (λ k. S k ⊎ T k) i
         of (inl less) = let h = t.true_of i d at less in (h.0, inl h.1, h.2)
         of (inr ge) = let h = u.true_of i d at (omega (arith, lt, ge, joined_at r s d.step.act)) in (h.0, inr h.1, h.2)
+
     knows : (i : ℕ) (d : Deed) → IsAt ds i d → Reaches ds (λ k. S k ⊎ T k) i → i < number_at (joined r s) d.step.act
     knows i d at (k, inl x, up) = let a = t.all_of i d at (k, x, up) in omega (arith, a, joined_at r s d.step.act)
     knows i d at (k, inr x, up) = let a = u.all_of i d at (k, x, up) in omega (arith, a, joined_at r s d.step.act)
@@ -94,8 +95,10 @@ tells_marked ds r n e here t = record { true_of = known; all_of = knows }
     known_by i d at (inr other) lt =
         let h = t.true_of i d at (subst (λ x. i < x) (with_at_other 0 r e.step.act d.step.act (suc n) other) lt) in
         (n, refl, inr (before_by ds i h.0 n h.2 h.1))
+
     known : (i : ℕ) (d : Deed) → IsAt ds i d → i < number_at (with_at 0 r e.step.act (suc n)) d.step.act → Reaches ds (λ k. k ≡ n) i
     known i d at lt = known_by i d at (cases_eq d.step.act e.step.act) lt
+
     knows_by : (i : ℕ) (d : Deed) → IsAt ds i d → (d.step.act ≡ e.step.act) ⊎ (d.step.act ≡ e.step.act → ⊥) → IsUpTo ds i n
         → i < number_at (with_at 0 r e.step.act (suc n)) d.step.act
     knows_by i d at (inl same) up =
@@ -106,6 +109,7 @@ tells_marked ds r n e here t = record { true_of = known; all_of = knows }
     knows_by i d at (inr other) (inr h) =
         let f = before_from ds i n h in
         subst (λ x. i < x) (sym (with_at_other 0 r e.step.act d.step.act (suc n) other)) (t.all_of i d at (f.0, f.2, f.1))
+
     knows : (i : ℕ) (d : Deed) → IsAt ds i d → Reaches ds (λ k. k ≡ n) i → i < number_at (with_at 0 r e.step.act (suc n)) d.step.act
     knows i d at h = knows_by i d at (cases_eq d.step.act e.step.act) (subst (λ m. IsUpTo ds i m) h.1 h.2)
 

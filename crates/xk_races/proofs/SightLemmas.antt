@@ -30,6 +30,7 @@ right_here ds n d k here known = record {
     to : (m : ℕ) → IsOf ds (suc n) d.step.act m → (m < n) ⊎ (m ≡ n) → Reaches ds (λ i. i ≡ n) m
     to m h (inl less) = (n, refl, inr ([], (d, here, Own (less, h.1, h.2, h.3))))
     to m h (inr is) = (m, is, inl refl)
+
     from : (m : ℕ) → m ≡ n → Reaches ds (IsOf ds (suc n) d.step.act) m
     from m is = (m, (omega (arith, is), d, subst (λ i. IsAt ds i d) (sym is) here, inl refl), inl refl)
 

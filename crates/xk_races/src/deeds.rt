@@ -134,11 +134,7 @@ fn push_signals(
 }
 
 /// Adds the advances of these clocks.
-fn push_advances(
-    list: &mut Vec<Deed>,
-    step: &RunStep,
-    clocks: &[u32],
-) -> Result<(), AllocError>
+fn push_advances(list: &mut Vec<Deed>, step: &RunStep, clocks: &[u32]) -> Result<(), AllocError>
     ensures { OnOk result (list.new.items ≡ list.old.items
         ++ flat_map (advance step.now) clocks.now) }
 {

@@ -8,5 +8,4 @@ ghost use Rattle.xk_races.specs.Exactness.{OrderIsExact};
 /// steps, of starts, of what a pass waited for, and of what the close of a finish waited for. The call does nothing; its contract is the law.
 pub fn order_is_exact()
     ensures { (ds : List Deed) → OrderIsExact ds }
-{
-}
+{}
