@@ -1,5 +1,1 @@
 pub mod GrowthLemmas
-pub mod RowLemmas
-pub mod OrderLemmas
-pub mod KnowledgeLemmas
-pub mod SightLemmas

@@ -3,7 +3,6 @@
 
 mod deeds;
 mod knowledge;
-pub mod laws;
 mod pairs;
 mod report;
 mod rows;
