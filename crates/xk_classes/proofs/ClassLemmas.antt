@@ -3,20 +3,18 @@ use Rattle.std.proofs.Common.{◌≡◌, ℕ, ℤ, ◌==◌, Bool, true, false, 
 use Rattle.std.specs.Prelude.{filter, not}
 use Rattle.std.specs.List.{filter_map}
 use Rattle.std.proofs.lemmas.List.Elements.{filter-append}
-use Rattle.xk_types.specs.declared.instr.Instr.{Instr}
 use Rattle.xk_types.specs.declared.world.Event.{Event}
 use Rattle.xk_types.specs.declared.world.Event.TheVariants as event
 use Rattle.xk_types.specs.Acceptance.{IsAccepted}
 use Rattle.xk_types.specs.Code.{ModuleValue, IsWithinLimits}
-use Rattle.xk_types.specs.World.{World}
+use Rattle.xk_types.specs.World.{Activity, World}
 use Rattle.xk_types.specs.Step.{Stepped, step}
 use Rattle.xk_types.specs.Schedule.{Through, run, IsReached, is_local, events, number_printed, printed}
 use Rattle.xk_squares.specs.PlainWorlds.{AreAlike}
 use Rattle.xk_classes.specs.Moments.{is_print, is_make, is_start}
 use Rattle.xk_classes.specs.Classes.{DoCommute, AreSwapped, AreJoined, AreOneClass, IsMet, HasNeverTwo}
-use Rattle.xk_classes.specs.Edges.{carried_by}
 use Rattle.xk_classes.specs.OneRun.{GoesAsWell}
-use Rattle.xk_classes.proofs.SwapLemmas.{Entry, entries, event_in, instruction_in, events_filtered, carried_filtered, first_entry, second_entry, run_first, IsExchange, exchange}
+use Rattle.xk_classes.proofs.SwapLemmas.{Entry, entries, event_in, events_filtered, first_entry, second_entry, run_first, IsExchange, exchange}
 
 -- ---- one class after another
 
@@ -135,6 +133,12 @@ by_event test x = test x.1
 abbrev pub by_taker : ℕ → Entry → Bool
 by_taker a x = x.0 == a
 
+abbrev pub state_in : Entry → Option Activity
+state_in x = x.2
+
+abbrev pub states_by : ModuleValue → List ℕ → World → ℕ → List (Option Activity)
+states_by m list w a = map state_in (filter (by_taker a) (entries m list w))
+
 pub never_one : (m : ModuleValue) (w : World) (s : List ℕ) (d : ℕ) → NeverCrosses (by_taker d) m w s
 never_one m w s d v met a b c h g = c.differ (eqb-true b d g ∙ sym (eqb-true a d h))
 
@@ -165,16 +169,13 @@ prints_alone (x ∷ es) = by x.1 (prints_alone es)
     by _ h = h
 
 module _ (m : ModuleValue) (limits : IsWithinLimits m) (ok : IsAccepted m) (w z : World) (reached : IsReached m w) (s t : List ℕ) (h : AreOneClass m w s t) (legal : run m s w ≡ Through z) where
-  -- events that pass, and what activities carry out
+  -- events that pass, and how activities stand as they take their steps
   pub same_events : (p : ℕ × Event → Bool) → NeverCrosses (λ x. p (event_in x)) m w s → filter p (events m s w) ≡ filter p (events m t w)
   same_events p never =
       events_filtered p m s w ∙ ap (map event_in) (class_goes m limits ok (λ x. p (event_in x)) w reached s t z h legal never).same ∙ sym (events_filtered p m t w)
 
-  pub same_carried : (a : ℕ) → carried_by m s w a ≡ carried_by m t w a
-  same_carried a =
-      ap (map (λ (x : ℕ × Option Instr). x.1))
-      (carried_filtered (λ x. x.0 == a) m s w ∙ ap (map instruction_in) (class_goes m limits ok (by_taker a) w reached s t z h legal (never_one m w s a)).same
-      ∙ sym (carried_filtered (λ x. x.0 == a) m t w))
+  pub same_states : (a : ℕ) → states_by m s w a ≡ states_by m t w a
+  same_states a = ap (map state_in) (class_goes m limits ok (by_taker a) w reached s t z h legal (never_one m w s a)).same
 
   pub class_as_well : GoesAsWell m w s t z
   class_as_well =

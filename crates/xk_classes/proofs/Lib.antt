@@ -4,6 +4,7 @@ pub mod ClassLemmas
 pub mod ClassLaw
 pub mod EdgeLaw
 pub mod StartEdgeLaw
+pub mod FinishEdgeLaw
 pub mod OneRunLaw
 pub mod BeginningLaw
 pub mod Examples

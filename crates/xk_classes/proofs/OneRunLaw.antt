@@ -23,8 +23,7 @@ use Rattle.xk_classes.proofs.SwapLemmas.{run_first}
 use Rattle.xk_classes.proofs.ClassLemmas.{class_as_well, class_prints}
 use Rattle.xk_classes.proofs.ClassLaw.{in_order, every}
 use Rattle.xk_classes.proofs.EdgeLaw.{ordered_free}
-use Rattle.xk_classes.specs.Edges.{StepName, IsEdge, IsStart, AreSound, AreOrdered}
-use Rattle.xk_classes.proofs.StartEdgeLaw.{starts_sound}
+use Rattle.xk_classes.specs.Edges.{StepName, AreSound, AreOrdered}
 
 pub one_of : {X : Type 0} (P : X → Type 0) (xs : List X) (k : ℕ) (x : X) → slice_get xs k ≡ Some x → All P xs → P x
 one_of P xs k x h all = subst P (get_or_from_slice_get xs k x x h) (All-get_or P xs k x (slice_get_within xs k x h) all)
@@ -60,10 +59,6 @@ module _ (m : ModuleValue) (args : List ℤ) (limits : IsWithinLimits m) (ok : I
   pub ordered_run : (s : List ℕ) (z : World) (edges : List (StepName × StepName)) → IsWholeRun m args s z → AreSound m (opening m args) s edges
       → AreOrdered m (opening m args) s edges → HasNoRace m (opening m args) s
   ordered_run s z edges one sound ordered = ordered_free m limits ok (opening m args) z (opening_reached m args taken) s one.legal one.ended edges sound ordered
-
-  pub start_edges : (s : List ℕ) (z : World) (edges : List (StepName × StepName)) → run m s (opening m args) ≡ Through z
-      → ((x y : StepName) → IsEdge edges x y → IsStart m (opening m args) s x y) → AreSound m (opening m args) s edges
-  start_edges s z edges legal starts = starts_sound m limits ok (opening m args) z (opening_reached m args taken) s legal edges starts
 
   -- a whole run with which a schedule of a class begins is one of the class
   whole_member : (s t : List ℕ) (z y : World) → IsWholeRun m args s z → IsWholeRun m args t y → IsBegun m (opening m args) s t → AreOneClass m (opening m args) s t

@@ -18,23 +18,23 @@ use Rattle.xk_squares.proofs.ChangeSquareLemmas.{found_of}
 use Rattle.xk_squares.proofs.QuietStepLaw.{enabled_step}
 use Rattle.xk_classes.specs.Moments.{is_start, takers}
 use Rattle.xk_classes.specs.Classes.{AreOneClass}
-use Rattle.xk_classes.specs.Edges.{StepName, turns_of, IsTaken, IsEdge, AreSound, IsStart}
+use Rattle.xk_classes.specs.Edges.{StepName, turns_of, IsTaken, IsStart}
 use Rattle.xk_classes.specs.OneRun.{GoesAsWell}
 use Rattle.xk_classes.proofs.SwapLemmas.{events_first}
 use Rattle.xk_classes.proofs.ClassLemmas.{class_as_well}
 
 -- ---- lists of events
 
-abbrev Log : Type 0
+abbrev pub Log : Type 0
 Log = List (ℕ × Event)
 
-abbrev starts_of : Log → Log
+abbrev pub starts_of : Log → Log
 starts_of es = filter (λ x. is_start x.1) es
 
-abbrev takers_of : Log → List ℕ
+abbrev pub takers_of : Log → List ℕ
 takers_of es = map (λ x. x.0) (starts_of es)
 
-abbrev own_of : ℕ → Log → List Event
+abbrev pub own_of : ℕ → Log → List Event
 own_of a es = map (λ x. x.1) (filter (λ x. x.0 == a) es)
 
 -- how many starts these are
@@ -154,14 +154,14 @@ cut_at (x ∷ es) n h = by (is_start x.1) refl n h (cut_at es)
 
 -- ---- events of runs
 
-events_run : (m : ModuleValue) (p q : List ℕ) (w v : World) → run m p w ≡ Through v → events m (p ++ q) w ≡ events m p w ++ events m q v
+pub events_run : (m : ModuleValue) (p q : List ℕ) (w v : World) → run m p w ≡ Through v → events m (p ++ q) w ≡ events m p w ++ events m q v
 events_run m [] q w v h = ap (events m q) (same_through w v h)
 events_run m (d ∷ p) q w v h =
     let x = first_step w v (step m w d) (run m p) h in
     events_first m (p ++ q) w x.0 d x.1 x.2 ∙ ap (λ es. (d, x.1) ∷ es) (events_run m p q x.0 v x.3)
     ∙ sym (ap (λ es. es ++ events m q v) (events_first m p w x.0 d x.1 x.2))
 
-turns_own : (m : ModuleValue) (a : ℕ) (p : List ℕ) (w v : World) → run m p w ≡ Through v → turns_of a p ≡ length (own_of a (events m p w))
+pub turns_own : (m : ModuleValue) (a : ℕ) (p : List ℕ) (w v : World) → run m p w ≡ Through v → turns_of a p ≡ length (own_of a (events m p w))
 turns_own m a [] w v h = refl
 turns_own m a (d ∷ p) w v h =
     let x = first_step w v (step m w d) (run m p) h in
@@ -179,7 +179,7 @@ Grows w Blocked = Unit {0}
 Grows w (Wrong c) = Unit {0}
 Grows w (Stepped u e) = length u.activities ≡ length w.activities + cond (is_start e) 1 0
 
-not_start : (e : Event) → starts_or_arrives e ≡ false → is_start e ≡ false
+pub not_start : (e : Event) → starts_or_arrives e ≡ false → is_start e ≡ false
 not_start event.Spawned h = h
 not_start _ h = refl
 
@@ -198,7 +198,7 @@ grown m w u a e h = subst (Grows w) h (step_kind (Grows w) m w a tt (λ c. tt) (
     kept : (next : Activity) → length (set w.activities a next) ≡ length w.activities + 0
     kept next = let p = length-set w.activities a next in omega arith
 
-grown_run : (m : ModuleValue) (p : List ℕ) (w v : World) → run m p w ≡ Through v → length v.activities ≡ length w.activities + length (starts_of (events m p w))
+pub grown_run : (m : ModuleValue) (p : List ℕ) (w v : World) → run m p w ≡ Through v → length v.activities ≡ length w.activities + length (starts_of (events m p w))
 grown_run m [] w v h = let e = ap (λ (z : World). length z.activities) (same_through w v h) in omega arith
 grown_run m (d ∷ p) w v h =
     let x = first_step w v (step m w d) (run m p) h in
@@ -212,7 +212,7 @@ grown_run m (d ∷ p) w v h =
 
 -- ---- the law
 
-abbrev first_in : ℕ × Event → ℕ
+abbrev pub first_in : ℕ × Event → ℕ
 first_in x = x.0
 
 abbrev second_in : ℕ × Event → Event
@@ -221,35 +221,41 @@ second_in x = x.1
 abbrev all_by : ℕ → Log → Log
 all_by a es = filter (λ x. x.0 == a) es
 
--- Two logs with the same starts and the same events of each: x is a start of the one behind P, and `who` takes one of the other behind F, with as
--- many starts before. So that is x, too.
+-- Two logs with the same starts, and with the same events of each, each cut at a start with as many starts before: it is taken by the same
+-- activity, as the same of its own steps.
+pub same_start : (P R F B : Log) (a who : ℕ) (d e : Event) → is_start d ≡ true → is_start e ≡ true → takers_of (P ++ (a, d) ∷ R) ≡ takers_of (F ++ (who, e) ∷ B)
+    → length (starts_of P) ≡ length (starts_of F) → own_of a (P ++ (a, d) ∷ R) ≡ own_of a (F ++ (who, e) ∷ B) → (a ≡ who) × (length (own_of a P) ≡ length (own_of a F))
+same_start P R F B a who d e was is takers many own =
+    let t : takers_of P ++ a ∷ takers_of R ≡ takers_of F ++ who ∷ takers_of B =
+    sym (takers_on P ((a, d) ∷ R) ∙ ap (λ q. takers_of P ++ map first_in (cond q ((a, d) ∷ starts_of R) (starts_of R))) was) ∙ takers ∙ takers_on F ((who, e) ∷ B)
+    ∙ ap (λ q. takers_of F ++ map first_in (cond q ((who, e) ∷ starts_of B) (starts_of B))) is in
+    let cut : (takers_of P ≡ takers_of F) × (a ≡ who) =
+    cut_same (takers_of P) (takers_of F) (takers_of R) (takers_of B) a who t (length-map (starts_of P) first_in ∙ many ∙ sym (length-map (starts_of F) first_in)) in
+    let o : own_of a P ++ d ∷ own_of a R ≡ own_of a F ++ e ∷ own_of a B =
+    sym (own_on a P ((a, d) ∷ R) ∙ ap (λ q. own_of a P ++ map second_in (cond q ((a, d) ∷ all_by a R) (all_by a R))) (eq-eqb a a refl))
+    ∙ own ∙ own_on a F ((who, e) ∷ B)
+    ∙ ap (λ q. own_of a F ++ map second_in (cond q ((who, e) ∷ all_by a B) (all_by a B))) (eq-eqb who a (sym cut.1)) in (
+      cut.1,
+      cut_far (own_of a P) (own_of a F) (own_of a R) (own_of a B) d e was is o (own_starts a P ∙ ap (turns_of a) cut.0 ∙ sym (own_starts a F)),
+    )
+
+-- so that step of the first is taken in what the second has up to there
 taken_by : (x : StepName) (before : List ℕ) (P R F B K : Log) (who : ℕ) (e : Event) → is_start e ≡ true
     → takers_of (P ++ (x.0, event.Spawned) ∷ R) ≡ takers_of (F ++ (who, e) ∷ B) → length (starts_of P) ≡ length (starts_of F)
     → own_of x.0 (P ++ (x.0, event.Spawned) ∷ R) ≡ own_of x.0 (F ++ (who, e) ∷ B) → length (own_of x.0 P) ≡ x.1
     → turns_of x.0 before ≡ length (own_of x.0 (F ++ (who, e) ∷ K)) → IsTaken before x
 taken_by x before P R F B K who e is takers many own turn turns =
-    let t : takers_of P ++ x.0 ∷ takers_of R ≡ takers_of F ++ who ∷ takers_of B =
-    sym (takers_on P ((x.0, event.Spawned) ∷ R)) ∙ takers ∙ takers_on F ((who, e) ∷ B)
-    ∙ ap (λ q. takers_of F ++ map first_in (cond q ((who, e) ∷ starts_of B) (starts_of B))) is in
-    let cut : (takers_of P ≡ takers_of F) × (x.0 ≡ who) =
-    cut_same (takers_of P) (takers_of F) (takers_of R) (takers_of B) x.0 who t (length-map (starts_of P) first_in ∙ many ∙ sym (length-map (starts_of F) first_in)) in
-    let o : own_of x.0 P ++ event.Spawned ∷ own_of x.0 R ≡ own_of x.0 F ++ e ∷ own_of x.0 B =
-    sym (own_on x.0 P ((x.0, event.Spawned) ∷ R)
-    ∙ ap (λ q. own_of x.0 P ++ map second_in (cond q ((x.0, event.Spawned) ∷ all_by x.0 R) (all_by x.0 R))) (eq-eqb x.0 x.0 refl))
-    ∙ own ∙ own_on x.0 F ((who, e) ∷ B)
-    ∙ ap (λ q. own_of x.0 F ++ map second_in (cond q ((who, e) ∷ all_by x.0 B) (all_by x.0 B))) (eq-eqb who x.0 (sym cut.1)) in
-    let far : length (own_of x.0 P) ≡ length (own_of x.0 F) =
-    cut_far (own_of x.0 P) (own_of x.0 F) (own_of x.0 R) (own_of x.0 B) event.Spawned e refl is o (own_starts x.0 P ∙ ap (turns_of x.0) cut.0 ∙ sym (own_starts x.0 F)) in
+    let r = same_start P R F B x.0 who event.Spawned e refl is takers many own in
     let more : length (own_of x.0 (F ++ (who, e) ∷ K)) ≡ length (own_of x.0 F) + suc (length (own_of x.0 K)) =
-    ap length (own_on x.0 F ((who, e) ∷ K) ∙ ap (λ q. own_of x.0 F ++ map second_in (cond q ((who, e) ∷ all_by x.0 K) (all_by x.0 K))) (eq-eqb who x.0 (sym cut.1)))
+    ap length (own_on x.0 F ((who, e) ∷ K) ∙ ap (λ q. own_of x.0 F ++ map second_in (cond q ((who, e) ∷ all_by x.0 K) (all_by x.0 K))) (eq-eqb who x.0 (sym r.0)))
     ∙ length-append (own_of x.0 F) (e ∷ own_of x.0 K) in
-    less x.1 (length (own_of x.0 P)) (length (own_of x.0 F)) (length (own_of x.0 K)) (turns_of x.0 before) (length (own_of x.0 (F ++ (who, e) ∷ K))) turn far turns more
+    less x.1 (length (own_of x.0 P)) (length (own_of x.0 F)) (length (own_of x.0 K)) (turns_of x.0 before) (length (own_of x.0 (F ++ (who, e) ∷ K))) turn r.1 turns more
   where
     less : (k p f r t l : ℕ) → p ≡ k → p ≡ f → t ≡ l → l ≡ f + suc r → k < t
     less k p f r t l h g n q = omega arith
 
 module _ (m : ModuleValue) (limits : IsWithinLimits m) (ok : IsAccepted m) (w z : World) (reached : IsReached m w) (s : List ℕ) (legal : run m s w ≡ Through z) where
-  start_taken : (x y : StepName) → IsStart m w s x y → (before after : List ℕ) (v : World) → AreOneClass m w s (before ++ after) → run m before w ≡ Through v
+  pub start_taken : (x y : StepName) → IsStart m w s x y → (before after : List ℕ) (v : World) → AreOneClass m w s (before ++ after) → run m before w ≡ Through v
       → is_enabled m v y.0 ≡ true → IsTaken before x
   start_taken x y start before after v member leads enabled =
       let u = enabled_step (step m v y.0) enabled in
@@ -269,6 +275,3 @@ module _ (m : ModuleValue) (limits : IsWithinLimits m) (ok : IsAccepted m) (w z 
       (sym (ap takers_of this) ∙ g.same.started ∙ ap takers_of other) (sym c.many) (sym (ap (own_of x.0) this) ∙ g.same.each x.0 ∙ ap (own_of x.0) other)
       (sym (turns_own m x.0 start.before w start.here start.leads) ∙ start.turn)
       (turns_own m x.0 before w v leads ∙ ap (λ es. length (own_of x.0 es)) c.whole)
-
-  pub starts_sound : (edges : List (StepName × StepName)) → ((x y : StepName) → IsEdge edges x y → IsStart m w s x y) → AreSound m w s edges
-  starts_sound edges starts x y edge before after v member leads turn enabled = start_taken x y (starts x y edge) before after v member leads enabled

@@ -54,7 +54,7 @@ started_has m w a act (Some _) h = absurd (true≢false (sym h))
 -- ---- by the world
 
 -- one that has arrived stands at an `advance`
-at_advance : (m : ModuleValue) (act : Activity) (u : UnitValue) → slice_get m.units act.frame.unit ≡ Some u → slice_get u.code act.frame.place ≡ Some instr.Advance
+pub at_advance : (m : ModuleValue) (act : Activity) (u : UnitValue) → slice_get m.units act.frame.unit ≡ Some u → slice_get u.code act.frame.place ≡ Some instr.Advance
     → instruction_at m act.frame ≡ Some instr.Advance
 at_advance m act u unit at = ap (option_and_then (λ (v : UnitValue). slice_get v.code act.frame.place)) unit ∙ at
 

@@ -1,7 +1,7 @@
 -- Two neighbours whose steps commute, in either order: both schedules are legal or neither, they lead to worlds that are alike, and have the same
 -- entries but for these two.
-use Rattle.std.proofs.Common.{◌≡◌, ℕ, suc, zero, Bool, true, false, cond, List, [], ◌∷◌, ◌++◌, map, Option, Some, refl, sym, ap, ◌∙◌, subst}
-use Rattle.std.specs.Prelude.{filter, slice_get, option_and_then}
+use Rattle.std.proofs.Common.{◌≡◌, ℕ, suc, zero, Bool, true, false, cond, List, [], ◌∷◌, ◌++◌, map, Option, Some, None, refl, sym, ap, ◌∙◌, subst}
+use Rattle.std.specs.Prelude.{filter, slice_get, option_and_then, option_map}
 use Rattle.xk_types.specs.declared.instr.Instr.{Instr}
 use Rattle.xk_types.specs.declared.world.Event.{Event}
 use Rattle.xk_types.specs.Acceptance.{IsAccepted}
@@ -23,16 +23,24 @@ use Rattle.xk_classes.proofs.StepEventLemmas.{event_made, event_started, others_
 -- ---- entries: who takes each step of a run, with what event, carrying out what
 
 abbrev pub Entry : Type 0
-Entry = ℕ × Event × Option Instr
+Entry = ℕ × Event × Option Activity
 
-abbrev pub entries_on : ℕ → Option Instr → Outcome → (World → List Entry) → List Entry
+-- how an activity stands, if it's there, but for when it passed last
+abbrev pub state_of : World → ℕ → Option Activity
+state_of w a = option_map plain_activity (slice_get w.activities a)
+
+-- what an activity that stands so carries out
+abbrev pub instruction_by : ModuleValue → Option Activity → Option Instr
+instruction_by m o = option_and_then (λ act. instruction_at m act.frame) o
+
+abbrev pub entries_on : ℕ → Option Activity → Outcome → (World → List Entry) → List Entry
 entries_on a i Blocked go = []
 entries_on a i (Wrong c) go = []
 entries_on a i (Stepped next e) go = (a, e, i) ∷ go next
 
 abbrev pub entries : ModuleValue → List ℕ → World → List Entry
 entries m [] w = []
-entries m (a ∷ list) w = entries_on a (next_instruction m w a) (step m w a) (entries m list)
+entries m (a ∷ list) w = entries_on a (state_of w a) (step m w a) (entries m list)
 
 -- a list of what entries have, of which some pass
 filter_of_map : {X Y : Type 0} (g : X → Y) (p : Y → Bool) (xs : List X) → filter p (map g xs) ≡ map g (filter (λ x. p (g x)) xs)
@@ -47,63 +55,72 @@ filter_of_map {X} {Y} g p (x ∷ xs) = ap (λ ys. cond (p (g x)) (g x ∷ ys) ys
 abbrev pub event_in : Entry → ℕ × Event
 event_in x = (x.0, x.1)
 
-abbrev pub instruction_in : Entry → ℕ × Option Instr
-instruction_in x = (x.0, x.2)
+abbrev pub instruction_in : ModuleValue → Entry → ℕ × Option Instr
+instruction_in m x = (x.0, instruction_by m x.2)
+
+-- the next instruction is that of how one stands
+pub next_by_state : (m : ModuleValue) (w : World) (a : ℕ) → next_instruction m w a ≡ instruction_by m (state_of w a)
+next_by_state m w a = by (slice_get w.activities a)
+  where
+    by : (o : Option Activity) → option_and_then (λ (x : Activity). instruction_at m x.frame) o ≡ instruction_by m (option_map plain_activity o)
+    by None = refl
+    by (Some x) = refl
 
 events_are : (m : ModuleValue) (list : List ℕ) (w : World) → events m list w ≡ map event_in (entries m list w)
 events_are m [] w = refl
 events_are m (a ∷ list) w = by (step m w a) (events_are m list)
   where
     by : (o : Outcome) → ((u : World) → events m list u ≡ map event_in (entries m list u))
-        → events_on a o (events m list) ≡ map event_in (entries_on a (next_instruction m w a) o (entries m list))
+        → events_on a o (events m list) ≡ map event_in (entries_on a (state_of w a) o (entries m list))
     by Blocked h = refl
     by (Wrong c) h = refl
     by (Stepped u e) h = ap (λ es. (a, e) ∷ es) (h u)
 
-carried_are : (m : ModuleValue) (list : List ℕ) (w : World) → carried m list w ≡ map instruction_in (entries m list w)
+carried_are : (m : ModuleValue) (list : List ℕ) (w : World) → carried m list w ≡ map (instruction_in m) (entries m list w)
 carried_are m [] w = refl
 carried_are m (a ∷ list) w = by (step m w a) (carried_are m list)
   where
-    by : (o : Outcome) → ((u : World) → carried m list u ≡ map instruction_in (entries m list u))
-        → carried_on (a, next_instruction m w a) o (carried m list) ≡ map instruction_in (entries_on a (next_instruction m w a) o (entries m list))
+    by : (o : Outcome) → ((u : World) → carried m list u ≡ map (instruction_in m) (entries m list u))
+        → carried_on (a, next_instruction m w a) o (carried m list) ≡ map (instruction_in m) (entries_on a (state_of w a) o (entries m list))
     by Blocked h = refl
     by (Wrong c) h = refl
-    by (Stepped u e) h = ap (λ es. (a, next_instruction m w a) ∷ es) (h u)
+    by (Stepped u e) h = ap (λ es. (a, next_instruction m w a) ∷ es) (h u) ∙ ap (λ i. (a, i) ∷ map (instruction_in m) (entries m list u)) (next_by_state m w a)
 
 pub events_filtered : (p : ℕ × Event → Bool) (m : ModuleValue) (list : List ℕ) (w : World)
     → filter p (events m list w) ≡ map event_in (filter (λ (x : Entry). p (event_in x)) (entries m list w))
 events_filtered p m list w = ap (filter p) (events_are m list w) ∙ filter_of_map event_in p (entries m list w)
 
 pub carried_filtered : (p : ℕ × Option Instr → Bool) (m : ModuleValue) (list : List ℕ) (w : World)
-    → filter p (carried m list w) ≡ map instruction_in (filter (λ (x : Entry). p (instruction_in x)) (entries m list w))
-carried_filtered p m list w = ap (filter p) (carried_are m list w) ∙ filter_of_map instruction_in p (entries m list w)
+    → filter p (carried m list w) ≡ map (instruction_in m) (filter (λ (x : Entry). p (instruction_in m x)) (entries m list w))
+carried_filtered p m list w = ap (filter p) (carried_are m list w) ∙ filter_of_map (instruction_in m) p (entries m list w)
 
 -- the next instruction of one whose entry is this
 pub next_of : (m : ModuleValue) (w : World) (a : ℕ) (act : Activity) → slice_get w.activities a ≡ Some act → next_instruction m w a ≡ instruction_at m act.frame
 next_of m w a act h = ap (option_and_then (λ (x : Activity). instruction_at m x.frame)) h
 
--- worlds that are alike have the same next instructions
-next_plain : (m : ModuleValue) (xs : List Activity) (a : ℕ) → option_and_then (λ (x : Activity). instruction_at m x.frame) (slice_get (map plain_activity xs) a)
-    ≡ option_and_then (λ (x : Activity). instruction_at m x.frame) (slice_get xs a)
-next_plain m [] a = refl
-next_plain m (x ∷ xs) zero = refl
-next_plain m (x ∷ xs) (suc a) = next_plain m xs a
+-- an element of a list to which a function was applied
+pub get_map : {X Y : Type 0} (g : X → Y) (xs : List X) (k : ℕ) → slice_get (map g xs) k ≡ option_map g (slice_get xs k)
+get_map g [] k = refl
+get_map g (x ∷ xs) zero = refl
+get_map g (x ∷ xs) (suc k) = get_map g xs k
 
-next_alike : (m : ModuleValue) (w v : World) (a : ℕ) → AreAlike w v → next_instruction m w a ≡ next_instruction m v a
-next_alike m w v a alike = sym (next_plain m w.activities a) ∙ ap (λ (z : World). next_instruction m z a) alike ∙ next_plain m v.activities a
+-- in worlds that are alike one stands alike
+state_alike : (w v : World) (a : ℕ) → AreAlike w v → state_of w a ≡ state_of v a
+state_alike w v a alike =
+    sym (get_map plain_activity w.activities a) ∙ ap (λ (z : World). slice_get z.activities a) alike ∙ get_map plain_activity v.activities a
 
--- another's step leaves the next instruction as it is
-pub next_stays : (m : ModuleValue) (w u v : World) (a b : ℕ) (e f : Event) → step m w a ≡ Stepped u e → step m w b ≡ Stepped v f → (b ≡ a → ⊥)
-    → next_instruction m u b ≡ next_instruction m w b
-next_stays m w u v a b e f hu hv differs =
+-- another's step leaves that as it is
+pub state_stays : (m : ModuleValue) (w u v : World) (a b : ℕ) (e f : Event) → step m w a ≡ Stepped u e → step m w b ≡ Stepped v f → (b ≡ a → ⊥)
+    → state_of u b ≡ state_of w b
+state_stays m w u v a b e f hu hv differs =
     let y = found_of m w b v f hv in
-    next_of m u b y.0 (others_stay m w u a b e y.0 hu differs y.1) ∙ sym (next_of m w b y.0 y.1)
+    ap (option_map plain_activity) (others_stay m w u a b e y.0 hu differs y.1 ∙ sym y.1)
 
 -- ---- the first step of a run
 
 pub entries_first : (m : ModuleValue) (list : List ℕ) (w u : World) (a : ℕ) (e : Event) → step m w a ≡ Stepped u e
-    → entries m (a ∷ list) w ≡ (a, e, next_instruction m w a) ∷ entries m list u
-entries_first m list w u a e h = ap (λ o. entries_on a (next_instruction m w a) o (entries m list)) h
+    → entries m (a ∷ list) w ≡ (a, e, state_of w a) ∷ entries m list u
+entries_first m list w u a e h = ap (λ o. entries_on a (state_of w a) o (entries m list)) h
 
 pub events_first : (m : ModuleValue) (list : List ℕ) (w u : World) (a : ℕ) (e : Event) → step m w a ≡ Stepped u e → events m (a ∷ list) w ≡ (a, e) ∷ events m list u
 events_first m list w u a e h = ap (λ o. events_on a o (events m list)) h
@@ -129,8 +146,8 @@ runs_alike m (a ∷ list) w v z alike h =
       last = rest.last;
       legal = run_first m list v next.0 a f.1 next.1 ∙ rest.legal;
       alike = rest.alike;
-      same = entries_first m list w f.0 a f.1 f.2 ∙ ap (λ es. (a, f.1, next_instruction m w a) ∷ es) rest.same
-          ∙ ap (λ i. (a, f.1, i) ∷ entries m list next.0) (next_alike m w v a alike) ∙ sym (entries_first m list v next.0 a f.1 next.1);
+      same = entries_first m list w f.0 a f.1 f.2 ∙ ap (λ es. (a, f.1, state_of w a) ∷ es) rest.same
+          ∙ ap (λ i. (a, f.1, i) ∷ entries m list next.0) (state_alike w v a alike) ∙ sym (entries_first m list v next.0 a f.1 next.1);
     }
 
 -- ---- a swap
@@ -147,10 +164,10 @@ pub record IsExchange (m : ModuleValue) (w z : World) (before after : List ℕ) 
 
 -- the entries of two that commute
 abbrev pub first_entry : (m : ModuleValue) (w : World) (a b : ℕ) → DoCommute m w a b → Entry
-first_entry m w a b c = (a, c.first_event, next_instruction m w a)
+first_entry m w a b c = (a, c.first_event, state_of w a)
 
 abbrev pub second_entry : (m : ModuleValue) (w : World) (a b : ℕ) → DoCommute m w a b → Entry
-second_entry m w a b c = (b, c.second_event, next_instruction m w b)
+second_entry m w a b c = (b, c.second_event, state_of w b)
 
 module _ (m : ModuleValue) (limits : IsWithinLimits m) (ok : IsAccepted m) where
   pub square_of : (w : World) (a b : ℕ) → IsReached m w → DoCommute m w a b → IsSquare m w a b
@@ -178,10 +195,10 @@ module _ (m : ModuleValue) (limits : IsWithinLimits m) (ok : IsAccepted m) where
         front = [];
         back = entries m after y;
         this = entries_first m (b ∷ after) w u a e c.first_steps
-            ∙ ap (λ es. first_entry m w a b c ∷ es) (entries_first m after u y b f s.3 ∙ ap (λ i. (b, f, i) ∷ entries m after y) (next_stays m w u v a b e f c.first_steps c.second_steps c.differ));
+            ∙ ap (λ es. first_entry m w a b c ∷ es) (entries_first m after u y b f s.3 ∙ ap (λ i. (b, f, i) ∷ entries m after y) (state_stays m w u v a b e f c.first_steps c.second_steps c.differ));
         other = entries_first m (a ∷ after) w v b f c.second_steps
             ∙ ap (λ es. second_entry m w a b c ∷ es)
-            (entries_first m after v x a e s.2 ∙ ap (λ i. (a, e, i) ∷ entries m after x) (next_stays m w v u b a f e c.second_steps c.first_steps (λ q. c.differ (sym q)))
+            (entries_first m after v x a e s.2 ∙ ap (λ i. (a, e, i) ∷ entries m after x) (state_stays m w v u b a f e c.second_steps c.first_steps (λ q. c.differ (sym q)))
             ∙ ap (λ es. first_entry m w a b c ∷ es) (sym r.same));
       }
 
@@ -200,8 +217,8 @@ module _ (m : ModuleValue) (limits : IsWithinLimits m) (ok : IsAccepted m) where
         last = r.last;
         legal = run_first m (before ++ b ∷ a ∷ after) w f.0 d f.1 f.2 ∙ r.legal;
         alike = r.alike;
-        front = (d, f.1, next_instruction m w d) ∷ r.front;
+        front = (d, f.1, state_of w d) ∷ r.front;
         back = r.back;
-        this = entries_first m (before ++ a ∷ b ∷ after) w f.0 d f.1 f.2 ∙ ap (λ es. (d, f.1, next_instruction m w d) ∷ es) r.this;
-        other = entries_first m (before ++ b ∷ a ∷ after) w f.0 d f.1 f.2 ∙ ap (λ es. (d, f.1, next_instruction m w d) ∷ es) r.other;
+        this = entries_first m (before ++ a ∷ b ∷ after) w f.0 d f.1 f.2 ∙ ap (λ es. (d, f.1, state_of w d) ∷ es) r.this;
+        other = entries_first m (before ++ b ∷ a ∷ after) w f.0 d f.1 f.2 ∙ ap (λ es. (d, f.1, state_of w d) ∷ es) r.other;
       }

@@ -2,10 +2,12 @@
 use Rattle.std.specs.Prelude.{◌≡◌, ℕ, ◌<◌, ◌==◌, ◌⊎◌, Bool, true, false, List, [], ◌∷◌, ◌++◌, length, map, filter, slice_get, Option, Some, option_and_then}
 use Rattle.std.specs.Option.{option_map_or}
 use Rattle.xk_types.specs.declared.instr.Instr.{Instr}
+use Rattle.xk_types.specs.declared.instr.Instr.TheVariants as instr
+use Rattle.xk_types.specs.declared.world.Event.{Event}
 use Rattle.xk_types.specs.declared.world.Event.TheVariants as event
 use Rattle.xk_types.specs.Code.{ModuleValue}
-use Rattle.xk_types.specs.World.{World}
-use Rattle.xk_types.specs.Step.{Outcome, Blocked, Wrong, Stepped, step}
+use Rattle.xk_types.specs.World.{Activity, World, instruction_at}
+use Rattle.xk_types.specs.Step.{Outcome, Blocked, Wrong, Stepped, innermost, is_under, step}
 use Rattle.xk_types.specs.Schedule.{Through, run, is_enabled}
 use Rattle.xk_squares.specs.Conflicts.{reads, puts, stores, next_instruction}
 use Rattle.xk_classes.specs.Classes.{AreOneClass}
@@ -101,3 +103,27 @@ pub record IsStart (m : ModuleValue) (w : World) (s : List ℕ) (x y : StepName)
   pub starts : step m here x.0 ≡ Stepped there event.Spawned
   pub child : y.0 ≡ length here.activities
   pub first : y.1 ≡ 0
+
+-- step x of the schedule is taken by an activity under the finish that step y closes
+pub record IsUnderFinish (m : ModuleValue) (w : World) (s : List ℕ) (x y : StepName) : Type 0 where
+  pub before : List ℕ
+  pub after : List ℕ
+  pub here : World
+  pub there : World
+  pub closed : Event
+  pub whole : s ≡ before ++ y.0 ∷ after
+  pub leads : run m before w ≡ Through here
+  pub turn : turns_of y.0 before ≡ y.1
+  pub takes : step m here y.0 ≡ Stepped there closed
+  pub closer : Activity
+  pub found : slice_get here.activities y.0 ≡ Some closer
+  pub first : ℕ
+  pub closes : instruction_at m closer.frame ≡ Some (instr.EndFinish first)
+  pub child : Activity
+  pub known : slice_get here.activities x.0 ≡ Some child
+  pub under : is_under here.activities (innermost y.0 closer) x.0 ≡ true
+  pub taken : IsTaken s x
+
+-- what an edge stands for: a start, or a finish
+abbrev pub IsCause : ModuleValue → World → List ℕ → StepName → StepName → Type 0
+IsCause m w s x y = IsStart m w s x y ⊎ IsUnderFinish m w s x y

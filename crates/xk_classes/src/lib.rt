@@ -3,7 +3,7 @@
 
 ghost use Rattle.std.specs.Prelude.{◌≡◌, ℕ, ℤ, List};
 ghost use Rattle.xk_classes.specs.Classes.{AreOneClass, HasNeverTwo, HasNoRace};
-ghost use Rattle.xk_classes.specs.Edges.{AreOneByOne, AreOrdered, AreSound, IsEdge, IsStart, StepName};
+ghost use Rattle.xk_classes.specs.Edges.{AreOneByOne, AreOrdered, AreSound, IsCause, IsEdge, StepName};
 ghost use Rattle.xk_classes.specs.Moments.{BeginsInOrder, is_make, is_print, is_start};
 ghost use Rattle.xk_classes.specs.OneRun.{AddsAtMost, ComeToOne, GoesAsWell, IsBegun, IsWholeRun, OnlyMainBegins};
 ghost use Rattle.xk_squares.specs.Squares.{makes, starts};
@@ -84,13 +84,13 @@ pub fn ordered_run()
         → IsWholeRun m args t y → ComeToOne m args s t z y }
 {}
 
-/// The edges from the start of an activity to its first step are sound.
-pub fn start_edges()
+/// Edges of starts and of finishes are sound: from the start of an activity to its first step, and from each step of an activity
+/// under a finish to the end of that finish.
+pub fn sound_edges()
     ensures { (m : ModuleValue) (args : List ℤ) (s : List ℕ) (z : World)
         (edges : List (StepName × StepName))
-        → IsWithinLimits m → IsAccepted m → AreArguments m args
-        → run m s (opening m args) ≡ Through z
-        → ((x y : StepName) → IsEdge edges x y → IsStart m (opening m args) s x y)
+        → IsWithinLimits m → IsAccepted m → AreArguments m args → IsWholeRun m args s z
+        → ((x y : StepName) → IsEdge edges x y → IsCause m (opening m args) s x y)
         → AreSound m (opening m args) s edges }
 {}
 

@@ -1,0 +1,4 @@
+pub mod Shapes
+pub mod Furniture
+pub mod Sheet
+pub mod Picture
