@@ -2,12 +2,13 @@
 """Small programs that nobody wrote: whether `outcomes` tells all that they print, and nothing else, as a walk through all schedules finds it
 (tests/reference/telling_outcomes.py), each outcome with a log that prints it.
 
-    python3 tests/generated/outcomes.py [CASES] [SEED] [--program PATH] [--jobs N] [--worlds N] [--tally] [--only CASE]
+    python3 tests/generated/outcomes.py [CASES] [SEED] [--sets] [--program PATH] [--jobs N] [--worlds N] [--tally] [--only CASE]
 
 300 cases, seed 1, 2 jobs, crates/x10clock/out/x10clock and 3,000 worlds at most where nothing else is said. A program has 2 to 4 activities that
 print, and mostly shared numbers, clocks and finishes; some are asked about as their modules, some take numbers. The program is asked with no limit,
-for the log of each outcome, or of 8 that are spread evenly, for that of one which there isn't, and with a limit. Each log is played again by the
-program, and by the telling. `--tally` tells how often each answer was given; `--only` prints one program alone.
+for the log of each outcome, or of 8 that are spread evenly, for that of one which there isn't, and with a limit; with `--sets` the same where the
+order of numbers doesn't count. Each log is played again by the program, and by the telling. `--tally` tells how often each answer was given;
+`--only` prints one program alone.
 """
 
 from __future__ import annotations
@@ -103,36 +104,36 @@ class Asker:
     program: Program
     case: Case
     counts: collections.Counter[str]
+    sets: bool
 
     def asked(self, limit: int | None, pick: int | None) -> Iterator[str]:
         """What is wrong with an answer with this limit, and for the log of this outcome."""
         file, log = self.program.folder / "text", self.program.folder / "made"
         file.write_bytes(self.case.text.data)
         log.write_bytes(b"something that was there before")
-        options = [*(["--limit", limit] if limit else []), *(["--pick", pick, "--log", log] if pick else [])]
+        options = [*(["--sets"] if self.sets else []), *(["--limit", limit] if limit else []), *(["--pick", pick, "--log", log] if pick else [])]
         status, out, err = self.program.call("outcomes", *self.case.text.words(), *options, file)
         self.counts["answers that are whole" if status == telling_outcomes.WHOLE else "answers that aren't whole"] += 1
         question = f"outcomes {' '.join(map(str, options))}"
-        given, asked = Answer(status, out, log.read_bytes() if pick else b""), Asked(limit or telling_outcomes.USUAL_LIMIT, pick)
+        given, asked = Answer(status, out, log.read_bytes() if pick else b""), Asked(limit or telling_outcomes.USUAL_LIMIT, pick, self.sets)
         wrong = [*telling_outcomes.faults(self.case.walk, self.case.judged.module, self.case.text.arguments, asked, given)]
         wrong += [f"on standard error: {err}"] if err else []
-        wrong += self.replayed(out, pick, given.log) if pick else []
+        wrong += self.replayed(out, pick, asked, given.log) if pick else []
         yield from (f"{question}: {what}" for what in wrong)
 
-    def replayed(self, out: str, pick: int, log: bytes) -> Iterator[str]:
+    def replayed(self, out: str, pick: int, asked: Asked, log: bytes) -> Iterator[str]:
         """What is wrong with what the program prints by a log, if there is one."""
         lists, _ = telling_outcomes.read(out) or ([], True)
         if pick > len(lists):
             self.counts["logs of no outcome"] += 1
             return
         self.counts["logs played again"] += 1
-        wanted = "".join(f"{number}\n" for number in lists[pick - 1])
         answer = self.program.answer(self.case.text, log, "replay")
-        if answer[0] != 0 or answer[1].rpartition("ended")[0] != wanted:
+        if answer[0] != 0 or asked.told(tuple(map(int, answer[1].rpartition("ended")[0].split()))) != lists[pick - 1]:
             yield f"its log is played again: {answer}"
 
     def differences(self, rng: random.Random) -> Iterator[str]:
-        count = len(self.case.walk.outcomes)
+        count = len(Asked(sets=self.sets).outcomes(self.case.walk))
         yield from self.asked(None, None)
         spread = range(1, count + 1) if count <= LOGS else [1 + place * (count - 1) // (LOGS - 1) for place in range(LOGS)]
         for pick in spread:
@@ -168,6 +169,7 @@ class Cases:
     seed: int
     worlds: int
     program: pathlib.Path
+    sets: bool
 
     def compared(self, cases: range) -> Summary:
         summary = Summary()
@@ -177,7 +179,7 @@ class Cases:
                 rng = random.Random(f"{self.seed} {number}")
                 made = case(rng, self.worlds)
                 count_case(summary.counts, made)
-                differing = [*Asker(program, made, summary.counts).differences(rng)]
+                differing = [*Asker(program, made, summary.counts, self.sets).differences(rng)]
                 summary.counts["programs"] += 1
                 if differing:
                     summary.differing.append("\n    ".join([f"case {number}: {made.text}", *differing[:SHOWN]]))
@@ -189,6 +191,7 @@ def words() -> argparse.Namespace:
     parser = argparse.ArgumentParser(description="Compares what x10clock says that small programs can print with a walk through all their schedules.")
     parser.add_argument("cases", nargs="?", type=int, default=300)
     parser.add_argument("seed", nargs="?", type=int, default=1)
+    parser.add_argument("--sets", action="store_true")
     parser.add_argument("--program", type=pathlib.Path, default=PROGRAM)
     parser.add_argument("--jobs", type=int, default=2)
     parser.add_argument("--worlds", type=int, default=3_000)
@@ -204,7 +207,7 @@ def main() -> int:
         return 0
     chunks = [range(start, min(start + CHUNK, given.cases)) for start in range(0, given.cases, CHUNK)]
     with concurrent.futures.ProcessPoolExecutor(given.jobs) as pool:
-        for part in pool.map(Cases(given.seed, given.worlds, given.program.resolve()).compared, chunks):
+        for part in pool.map(Cases(given.seed, given.worlds, given.program.resolve(), given.sets).compared, chunks):
             total.counts += part.counts
             total.answers += part.answers
             total.differing += part.differing

@@ -5,7 +5,9 @@ All schedules are walked, step by step; a world that was met before is known aga
 (tests/reference/telling.py). Which order outcomes are told in, which of them where there may be more, and by which runs they are shown, is the
 program's own: so an answer is judged here, and one that may be given is made.
 
-    python3 tests/reference/telling_outcomes.py [--module] FILE [LIMIT] [--arg=N]..
+Where sets are asked for, lists of the same numbers, each as often, in whatever order, are one, and it is told rising.
+
+    python3 tests/reference/telling_outcomes.py [--module] [--sets] FILE [LIMIT] [--arg=N]..
 """
 
 from __future__ import annotations
@@ -132,10 +134,19 @@ def walked(module: Module, arguments: Arguments = (), worlds: int = MOST_WORLDS)
 
 
 class Asked(NamedTuple):
-    """What is asked for: how many worlds and outcomes at most, and the outcome whose log is written, if one is."""
+    """What is asked for: how many worlds and outcomes at most, the outcome whose log is written, if one is, and whether the order of numbers counts."""
 
     limit: int = USUAL_LIMIT
     pick: int | None = None
+    sets: bool = False
+
+    def told(self, numbers: Numbers) -> Numbers:
+        """The numbers as they are told."""
+        return tuple(sorted(numbers)) if self.sets else numbers
+
+    def outcomes(self, walk: Walk) -> set[Numbers]:
+        """All that is to be told."""
+        return {self.told(numbers) for numbers in walk.outcomes}
 
 
 class Answer(NamedTuple):
@@ -157,12 +168,18 @@ def status_of(asked: Asked, count: int, is_complete: bool) -> int:
     return WHOLE if is_complete and (asked.pick is None or asked.pick <= count) else NOT_WHOLE
 
 
+def log_of(walk: Walk, asked: Asked, told: Numbers) -> Log:
+    """The log of a run that prints what is told so."""
+    return walk.log_of(next(numbers for numbers in sorted(walk.outcomes) if asked.told(numbers) == told))
+
+
 def answer(walk: Walk, asked: Asked) -> Answer:
     """An answer that may be given: the outcomes in their order as lists."""
-    lists = sorted(walk.outcomes)[: asked.limit]
-    is_complete = len(lists) == len(walk.outcomes)
+    outcomes = asked.outcomes(walk)
+    lists = sorted(outcomes)[: asked.limit]
+    is_complete = len(lists) == len(outcomes)
     has_log = asked.pick is not None and asked.pick <= len(lists)
-    log = telling_log.text_of(walk.log_of(lists[asked.pick - 1])) if has_log else b""
+    log = telling_log.text_of(log_of(walk, asked, lists[asked.pick - 1])) if has_log else b""
     return Answer(status_of(asked, len(lists), is_complete), text_of(lists, is_complete), log)
 
 
@@ -186,6 +203,8 @@ def faults(walk: Walk | None, module: Module, arguments: Arguments, asked: Asked
     lists, is_complete = told
     if len(set(lists)) != len(lists):
         yield "an outcome is told twice"
+    if any(asked.told(numbers) != numbers for numbers in lists):
+        yield "numbers of a set don't rise"
     if given.status != status_of(asked, len(lists), is_complete):
         yield f"the status is {given.status}"
     if len(lists) > asked.limit:
@@ -195,20 +214,21 @@ def faults(walk: Walk | None, module: Module, arguments: Arguments, asked: Asked
     elif is_complete and not lists:
         yield "none is told"
     if asked.pick is not None:
-        yield from log_faults(module, arguments, lists[asked.pick - 1 : asked.pick], given.log)
+        yield from log_faults(module, arguments, asked, lists[asked.pick - 1 : asked.pick], given.log)
 
 
 def against_walk(walk: Walk, asked: Asked, told: set[Numbers], is_complete: bool) -> Iterator[str]:
     """What the walk says against outcomes that are told."""
-    if told - walk.outcomes:
-        yield f"no run prints {sorted(told - walk.outcomes)}"
-    if is_complete and walk.outcomes - told:
-        yield f"left out: {sorted(walk.outcomes - told)}"
+    outcomes = asked.outcomes(walk)
+    if told - outcomes:
+        yield f"no run prints {sorted(told - outcomes)}"
+    if is_complete and outcomes - told:
+        yield f"left out: {sorted(outcomes - told)}"
     if not is_complete and len(told) < asked.limit and SPARE * walk.entries < asked.limit:
         yield f"not complete, and there are {walk.entries} worlds"
 
 
-def log_faults(module: Module, arguments: Arguments, picked: list[Numbers], log: bytes) -> Iterator[str]:
+def log_faults(module: Module, arguments: Arguments, asked: Asked, picked: list[Numbers], log: bytes) -> Iterator[str]:
     """What is wrong with the log of the outcome that was picked, if there is such an outcome."""
     if not picked:
         if log:
@@ -219,21 +239,21 @@ def log_faults(module: Module, arguments: Arguments, picked: list[Numbers], log:
     except telling_log.Fault as fault:
         yield f"the log is refused: {fault}: {log!r}"
         return
-    if printed != picked[0]:
+    if asked.told(printed) != picked[0]:
         yield f"the log prints {printed}, and not {picked[0]}: {log!r}"
 
 
 def main(words: list[str]) -> int:
     more, arguments = telling.parted(words)
-    is_module = more[0] == "--module"
-    path, *limit = more[1:] if is_module else more
+    is_module, are_sets = "--module" in more, "--sets" in more
+    path, *limit = [word for word in more if word not in ("--module", "--sets")]
     data = pathlib.Path(path).read_bytes()
     judged = telling.judge(data) if is_module else telling_source.judge(data)
     line = telling.refusal("outcomes", judged, arguments)
     if line:
         print(f"x10clock: {line}", file=sys.stderr)
         return 1
-    told = answer(Walk(judged.module, arguments), Asked(*map(int, limit)))
+    told = answer(Walk(judged.module, arguments), Asked(*map(int, limit[:1] or [USUAL_LIMIT]), sets=are_sets))
     print(told.out, end="")
     return told.status
 

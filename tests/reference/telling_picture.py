@@ -5,7 +5,6 @@ from __future__ import annotations
 import telling
 import telling_events
 import telling_lanes
-from telling import Status
 from telling_events import Program
 from telling_lanes import WHOLE, Window
 from telling_log import Advance, Played, Taken
@@ -130,10 +129,10 @@ class Sheet:
 
 
 class Drawn:
-    """A step, and where it is drawn."""
+    """A step, the row in which it is drawn, and the phases of clocks behind it."""
 
-    def __init__(self, program: Program, played: Played, sheet: Sheet, taken: Taken, row: int) -> None:
-        self.program, self.module, self.sheet, self.taken, self.row = program, played.module, sheet, taken, row
+    def __init__(self, program: Program, module: telling.Module, sheet: Sheet, taken: Taken, row: int, phases: dict[int, int]) -> None:
+        self.program, self.module, self.sheet, self.taken, self.row, self.phases = program, module, sheet, taken, row, phases
 
     def top(self, below: int) -> int:
         return TOP + ROW * (self.row + below)
@@ -147,12 +146,9 @@ class Drawn:
     def bands(self, top: int) -> str:
         """The phases of the first clocks behind the step."""
         made = len(self.taken.step.world.clocks)
-        phases = [(clock, self.phase(clock)) for clock in self.sheet.bands if clock < made]
+        phases = [(clock, self.phases.get(clock, 0)) for clock in self.sheet.bands if clock < made]
         at = self.sheet.bands_left
         return "".join(f"<use href='#{'odd' if phase % 2 else 'even'}' x='{at + BAND * clock}' y='{top}'/>\n" for clock, phase in phases)
-
-    def phase(self, clock: int) -> int:
-        return self.phases[clock]
 
     def box(self) -> str:
         """The step itself: its number, its place, and in the lane of who took it what was done."""
@@ -200,12 +196,8 @@ class Drawn:
 
 
 def phases_behind(played: Played, number: int) -> dict[int, int]:
-    """The phase of each clock behind a step."""
-    phases = dict.fromkeys(range(len(played.world.clocks)), 0)
-    for advance in played.advances:
-        if advance.step <= number:
-            phases[advance.clock] = advance.phase
-    return phases
+    """The phase of each clock that has advanced by a step."""
+    return {advance.clock: advance.phase for advance in played.advances if advance.step <= number}
 
 
 def drawing(program: Program, played: Played, window: Window = WHOLE) -> tuple[str, bool]:
@@ -216,8 +208,6 @@ def drawing(program: Program, played: Played, window: Window = WHOLE) -> tuple[s
         return f"picture too large: {sheet.rows} rows, {sheet.activities} activities; {most}\n", False
     rows, row = "", 0
     for taken in sheet.steps:
-        drawn = Drawn(program, played, sheet, taken, row)
-        drawn.phases = phases_behind(played, taken.number)
-        rows += drawn.draw()
+        rows += Drawn(program, played.module, sheet, taken, row, phases_behind(played, taken.number)).draw()
         row += 1 + len(taken.advances)
     return sheet.head() + STYLE + SHAPES + LEGEND + sheet.titles() + rows + "</svg>\n", True

@@ -1,5 +1,5 @@
 #!/usr/bin/env python3
-"""A second telling, in Python, of what is told of a log: `replay`, `chart`, `events` and `lanes` of a whole run, and `where` of any.
+"""A second telling, in Python, of what is told of a log: `replay`, `chart`, `events`, `lanes` and `races` of a whole run, and `where` of any.
 
     python3 tests/reference/telling_runs.py events [--module] FILE LOG [--arg=N]..
 """
@@ -14,6 +14,7 @@ import telling
 import telling_events
 import telling_lanes
 import telling_log
+import telling_races
 import telling_source
 import telling_where
 from telling import Accepted, Arguments, Refused
@@ -21,14 +22,14 @@ from telling_events import Program
 from telling_log import Answer, Played, Teller
 
 # What is told of whole runs, and of any log.
-OF_RUNS, WHERE = ("replay", "chart", "events", "lanes"), "where"
-# What the program is asked for.
-COMMANDS = OF_RUNS
+OF_RUNS, WHERE = ("replay", "chart", "events", "lanes", "races"), "where"
+# What the program is asked for: `races` and `where` once it has them.
+COMMANDS = ("replay", "chart", "events", "lanes")
 
 
 def teller(command: str, data: bytes, is_module: bool) -> Teller:
     """What a command tells of a run of this program, whose bytes are looked at where there is one."""
-    of_program = {"events": telling_events.events, "lanes": telling_lanes.lanes}
+    of_program = {"events": telling_events.events, "lanes": telling_lanes.lanes, "races": telling_races.races}
     if command in of_program:
         return partial(of_program[command], Program(data, is_module))
     return {"replay": Played.output, "chart": Played.chart}[command]

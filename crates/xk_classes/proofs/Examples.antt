@@ -1,20 +1,22 @@
--- Two schedules of one class, and why a race is looked for in the whole class: by evaluation.
-use Rattle.std.proofs.Common.{◌≡◌, ℕ, zero, suc, pos, ◌==◌, Bool, true, false, not, ◌&&◌, ◌||◌, List, [], ◌∷◌, refl, subst, arith}
+-- Two schedules of one class, edges of a start and of a finish, and why a race is looked for in the whole class: by evaluation.
+use Rattle.std.proofs.Common.{◌≡◌, ℕ, zero, suc, pos, ◌==◌, Bool, true, false, not, ◌&&◌, ◌||◌, List, [], ◌∷◌, get_or, refl, subst, arith, inl, inr}
 use Rattle.std.specs.Prelude.{All}
 use Rattle.std.proofs.lemmas.Option.{none-some, same_Some}
 use Rattle.std.proofs.lemmas.List.Elements.{All-cons, All-nil, All-from_recursion}
 use Rattle.xk_types.specs.declared.instr.Instr.TheVariants as instr
+use Rattle.xk_types.specs.declared.world.Event.TheVariants as event
 use Rattle.xk_types.specs.declared.rules.Kind.{Kind}
 use Rattle.xk_types.specs.declared.rules.Kind.TheVariants as kind
 use Rattle.xk_types.specs.Code.{UnitValue, ModuleValue, IsUnitWithinLimits, IsWithinLimits}
 use Rattle.xk_types.specs.Acceptance.{IsAccepted}
-use Rattle.xk_types.specs.World.{World}
-use Rattle.xk_types.specs.Step.{Outcome, Blocked, Wrong, Stepped, step}
+use Rattle.xk_types.specs.World.{Activity, World, main_of}
+use Rattle.xk_types.specs.Step.{Outcome, Blocked, Wrong, Stepped, under_within, step}
 use Rattle.xk_types.specs.Schedule.{Course, Through, Held, Wronged, run, is_enabled, all_ended}
 use Rattle.xk_types.proofs.Examples.Notation.{fresh, main_with, body_with}
 use Rattle.xk_laws.proofs.Examples.AcceptanceTest.{HasFewArguments, accepted_by}
 use Rattle.xk_squares.specs.Conflicts.{reads_next, stores_next}
 use Rattle.xk_classes.specs.Moments.{takers, is_start, printed_by}
+use Rattle.xk_classes.specs.Edges.{StepName, IsStart, IsUnderFinish, IsBefore}
 use Rattle.xk_classes.specs.OneRun.{ComeToOne, gets_or_puts, AddsInUnit, AddsAtMost, begins, OnlyMainBegins}
 use Rattle.xk_classes.proofs.OneRunLaw.{adders_free, one_in_order}
 
@@ -135,3 +137,63 @@ late_along = (refl, refl)
 late_prints : (takers is_start late a_first (fresh late) ≡ takers is_start late c_first (fresh late)) × (all_ended (last late a_first) ≡ true)
     × (all_ended (last late c_first) ≡ true) × (printed_by late a_first (fresh late) 3 ≡ pos 5 ∷ []) × (printed_by late c_first (fresh late) 3 ≡ pos 0 ∷ [])
 late_prints = (refl, refl, refl, refl, refl)
+
+-- ---- what main starts under a finish puts a number, which main gets behind it
+
+abbrev joined : ModuleValue
+joined = record {
+  shared = pos 0 ∷ [];
+  units = main_with 1 (instr.Finish 2 ∷ instr.Spawn 1 [] ∷ instr.EndFinish 0 ∷ instr.Get 0 0 ∷ instr.Print 0 ∷ instr.Ret ∷ [])
+      ∷ body_with [] 1 (instr.Lit 0 (pos 5) ∷ instr.Put 0 0 ∷ instr.Ret ∷ []) ∷ [];
+}
+
+abbrev in_turn : List ℕ
+in_turn = 0 ∷ 0 ∷ 1 ∷ 1 ∷ 1 ∷ 0 ∷ 0 ∷ 0 ∷ 0 ∷ []
+
+abbrev one_at : World → ℕ → Activity
+one_at w a = get_or w.activities a (main_of joined [])
+
+-- the start comes before the first step of what is started
+joined_start : IsStart joined (fresh joined) in_turn (0, 1) (1, 0)
+joined_start = record {
+  before = 0 ∷ [];
+  after = 1 ∷ 1 ∷ 1 ∷ 0 ∷ 0 ∷ 0 ∷ 0 ∷ [];
+  here = last joined (0 ∷ []);
+  there = last joined (0 ∷ 0 ∷ []);
+  whole = refl;
+  leads = refl;
+  turn = refl;
+  starts = refl;
+  child = refl;
+  first = refl;
+}
+
+-- and the `put` before the end of the finish
+joined_finish : IsUnderFinish joined (fresh joined) in_turn (1, 1) (0, 2)
+unfolding under_within
+joined_finish = record {
+  before = 0 ∷ 0 ∷ 1 ∷ 1 ∷ 1 ∷ [];
+  after = 0 ∷ 0 ∷ 0 ∷ [];
+  here = last joined (0 ∷ 0 ∷ 1 ∷ 1 ∷ 1 ∷ []);
+  there = last joined (0 ∷ 0 ∷ 1 ∷ 1 ∷ 1 ∷ 0 ∷ []);
+  closed = event.Closed;
+  whole = refl;
+  leads = refl;
+  turn = refl;
+  takes = refl;
+  closer = one_at (last joined (0 ∷ 0 ∷ 1 ∷ 1 ∷ 1 ∷ [])) 0;
+  found = refl;
+  first = 0;
+  closes = refl;
+  child = one_at (last joined (0 ∷ 0 ∷ 1 ∷ 1 ∷ 1 ∷ [])) 1;
+  known = refl;
+  under = refl;
+  taken = omega arith;
+}
+
+-- so the `put` is before the `get`
+abbrev joined_edges : List (StepName × StepName)
+joined_edges = ((0, 1), (1, 0)) ∷ ((1, 1), (0, 2)) ∷ []
+
+joined_before : IsBefore joined_edges (1, 1) (0, 3)
+joined_before = record { between = (0, 2) ∷ []; way = (inl (1, refl), inr (refl, omega arith)) }

@@ -57,6 +57,6 @@ begins (instr.Make d) = true
 begins (instr.Spawn t args) = true
 begins _ = false
 
--- No unit but main's, the first one, makes clocks or starts activities. (Methods don't either; bodies don't.)
+-- No unit but main's, which is the first, makes clocks or starts activities: no method does, and no body.
 abbrev pub OnlyMainBegins : ModuleValue → Type 0
 OnlyMainBegins m = (k : ℕ) (u : UnitValue) → slice_get m.units (suc k) ≡ Some u → All (λ i. begins i ≡ false) u.code

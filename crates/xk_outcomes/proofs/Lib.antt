@@ -1,3 +1,5 @@
+mod DigestLemmas
 mod SearchLemmas
 mod ExplorationLemmas
+mod RisingLemmas
 mod ListingLemmas

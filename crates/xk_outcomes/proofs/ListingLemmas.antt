@@ -1,36 +1,29 @@
 -- What one more leaves listed, and from what was found to what is listed.
-use Rattle.std.proofs.Common.{◌≡◌, ◌∙◌, ℕ, ℤ, zero, suc, ◌+◌, ◌<◌, ◌⊎◌, inl, inr, true, List, [], ◌∷◌, ◌++◌, length, replicate, Some, refl, sym, ap, subst, arith, slice_get}
-use Rattle.std.proofs.lemmas.List.Concat.{flat_map-append}
+use Rattle.std.proofs.Common.{◌≡◌, ◌∙◌, ℕ, ℤ, zero, suc, ◌+◌, ◌<◌, ◌⊎◌, inl, inr, true, List, [], ◌∷◌, ◌++◌, length, Some, refl, sym, ap, subst, arith, slice_get}
+use Rattle.std.specs.Prelude.{count_by, map}
+use Rattle.std.specs.Ordering.{int_eq}
+use Rattle.std.proofs.lemmas.List.{length-map}
 use Rattle.std.proofs.lemmas.Option.{slice_get_within, none-some, same_Some}
-use Rattle.xk_types.specs.declared.world.Entry.{Entry}
 use Rattle.xk_types.specs.Code.{ModuleValue}
 use Rattle.xk_types.specs.World.{opening}
 use Rattle.xk_types.specs.Schedule.{run, all_ended, printed}
-use Rattle.xk_types.specs.Logs.{schedule_of, one_step_of}
+use Rattle.xk_types.specs.Logs.{schedule_of}
+use Rattle.xk_laws.proofs.ReachabilityLemmas.{same_through}
+use Rattle.xk_squares.specs.PlainWorlds.{AreAlike, plain}
 use Rattle.xk_core.specs.Core.{opening_core}
 use Rattle.xk_outcomes.specs.declared.found.Found.{Found}
 use Rattle.xk_outcomes.specs.declared.listing.Outcome.{Outcome}
-use Rattle.xk_outcomes.specs.Search.{AreFound, AreAllFound}
-use Rattle.xk_outcomes.specs.Listing.{IsOf, AreOf, AreNoted, KeepsListed}
-use Rattle.xk_outcomes.specs.Outcomes.{IsListed, AreDistinct, AreShown, AreAll}
-use Rattle.xk_outcomes.proofs.SearchLemmas.{stays, at_end}
-
--- one entry more is one step more
-pub log_more : (log : List Entry) (a : ℕ) → schedule_of (log ++ one_step_of a ∷ []) ≡ schedule_of log ++ a ∷ []
-log_more log a = flat_map-append (λ (e : Entry). replicate e.steps e.act) log (one_step_of a ∷ [])
+use Rattle.xk_outcomes.specs.declared.order.Order.{Order}
+use Rattle.xk_outcomes.specs.declared.order.Order.TheVariants as order
+use Rattle.xk_outcomes.specs.Search.{AreFound, AreAllFound, AreDifferent}
+use Rattle.xk_outcomes.specs.Rising.{ordered}
+use Rattle.xk_outcomes.specs.Listing.{IsOf, AreOf, AreNoted, AreShownIn, AreAllIn, KeepsListed}
+use Rattle.xk_outcomes.specs.Outcomes.{IsListed, IsOutcome, AreDistinct, AreShown, HasApart}
+use Rattle.xk_outcomes.specs.Sets.{IsRising, AreSetsShown, AreSetsDistinct, AreSetsAll}
+use Rattle.xk_outcomes.proofs.RisingLemmas.{is_rising, same_rising, one_rising}
+use Rattle.xk_outcomes.proofs.SearchLemmas.{stays, at_end, place}
 
 -- ---- one more
-
--- what is at a place of a list with one more at its end
-place : {X : Type 0} (xs : List X) (o : X) (k : ℕ) (x : X) → slice_get (xs ++ o ∷ []) k ≡ Some x → (slice_get xs k ≡ Some x) ⊎ ((k ≡ length xs) × (o ≡ x))
-place [] o zero x h = inr (refl, same_Some o x h)
-place [] o (suc k) x h = absurd (none-some x h)
-place (z ∷ xs) o zero x h = inl h
-place (z ∷ xs) o (suc k) x h = by (place xs o k x h)
-  where
-    by : (slice_get xs k ≡ Some x) ⊎ ((k ≡ length xs) × (o ≡ x)) → (slice_get xs k ≡ Some x) ⊎ ((suc k ≡ suc (length xs)) × (o ≡ x))
-    by (inl a) = inl a
-    by (inr b) = inr (ap suc b.0, b.1)
 
 pub distinct_push : (old new : List Outcome) (o : Outcome) → new ≡ old ++ o ∷ [] → (IsListed old o.numbers.items → ⊥) → AreDistinct old → AreDistinct new
 distinct_push old new o e fresh before i j x y hi hj same =
@@ -54,50 +47,106 @@ keeps_same old new e numbers h = subst (λ (l : List Outcome). IsListed l number
 pub listed_push : (old new : List Outcome) (o : Outcome) → new ≡ old ++ o ∷ [] → IsListed new o.numbers.items
 listed_push old new o e = (length old, o, subst (λ (l : List Outcome). slice_get l (length old) ≡ Some o) (sym e) (at_end old o), refl)
 
-of_push : (all : List Found) (j : ℕ) (x : Found) (old new : List Outcome) (o : Outcome) → new ≡ old ++ o ∷ [] → slice_get all j ≡ Some x → IsOf x o → AreOf all old → AreOf all new
-of_push all j x old new o e there is before k p h = by (place old o k p (subst (λ (l : List Outcome). slice_get l k ≡ Some p) e h))
+of_push : (order : Order) (all : List Found) (j : ℕ) (x : Found) (old new : List Outcome) (o : Outcome) → new ≡ old ++ o ∷ [] → slice_get all j ≡ Some x → IsOf order x o → AreOf order all old → AreOf order all new
+of_push order all j x old new o e there is before k p h = by (place old o k p (subst (λ (l : List Outcome). slice_get l k ≡ Some p) e h))
   where
-    by : (slice_get old k ≡ Some p) ⊎ ((k ≡ length old) × (o ≡ p)) → (i : ℕ) × (y : Found) × (slice_get all i ≡ Some y) × IsOf y p
+    by : (slice_get old k ≡ Some p) ⊎ ((k ≡ length old) × (o ≡ p)) → (i : ℕ) × (y : Found) × (slice_get all i ≡ Some y) × IsOf order y p
     by (inl a) = before k p a
-    by (inr b) = (j, x, there, subst (λ (q : Outcome). IsOf x q) b.1 is)
+    by (inr b) = (j, x, there, subst (λ (q : Outcome). IsOf order x q) b.1 is)
 
 -- the same where it was listed already
-pub of_either : (all : List Found) (j : ℕ) (x : Found) (old new : List Outcome) (o : Outcome) → (new ≡ old) ⊎ (new ≡ old ++ o ∷ [])
-    → slice_get all j ≡ Some x → IsOf x o → AreOf all old → AreOf all new
-of_either all j x old new o (inl e) there is before = subst (AreOf all) (sym e) before
-of_either all j x old new o (inr e) there is before = of_push all j x old new o e there is before
+pub of_either : (order : Order) (all : List Found) (j : ℕ) (x : Found) (old new : List Outcome) (o : Outcome) → (new ≡ old) ⊎ (new ≡ old ++ o ∷ [])
+    → slice_get all j ≡ Some x → IsOf order x o → AreOf order all old → AreOf order all new
+of_either order all j x old new o (inl e) there is before = subst (AreOf order all) (sym e) before
+of_either order all j x old new o (inr e) there is before = of_push order all j x old new o e there is before
 
-pub of_none : (all : List Found) (list : List Outcome) → list ≡ [] → AreOf all list
-of_none all list none k o h = absurd (none-some o (subst (λ (l : List Outcome). slice_get l k ≡ Some o) none h))
+pub of_none : (order : Order) (all : List Found) (list : List Outcome) → list ≡ [] → AreOf order all list
+of_none order all list none k o h = absurd (none-some o (subst (λ (l : List Outcome). slice_get l k ≡ Some o) none h))
 
-pub noted_more : (all : List Found) (place : ℕ) (here : Found) (old new : List Outcome) → slice_get all place ≡ Some here → KeepsListed old new
-    → (all_ended here.core.world ≡ true → IsListed new here.printed.items) → AreNoted all place old → AreNoted all (place + 1) new
-noted_more all place here old new there kept listed before j x less at done = by (split j place less)
+pub noted_more : (order : Order) (all : List Found) (place : ℕ) (here : Found) (old new : List Outcome) → slice_get all place ≡ Some here → KeepsListed old new
+    → (all_ended here.core.world ≡ true → IsListed new (ordered order here.printed.items)) → AreNoted order all place old → AreNoted order all (place + 1) new
+noted_more order all place here old new there kept listed before j x less at done = by (split j place less)
   where
     split : (i n : ℕ) → i < n + 1 → (i < n) ⊎ (i ≡ n)
     split i n h = grind arith
 
-    by : (j < place) ⊎ (j ≡ place) → IsListed new x.printed.items
-    by (inl l) = kept x.printed.items (before j x l at done)
+    by : (j < place) ⊎ (j ≡ place) → IsListed new (ordered order x.printed.items)
+    by (inl l) = kept (ordered order x.printed.items) (before j x l at done)
     by (inr e) =
         let same : here ≡ x = same_Some here x (sym there ∙ (sym (ap (slice_get all) e) ∙ at)) in
-        subst (λ (y : Found). all_ended y.core.world ≡ true → IsListed new y.printed.items) same listed done
+        subst (λ (y : Found). all_ended y.core.world ≡ true → IsListed new (ordered order y.printed.items)) same listed done
 
 -- ---- from what was found to what is listed
 
-pub all_shown : (m : ModuleValue) (args : List ℤ) (all : List Found) (list : List Outcome) → AreFound (opening_core m args) all → AreOf all list → AreShown m args list
-all_shown m args all list found of k o there =
+pub all_shown : (order : Order) (m : ModuleValue) (args : List ℤ) (all : List Found) (list : List Outcome) → AreFound (opening_core m args) all → AreOf order all list
+    → AreShownIn order m args list
+all_shown order m args all list found of k o there =
     let h = of k o there in
     let x : Found = h.1 in
-    let f = found h.0 x h.2 in
-    record {
-      last = x.core.world;
-      legal = ap (λ (l : List ℕ). run m l (opening m args)) h.3.log ∙ f.legal;
-      over = h.3.over;
-      prints = ap (λ (l : List ℕ). printed m l (opening m args)) h.3.log ∙ f.prints ∙ sym h.3.numbers;
-    }
+    let f = found h.0 x h.2 in (
+      x.printed.items,
+      record {
+        last = x.core.world;
+        legal = ap (λ (l : List ℕ). run m l (opening m args)) h.3.log ∙ f.legal;
+        over = h.3.over;
+        prints = ap (λ (l : List ℕ). printed m l (opening m args)) h.3.log ∙ f.prints;
+      },
+      h.3.numbers,
+    )
 
-pub all_listed : (m : ModuleValue) (args : List ℤ) (all : List Found) (list : List Outcome) → AreAllFound (opening_core m args) all → AreNoted all (length all) list → AreAll m args list
-all_listed m args all list found noted schedule numbers o =
+pub all_listed : (order : Order) (m : ModuleValue) (args : List ℤ) (all : List Found) (list : List Outcome) → AreAllFound (opening_core m args) all
+    → AreNoted order all (length all) list → AreAllIn order m args list
+all_listed order m args all list found noted schedule numbers o =
     let h = found schedule o.last o.legal o.over in
-    subst (IsListed list) (h.3 ∙ o.prints) (noted h.0 h.1 (slice_get_within all h.0 h.1 h.2) h.2 h.4)
+    subst (λ p. IsListed list (ordered order p)) (h.3 ∙ o.prints) (noted h.0 h.1 (slice_get_within all h.0 h.1 h.2) h.2 h.4)
+
+-- each that was found has a schedule, and no two have the same world and numbers
+of_map : {X Y : Type 0} (f : X → Y) (xs : List X) (k : ℕ) (y : Y) → slice_get (map f xs) k ≡ Some y → (x : X) × (slice_get xs k ≡ Some x) × (f x ≡ y)
+of_map f [] k y h = absurd (none-some y h)
+of_map f (x ∷ xs) zero y h = (x, refl, same_Some (f x) y h)
+of_map f (x ∷ xs) (suc k) y h = of_map f xs k y h
+
+pub all_apart : (m : ModuleValue) (args : List ℤ) (all : List Found) → AreFound (opening_core m args) all → AreDifferent all → HasApart m args (length all)
+all_apart m args all found different = (
+  map (λ (x : Found). x.schedule.items) all,
+  length-map all (λ (x : Found). x.schedule.items),
+  record {
+    legal = λ k p there.
+        let x = of_map (λ (x : Found). x.schedule.items) all k p there in
+        let f = found k x.0 x.1 in
+        (x.0.core.world, ap (λ (l : List ℕ). run m l (opening m args)) (sym x.2) ∙ f.legal);
+    apart = λ i j p q w v hi hj lead_w lead_v alike same.
+        let x = of_map (λ (x : Found). x.schedule.items) all i p hi in
+        let y = of_map (λ (x : Found). x.schedule.items) all j q hj in
+        let f = found i x.0 x.1 in
+        let g = found j y.0 y.1 in
+        let to_w : w ≡ x.0.core.world = same_through w x.0.core.world (sym lead_w ∙ (ap (λ (l : List ℕ). run m l (opening m args)) (sym x.2) ∙ f.legal)) in
+        let to_v : v ≡ y.0.core.world = same_through v y.0.core.world (sym lead_v ∙ (ap (λ (l : List ℕ). run m l (opening m args)) (sym y.2) ∙ g.legal)) in
+        let worlds : AreAlike y.0.core.world x.0.core.world = ap plain (sym to_v) ∙ sym alike ∙ ap plain to_w in
+        let numbers : x.0.printed.items ≡ y.0.printed.items =
+        sym f.prints ∙ ap (λ (l : List ℕ). printed m l (opening m args)) x.2 ∙ same ∙ ap (λ (l : List ℕ). printed m l (opening m args)) (sym y.2) ∙ g.prints in
+        different i j x.0 y.0 x.1 y.1 (worlds, numbers);
+  },
+)
+
+-- ---- as they are printed, and rising
+
+pub printed_shown : (m : ModuleValue) (args : List ℤ) (list : List Outcome) → AreShownIn order.Printed m args list → AreShown m args list
+printed_shown m args list shown k x there = let h = shown k x there in subst (IsOutcome m args (schedule_of x.log.items)) (sym h.2) h.1
+
+pub sets_shown : (m : ModuleValue) (args : List ℤ) (list : List Outcome) → AreShownIn order.Rising m args list → AreSetsShown m args list
+sets_shown m args list shown k x there =
+    let h = shown k x there in (
+      subst IsRising (sym h.2) (is_rising h.0),
+      h.0,
+      h.1,
+      λ n. same_rising h.0 n ∙ ap (count_by (int_eq n)) (sym h.2),
+    )
+
+pub sets_distinct : (m : ModuleValue) (args : List ℤ) (list : List Outcome) → AreShownIn order.Rising m args list → AreDistinct list → AreSetsDistinct list
+sets_distinct m args list shown distinct i j x y hi hj same =
+    distinct i j x y hi hj (one_rising x.numbers.items y.numbers.items (sets_shown m args list shown i x hi).0 (sets_shown m args list shown j y hj).0 same)
+
+pub sets_all : (m : ModuleValue) (args : List ℤ) (list : List Outcome) → AreAllIn order.Rising m args list → AreSetsAll m args list
+sets_all m args list all schedule numbers o =
+    let h = all schedule numbers o in (h.0, h.1, h.2, λ n. same_rising numbers n ∙ ap (count_by (int_eq n)) (sym h.3))

@@ -3,7 +3,8 @@ use Rattle.std.proofs.Common.{◌≡◌, ◌∙◌, ℕ, ℤ, zero, suc, ◌+◌
 use Rattle.std.specs.List.{filter_map}
 use Rattle.std.specs.Option.{option_to_list}
 use Rattle.std.proofs.Math.Seq.{take-suc}
-use Rattle.std.proofs.lemmas.List.{append-nil}
+use Rattle.std.specs.Prelude.{map}
+use Rattle.std.proofs.lemmas.List.{append-nil, length-map, map-append}
 use Rattle.std.proofs.lemmas.Option.{slice_get_within, none-some, same_Some}
 use Rattle.xk_types.specs.declared.world.Event.{Event}
 use Rattle.xk_types.specs.declared.world.Event.TheVariants as event
@@ -18,7 +19,9 @@ use Rattle.xk_squares.proofs.ChangeSquareLemmas.{same_step, found_of}
 use Rattle.xk_squares.proofs.QuietStepLaw.{quiet_steps_go_first}
 use Rattle.xk_core.specs.Core.{CoreValue}
 use Rattle.xk_outcomes.specs.declared.found.Found.{Found}
-use Rattle.xk_outcomes.specs.Search.{IsFound, Begins, IsOneStepOn, LeadsQuietly, IsSettled, IsNext, AreFound, IsGrown, Has, HasAfter, IsKnown, AreExpanded}
+use Rattle.xk_outcomes.specs.Digest.{world_digest}
+use Rattle.xk_outcomes.specs.Search.{IsFound, Begins, IsOneStepOn, LeadsQuietly, IsSettled, IsNext, AreFound, IsGrown, Has, HasAfter, IsAt, IsKnown, AreDifferent, AreDigests, AreExpanded, found_digest}
+use Rattle.xk_outcomes.proofs.DigestLemmas.{alike_digests}
 
 -- ---- lists by number
 
@@ -41,6 +44,17 @@ there_is : {X : Type 0} (xs : List X) (k : ℕ) → k < length xs → (x : X) ×
 there_is [] k h = absurd (omega (arith, h))
 there_is (x ∷ xs) zero h = (x, refl)
 there_is (x ∷ xs) (suc k) h = there_is xs k (omega (arith, h))
+
+-- what is at a place of a list with one more at its end
+pub place : {X : Type 0} (xs : List X) (o : X) (k : ℕ) (x : X) → slice_get (xs ++ o ∷ []) k ≡ Some x → (slice_get xs k ≡ Some x) ⊎ ((k ≡ length xs) × (o ≡ x))
+place [] o zero x h = inr (refl, same_Some o x h)
+place [] o (suc k) x h = absurd (none-some x h)
+place (z ∷ xs) o zero x h = inl h
+place (z ∷ xs) o (suc k) x h = by (place xs o k x h)
+  where
+    by : (slice_get xs k ≡ Some x) ⊎ ((k ≡ length xs) × (o ≡ x)) → (slice_get xs k ≡ Some x) ⊎ ((suc k ≡ suc (length xs)) × (o ≡ x))
+    by (inl a) = inl a
+    by (inr b) = inr (ap suc b.0, b.1)
 
 -- ---- by a step
 
@@ -107,9 +121,6 @@ quiet_more : (m : ModuleValue) (list : List ℕ) (w v x : World) (a : ℕ) (e : 
 quiet_more m [] w v x a e h q s = (subst (λ z. has_quiet_step m z a ≡ true) (sym h) q, x, e, subst (λ z. step m z a ≡ Stepped x e) (sym h) s, refl)
 quiet_more m (b ∷ list) w v x a e h q s = (h.0, h.1, h.2, h.3, quiet_more m list h.1 v x a e h.4 q s)
 
-pub settled_none : (x : Found) → IsSettled x x
-settled_none x = record { list = []; quiet = refl; same_module = refl; prints = refl }
-
 pub settled_more : (x y z : Found) (a : ℕ) → IsWithinLimits x.core.module_run → IsAccepted x.core.module_run → IsSettled x y
     → has_quiet_step y.core.module_run y.core.world a ≡ true → IsOneStepOn y a z → IsSettled x z
 settled_more x y z a limits ok s q o =
@@ -124,29 +135,6 @@ settled_more x y z a limits ok s q o =
           ∙ ap (λ n. y.printed.items ++ option_to_list n) ((quiet_steps_go_first m limits ok).silent y.core.world z.core.world a o.event calm stepped)
           ∙ append-nil y.printed.items ∙ s.prints;
     }
-
--- a step, and quiet steps behind it
-pub next_settled : (x y z : Found) (a : ℕ) → IsOneStepOn x a y → IsSettled y z → IsNext x.core.module_run x a z
-next_settled x y z a o s = record {
-  event = o.event;
-  world = y.core.world;
-  list = s.list;
-  stepped = o.stepped;
-  quiet = subst (λ k. LeadsQuietly k s.list y.core.world z.core.world) o.same_module s.quiet;
-  prints = s.prints ∙ o.prints;
-}
-
--- the same from one that is in the same world, the same numbers being printed by then
-pub next_again : (m : ModuleValue) (here again y : Found) (a : ℕ) → again.core.module_run ≡ m → again.core.world ≡ here.core.world → again.printed.items ≡ here.printed.items
-    → IsNext again.core.module_run again a y → IsNext m here a y
-next_again m here again y a module_is world printed n = record {
-  event = n.event;
-  world = n.world;
-  list = n.list;
-  stepped = subst (λ k. step k here.core.world a ≡ Stepped n.world n.event) module_is (subst (λ w. step again.core.module_run w a ≡ Stepped n.world n.event) world n.stepped);
-  quiet = subst (λ k. LeadsQuietly k n.list n.world y.core.world) module_is n.quiet;
-  prints = n.prints ∙ ap (λ l. l ++ option_to_list (number_printed n.event)) printed;
-}
 
 -- ---- what was found grows
 
@@ -228,3 +216,38 @@ expanded_more m old new n within grown before here k x less there a =
     by : (y : Found) → slice_get old k ≡ Some y → (k < n) ⊎ (k ≡ n) → HasAfter m new y a
     by y at (inl l) = after_grown m old new y a grown (before k y l at a)
     by y at (inr e) = here y (subst (λ j. slice_get old j ≡ Some y) e at) a
+
+-- ---- no two are the same
+
+-- those that are at the same have one digest
+pub same_digests : (x new : Found) → IsAt x new.core.world new.printed.items → found_digest x ≡ found_digest new
+same_digests x new at = ap (world_digest x.core.world) at.1 ∙ sym (alike_digests new.core.world x.core.world new.printed.items at.0)
+
+pub different_none : (all : List Found) → all ≡ [] → AreDifferent all
+different_none all none i j x y hi hj same = absurd (none-some x (subst (λ (l : List Found). slice_get l i ≡ Some x) none hi))
+
+pub different_push : (old new : List Found) (o : Found) → new ≡ old ++ o ∷ [] → (Has old o.core.world o.printed.items → ⊥) → AreDifferent old → AreDifferent new
+different_push old new o e fresh before i j x y hi hj same =
+    by (place old o i x (subst (λ (l : List Found). slice_get l i ≡ Some x) e hi)) (place old o j y (subst (λ (l : List Found). slice_get l j ≡ Some y) e hj))
+  where
+    by : (slice_get old i ≡ Some x) ⊎ ((i ≡ length old) × (o ≡ x)) → (slice_get old j ≡ Some y) ⊎ ((j ≡ length old) × (o ≡ y)) → i ≡ j
+    by (inl a) (inl b) = before i j x y a b same
+    by (inl a) (inr b) = absurd (fresh (i, x, a, subst (λ (z : Found). IsAt x z.core.world z.printed.items) (sym b.1) same))
+    by (inr a) (inl b) =
+        absurd (fresh (j, y, b, subst (λ (z : Found). IsAt y z.core.world z.printed.items) (sym a.1) (sym same.0, sym same.1)))
+    by (inr a) (inr b) = a.0 ∙ sym b.0
+
+pub digests_push : (old new : List Found) (digests more : List ℕ) (x : Found) → new ≡ old ++ x ∷ [] → more ≡ digests ++ found_digest x ∷ [] → AreDigests old digests → AreDigests new more
+digests_push old new digests more x e f h =
+    f ∙ ap (λ (l : List ℕ). l ++ found_digest x ∷ []) h ∙ sym (map-append found_digest old (x ∷ [])) ∙ ap (map found_digest) (sym e)
+
+pub digest_at : (all : List Found) (digests : List ℕ) (k d : ℕ) (x : Found) → AreDigests all digests → slice_get all k ≡ Some x → get_or digests k d ≡ found_digest x
+digest_at all digests k d x h there = ap (λ (l : List ℕ). get_or l k d) h ∙ read all k there
+  where
+    read : (xs : List Found) (i : ℕ) → slice_get xs i ≡ Some x → get_or (map found_digest xs) i d ≡ found_digest x
+    read [] i g = absurd (none-some x g)
+    read (z ∷ zs) zero g = ap found_digest (same_Some z x g)
+    read (z ∷ zs) (suc i) g = read zs i g
+
+pub as_many : (all : List Found) (digests : List ℕ) → AreDigests all digests → length digests ≡ length all
+as_many all digests h = ap length h ∙ length-map all found_digest

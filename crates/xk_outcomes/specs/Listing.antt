@@ -1,25 +1,37 @@
 -- What is listed of what was found. This project's own.
 use Rattle.std.specs.Prelude.{◌≡◌, ℕ, ℤ, ◌<◌, true, List, Some, slice_get}
+use Rattle.xk_types.specs.Code.{ModuleValue}
 use Rattle.xk_types.specs.Schedule.{all_ended}
 use Rattle.xk_types.specs.Logs.{schedule_of}
 use Rattle.xk_outcomes.specs.declared.found.Found.{Found}
 use Rattle.xk_outcomes.specs.declared.listing.Outcome.{Outcome}
-use Rattle.xk_outcomes.specs.Outcomes.{IsListed}
+use Rattle.xk_outcomes.specs.declared.order.Order.{Order}
+use Rattle.xk_outcomes.specs.Outcomes.{IsListed, IsOutcome}
+use Rattle.xk_outcomes.specs.Rising.{ordered}
 
--- all have ended in what was found, and this has its numbers, and a log of its schedule
-pub record IsOf (x : Found) (o : Outcome) : Type 0 where
+-- all have ended in what was found, and this has its numbers, in the order in which they are told, and a log of its schedule
+pub record IsOf (order : Order) (x : Found) (o : Outcome) : Type 0 where
   pub over : all_ended x.core.world ≡ true
-  pub numbers : o.numbers.items ≡ x.printed.items
+  pub numbers : o.numbers.items ≡ ordered order x.printed.items
   pub log : schedule_of o.log.items ≡ x.schedule.items
 
 -- each that is listed is of one that was found
-abbrev pub AreOf : List Found → List Outcome → Type 0
-AreOf all list = (k : ℕ) (o : Outcome) → slice_get list k ≡ Some o → (j : ℕ) × (x : Found) × (slice_get all j ≡ Some x) × IsOf x o
+abbrev pub AreOf : Order → List Found → List Outcome → Type 0
+AreOf order all list = (k : ℕ) (o : Outcome) → slice_get list k ≡ Some o → (j : ℕ) × (x : Found) × (slice_get all j ≡ Some x) × IsOf order x o
 
 -- of those before this place, what the ones print in which all have ended is listed
-abbrev pub AreNoted : List Found → ℕ → List Outcome → Type 0
-AreNoted all place list = (j : ℕ) (x : Found) → j < place → slice_get all j ≡ Some x → all_ended x.core.world ≡ true → IsListed list x.printed.items
+abbrev pub AreNoted : Order → List Found → ℕ → List Outcome → Type 0
+AreNoted order all place list = (j : ℕ) (x : Found) → j < place → slice_get all j ≡ Some x → all_ended x.core.world ≡ true → IsListed list (ordered order x.printed.items)
 
 -- what was listed is
 abbrev pub KeepsListed : List Outcome → List Outcome → Type 0
 KeepsListed old new = (numbers : List ℤ) → IsListed old numbers → IsListed new numbers
+
+-- each that is listed has a log that shows its numbers, which are told in this order
+abbrev pub AreShownIn : Order → ModuleValue → List ℤ → List Outcome → Type 0
+AreShownIn order m args list = (k : ℕ) (x : Outcome) → slice_get list k ≡ Some x
+    → (numbers : List ℤ) × IsOutcome m args (schedule_of x.log.items) numbers × (x.numbers.items ≡ ordered order numbers)
+
+-- whatever a legal schedule prints after which all have ended is listed, told in this order
+abbrev pub AreAllIn : Order → ModuleValue → List ℤ → List Outcome → Type 0
+AreAllIn order m args list = (schedule : List ℕ) (numbers : List ℤ) → IsOutcome m args schedule numbers → IsListed list (ordered order numbers)

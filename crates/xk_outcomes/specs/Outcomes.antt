@@ -1,10 +1,11 @@
 -- What the runs of a module print: all that a program can print, in whichever order its activities take their steps. X10 Language
 -- Specification 2.4, chapter Activities, leaves that order open, and the program ends when all have ended (Initial activity).
-use Rattle.std.specs.Prelude.{◌≡◌, ℕ, ℤ, true, List, Some, slice_get}
+use Rattle.std.specs.Prelude.{◌≡◌, ℕ, ℤ, true, List, length, Some, slice_get}
 use Rattle.xk_types.specs.Code.{ModuleValue}
 use Rattle.xk_types.specs.World.{World, opening}
 use Rattle.xk_types.specs.Schedule.{Through, run, all_ended, printed}
 use Rattle.xk_types.specs.Logs.{schedule_of}
+use Rattle.xk_squares.specs.PlainWorlds.{AreAlike}
 use Rattle.xk_outcomes.specs.declared.listing.Outcome.{Outcome}
 
 -- a legal schedule of the module with these arguments, after which all have ended, and which prints these numbers
@@ -29,3 +30,16 @@ IsListed list numbers = (k : ℕ) × (x : Outcome) × (slice_get list k ≡ Some
 -- whatever a legal schedule prints after which all have ended is listed
 abbrev pub AreAll : ModuleValue → List ℤ → List Outcome → Type 0
 AreAll m args list = (schedule : List ℕ) (numbers : List ℤ) → IsOutcome m args schedule numbers → IsListed list numbers
+
+-- ---- how far a search went
+
+-- These schedules are legal, and no two of them lead to worlds that are alike (but for numbers of steps and phases) and print the same on the way.
+pub record AreApart (m : ModuleValue) (args : List ℤ) (schedules : List (List ℕ)) : Type 0 where
+  pub legal : (k : ℕ) (p : List ℕ) → slice_get schedules k ≡ Some p → (w : World) × (run m p (opening m args) ≡ Through w)
+  pub apart : (i j : ℕ) (p q : List ℕ) (w v : World) → slice_get schedules i ≡ Some p → slice_get schedules j ≡ Some q
+      → run m p (opening m args) ≡ Through w → run m q (opening m args) ≡ Through v
+      → AreAlike w v → printed m p (opening m args) ≡ printed m q (opening m args) → i ≡ j
+
+-- there are so many
+abbrev pub HasApart : ModuleValue → List ℤ → ℕ → Type 0
+HasApart m args n = (schedules : List (List ℕ)) × (length schedules ≡ n) × AreApart m args schedules

@@ -1,5 +1,5 @@
 -- Worlds that are found one from another. This project's own.
-use Rattle.std.specs.Prelude.{◌≡◌, ℕ, ℤ, ◌<◌, true, false, List, [], ◌∷◌, ◌++◌, Option, Some, None, slice_get}
+use Rattle.std.specs.Prelude.{◌≡◌, ℕ, ℤ, ◌<◌, true, false, List, [], ◌∷◌, ◌++◌, Option, Some, None, slice_get, map}
 use Rattle.std.specs.Option.{option_to_list}
 use Rattle.xk_types.specs.declared.world.Event.{Event}
 use Rattle.xk_types.specs.Code.{ModuleValue}
@@ -10,6 +10,7 @@ use Rattle.xk_squares.specs.PlainWorlds.{AreAlike}
 use Rattle.xk_squares.specs.QuietSteps.{has_quiet_step}
 use Rattle.xk_core.specs.Core.{CoreValue}
 use Rattle.xk_outcomes.specs.declared.found.Found.{Found}
+use Rattle.xk_outcomes.specs.Digest.{world_digest}
 
 -- ---- one that was found
 
@@ -79,6 +80,18 @@ IsAt x w numbers = AreAlike w x.core.world × (x.printed.items ≡ numbers)
 -- one of them is
 abbrev pub Has : List Found → World → List ℤ → Type 0
 Has all w numbers = (k : ℕ) × (x : Found) × (slice_get all k ≡ Some x) × IsAt x w numbers
+
+-- no two of them are in worlds that are alike, the same numbers being printed by then
+abbrev pub AreDifferent : List Found → Type 0
+AreDifferent all = (i j : ℕ) (x y : Found) → slice_get all i ≡ Some x → slice_get all j ≡ Some y → IsAt x y.core.world y.printed.items → i ≡ j
+
+-- the digest of one that was found
+abbrev pub found_digest : Found → ℕ
+found_digest x = world_digest x.core.world x.printed.items
+
+-- their digests
+abbrev pub AreDigests : List Found → List ℕ → Type 0
+AreDigests all digests = digests ≡ map found_digest all
 
 -- quiet steps lead from this world to one that they have
 abbrev pub IsKnown : ModuleValue → List Found → World → List ℤ → Type 0

@@ -2,9 +2,12 @@
 
 ghost use Rattle.std.specs.Prelude.{◌≡◌, ◌≤◌, ◌⊎◌, true, false, length, IfOk};
 ghost use Rattle.xk_types.specs.World.{AreArguments};
-ghost use Rattle.xk_outcomes.specs.Outcomes.{AreAll, AreDistinct, AreShown};
+ghost use Rattle.xk_outcomes.specs.Listing.{AreAllIn, AreShownIn};
+ghost use Rattle.xk_outcomes.specs.Outcomes.{AreAll, AreDistinct, AreShown, HasApart};
+ghost use Rattle.xk_outcomes.specs.Sets.{AreSetsAll, AreSetsDistinct, AreSetsShown};
 
 use crate::listing::{Outcomes, list_outcomes};
+use crate::order::Order;
 use crate::search::explore;
 use std::alloc::{AllocError, Global};
 use xk_bounds::Verified;
@@ -35,11 +38,57 @@ pub fn outcomes(
     // A limit was met where it isn't complete: so many are kept, or so many are listed.
     ensures limit { IfOk result (λ r. r.complete ≡ false
         → (limit.entries ≤ r.entries) ⊎ (limit.outcomes ≤ length r.list.items)) }
+    // There are as many as are kept: no two of them are alike and have printed the same.
+    ensures kept { IfOk result (λ r. HasApart verified.now arguments.now r.entries) }
+{
+    let found = told_in(alloc, Order::Printed, verified, arguments, limit)?;
+    Ok(found)
+}
+
+/// The same where the order of numbers doesn't count: lists with the same numbers, each as often, are one, and it is told rising, with a log
+/// of a run that prints it in some order.
+pub fn outcome_sets(
+    alloc: Global,
+    verified: &Verified,
+    arguments: &[i64],
+    limit: Limit,
+) -> Result<Outcomes, AllocError>
+    requires { AreArguments verified.now arguments.now }
+    ensures shown { IfOk result (λ r. AreSetsShown verified.now arguments.now r.list.items) }
+    ensures distinct { IfOk result (λ r. AreSetsDistinct r.list.items) }
+    ensures all { IfOk result (λ r.
+        r.complete ≡ true → AreSetsAll verified.now arguments.now r.list.items) }
+    // As for `outcomes`.
+    ensures limit { IfOk result (λ r. r.complete ≡ false
+        → (limit.entries ≤ r.entries) ⊎ (limit.outcomes ≤ length r.list.items)) }
+    ensures kept { IfOk result (λ r. HasApart verified.now arguments.now r.entries) }
+{
+    let found = told_in(alloc, Order::Rising, verified, arguments, limit)?;
+    Ok(found)
+}
+
+/// What is printed, told in this order: lists that are the same in it are one.
+fn told_in(
+    alloc: Global,
+    order: Order,
+    verified: &Verified,
+    arguments: &[i64],
+    limit: Limit,
+) -> Result<Outcomes, AllocError>
+    requires { AreArguments verified.now arguments.now }
+    ensures shown { IfOk result
+        (λ r. AreShownIn order verified.now arguments.now r.list.items) }
+    ensures distinct { IfOk result (λ r. AreDistinct r.list.items) }
+    ensures all { IfOk result (λ r.
+        r.complete ≡ true → AreAllIn order verified.now arguments.now r.list.items) }
+    ensures limit { IfOk result (λ r. r.complete ≡ false
+        → (limit.entries ≤ r.entries) ⊎ (limit.outcomes ≤ length r.list.items)) }
+    ensures kept { IfOk result (λ r. HasApart verified.now arguments.now r.entries) }
 {
     let start = Core::open(alloc, verified, arguments)?;
     let explored = explore(alloc, &start, limit.entries)?;
     let mut list = Vec::new(alloc);
-    let listed = list_outcomes(alloc, &mut list, &explored.all, limit.outcomes)?;
+    let listed = list_outcomes(alloc, order, &mut list, &explored.all, limit.outcomes)?;
     Ok(Outcomes {
         list,
         complete: explored.complete && listed,

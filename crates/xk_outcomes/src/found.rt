@@ -7,7 +7,6 @@ ghost use Rattle.xk_squares.specs.QuietSteps.{has_quiet_step};
 ghost use Rattle.xk_core.specs.Core.{CoreValue};
 ghost use Rattle.xk_outcomes.specs.Search.{Begins, IsFound, IsLegal, IsNext, IsOneStepOn, IsSettled, IsSuccessor};
 
-use crate::digest::digest_of;
 use std::alloc::{AllocError, Global};
 use xk_core::Core;
 use xk_types::{Act, Event};
@@ -21,8 +20,6 @@ pub struct Found<'m> {
     pub printed: Vec<i64>,
     /// Who took a step after whom.
     pub schedule: Vec<u32>,
-    /// What those have in common that are alike and have printed the same: it is compared first.
-    pub digest: u64,
 }
 
 /// A copy of the numbers.
@@ -107,7 +104,6 @@ fn found_again<'m>(
         core,
         printed,
         schedule,
-        digest: 0,
     })
 }
 
@@ -176,7 +172,6 @@ pub fn beginning<'m>(alloc: Global, start: &Core<'m>) -> Result<Found<'m>, Alloc
         core,
         printed: Vec::new(alloc),
         schedule: Vec::new(alloc),
-        digest: 0,
     };
     match first.settle() {
         Ok(()) => Ok(first),
@@ -200,10 +195,7 @@ pub fn successor<'m>(
     }
     let mut next = found_again(alloc, start, here)?;
     match next.go_on(act) {
-        Ok(()) => {
-            next.digest = digest_of(&next.core, &next.printed);
-            Ok(Some(next))
-        }
+        Ok(()) => Ok(Some(next)),
         Err(_) => Err(AllocError),
     }
 }

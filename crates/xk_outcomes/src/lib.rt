@@ -5,9 +5,10 @@ mod all_outcomes;
 mod digest;
 mod found;
 mod listing;
+mod order;
 mod search;
 mod text;
 
-pub use all_outcomes::{Limit, outcomes};
+pub use all_outcomes::{Limit, outcome_sets, outcomes};
 pub use listing::{Outcome, Outcomes};
 pub use text::outcomes_text;

@@ -1,4 +1,4 @@
-//! What was found is listed, each list of numbers once.
+//! What was found is listed, each list of numbers once, as it is told in an order.
 
 ghost use Rattle.std.specs.Prelude.{◌≡◌, ℕ, ◌≤◌, ◌++◌, ◌∷◌, ◌⊎◌, [], true, false, length, slice_get, IfOk, OnOk, Some, List};
 ghost use Rattle.xk_types.specs.Schedule.{all_ended};
@@ -6,8 +6,10 @@ ghost use Rattle.xk_types.specs.Logs.{schedule_of, one_step_of};
 ghost use Rattle.xk_outcomes.specs.declared.found.Found.{Found as FoundValue};
 ghost use Rattle.xk_outcomes.specs.Outcomes.{AreDistinct, IsListed};
 ghost use Rattle.xk_outcomes.specs.Listing.{AreNoted, AreOf, IsOf, KeepsListed};
+ghost use Rattle.xk_outcomes.specs.Rising.{ordered};
 
-use crate::found::{Found, same_numbers};
+use crate::found::Found;
+use crate::order::{Order, ordered};
 use crate::search::are_same;
 use std::alloc::{AllocError, Global};
 use xk_types::Entry;
@@ -15,7 +17,7 @@ use xk_types::Entry;
 /// What a run prints by which all have ended, and a log of such a run.
 #[derive(Debug, Drop)]
 pub struct Outcome {
-    /// What is printed, in order.
+    /// What is printed, in the order in which it is told.
     pub numbers: Vec<i64>,
     /// Who takes a step after whom.
     pub log: Vec<Entry>,
@@ -68,11 +70,11 @@ fn log_of(alloc: Global, schedule: &[u32]) -> Result<Vec<Entry>, AllocError>
 }
 
 /// What is to be listed of one that was found.
-fn outcome_of(alloc: Global, x: &Found<'_>) -> Result<Outcome, AllocError>
+fn outcome_of(alloc: Global, order: Order, x: &Found<'_>) -> Result<Outcome, AllocError>
     requires { all_ended x.now.core.world ≡ true }
-    ensures { IfOk result (IsOf x.now) }
+    ensures { IfOk result (IsOf order x.now) }
 {
-    let numbers = same_numbers(alloc, &x.printed)?;
+    let numbers = ordered(alloc, order, &x.printed)?;
     let log = log_of(alloc, &x.schedule)?;
     Ok(Outcome { numbers, log })
 }
@@ -93,16 +95,21 @@ fn put(list: &mut Vec<Outcome>, new: Outcome) -> Result<(), AllocError>
 }
 
 /// Lists what one that was found printed, if all have ended in it.
-fn note(alloc: Global, list: &mut Vec<Outcome>, x: &Found<'_>) -> Result<(), AllocError>
+fn note(
+    alloc: Global,
+    order: Order,
+    list: &mut Vec<Outcome>,
+    x: &Found<'_>,
+) -> Result<(), AllocError>
     ensures distinct { AreDistinct list.old.items → AreDistinct list.new.items }
     ensures kept { KeepsListed list.old.items list.new.items }
     ensures listed { OnOk result (all_ended x.now.core.world ≡ true
-        → IsListed list.new.items x.now.printed.items) }
+        → IsListed list.new.items (ordered order x.now.printed.items)) }
     ensures of { (all : List FoundValue) (j : ℕ) → slice_get all j ≡ Some x.now
-        → AreOf all list.old.items → AreOf all list.new.items }
+        → AreOf order all list.old.items → AreOf order all list.new.items }
 {
     if x.core.ended() {
-        let new = outcome_of(alloc, x)?;
+        let new = outcome_of(alloc, order, x)?;
         put(list, new)
     } else {
         Ok(())
@@ -113,22 +120,23 @@ fn note(alloc: Global, list: &mut Vec<Outcome>, x: &Found<'_>) -> Result<(), All
 /// says. Whether all are.
 pub fn list_outcomes(
     alloc: Global,
+    order: Order,
     list: &mut Vec<Outcome>,
     all: &[Found<'_>],
     limit: usize,
 ) -> Result<bool, AllocError>
     requires { list.old.items ≡ [] }
-    ensures of { AreOf all.now list.new.items }
+    ensures of { AreOf order all.now list.new.items }
     ensures distinct { AreDistinct list.new.items }
     ensures noted { IfOk result (λ complete. complete ≡ true
-        → AreNoted all.now (length all.now) list.new.items) }
+        → AreNoted order all.now (length all.now) list.new.items) }
     ensures limit { IfOk result (λ complete. complete ≡ false → limit ≤ length list.new.items) }
 {
     for x in all {
         if list.len() >= limit {
             return Ok(false);
         }
-        note(alloc, list, x)?;
+        note(alloc, order, list, x)?;
     }
     Ok(true)
 }

@@ -4,8 +4,9 @@ ghost use Rattle.std.specs.Prelude.{◌≡◌, ◌<◌, ◌≤◌, [], ℕ, true
 ghost use Rattle.std.specs.Bool.{Decides};
 ghost use Rattle.xk_core.specs.Core.{CoreValue};
 ghost use Rattle.xk_outcomes.specs.declared.found.Found.{Found as FoundValue};
-ghost use Rattle.xk_outcomes.specs.Search.{AreAllFound, AreExpanded, AreFound, Has, HasAfter, IsAt, IsFound, IsGrown, IsKnown};
+ghost use Rattle.xk_outcomes.specs.Search.{AreAllFound, AreDifferent, AreDigests, AreExpanded, AreFound, Has, HasAfter, IsAt, IsFound, IsGrown, found_digest};
 
+use crate::digest::digest_of;
 use crate::found::{Found, beginning, successor};
 use std::alloc::{AllocError, Global};
 use xk_core::Core;
@@ -27,19 +28,40 @@ pub fn are_same(a: &[i64], b: &[i64]) -> bool
     a == b
 }
 
-/// Whether the two are in worlds that are alike, the same numbers being printed by then.
-fn is_same(x: &Found<'_>, new: &Found<'_>) -> bool
-    ensures { IsTrue result → IsAt x.now new.now.core.world new.now.printed.items }
+/// The digest of one.
+fn found_digest(x: &Found<'_>) -> u64
+    ensures { result ≡ found_digest x.now }
 {
-    x.digest == new.digest && are_same(&x.printed, &new.printed) && new.core.is_alike(&x.core)
+    digest_of(&x.core, &x.printed)
 }
 
-/// Whether one like it is there already.
-fn is_known(all: &[Found<'_>], new: &Found<'_>) -> bool
-    ensures { IsTrue result → Has all.now new.now.core.world new.now.printed.items }
+/// Whether the two, which have these digests, are in worlds that are alike, the same numbers being printed by then.
+fn is_same(x: &Found<'_>, known: u64, new: &Found<'_>, digest: u64) -> bool
+    requires known { known ≡ found_digest x.now }
+    requires digest { digest ≡ found_digest new.now }
+    ensures yes { result ≡ true → IsAt x.now new.now.core.world new.now.printed.items }
+    ensures no { new.now.core.module_run ≡ x.now.core.module_run → result ≡ false
+        → IsAt x.now new.now.core.world new.now.printed.items → ⊥ }
 {
-    for x in all {
-        if is_same(x, new) {
+    if known != digest {
+        return false;
+    }
+    if !are_same(&x.printed, &new.printed) {
+        return false;
+    }
+    new.core.is_alike(&x.core)
+}
+
+/// Whether one like it is there already, where these have such digests.
+fn is_known(all: &[Found<'_>], digests: &[u64], new: &Found<'_>, digest: u64) -> bool
+    requires digests { AreDigests all.now digests.now }
+    requires digest { digest ≡ found_digest new.now }
+    ensures yes { result ≡ true → Has all.now new.now.core.world new.now.printed.items }
+    ensures no { (start : CoreValue) → AreFound start all.now → IsFound start new.now
+        → result ≡ false → Has all.now new.now.core.world new.now.printed.items → ⊥ }
+{
+    for (k, known) in digests.iter().enumerate() {
+        if is_same(at_place(all, k), *known, new, digest) {
             return true;
         }
     }
@@ -55,16 +77,26 @@ fn at_place<'a, 'm>(all: &'a [Found<'m>], at: usize) -> &'a Found<'m>
 }
 
 /// Adds one, if none like it is there yet.
-fn add<'m>(all: &mut Vec<Found<'m>>, new: Found<'m>) -> Result<(), AllocError>
+fn add<'m>(
+    all: &mut Vec<Found<'m>>,
+    digests: &mut Vec<u64>,
+    new: Found<'m>,
+) -> Result<(), AllocError>
+    requires { AreDigests all.old.items digests.old.items }
     ensures grown { IsGrown all.old.items all.new.items }
     ensures found { (start : CoreValue) → AreFound start all.old.items
         → IsFound start new.entry → AreFound start all.new.items }
     ensures there { OnOk result
         (Has all.new.items new.entry.core.world new.entry.printed.items) }
+    ensures digests { OnOk result (AreDigests all.new.items digests.new.items) }
+    ensures different { (start : CoreValue) → AreFound start all.old.items
+        → IsFound start new.entry → AreDifferent all.old.items → AreDifferent all.new.items }
 {
-    if is_known(all, &new) {
+    let digest = found_digest(&new);
+    if is_known(all, digests, &new, digest) {
         return Ok(());
     }
+    digests.push(digest)?;
     all.push(new)?;
     Ok(())
 }
@@ -74,21 +106,26 @@ fn try_act<'m>(
     alloc: Global,
     start: &Core<'m>,
     all: &mut Vec<Found<'m>>,
+    digests: &mut Vec<u64>,
     at: usize,
     act: Act,
 ) -> Result<(), AllocError>
     requires start { start.now.world.steps ≡ 0 }
     requires within { at < length all.old.items }
     requires found { AreFound start.now all.old.items }
+    requires digests { AreDigests all.old.items digests.old.items }
+    requires different { AreDifferent all.old.items }
     ensures grown { IsGrown all.old.items all.new.items }
     ensures found { AreFound start.now all.new.items }
+    ensures digests { OnOk result (AreDigests all.new.items digests.new.items) }
+    ensures different { AreDifferent all.new.items }
     ensures after { OnOk result ((x : FoundValue) → slice_get all.old.items at ≡ Some x
         → HasAfter start.now.module_run all.new.items x act) }
 {
     let here = at_place(all, at);
     match successor(alloc, start, here, act)? {
         None => Ok(()),
-        Some(new) => add(all, new),
+        Some(new) => add(all, digests, new),
     }
 }
 
@@ -107,19 +144,24 @@ fn expand<'m>(
     alloc: Global,
     start: &Core<'m>,
     all: &mut Vec<Found<'m>>,
+    digests: &mut Vec<u64>,
     at: usize,
 ) -> Result<(), AllocError>
     requires start { start.now.world.steps ≡ 0 }
     requires within { at < length all.old.items }
     requires found { AreFound start.now all.old.items }
+    requires digests { AreDigests all.old.items digests.old.items }
+    requires different { AreDifferent all.old.items }
     ensures grown { IsGrown all.old.items all.new.items }
     ensures found { AreFound start.now all.new.items }
+    ensures digests { OnOk result (AreDigests all.new.items digests.new.items) }
+    ensures different { AreDifferent all.new.items }
     ensures after { OnOk result ((x : FoundValue) → slice_get all.old.items at ≡ Some x
         → (a : ℕ) → HasAfter start.now.module_run all.new.items x a) }
 {
     let activities = activities_at(all, at);
     for a in 0..activities {
-        try_act(alloc, start, all, at, Act(a))?;
+        try_act(alloc, start, all, digests, at, Act(a))?;
     }
     Ok(())
 }
@@ -129,19 +171,24 @@ fn search<'m>(
     alloc: Global,
     start: &Core<'m>,
     all: &mut Vec<Found<'m>>,
+    digests: &mut Vec<u64>,
     limit: usize,
 ) -> Result<bool, AllocError>
     requires start { start.now.world.steps ≡ 0 }
     requires found { AreFound start.now all.old.items }
+    requires digests { AreDigests all.old.items digests.old.items }
+    requires different { AreDifferent all.old.items }
     ensures grown { IsGrown all.old.items all.new.items }
     ensures found { AreFound start.now all.new.items }
+    ensures digests { OnOk result (AreDigests all.new.items digests.new.items) }
+    ensures different { AreDifferent all.new.items }
     ensures expanded { IfOk result (λ complete. complete ≡ true
         → AreExpanded start.now.module_run all.new.items (length all.new.items)) }
     ensures limit { IfOk result (λ complete. complete ≡ false → limit ≤ length all.new.items) }
 {
     let mut next: usize = 0;
     while next < all.len() && all.len() < limit {
-        expand(alloc, start, all, next)?;
+        expand(alloc, start, all, digests, next)?;
         next += 1;
     }
     Ok(next == all.len())
@@ -158,13 +205,15 @@ pub fn explore<'m>(
     ensures found { IfOk result (λ r. AreFound start.now r.all.items) }
     ensures all { IfOk result (λ r. r.complete ≡ true → AreAllFound start.now r.all.items) }
     ensures limit { IfOk result (λ r. r.complete ≡ false → limit ≤ length r.all.items) }
+    ensures different { IfOk result (λ r. AreDifferent r.all.items) }
 {
     let verified = start.module();
     // For the law that nothing is missed: the module is accepted.
     let _accepted = verified.module();
     let mut all = Vec::new(alloc);
+    let mut digests = Vec::new(alloc);
     let first = beginning(alloc, start)?;
-    add(&mut all, first)?;
-    let complete = search(alloc, start, &mut all, limit)?;
+    add(&mut all, &mut digests, first)?;
+    let complete = search(alloc, start, &mut all, &mut digests, limit)?;
     Ok(Explored { all, complete })
 }

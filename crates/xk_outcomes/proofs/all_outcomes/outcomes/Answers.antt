@@ -1,29 +1,5 @@
-use Rattle.std.proofs.Common.{◌≡◌, ◌∙◌, length, true≢false, sym, subst, List}
-use Rattle.xk_core.specs.Core.{CoreValue}
-use Rattle.xk_outcomes.specs.declared.found.Found.{Found}
-use Rattle.xk_outcomes.specs.Listing.{AreOf, AreNoted}
-use Rattle.xk_outcomes.specs.Search.{AreFound, AreAllFound}
-use Rattle.xk_outcomes.proofs.ListingLemmas.{all_shown, all_listed}
-use Rattle.xk_outcomes.proofs.all_outcomes.outcomes.Goals.{then-explored, else-explored}
+use Rattle.xk_outcomes.proofs.ListingLemmas.{printed_shown}
 use Rattle.xk_outcomes.proofs.all_outcomes.outcomes.Goals as goal
 
 pub returns-clause-shown : goal.returns-clause-shown
-returns-clause-shown c =
-    let all = c.in_ok-explored.explored.all.items in
-    let list = c.list_outcomes.new.list.items in
-    let same : c.deref.result.now ≡ all = cc in
-    all_shown c.args.verified.now c.args.arguments.now all list
-    (subst (λ (s : CoreValue). AreFound s all) c.in_ok-start.ensures c.in_ok-explored.ensures.found)
-    (subst (λ (l : List Found). AreOf l list) same c.list_outcomes.ensures.of)
-
-pub returns-clause-all : goal.returns-clause-all
-returns-clause-all c done =
-    let all = c.in_ok-explored.explored.all.items in
-    let list = c.list_outcomes.new.list.items in
-    let same : c.deref.result.now ≡ all = cc in
-    elim c.if-explored.branch [
-      | then-explored w ↦ all_listed c.args.verified.now c.args.arguments.now all list
-          (subst (λ (s : CoreValue). AreAllFound s all) c.in_ok-start.ensures (c.in_ok-explored.ensures.all w.if-explored.true))
-          (subst (λ (l : List Found). AreNoted l (length l) list) same (c.in_ok-listed.ensures.noted (sym w.result-is ∙ done)))
-      | else-explored w ↦ absurd (true≢false (sym done ∙ w.result-is ∙ w.if-explored.false))
-    ]
+returns-clause-shown c = printed_shown c.args.verified.now c.args.arguments.now c.in_ok-found.found.list.items c.in_ok-found.ensures.shown

@@ -5,7 +5,7 @@ use Rattle.xk_outcomes.proofs.listing.list_outcomes.Goals as goal
 
 pub loop-x-init : goal.loop-x-init
 loop-x-init c = record {
-  of = of_none c.args.all.now c.args.list.now.items c.requires;
+  of = of_none c.args.order c.args.all.now c.args.list.now.items c.requires;
   distinct = distinct_none c.args.list.now.items c.requires;
   noted = λ j x less. absurd (omega (arith, less));
 }
@@ -16,7 +16,7 @@ loop-x-preserved c =
     record {
       of = c.note.ensures.of c.args.all.now c.loop-x.x-index there c.loop-x.invariant.of;
       distinct = c.note.ensures.distinct c.loop-x.invariant.distinct;
-      noted = noted_more c.args.all.now c.loop-x.x-index c.x-item.result c.loop-x.list.items c.note.new.list.items there c.note.ensures.kept c.in_ok-note.ensures.listed c.loop-x.invariant.noted;
+      noted = noted_more c.args.order c.args.all.now c.loop-x.x-index c.x-item.result c.loop-x.list.items c.note.new.list.items there c.note.ensures.kept c.in_ok-note.ensures.listed c.loop-x.invariant.noted;
     }
 
 pub returns-in_err-note-clause-of : goal.returns-in_err-note-clause-of

@@ -25,7 +25,7 @@ returns-in_ok-new-clause-listed c =
 
 pub returns-in_ok-new-clause-of : goal.returns-in_ok-new-clause-of
 returns-in_ok-new-clause-of c all j there before =
-    of_either all j c.args.x.now c.args.list.now.items c.put.new.list.items c.in_ok-new.new c.put.ensures.each there c.in_ok-new.ensures before
+    of_either c.args.order all j c.args.x.now c.args.list.now.items c.put.new.list.items c.in_ok-new.new c.put.ensures.each there c.in_ok-new.ensures before
 
 pub returns-else-ended-clause-distinct : goal.returns-else-ended-clause-distinct
 returns-else-ended-clause-distinct c d = d

@@ -11,6 +11,8 @@ loop-a-init c = record {
   found = c.requires.found;
   after = λ a less x there u e takes. absurd (omega (arith, less));
   within = c.requires.within;
+  digests = c.requires.digests;
+  different = c.requires.different;
 }
 
 pub returns-in_err-try_act-clause-grown : goal.returns-in_err-try_act-clause-grown
@@ -28,6 +30,8 @@ loop-a-preserved c =
           (λ a less x there. after_grown m old new x a c.try_act.ensures.grown (c.loop-a.invariant.after a less x there))
           (λ x there. c.in_ok-try_act.ensures.after x (c.loop-a.invariant.grown c.args.at x there));
       within = longer old new c.args.at c.try_act.ensures.grown c.loop-a.invariant.within;
+      digests = c.in_ok-try_act.ensures.digests;
+      different = c.try_act.ensures.different;
     }
 
 pub returns-clause-grown : goal.returns-clause-grown

@@ -1,13 +1,18 @@
 use Rattle.std.proofs.Common.{subst}
 use Rattle.xk_types.specs.Acceptance.{IsAccepted}
 use Rattle.xk_types.specs.Code.{IsWithinLimits}
-use Rattle.xk_outcomes.proofs.SearchLemmas.{known_first, none_found}
+use Rattle.xk_outcomes.proofs.SearchLemmas.{different_none, known_first, none_found}
 use Rattle.xk_outcomes.proofs.ExplorationLemmas.{all_found}
 use Rattle.xk_outcomes.proofs.search.explore.Goals as goal
 
 pub search-requires-clause-found : goal.search-requires-clause-found
 search-requires-clause-found c =
     c.add.ensures.found c.args.start.now (none_found c.args.start.now c.new-all.result.items c.new-all.ensures.items) c.in_ok-first.ensures.found
+
+pub search-requires-clause-different : goal.search-requires-clause-different
+search-requires-clause-different c =
+    c.add.ensures.different c.args.start.now (none_found c.args.start.now c.new-all.result.items c.new-all.ensures.items) c.in_ok-first.ensures.found
+    (different_none c.new-all.result.items c.new-all.ensures.items)
 
 pub returns-clause-all : goal.returns-clause-all
 returns-clause-all c done =

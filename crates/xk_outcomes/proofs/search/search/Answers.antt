@@ -8,6 +8,8 @@ loop-next-init c = record {
   found = c.requires.found;
   expanded = λ k x less there. absurd (omega (arith, less));
   within = omega arith;
+  digests = c.requires.digests;
+  different = c.requires.different;
 }
 
 pub returns-in_err-expand-clause-grown : goal.returns-in_err-expand-clause-grown
@@ -24,4 +26,6 @@ loop-next-preserved c =
       found = c.expand.ensures.found;
       expanded = expanded_more c.args.start.now.module_run old new c.loop-next.next inside c.expand.ensures.grown c.loop-next.invariant.expanded c.in_ok-expand.ensures.after;
       within = omega (arith, still);
+      digests = c.in_ok-expand.ensures.digests;
+      different = c.expand.ensures.different;
     }

@@ -47,3 +47,9 @@ returns-in-Some-clause-after c =
     let there : slice_get c.args.all.now.items c.args.at ≡ Some here = subst (λ (l : List Found). slice_get l c.args.at ≡ Some here) list c.at_place-here.ensures in
     let next = subst (λ (o : Option Found). IsSuccessor c.args.start.now here c.args.act o) c.in-Some.is c.in_ok-successor.ensures in
     on_ok_weaker c.add.result (after_next c.args.start.now.module_run c.args.all.now.items c.add.new.all.items c.args.at c.args.act here c.in-Some.new there next.1) c.add.ensures.there
+
+pub returns-in-Some-clause-different : goal.returns-in-Some-clause-different
+returns-in-Some-clause-different c =
+    let here = c.at_place-here.result.now in
+    let next = subst (λ (o : Option Found). IsSuccessor c.args.start.now here c.args.act o) c.in-Some.is c.in_ok-successor.ensures in
+    c.add.ensures.different c.args.start.now c.requires.found next.0 c.requires.different

@@ -1,0 +1,4 @@
+pub mod Grammar
+pub mod Views
+pub mod Expected
+pub mod Notes

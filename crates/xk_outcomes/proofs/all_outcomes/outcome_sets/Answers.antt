@@ -1,0 +1,12 @@
+use Rattle.xk_outcomes.proofs.ListingLemmas.{sets_shown, sets_distinct, sets_all}
+use Rattle.xk_outcomes.proofs.all_outcomes.outcome_sets.Goals as goal
+
+pub returns-clause-shown : goal.returns-clause-shown
+returns-clause-shown c = sets_shown c.args.verified.now c.args.arguments.now c.in_ok-found.found.list.items c.in_ok-found.ensures.shown
+
+pub returns-clause-distinct : goal.returns-clause-distinct
+returns-clause-distinct c =
+    sets_distinct c.args.verified.now c.args.arguments.now c.in_ok-found.found.list.items c.in_ok-found.ensures.shown c.in_ok-found.ensures.distinct
+
+pub returns-clause-all : goal.returns-clause-all
+returns-clause-all c done = sets_all c.args.verified.now c.args.arguments.now c.in_ok-found.found.list.items (c.in_ok-found.ensures.all done)

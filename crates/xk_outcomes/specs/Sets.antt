@@ -1,0 +1,35 @@
+-- What the runs of a module print, where the order of the numbers doesn't count.
+use Rattle.std.specs.Prelude.{◌≡◌, ℕ, ℤ, ◌≤ℤ◌, List, [], ◌∷◌, Some, slice_get, count_by}
+use Rattle.std.specs.Ordering.{int_eq}
+use Rattle.xk_types.specs.Code.{ModuleValue}
+use Rattle.xk_types.specs.Logs.{schedule_of}
+use Rattle.xk_outcomes.specs.declared.listing.Outcome.{Outcome}
+use Rattle.xk_outcomes.specs.Outcomes.{IsOutcome}
+
+-- the same numbers, each as often, in whatever order
+abbrev pub HaveSameNumbers : List ℤ → List ℤ → Type 0
+HaveSameNumbers xs ys = (n : ℤ) → count_by (int_eq n) xs ≡ count_by (int_eq n) ys
+
+-- each is at least x
+abbrev pub AreAtLeast : ℤ → List ℤ → Type 0
+AreAtLeast x [] = Unit {0}
+AreAtLeast x (y ∷ ys) = (x ≤ℤ y) × AreAtLeast x ys
+
+-- none is greater than one behind it
+abbrev pub IsRising : List ℤ → Type 0
+IsRising [] = Unit {0}
+IsRising (x ∷ xs) = AreAtLeast x xs × IsRising xs
+
+-- each that is listed rises, and has a log that shows these numbers in some order
+abbrev pub AreSetsShown : ModuleValue → List ℤ → List Outcome → Type 0
+AreSetsShown m args list = (k : ℕ) (x : Outcome) → slice_get list k ≡ Some x
+    → IsRising x.numbers.items × (numbers : List ℤ) × IsOutcome m args (schedule_of x.log.items) numbers × HaveSameNumbers numbers x.numbers.items
+
+-- no numbers are listed twice, in whatever order
+abbrev pub AreSetsDistinct : List Outcome → Type 0
+AreSetsDistinct list = (i j : ℕ) (x y : Outcome) → slice_get list i ≡ Some x → slice_get list j ≡ Some y → HaveSameNumbers x.numbers.items y.numbers.items → i ≡ j
+
+-- whatever a legal schedule prints after which all have ended is listed, in some order
+abbrev pub AreSetsAll : ModuleValue → List ℤ → List Outcome → Type 0
+AreSetsAll m args list = (schedule : List ℕ) (numbers : List ℤ) → IsOutcome m args schedule numbers
+    → (k : ℕ) × (x : Outcome) × (slice_get list k ≡ Some x) × HaveSameNumbers numbers x.numbers.items

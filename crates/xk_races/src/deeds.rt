@@ -1,0 +1,344 @@
+//! What the steps of a run have to do with its order.
+
+ghost use Rattle.std.specs.Prelude.{◌≡◌, ◌<◌, true, [], ◌∷◌, ◌++◌, length, flat_map, replicate, slice_get, Some, if◌then◌else◌, IfOk, OnOk};
+ghost use Rattle.xk_types.specs.Step.{is_pending};
+ghost use Rattle.xk_types.specs.Schedule.{Through, is_enabled, run};
+ghost use Rattle.xk_core.specs.Core.{StepsTo, advanced_now};
+ghost use Rattle.xk_events.specs.Steps.{IsLegalFrom, told, told_of_run};
+ghost use Rattle.xk_races.specs.Deeds.{advance, at_clocks, awaiting, awaits, cell_at, cell_of, deeds_of_run, gives_way, pass, plain, plain_part, signal, tell_deeds};
+
+use std::alloc::{AllocError, Global};
+use xk_core::Core;
+use xk_events::{RunStep, take_step};
+use xk_scheduler::Ended;
+use xk_types::{Act, ClockId, Entry, Event, Instr, Module, Standing};
+
+/// What a step has to do with the order of a run.
+#[derive(Clone, Copy, Debug)]
+pub enum Part {
+    /// This activity was started.
+    Start(u32),
+    /// This clock awaits the activity no longer: it has resumed or left it.
+    Signal(u32),
+    /// This clock advanced.
+    Advance(u32),
+    /// The activity passed this clock, whose advance it had waited for.
+    Pass(u32),
+    /// A finish was opened.
+    Open,
+    /// A finish was closed.
+    Close,
+    /// The activity ended.
+    End,
+    /// This shared number was read or changed.
+    Access(u32),
+    /// A number was printed.
+    Print,
+}
+
+/// A part of a step.
+#[derive(Clone, Copy)]
+pub struct Deed {
+    /// The step.
+    pub step: RunStep,
+    /// What it has to do with the order of the run.
+    pub part: Part,
+}
+
+/// Whether a standing is that of one who is registered and hasn't resumed.
+fn is_pending(standing: Standing) -> bool
+    ensures { result ≡ is_pending standing }
+{
+    matches!(standing, Standing::Open | Standing::Ahead)
+}
+
+/// Whether the clock can't advance before the activity resumes or leaves it.
+fn awaits(core: &Core<'_>, act: Act, clock: ClockId) -> bool
+    requires { clock < length core.now.world.clocks }
+    ensures { result ≡ awaits core.now.world act clock }
+{
+    act.0 < core.activities() && is_pending(core.standing(act, clock))
+}
+
+/// Adds the clock, if it awaits the activity.
+fn push_awaiting(
+    list: &mut Vec<u32>,
+    core: &Core<'_>,
+    act: Act,
+    clock: u32,
+) -> Result<(), AllocError>
+    requires { clock < length core.now.world.clocks }
+    ensures { OnOk result (list.new.items ≡ list.old.items
+        ++ (if awaits core.now.world act clock then clock ∷ [] else [])) }
+{
+    if awaits(core, act, ClockId(clock)) {
+        list.push(clock)?;
+    }
+    Ok(())
+}
+
+/// The clocks that await the activity.
+fn awaiting(alloc: Global, core: &Core<'_>, act: Act) -> Result<Vec<u32>, AllocError>
+    ensures { IfOk result (λ v. v.items ≡ awaiting core.now.world act) }
+{
+    let mut list = Vec::new(alloc);
+    for clock in 0..core.clocks() {
+        push_awaiting(&mut list, core, act, clock)?;
+    }
+    Ok(list)
+}
+
+/// Whether the clock awaits the activity no longer: it has resumed or left it, and the clock may have advanced by that.
+fn gives_way(core: &Core<'_>, act: Act, clock: ClockId) -> bool
+    ensures { result ≡ gives_way core.now.world act clock }
+{
+    if clock.0 >= core.clocks() {
+        return true;
+    }
+    core.last(clock) == core.steps_done() || !awaits(core, act, clock)
+}
+
+/// Adds the deed at a clock, if it gave way.
+fn push_signal(
+    list: &mut Vec<Deed>,
+    core: &Core<'_>,
+    step: &RunStep,
+    clock: u32,
+) -> Result<(), AllocError>
+    ensures { OnOk result (list.new.items ≡ list.old.items
+        ++ signal core.now.world step.now clock) }
+{
+    if gives_way(core, Act(step.act), ClockId(clock)) {
+        list.push(Deed {
+            step: *step,
+            part: Part::Signal(clock),
+        })?;
+    }
+    Ok(())
+}
+
+/// Adds the deeds at those clocks that gave way.
+fn push_signals(
+    list: &mut Vec<Deed>,
+    core: &Core<'_>,
+    step: &RunStep,
+    clocks: &[u32],
+) -> Result<(), AllocError>
+    ensures { OnOk result (list.new.items ≡ list.old.items
+        ++ flat_map (signal core.now.world step.now) clocks.now) }
+{
+    for clock in clocks {
+        push_signal(list, core, step, *clock)?;
+    }
+    Ok(())
+}
+
+/// Adds the advances of these clocks.
+fn push_advances(list: &mut Vec<Deed>, step: &RunStep, clocks: &[u32]) -> Result<(), AllocError>
+    ensures { OnOk result (list.new.items ≡ list.old.items
+        ++ flat_map (advance step.now) clocks.now) }
+{
+    for clock in clocks {
+        list.push(Deed {
+            step: *step,
+            part: Part::Advance(*clock),
+        })?;
+    }
+    Ok(())
+}
+
+/// Adds the passes of these clocks.
+fn push_passes(list: &mut Vec<Deed>, step: &RunStep, clocks: &[u32]) -> Result<(), AllocError>
+    ensures { OnOk result (list.new.items ≡ list.old.items
+        ++ flat_map (pass step.now) clocks.now) }
+{
+    for clock in clocks {
+        list.push(Deed {
+            step: *step,
+            part: Part::Pass(*clock),
+        })?;
+    }
+    Ok(())
+}
+
+/// The clocks that advanced in the last step.
+fn advanced(alloc: Global, core: &Core<'_>) -> Result<Vec<u32>, AllocError>
+    ensures { IfOk result (λ v. v.items ≡ advanced_now core.now.world) }
+{
+    let mut clocks = Vec::with_capacity(alloc, core.clocks() as usize)?;
+    core.list_advanced(&mut clocks);
+    Ok(clocks)
+}
+
+/// Adds the deeds at those clocks that gave way, of those that awaited the activity before, and the advances.
+fn push_signals_and_advances(
+    alloc: Global,
+    list: &mut Vec<Deed>,
+    core: &Core<'_>,
+    step: &RunStep,
+    awaiting: &[u32],
+) -> Result<(), AllocError>
+    ensures { OnOk result (list.new.items ≡ list.old.items
+        ++ (flat_map (signal core.now.world step.now) awaiting.now
+        ++ flat_map (advance step.now) (advanced_now core.now.world))) }
+{
+    let advanced = advanced(alloc, core)?;
+    push_signals(list, core, step, awaiting)?;
+    push_advances(list, step, &advanced)
+}
+
+/// Which shared number an instruction has to do with.
+fn cell_of(instr: &Instr) -> u32
+    ensures { result ≡ cell_of (Some instr.now) }
+{
+    match instr {
+        Instr::Get { s, .. } => u32::from(*s),
+        Instr::Put { s, .. } => u32::from(*s),
+        Instr::AddTo { s, .. } => u32::from(*s),
+        _ => 0,
+    }
+}
+
+/// The same of the instruction at a place.
+fn cell_in(code: &[Instr], place: u32) -> u32
+    ensures { result ≡ cell_of (slice_get code.now place) }
+{
+    match code.get(place as usize) {
+        Some(instr) => cell_of(instr),
+        None => 0,
+    }
+}
+
+/// Which shared number a step had to do with.
+fn cell_at(program: &Module, step: &RunStep) -> u32
+    ensures { result ≡ cell_at program.now step.now }
+{
+    match program.units().get(step.unit as usize) {
+        Some(unit) => cell_in(&unit.code, step.place),
+        None => 0,
+    }
+}
+
+/// What a step did that has to do with no clock, if it did.
+fn plain_part(program: &Module, step: &RunStep) -> Option<Part>
+    ensures { result ≡ plain_part program.now step.now step.now.event }
+{
+    match step.event {
+        Event::Got | Event::Put | Event::Added => Some(Part::Access(cell_at(program, step))),
+        Event::Printed(_) => Some(Part::Print),
+        Event::Opened => Some(Part::Open),
+        Event::Closed => Some(Part::Close),
+        Event::Spawned => Some(Part::Start(step.activities)),
+        Event::Ended => Some(Part::End),
+        _ => None,
+    }
+}
+
+/// Adds that part of a step.
+fn push_plain(list: &mut Vec<Deed>, program: &Module, step: &RunStep) -> Result<(), AllocError>
+    ensures { OnOk result (list.new.items ≡ list.old.items
+        ++ plain program.now step.now) }
+{
+    if let Some(part) = plain_part(program, step) {
+        list.push(Deed { step: *step, part })?;
+    }
+    Ok(())
+}
+
+/// Adds what a step did at clocks, those being the ones that awaited the activity before it.
+fn push_at_clocks(
+    alloc: Global,
+    list: &mut Vec<Deed>,
+    core: &Core<'_>,
+    step: &RunStep,
+    awaiting: &[u32],
+) -> Result<(), AllocError>
+    ensures { OnOk result (list.new.items ≡ list.old.items
+        ++ at_clocks core.now.world step.now awaiting.now step.now.event) }
+{
+    match step.event {
+        Event::Resumed | Event::Dropped | Event::Arrived | Event::Ended => {
+            push_signals_and_advances(alloc, list, core, step, awaiting)
+        }
+        Event::Passed => push_passes(list, step, awaiting),
+        _ => Ok(()),
+    }
+}
+
+/// Takes a step that others see, and adds its deeds.
+fn push_seen(
+    alloc: Global,
+    list: &mut Vec<Deed>,
+    core: &mut Core<'_>,
+    program: &Module,
+    act: Act,
+) -> Result<Event, AllocError>
+    requires enabled { is_enabled core.old.module_run core.old.world act ≡ true }
+    requires same { core.old.module_run ≡ program.now }
+    ensures stepped { IfOk result (StepsTo core.old act core.new) }
+    ensures told { IfOk result (λ e. list.new.items ≡ list.old.items
+        ++ tell_deeds program.now act core.old.world core.new.world e) }
+    ensures same_module { core.new.module_run ≡ core.old.module_run }
+{
+    let awaiting = awaiting(alloc, core, act)?;
+    let step = take_step(core, act)?;
+    push_plain(list, program, &step)?;
+    push_at_clocks(alloc, list, core, &step, &awaiting)?;
+    Ok(step.event)
+}
+
+/// Takes a step, and adds its deeds.
+fn push_step(
+    alloc: Global,
+    list: &mut Vec<Deed>,
+    core: &mut Core<'_>,
+    program: &Module,
+    act: Act,
+) -> Result<Event, AllocError>
+    requires enabled { is_enabled core.old.module_run core.old.world act ≡ true }
+    requires same { core.old.module_run ≡ program.now }
+    ensures stepped { IfOk result (StepsTo core.old act core.new) }
+    ensures told { IfOk result (λ e. list.new.items ≡ list.old.items
+        ++ tell_deeds program.now act core.old.world core.new.world e) }
+    ensures same_module { core.new.module_run ≡ core.old.module_run }
+{
+    if core.next_local(act) {
+        return core.step(act);
+    }
+    push_seen(alloc, list, core, program, act)
+}
+
+/// Takes the steps of an entry, and adds their deeds.
+fn push_entry(
+    alloc: Global,
+    list: &mut Vec<Deed>,
+    core: &mut Core<'_>,
+    program: &Module,
+    entry: Entry,
+) -> Result<(), AllocError>
+    requires legal { IsLegalFrom core.old (replicate entry.steps entry.act) }
+    requires same { core.old.module_run ≡ program.now }
+    ensures told { OnOk result (list.new.items ≡ list.old.items ++ told (tell_deeds program.now)
+        core.old.module_run (replicate entry.steps entry.act) core.old.world) }
+    ensures led { OnOk result (run core.old.module_run (replicate entry.steps entry.act)
+        core.old.world ≡ Through core.new.world) }
+    ensures same_module { core.new.module_run ≡ core.old.module_run }
+{
+    for _done in 0..entry.steps {
+        push_step(alloc, list, core, program, Act(entry.act))?;
+    }
+    Ok(())
+}
+
+/// The deeds of a run. The log is played again for it. Err where memory was refused.
+pub(crate) fn deeds_of_run(alloc: Global, ended: &Ended<'_>) -> Result<Vec<Deed>, AllocError>
+    ensures { IfOk result (λ v. v.items ≡ deeds_of_run
+        ended.now.module.now ended.now.core.world.arguments ended.now.log.items) }
+{
+    let mut core = Core::open(alloc, ended.module, ended.core.arguments())?;
+    let mut list = Vec::new(alloc);
+    for entry in &ended.log {
+        push_entry(alloc, &mut list, &mut core, ended.module.module(), *entry)?;
+    }
+    Ok(list)
+}

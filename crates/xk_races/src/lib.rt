@@ -1,0 +1,12 @@
+//! The races of a run: accesses of one shared number whose order nothing but the schedule says.
+#![tactic(auto)]
+
+mod deeds;
+mod knowledge;
+mod pairs;
+mod report;
+mod rows;
+mod sights;
+mod text;
+
+pub use report::{RaceReport, module_races, source_races};

@@ -1,0 +1,168 @@
+//! Pairs of steps that nothing but the schedule puts in order.
+
+ghost use Rattle.std.specs.Prelude.{◌≡◌, [], if◌then◌else◌, IfOk, OnOk};
+ghost use Rattle.std.specs.List.{list_any};
+ghost use Rattle.xk_races.specs.Races.{cell_in, clash, gap_in, have_one_number, have_same_places, is_place_of, is_print, is_race, race, races_in, with_race, with_races_of};
+
+use crate::deeds::Part;
+use crate::sights::{Sight, comes_before};
+use std::alloc::{AllocError, Global};
+use xk_events::RunStep;
+use xk_types::Event;
+
+/// Two accesses of a shared number that aren't in order.
+#[derive(Clone, Copy)]
+pub struct Race {
+    pub cell: u32,
+    pub first: RunStep,
+    pub second: RunStep,
+}
+
+/// Two prints that aren't in order.
+#[derive(Clone, Copy)]
+pub struct Gap {
+    pub first: RunStep,
+    pub second: RunStep,
+}
+
+/// Whether it makes a difference which of two accesses comes first.
+fn clash(one: Event, other: Event) -> bool
+    ensures { result ≡ clash one other }
+{
+    match one {
+        Event::Got => !matches!(other, Event::Got),
+        Event::Added => !matches!(other, Event::Added),
+        _ => true,
+    }
+}
+
+/// Which shared number a deed has to do with.
+fn cell_in(part: Part) -> u32
+    ensures { result ≡ cell_in part }
+{
+    match part {
+        Part::Access(cell) => cell,
+        _ => 0,
+    }
+}
+
+/// Whether both are accesses of one shared number.
+fn have_one_number(one: Part, other: Part) -> bool
+    ensures { result ≡ have_one_number one other }
+{
+    match one {
+        Part::Access(cell) => match other {
+            Part::Access(same) => cell == same,
+            _ => false,
+        },
+        _ => false,
+    }
+}
+
+/// Whether two accesses are a race.
+fn is_race(x: &Sight, y: &Sight) -> bool
+    ensures { result ≡ is_race x.now y.now }
+{
+    have_one_number(x.deed.part, y.deed.part)
+        && clash(x.deed.step.event, y.deed.step.event)
+        && !comes_before(x, y)
+}
+
+/// Whether two steps were taken at one instruction.
+fn is_place_of(s: &RunStep, t: &RunStep) -> bool
+    ensures { result ≡ is_place_of s.now t.now }
+{
+    s.unit == t.unit && s.place == t.place
+}
+
+/// Whether two races are of the same places and the same shared number.
+fn have_same_places(r: &Race, q: &Race) -> bool
+    ensures { result ≡ have_same_places r.now q.now }
+{
+    r.cell == q.cell
+        && (is_place_of(&r.first, &q.first) && is_place_of(&r.second, &q.second)
+            || is_place_of(&r.first, &q.second) && is_place_of(&r.second, &q.first))
+}
+
+/// Whether there is a race of the same places.
+fn has_same_places(list: &[Race], race: &Race) -> bool
+    ensures { result ≡ list_any (have_same_places race.now) list.now }
+{
+    list.iter().any(|r| have_same_places(race, r))
+}
+
+/// Adds a race, unless there is one of the same places.
+fn push_race(list: &mut Vec<Race>, race: Race) -> Result<(), AllocError>
+    ensures { OnOk result (list.new.items ≡ with_race race list.old.items) }
+{
+    if !has_same_places(list, &race) {
+        list.push(race)?;
+    }
+    Ok(())
+}
+
+/// Adds two accesses, if they are a race.
+fn push_if_race(list: &mut Vec<Race>, x: &Sight, y: &Sight) -> Result<(), AllocError>
+    ensures { OnOk result (list.new.items ≡ (if is_race x.now y.now
+        then with_race (race x.now y.now) list.old.items else list.old.items)) }
+{
+    if is_race(x, y) {
+        push_race(
+            list,
+            Race {
+                cell: cell_in(y.deed.part),
+                first: x.deed.step,
+                second: y.deed.step,
+            },
+        )?;
+    }
+    Ok(())
+}
+
+/// Adds the races of an access with these earlier ones.
+fn push_races_of(list: &mut Vec<Race>, earlier: &[Sight], y: &Sight) -> Result<(), AllocError>
+    ensures { OnOk result (list.new.items ≡ with_races_of y.now earlier.now list.old.items) }
+{
+    for x in earlier {
+        push_if_race(list, x, y)?;
+    }
+    Ok(())
+}
+
+/// The races among these.
+pub fn races_in(alloc: Global, sights: &[Sight]) -> Result<Vec<Race>, AllocError>
+    ensures { IfOk result (λ v. v.items ≡ races_in sights.now) }
+{
+    let mut list = Vec::new(alloc);
+    for (i, y) in sights.iter().enumerate() {
+        push_races_of(&mut list, &sights[..i], y)?;
+    }
+    Ok(list)
+}
+
+fn is_print(part: Part) -> bool
+    ensures { result ≡ is_print part }
+{
+    matches!(part, Part::Print)
+}
+
+/// The first print before which the print just before it needn't have come, and that one.
+pub fn gap_in(sights: &[Sight]) -> Option<Gap>
+    ensures { result ≡ gap_in sights.now }
+{
+    let mut last: Option<&Sight> = None;
+    for y in sights {
+        if is_print(y.deed.part) {
+            if let Some(x) = last {
+                if !comes_before(x, y) {
+                    return Some(Gap {
+                        first: x.deed.step,
+                        second: y.deed.step,
+                    });
+                }
+            }
+            last = Some(y);
+        }
+    }
+    None
+}

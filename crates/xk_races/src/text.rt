@@ -1,0 +1,118 @@
+//! What is told of the races of a run.
+
+ghost use Rattle.std.specs.Prelude.{◌≡◌, ◌++◌, flat_map, length, IfOk, OnOk, string_bytes};
+ghost use Rattle.xk_races.specs.Text.{access_words, count_line, print_line, print_line_if_free, race_line, step_words, text_by};
+
+use crate::pairs::{Gap, Race};
+use std::alloc::{AllocError, Global};
+use xk_events::{Places, RunStep, event_words, place_words};
+
+/// A step, and where it was taken: `step 9 act 1 at 13:9`.
+#[tactic(auto, unfolding(crate::specs::Text::step_words))]
+fn step_words(alloc: Global, places: &Places<'_>, step: &RunStep) -> Result<String, AllocError>
+    ensures { IfOk result (λ text. string_bytes text ≡ step_words places.now step.now) }
+{
+    let number = step.number;
+    let act = step.act;
+    let origin = places.origin(step.unit, step.place);
+    let place = place_words(alloc, step.unit, step.place, origin)?;
+    format!(in alloc; "step {number} act {act} {place}")
+}
+
+/// An access: `step 9 act 1 at 13:9 write`.
+#[tactic(auto, unfolding(crate::specs::Text::access_words))]
+fn access_words(alloc: Global, places: &Places<'_>, step: &RunStep) -> Result<String, AllocError>
+    ensures { IfOk result (λ text. string_bytes text ≡ access_words places.now step.now) }
+{
+    let front = step_words(alloc, places, step)?;
+    let words = event_words(alloc, step)?;
+    format!(in alloc; "{front} {words}")
+}
+
+/// The line of a race.
+#[tactic(auto, unfolding(crate::specs::Text::race_line))]
+fn race_line(alloc: Global, places: &Places<'_>, race: &Race) -> Result<String, AllocError>
+    ensures { IfOk result (λ text. string_bytes text ≡ race_line places.now race.now) }
+{
+    let cell = race.cell;
+    let first = access_words(alloc, places, &race.first)?;
+    let second = access_words(alloc, places, &race.second)?;
+    format!(in alloc; "race shared {cell}: {first}, {second}\n")
+}
+
+/// Adds a text.
+fn put(out: &mut Vec<u8>, text: &str) -> Result<(), AllocError>
+    ensures { OnOk result (out.new.items ≡ out.old.items ++ text.now) }
+{
+    out.extend_from_slice(text.as_bytes())
+}
+
+/// The lines of races.
+fn race_lines(alloc: Global, places: &Places<'_>, races: &[Race]) -> Result<Vec<u8>, AllocError>
+    ensures { IfOk result (λ v. v.items ≡ flat_map (race_line places.now) races.now) }
+{
+    let mut out = Vec::new(alloc);
+    for race in races {
+        let line = race_line(alloc, places, race)?;
+        put(&mut out, line.as_str())?;
+    }
+    Ok(out)
+}
+
+/// How many races there are.
+#[tactic(auto, unfolding(crate::specs::Text::count_line))]
+fn count_line(alloc: Global, count: usize) -> Result<String, AllocError>
+    ensures { IfOk result (λ text. string_bytes text ≡ count_line count) }
+{
+    format!(in alloc; "races {count}\n")
+}
+
+/// Whether the prints are in one order.
+#[tactic(auto, unfolding(crate::specs::Text::print_line))]
+fn print_line(alloc: Global, places: &Places<'_>, gap: Option<Gap>) -> Result<String, AllocError>
+    ensures { IfOk result (λ text. string_bytes text ≡ print_line places.now gap) }
+{
+    match gap {
+        None => format!(in alloc; "prints in one order\n"),
+        Some(gap) => {
+            let first = step_words(alloc, places, &gap.first)?;
+            let second = step_words(alloc, places, &gap.second)?;
+            format!(in alloc; "prints not in one order: {first}, {second}\n")
+        }
+    }
+}
+
+/// The same, where there is no race.
+fn print_line_if_free(
+    alloc: Global,
+    places: &Places<'_>,
+    races: &[Race],
+    gap: Option<Gap>,
+) -> Result<String, AllocError>
+    ensures { IfOk result
+        (λ text. string_bytes text ≡ print_line_if_free places.now races.now gap) }
+{
+    if races.is_empty() {
+        return print_line(alloc, places, gap);
+    }
+    Ok(String::new(alloc))
+}
+
+/// What is told of a run with these races, and this gap among its prints.
+pub fn text_by(
+    alloc: Global,
+    places: &Places<'_>,
+    races: &[Race],
+    gap: Option<Gap>,
+) -> Result<Vec<u8>, AllocError>
+    ensures { IfOk result (λ v. v.items ≡ text_by places.now races.now gap) }
+{
+    let mut out = race_lines(alloc, places, races)?;
+    put(&mut out, count_line(alloc, races.len())?.as_str())?;
+    put(
+        &mut out,
+        print_line_if_free(alloc, places, races, gap)?.as_str(),
+    )?;
+    put(&mut out, "of this run alone\n")?;
+    Ok(out)
+}
