@@ -34,7 +34,7 @@ no_shares m args seed shares none = record { lists = []; runs_are = refl; printe
 pub one_more : (m : ModuleValue) (args : List ℤ) (seed n : ℕ) (x : List ℤ) (old new : List Share) → AreShares m args seed n old → IsPrinted m args (seed_of seed n) x
     → new ≡ noted (seed_of seed n) x old → AreShares m args seed (n + 1) new
 one_more m args seed n x old new before p is =
-    let at : n ≡ 0 + length before.lists = sym before.runs_are in
+    let at : n ≡ 0 + length before.lists = omega (arith, before.runs_are) in
     let count : length (before.lists ++ x ∷ []) ≡ length before.lists + 1 = length-append before.lists (x ∷ []) in
     record {
       lists = before.lists ++ x ∷ [];
