@@ -1,0 +1,4 @@
+mod ShareLemmas
+mod TallyLemmas
+pub mod RunLemmas
+mod Examples
