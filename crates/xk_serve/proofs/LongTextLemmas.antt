@@ -16,6 +16,7 @@ use Rattle.xk_module.specs.declared.fault.ModuleFault.{ModuleFault}
 use Rattle.xk_serve.specs.Programs.{Gives, IsNoModule, IsNoSource, IsNoText, IsTooLong, longest_module, longest_source}
 use Rattle.xk_serve.specs.Bytes.{kept}
 use Rattle.xk_serve.specs.Answer.{Check, ComesTo, Compile, Doing, Draw, Explain, FailsBy, GivesAccepted, IsSaidBy, IsSaidOf, IsTelling, IsText, Listing, Outcomes, Races, Replay, Run, Succeeds, Tally, Task, Where}
+use Rattle.xk_expected.specs.Notes.{expected_notes}
 use Rattle.xk_serve.specs.Explanation.{IsByProgram, IsByTree, IsExplanation, fault_said, front_said, refusal_said}
 use Rattle.xk_tree.specs.declared.fault.FrontRule.TheVariants as rule
 use Rattle.xk_serve.specs.Devices.{AgainstLog, IfKnown, IsRead, IsSaid, Reads, StandsAgainst, read_of}
@@ -108,11 +109,18 @@ no_text_kept bytes known f e (inr (inr h)) = subst (λ b. IsNoText b f) (whole l
 many_not_few : (bytes : List ℕ) → longest_source < length bytes → length bytes ≤ longest_source → ⊥
 many_not_few bytes more few = omega (arith, more, few)
 
+-- and nothing that could stand there is looked for
+long_unexpected : (text : List ℕ) (f : FrontFault) → f.rule ≡ rule.TooLong → expected_notes text f ≡ []
+long_unexpected text f long = subst (λ r. expected_notes text (record { rule = r; at = f.at }) ≡ []) (sym long) refl
+
 -- too many spell none
 long_fault : (json : Bool) (file bytes known said : List ℕ) (f : FrontFault) → bytes ≡ kept form.Source known → IsTooLong bytes f
     → IsByTree bytes (fault_said json file bytes f) said → IsByTree known (fault_said json file known f) said
 long_fault json file bytes known said f e h (Some tree, is, told) = absurd (many_not_few bytes h.0 is.1.short)
-long_fault json file bytes known said f e h (None, is, told) = (None, (is.0, no_text_kept bytes known is.0 e is.1), told ∙ long_kept json file bytes known f h.1)
+long_fault json file bytes known said f e h (None, is, told) =
+    let here = ap (front_said json file bytes f) (long_unexpected bytes f h.1) in
+    let there = ap (front_said json file known f) (long_unexpected known f h.1) in
+    (None, (is.0, no_text_kept bytes known is.0 e is.1), told ∙ here ∙ long_kept json file bytes known f h.1 ∙ sym there)
 
 front_kept : (json : Bool) (file bytes known said : List ℕ) (f : FrontFault) → bytes ≡ kept form.Source known → IsNoSource bytes f
     → IsByTree bytes (fault_said json file bytes f) said → IsByTree known (fault_said json file known f) said

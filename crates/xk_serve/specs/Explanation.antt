@@ -18,6 +18,7 @@ use Rattle.xk_explain.specs.SourceExplanations.{source_explanation}
 use Rattle.xk_explain_json.specs.Objects.{json_line, text_of}
 use Rattle.xk_explain_json.specs.Explanations.{accepted_value, front_value, module_value, refusal_value, source_value}
 use Rattle.xk_declarations.specs.Notes.{front_notes}
+use Rattle.xk_expected.specs.Notes.{expected_notes}
 use Rattle.xk_sums.specs.Notes.{accepted_notes, module_notes, refusal_notes}
 use Rattle.xk_listing.specs.Listing.{IsListing}
 use Rattle.xk_events.specs.Events.{PlacesValue, events_text, no_text}
@@ -87,9 +88,14 @@ abbrev pub front_said : Bool → List ℕ → List ℕ → FrontFault → List N
 front_said false file text f notes = front_explanation file text f notes
 front_said true file text f notes = json_line (front_value file text f notes)
 
--- with what its tree declares by the name that stands there, if the text spells one
+-- what its tree declares by the name that stands there, if the text spells one, and else what could stand there
+abbrev pub notes_of : List ℕ → FrontFault → Option TreeValue → List NoteValue
+notes_of text f (Some tree) = front_notes tree text f
+notes_of text f None = expected_notes text f
+
+-- with these notes
 abbrev pub fault_said : Bool → List ℕ → List ℕ → FrontFault → Option TreeValue → List ℕ
-fault_said json file text f tree = front_said json file text f (option_map_or (λ t. front_notes t text f) tree [])
+fault_said json file text f tree = front_said json file text f (notes_of text f tree)
 
 -- by numbers
 abbrev pub plain_said : Bool → List ℕ → Refusal → List NoteValue → List ℕ

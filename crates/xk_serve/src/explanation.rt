@@ -1,6 +1,6 @@
 //! What is told of a program on standard output: of a fault beside its line on standard error, of one that is accepted, and its listing.
 
-ghost use Rattle.std.specs.Prelude.{◌≡◌, [], Some, option_map, IfOk, IsOk};
+ghost use Rattle.std.specs.Prelude.{◌≡◌, [], None, Some, option_map, IfOk, IsOk};
 ghost use Rattle.xk_serve.specs.Answer.{IsSaidOf, task_of};
 ghost use Rattle.xk_types.specs.Acceptance.{IsAccepted};
 ghost use Rattle.xk_tree.specs.Program.{tree_value};
@@ -16,6 +16,7 @@ use std::alloc::{AllocError, Global};
 use xk_bounds::{Refusal, Verified};
 use xk_cli::{Command, Form, Job};
 use xk_declarations::front_notes;
+use xk_expected::expected_notes;
 use xk_explain::{
     Note, explain_front, explain_module, explain_refusal, explain_source, note_lines, plain_lines,
 };
@@ -141,9 +142,24 @@ fn fault_said(
 {
     match tree_of(alloc, bytes) {
         Ok(tree) => fault_of_tree(alloc, json, file, bytes, &tree, fault),
-        Err(FrontError::Fault(_)) => front_said(alloc, json, file, bytes, fault, &[]),
+        Err(FrontError::Fault(_)) => fault_of_text(alloc, json, file, bytes, fault),
         Err(FrontError::OutOfMemory) => Err(AllocError),
     }
+}
+
+/// The same of a text that spells none: with what could stand at the fault.
+fn fault_of_text(
+    alloc: Global,
+    json: bool,
+    file: &str,
+    bytes: &[u8],
+    fault: FrontFault,
+) -> Result<Vec<u8>, AllocError>
+    ensures { IfOk result
+        (λ said. said.items ≡ fault_said json file.now bytes.now fault None) }
+{
+    let notes = expected_notes(alloc, bytes, fault)?;
+    front_said(alloc, json, file, bytes, fault, &notes)
 }
 
 /// The same of a text that spells this tree.
