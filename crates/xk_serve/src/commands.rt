@@ -1,6 +1,6 @@
 //! The answer to a job, over values.
 
-ghost use Rattle.std.specs.Prelude.{◌≡◌, ◌≢◌, ℕ, ℤ, List, false, IfOk, IfErr, IfSome, OnOk};
+ghost use Rattle.std.specs.Prelude.{◌≡◌, ◌≢◌, ℕ, ℤ, List, false, true, IfOk, IfErr, IfSome, OnOk};
 ghost use Rattle.xk_types.specs.Acceptance.{IsAccepted};
 ghost use Rattle.xk_types.specs.World.{AreArguments};
 ghost use Rattle.xk_serve.specs.Answer.{Check, ComesTo, Compile, Explain, IsLogText, IsNotRun, IsRefusal, IsTelling, IsText, Listing, Replay, Run, Succeeds, reads_log, task_of, way_given};
