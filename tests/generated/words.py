@@ -69,12 +69,21 @@ NUMBERS = ["0", "1", "2", "3", "64", "65", "-1", "+2", "007", "92233720368547758
            "18446744073709551615", "18446744073709551616", "+18446744073709551615", "99999999999999999999x", "x", "", "-", "+", "1.5", " 1", "٣", "1e3"]  # fmt: skip
 ORDERS = ["first", "last", "round", "random", "least", "First", "", "firs", "-", "first "]
 STRANGE = ["--", "-h", "--help", "help", "-", "", "-x", "-5", "-hx", "--module=x", "--help=x", "--modul", "--Module", "--orders", "--=", "---", "--version", "-V", "walk",
-           "chek", "run", "check", "--no-module", "--log", "--order", "--workers", "--arg", "--seed", "--limit", "--pick", "outcome", "\udcff", "--log=\udcfe", "ü", "--ü", "a b", "=", "@step.x10"]  # fmt: skip
+           "chek", "run", "check", "--no-module", "--log", "--order", "--workers", "--arg", "--seed", "--runs", "--limit", "--pick", "--sets", "--expect", "--from", "--to", "--svg", "outcome", "\udcff", "--log=\udcfe", "ü", "--ü", "a b", "=", "@step.x10"]  # fmt: skip
+
+
+# For some commands options that are a number each.
+COUNTED = {"outcomes": ("limit", "pick"), "lanes": ("from", "to")}
 
 
 def option(rng: random.Random, name: str, value: str) -> list[str]:
     """An option with its value, in one word or in two."""
     return [f"--{name}={value}"] if rng.random() < 0.5 else [f"--{name}", value]
+
+
+def small(rng: random.Random) -> str:
+    """A number, mostly a small one."""
+    return rng.choice(["1", "2", "3", "64"] if rng.random() < 0.7 else NUMBERS)
 
 
 def options(rng: random.Random, command: str, text: str) -> Iterator[list[str]]:
@@ -88,13 +97,20 @@ def options(rng: random.Random, command: str, text: str) -> Iterator[list[str]]:
         yield option(rng, "order", order)
         seed = rng.choice(["0", "1", "7", "18446744073709551615"] if rng.random() < 0.6 else NUMBERS)
         yield from [option(rng, "seed", seed)] if rng.random() < (0.7 if order == "random" else 0.1) else []
-    for name in ("limit", "pick") if command == "outcomes" else ():
-        yield from [option(rng, name, rng.choice(["1", "2", "3", "64"] if rng.random() < 0.7 else NUMBERS))] if rng.random() < 0.4 else []
+        yield from [option(rng, "runs", small(rng))] if rng.random() < (0.6 if order == "random" else 0.1) else []
+    for name in COUNTED.get(command, ()):
+        yield from [option(rng, name, small(rng))] if rng.random() < 0.4 else []
+    if command == "lanes" and rng.random() < 0.3:
+        yield ["--svg"]
+    if command == "outcomes" and rng.random() < 0.3:
+        yield ["--sets"]
+    if command == "outcomes" and rng.random() < 0.2:
+        yield option(rng, "expect", rng.choice(NAMES))
     if command == "run" and rng.random() < 0.3:
-        yield option(rng, "workers", rng.choice(["1", "2", "3", "64"] if rng.random() < 0.7 else NUMBERS))
+        yield option(rng, "workers", small(rng))
     if command in ("run", "outcomes") and rng.random() < 0.4:
         yield option(rng, "log", rng.choice(["made", "step.log", *NAMES]))
-    if command in ("run", "outcomes", *telling_runs.COMMANDS):
+    if command in ("run", "outcomes", "races", *telling_runs.COMMANDS):
         for _ in range(text.startswith("many") if rng.random() < 0.8 else rng.randrange(3)):
             yield option(rng, "arg", rng.choice(NUMBERS[:12] if rng.random() < 0.8 else NUMBERS))
 
@@ -105,7 +121,7 @@ def meant(rng: random.Random, given: str) -> list[str]:
     file = rng.choice(["step.x10", "many.x10", "step.json", "many.json", "-"] if rng.random() < 0.8 else NAMES)
     parts = [[file], *options(rng, command, given if file == "-" else file)]
     rng.shuffle(parts)
-    if command in telling_runs.COMMANDS:
+    if command in telling_runs.COMMANDS or command == "races" and rng.random() < 0.5:
         at = parts.index([file])
         fitting = f"{(given if file == '-' else file)[:4]}.log"
         log = fitting if rng.random() < 0.6 else rng.choice(["cut.log", "waits.log", *NAMES])
@@ -138,12 +154,15 @@ def changed(rng: random.Random, words: list[str]) -> list[str]:
 
 
 def case(rng: random.Random) -> tuple[list[str], str]:
-    """The words of a call, and the file that is its standard input."""
-    given = rng.choice(list(FILES))
-    words = meant(rng, given) if rng.random() < 0.97 else [any_word(rng) for _ in range(rng.randrange(4))]
-    for _ in range(rng.choice([0, 0, 0, 0, 1, 1, 2, 5])):
-        words = changed(rng, words)
-    return words, given
+    """The words of a call that ends soon, and the file that is its standard input."""
+    while True:
+        given = rng.choice(list(FILES))
+        words = meant(rng, given) if rng.random() < 0.97 else [any_word(rng) for _ in range(rng.randrange(4))]
+        for _ in range(rng.choice([0, 0, 0, 0, 1, 1, 2, 5])):
+            words = changed(rng, words)
+        job = job_of(words)
+        if not job or int(job.values.get("runs", "1")) <= telling_words.MOST_RUNS:
+            return words, given
 
 
 # Calls.

@@ -22,6 +22,7 @@ import telling_log
 import telling_outcomes
 import telling_runs
 import telling_source
+import telling_tally
 from telling import Accepted, Arguments, Refused, Way
 
 TESTS = pathlib.Path(__file__).resolve().parent.parent
@@ -30,12 +31,15 @@ SIGNED, UNSIGNED = range(-(2**63), 2**63), range(2**64)
 WORKERS, COUNTS = range(1, 65), range(1, 2**64)
 # A run of more steps than this is too long for Python; runs are counted, for a bound says only how long they may become.
 TOO_LONG = 100_000
+# And so many runs are too many.
+MOST_RUNS = 1_000
 # What is behind these bytes of a file isn't looked at: some files have no end.
 MOST_BYTES = 1 << 25
 DEVICE = "x10clock: device"
 NO_TEXT = "x10clock: a word is not in UTF-8"
 EXCLUDED = "x10clock: --workers and --order exclude each other"
 SEED_ALONE = "x10clock: --seed goes with --order random"
+RUNS_MISPLACED = "x10clock: --runs goes with --order random, and not with --log"
 OVER_FILE = "x10clock: --log would write over FILE"
 VERSION = "x10clock 1.0.0\n"
 
@@ -76,24 +80,32 @@ class Option:
 OPTIONS = {
     "order": Option("--order <ORDER>", names=telling.ORDERS),
     "seed": Option("--seed <SEED>", UNSIGNED),
+    "runs": Option("--runs <RUNS>", COUNTS),
     "workers": Option("--workers <N>", WORKERS),
     "limit": Option("--limit <LIMIT>", COUNTS),
     "pick": Option("--pick <K>", COUNTS),
+    "expect": Option("--expect <FILE2>"),
+    "from": Option("--from <STEP>", COUNTS),
+    "to": Option("--to <STEP>", COUNTS),
     "log": Option("--log <PATH>"),
     "arg": Option("--arg <N>", SIGNED, is_list=True),
 }
+# A place that may stay empty.
+MAYBE = "?"
 # For each command its options, those that take no value, and its places.
 COMMANDS: dict[str, tuple[set[str], set[str], list[str]]] = {
     "check": (set(), {"module"}, ["FILE"]),
     "explain": (set(), {"module", "json"}, ["FILE"]),
     "compile": (set(), set(), ["FILE"]),
     "listing": (set(), {"module"}, ["FILE"]),
-    "run": ({"order", "seed", "workers", "log", "arg"}, {"module"}, ["FILE"]),
-    "outcomes": ({"limit", "pick", "log", "arg"}, {"module"}, ["FILE"]),
+    "run": ({"order", "seed", "runs", "workers", "log", "arg"}, {"module"}, ["FILE"]),
+    "outcomes": ({"limit", "pick", "log", "expect", "arg"}, {"module", "sets"}, ["FILE"]),
+    "races": ({"arg"}, {"module"}, ["FILE", "LOG" + MAYBE]),
     "replay": ({"arg"}, {"module"}, ["FILE", "LOG"]),
     "chart": ({"arg"}, {"module"}, ["FILE", "LOG"]),
     "events": ({"arg"}, {"module"}, ["FILE", "LOG"]),
-    "lanes": ({"arg"}, {"module"}, ["FILE", "LOG"]),
+    "lanes": ({"from", "to", "arg"}, {"module", "svg"}, ["FILE", "LOG"]),
+    "where": ({"arg"}, {"module"}, ["FILE", "LOG"]),
 }
 
 
@@ -163,7 +175,9 @@ class Reader:
 
     def __init__(self, command: str) -> None:
         self.job = Job(command)
-        self.options, self.flags, self.places = COMMANDS[command]
+        self.options, self.flags, places = COMMANDS[command]
+        self.places = [place.removesuffix(MAYBE) for place in places]
+        self.wanted = [place for place in places if not place.endswith(MAYBE)]
         # The option or place that was met last, with the value that it was given.
         self.name: str | None = None
         self.value: str | None = None
@@ -176,7 +190,7 @@ class Reader:
         for word in words[at + 1 :]:
             self.place(word)
         self.settle()
-        if any(place not in self.job.values for place in self.places):
+        if any(place not in self.job.values for place in self.wanted):
             raise Mistake("error: the following required arguments were not provided:")
         return self.job
 
@@ -265,6 +279,8 @@ def read(words: list[str]) -> Job:
             raise Mistake(EXCLUDED)
         if "seed" in job.values and job.values.get("order") != telling.ByChance.NAME:
             raise Mistake(SEED_ALONE)
+        if "runs" in job.values and ("log" in job.values or job.values.get("order") != telling.ByChance.NAME):
+            raise Mistake(RUNS_MISPLACED)
         return job
     if first == "help":
         raise helped(rest)
@@ -377,6 +393,14 @@ def ran(job: Job, judged: Accepted, log: BinaryIO | None) -> Told:
     return Told(0, telling.run(judged.module, way, given).text())
 
 
+def tallied(job: Job, judged: Accepted) -> Told:
+    """How often what is printed in runs by chance."""
+    seed, runs, given = int(job.values.get("seed", "0")), int(job.values["runs"]), tuple(job.numbers)
+    if runs > MOST_RUNS or any(is_too_long(judged, telling.ByChance(each % telling_tally.SEEDS), given) for each in range(seed, seed + runs)):
+        raise TooLong
+    return Told(0, telling_tally.tally(judged.module, given, seed, runs))
+
+
 def is_too_long(judged: Accepted, way: Way, arguments: Arguments) -> bool:
     if judged.bounds.steps <= TOO_LONG:
         return False
@@ -410,6 +434,8 @@ def answered(job: Job, data: bytes, log_in: BinaryIO | None, log_out: BinaryIO |
         return Told(1, explained(job, data, judged) if job.command == "explain" else "", f"x10clock: {line}")
     if job.command in ("check", "explain"):
         return Told(0, accepted(job, data, judged.bounds.line() + "\n"))
+    if "runs" in job.values:
+        return tallied(job, judged)
     if job.command in ("run", "outcomes"):
         return ran(job, judged, log_out) if job.command == "run" else outcomes(job, judged, log_out)
     status, out, err = telling_runs.answer(job.command, judged, data, "module" in job.flags, contents(log_in), tuple(job.numbers))
