@@ -69,7 +69,7 @@ NUMBERS = ["0", "1", "2", "3", "64", "65", "-1", "+2", "007", "92233720368547758
            "18446744073709551615", "18446744073709551616", "+18446744073709551615", "99999999999999999999x", "x", "", "-", "+", "1.5", " 1", "٣", "1e3"]  # fmt: skip
 ORDERS = ["first", "last", "round", "random", "least", "First", "", "firs", "-", "first "]
 STRANGE = ["--", "-h", "--help", "help", "-", "", "-x", "-5", "-hx", "--module=x", "--help=x", "--modul", "--Module", "--orders", "--=", "---", "--version", "-V", "walk",
-           "chek", "run", "check", "--no-module", "--log", "--order", "--workers", "--arg", "--seed", "--runs", "--limit", "--pick", "--sets", "--expect", "--from", "--to", "--svg", "outcome", "\udcff", "--log=\udcfe", "ü", "--ü", "a b", "=", "@step.x10"]  # fmt: skip
+           "chek", "run", "check", "--no-module", "--log", "--order", "--workers", "--arg", "--seed", "--runs", "--limit", "--pick", "--sets", "--from", "--to", "--svg", "outcome", "\udcff", "--log=\udcfe", "ü", "--ü", "a b", "=", "@step.x10"]  # fmt: skip
 
 
 # For some commands options that are a number each.
@@ -104,8 +104,6 @@ def options(rng: random.Random, command: str, text: str) -> Iterator[list[str]]:
         yield ["--svg"]
     if command == "outcomes" and rng.random() < 0.3:
         yield ["--sets"]
-    if command == "outcomes" and rng.random() < 0.2:
-        yield option(rng, "expect", rng.choice(NAMES))
     if command == "run" and rng.random() < 0.3:
         yield option(rng, "workers", small(rng))
     if command in ("run", "outcomes") and rng.random() < 0.4:

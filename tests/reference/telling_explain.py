@@ -7,6 +7,7 @@ import re
 from functools import cache
 
 import telling_declarations
+import telling_expected
 import telling_origins
 import telling_sums
 from telling_sums import Note
@@ -144,7 +145,8 @@ def repair_at(rule: str, text: bytes, at: int) -> str:
 def notes_on(data: bytes, said: str, is_module: bool) -> list[Note]:
     """The notes beside a line of `check` on what is refused, without `x10clock: `."""
     if found := FRONT.fullmatch(said):
-        return telling_declarations.notes(data, found["rule"], int(found["at"]))
+        where = data, found["rule"], int(found["at"])
+        return telling_expected.notes(*where) + telling_declarations.notes(*where)
     return telling_sums.of_refused(data, said, is_module)
 
 

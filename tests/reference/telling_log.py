@@ -187,8 +187,8 @@ def log_of(module: telling.Module, way: Way, arguments: Arguments = ()) -> Log:
 # Answers: the status, standard output and standard error of the program.
 
 Answer = tuple[int, str, str]
-# What is told of a run that came to its end.
-Teller = Callable[[Played], str]
+# What is told of a run that came to its end, and whether that is all; where nothing is said of that, it is.
+Teller = Callable[[Played], "str | tuple[str, bool]"]
 
 
 def answer(judged: telling.Accepted | telling.Refused, data: bytes, tell: Teller, arguments: Arguments = ()) -> Answer:
@@ -200,7 +200,9 @@ def answer(judged: telling.Accepted | telling.Refused, data: bytes, tell: Teller
         played = replay(judged.module, read(data), arguments)
     except Fault as fault:
         return 3, "", f"x10clock: {fault}\n"
-    return 0, tell(played), ""
+    told = tell(played)
+    text, is_whole = told if isinstance(told, tuple) else (told, True)
+    return (0 if is_whole else 6), text, ""
 
 
 def judge(path: pathlib.Path) -> telling.Accepted | telling.Refused:

@@ -2,6 +2,7 @@
 """A second telling, in Python, of what is told of a log: `replay`, `chart`, `events`, `lanes` and `races` of a whole run, and `where` of any.
 
     python3 tests/reference/telling_runs.py events [--module] FILE LOG [--arg=N]..
+    python3 tests/reference/telling_runs.py lanes [--module] [--svg] FILE LOG [--arg=N]..
 """
 
 from __future__ import annotations
@@ -14,32 +15,44 @@ import telling
 import telling_events
 import telling_lanes
 import telling_log
+import telling_picture
 import telling_races
 import telling_source
 import telling_where
 from telling import Accepted, Arguments, Refused
 from telling_events import Program
+from telling_lanes import WHOLE
 from telling_log import Answer, Played, Teller
 
 # What is told of whole runs, and of any log.
 OF_RUNS, WHERE = ("replay", "chart", "events", "lanes", "races"), "where"
-# What the program is asked for: `races` and `where` once it has them.
-COMMANDS = ("replay", "chart", "events", "lanes")
+COMMANDS = (*OF_RUNS, WHERE)
 
 
-def teller(command: str, data: bytes, is_module: bool) -> Teller:
+def races(program: Program, played: Played) -> tuple[str, bool]:
+    """The races of a run, and whether it has none."""
+    text = telling_races.races(program, played)
+    return text, not text.startswith("race ")
+
+
+def teller(command: str, data: bytes, is_module: bool, window: range = WHOLE, is_picture: bool = False) -> Teller:
     """What a command tells of a run of this program, whose bytes are looked at where there is one."""
-    of_program = {"events": telling_events.events, "lanes": telling_lanes.lanes, "races": telling_races.races}
+    if command == "lanes":
+        draw = telling_picture.drawing if is_picture else telling_lanes.drawing
+        return lambda played: draw(Program(data, is_module), played, window)
+    of_program = {"events": telling_events.events, "races": races}
     if command in of_program:
         return partial(of_program[command], Program(data, is_module))
     return {"replay": Played.output, "chart": Played.chart}[command]
 
 
-def answer(command: str, judged: Accepted | Refused, data: bytes, is_module: bool, log: bytes, arguments: Arguments = ()) -> Answer:
+def answer(
+    command: str, judged: Accepted | Refused, data: bytes, is_module: bool, log: bytes, arguments: Arguments = (), window: range = WHOLE, is_picture: bool = False
+) -> Answer:
     """What a command answers of a log and this program."""
     if command == WHERE:
         return telling_where.answer(Program(data, is_module), judged, log, arguments)
-    return telling_log.answer(judged, log, teller(command, data, is_module), arguments)
+    return telling_log.answer(judged, log, teller(command, data, is_module, window, is_picture), arguments)
 
 
 def main(words: list[str]) -> int:
@@ -48,7 +61,7 @@ def main(words: list[str]) -> int:
     command, *flags, file, log = more
     data, is_module = pathlib.Path(file).read_bytes(), "--module" in flags
     judged = telling.judge(data) if is_module else telling_source.judge(data)
-    status, out, err = answer(command, judged, data, is_module, pathlib.Path(log).read_bytes(), arguments)
+    status, out, err = answer(command, judged, data, is_module, pathlib.Path(log).read_bytes(), arguments, WHOLE, "--svg" in flags)
     sys.stdout.write(out)
     sys.stderr.write(err)
     return status

@@ -84,7 +84,6 @@ OPTIONS = {
     "workers": Option("--workers <N>", WORKERS),
     "limit": Option("--limit <LIMIT>", COUNTS),
     "pick": Option("--pick <K>", COUNTS),
-    "expect": Option("--expect <FILE2>"),
     "from": Option("--from <STEP>", COUNTS),
     "to": Option("--to <STEP>", COUNTS),
     "log": Option("--log <PATH>"),
@@ -99,7 +98,7 @@ COMMANDS: dict[str, tuple[set[str], set[str], list[str]]] = {
     "compile": (set(), set(), ["FILE"]),
     "listing": (set(), {"module"}, ["FILE"]),
     "run": ({"order", "seed", "runs", "workers", "log", "arg"}, {"module"}, ["FILE"]),
-    "outcomes": ({"limit", "pick", "log", "expect", "arg"}, {"module", "sets"}, ["FILE"]),
+    "outcomes": ({"limit", "pick", "log", "arg"}, {"module", "sets"}, ["FILE"]),
     "races": ({"arg"}, {"module"}, ["FILE", "LOG" + MAYBE]),
     "replay": ({"arg"}, {"module"}, ["FILE", "LOG"]),
     "chart": ({"arg"}, {"module"}, ["FILE", "LOG"]),
@@ -410,7 +409,7 @@ def is_too_long(judged: Accepted, way: Way, arguments: Arguments) -> bool:
 def asked_outcomes(job: Job) -> telling_outcomes.Asked:
     """How many outcomes at most are asked for, and whose log."""
     limit, pick = int(job.values.get("limit", telling_outcomes.USUAL_LIMIT)), int(job.values.get("pick", "1"))
-    return telling_outcomes.Asked(limit, pick if "log" in job.values else None)
+    return telling_outcomes.Asked(limit, pick if "log" in job.values else None, "sets" in job.flags)
 
 
 def outcomes(job: Job, judged: Accepted, log: BinaryIO | None) -> Told:
@@ -422,6 +421,14 @@ def outcomes(job: Job, judged: Accepted, log: BinaryIO | None) -> Told:
     if log:
         log.write(answer.log)
     return Told(answer.status, answer.out)
+
+
+def first_log(judged: Accepted, arguments: Arguments) -> bytes:
+    """The log of the run in the order `first`, whose races are told where no log is given."""
+    way = telling.way_of("first", 0)
+    if is_too_long(judged, way, arguments):
+        raise TooLong
+    return telling_log.text_of(telling_log.log_of(judged.module, way, arguments))
 
 
 def answered(job: Job, data: bytes, log_in: BinaryIO | None, log_out: BinaryIO | None) -> Told:
@@ -438,7 +445,9 @@ def answered(job: Job, data: bytes, log_in: BinaryIO | None, log_out: BinaryIO |
         return tallied(job, judged)
     if job.command in ("run", "outcomes"):
         return ran(job, judged, log_out) if job.command == "run" else outcomes(job, judged, log_out)
-    status, out, err = telling_runs.answer(job.command, judged, data, "module" in job.flags, contents(log_in), tuple(job.numbers))
+    log = contents(log_in) if log_in else first_log(judged, tuple(job.numbers))
+    window = range(int(job.values.get("from", "0")), int(job.values.get("to", str(2**64 - 1))) + 1)
+    status, out, err = telling_runs.answer(job.command, judged, data, "module" in job.flags, log, tuple(job.numbers), window, "svg" in job.flags)
     return Told(status, out, err.removesuffix("\n"))
 
 

@@ -96,11 +96,11 @@ const NOT_ENABLED: &str = "x10clock: L4 NotEnabled entry 0\n";
 
 /// What is said of a text that is no program.
 const EXPLAINED: &str =
-    "-:1:1: F2 Syntax: this can't stand here\n   |\n 1 | main\n   | ^^^^\n   = usual repair: look right before it for what is missing, as a `;`, a `)` or a `}`\n";
+    "-:1:1: F2 Syntax: this can't stand here\n   |\n 1 | main\n   | ^^^^\n   = could stand here: `shared`, `def`, the end of the text\n   = usual repair: look right before it for what is missing, as a `;`, a `)` or a `}`\n";
 
 /// The same, as a JSON value.
 const EXPLAINED_JSON: &str =
-    r#"{"accepted":false,"column":1,"file":"-","line":1,"message":"this can't stand here","name":"Syntax","notes":[],"repair":"look right before it for what is missing, as a `;`, a `)` or a `}`","rule":"F2"}
+    r#"{"accepted":false,"column":1,"file":"-","line":1,"message":"this can't stand here","name":"Syntax","notes":[{"text":"could stand here: `shared`, `def`, the end of the text"}],"repair":"look right before it for what is missing, as a `;`, a `)` or a `}`","rule":"F2"}
 "#;
 
 /// What is said of the program in step.
