@@ -140,6 +140,7 @@ const ALL: Command<'static> = Command::Outcomes {
     limit: None,
     pick: None,
     log: Some("log"),
+    sets: false,
 };
 
 /// One world is kept at most, and the log of an outcome is asked for that isn't found then.
@@ -147,7 +148,26 @@ const SOME: Command<'static> = Command::Outcomes {
     limit: Some(1),
     pick: Some(2),
     log: Some("log"),
+    sets: false,
 };
+
+/// The lanes of the whole run.
+const DRAWN: Command<'static> = Command::Lanes {
+    log: "log",
+    from: None,
+    to: None,
+    svg: false,
+};
+
+/// How things stand behind a whole run.
+const STOOD: &str = "steps 12\nact 0 has ended\nact 1 has ended\nclock 0 phase 1\n";
+
+/// The races of the run in the order `first`.
+const RACED: &str =
+    "races 0\nprints not in one order: step 7 act 0 at 1:129, step 11 act 1 at 1:83\nof this run alone\n";
+
+/// Four runs by chance.
+const TALLIED: &str = "runs 4 first seed 1 prints 2 1\nruns 4 outcomes 1\n";
 
 /// A row of the program in step, which is accepted.
 fn done(
@@ -208,7 +228,7 @@ fn in_part(name: &'static str, command: Command<'static>, out: &'static str) -> 
 }
 
 /// Each command, and texts and a log that are refused.
-pub fn rows() -> [Row; 18] {
+pub fn rows() -> [Row; 21] {
     let by_worker = Command::Run {
         drive: Workers::new(1).map(Drive::Workers),
         log: Some("log"),
@@ -231,7 +251,10 @@ pub fn rows() -> [Row; 18] {
         done("replay", REPLAY, LOG, PRINTED, ""),
         done("chart", CHART, LOG, CHARTED, ""),
         done("events", Command::Events { log: "log" }, LOG, EVENTS, ""),
-        done("lanes", Command::Lanes { log: "log" }, LOG, LANES, ""),
+        done("lanes", DRAWN, LOG, LANES, ""),
+        done("where", Command::Where { log: "log" }, LOG, STOOD, ""),
+        done("races", Command::Races { log: None }, "", RACED, ""),
+        done("tally", Command::Tally { seed: 1, runs: 4 }, "", TALLIED, ""),
         refused(
             "check of no program",
             Command::Check,

@@ -48,6 +48,8 @@ const EXCLUDED_TEXT: &str = "x10clock: --workers and --order exclude each other\
 
 const SEED_TEXT: &str = "x10clock: --seed goes with --order random\n";
 
+const RUNS_TEXT: &str = "x10clock: --runs goes with --order random, and not with --log\n";
+
 fn kind_fault(alloc: Global) -> KindFault {
     KindFault {
         rule: Rule::Leak,
@@ -144,6 +146,7 @@ fn faults_of_words_are_told(rt: HostRuntime) -> Result<(), Fail> {
     assert!(rt; says(alloc, &mistake, "mistake"));
     assert!(rt; says(alloc, &WordsFault::OrderAndWorkers, EXCLUDED_TEXT));
     assert!(rt; says(alloc, &WordsFault::SeedAlone, SEED_TEXT));
+    assert!(rt; says(alloc, &WordsFault::MisplacedRuns, RUNS_TEXT));
     assert!(rt; says(alloc, &WordsFault::OutOfMemory, MEMORY_TEXT));
     Ok(())
 }
