@@ -25,7 +25,8 @@ use Rattle.xk_events.specs.Events.{PlacesValue, events_text, no_text}
 use Rattle.xk_lanes.specs.Lanes.{are_lanes_whole, lanes_text}
 use Rattle.xk_lanes.specs.declared.window.Window.{Window}
 use Rattle.xk_picture.specs.Picture.{is_drawn, picture_text}
-use Rattle.xk_races.specs.Races.{is_race_free, races_text}
+use Rattle.xk_races.specs.Races.{is_race_free}
+use Rattle.xk_races.specs.Text.{races_text}
 use Rattle.xk_where.specs.Where.{are_steps_legal, where_text}
 use Rattle.xk_types.specs.declared.world.Entry.{Entry}
 use Rattle.xk_cli.specs.declared.job.Form.{Form}
