@@ -1,15 +1,15 @@
 -- What is known deed by deed is exactly the least order.
-use Rattle.std.proofs.Common.{◌≡◌, ◌∙◌, ℕ, zero, suc, ◌+◌, ◌<◌, ◌≤◌, Bool, true, false, List, [], ◌∷◌, ◌++◌, take, drop, length, Some, slice_get, ◌⊎◌, inl, inr, refl, sym, ap, subst, arith, true≢false}
+use Rattle.std.proofs.Common.{◌≡◌, ◌∙◌, ℕ, zero, suc, ◌<◌, ◌≤◌, Bool, true, false, List, [], ◌∷◌, take, Some, slice_get, ◌⊎◌, inl, inr, refl, sym, ap, subst, arith, true≢false}
 use Rattle.std.proofs.lemmas.Bool.{cases_eq, cases_lt}
 use Rattle.std.proofs.lemmas.Option.{same_Some}
 use Rattle.xk_races.specs.declared.deeds.Deed.{Deed}
 use Rattle.xk_races.specs.declared.deeds.Part.{Part}
 use Rattle.xk_races.specs.declared.deeds.Part.TheVariants as part
 use Rattle.xk_races.specs.Lists.{number_at, row_at, with_at, joined}
-use Rattle.xk_races.specs.Knowledge.{Known, Scopes, scoped, nothing_known, told_to, finish_of, heard, marked, told, with_acts, with_scopes, after}
-use Rattle.xk_races.specs.Order.{IsAt, IsOf, IsSignal, IsCounted, IsEnd, Reason, Own, Passed, Closed, Edge, Leads, Before, finish_at, scopes_after}
-use Rattle.xk_races.proofs.RowLemmas.{joined_at, with_at_same, with_at_other}
-use Rattle.xk_races.proofs.OrderLemmas.{IsUpTo, Reaches, Tells, tells_none, tells_same, tells_joined, tells_marked, tells_within}
+use Rattle.xk_races.specs.Knowledge.{Known, Scopes, scoped, nothing_known, told_to, finish_of, heard, marked, told, with_acts, after}
+use Rattle.xk_races.specs.Order.{IsAt, IsOf, IsSignal, IsCounted, IsEnd, Reason, Own, Passed, Closed, Edge, finish_at, scopes_after}
+use Rattle.xk_races.proofs.RowLemmas.{with_at_same, with_at_other}
+use Rattle.xk_races.proofs.OrderLemmas.{Reaches, Tells, tells_none, tells_same, tells_joined, tells_marked, tells_within}
 
 -- ---- parts of steps
 
@@ -47,7 +47,7 @@ number_in _ = 0
 
 -- two parts that a test tells apart
 apart : {A : Type 0} (test : Part → Bool) (p q : Part) → test p ≡ false → test q ≡ true → p ≡ q → A
-apart test p q never yes same = absurd (true≢false (sym yes ∙ sym (ap test same) ∙ never))
+apart test p q never holds same = absurd (true≢false (sym holds ∙ sym (ap test same) ∙ never))
 
 -- ---- what holds behind some deeds
 

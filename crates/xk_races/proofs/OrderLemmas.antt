@@ -1,12 +1,10 @@
 -- Rows that tell of each activity its last deed that came before, are exactly the least order.
-use Rattle.std.proofs.Common.{◌≡◌, ◌∙◌, ℕ, zero, suc, ◌+◌, ◌<◌, ◌≤◌, List, [], ◌∷◌, ◌++◌, max, Some, slice_get, ◌⊎◌, inl, inr, refl, sym, ap, subst, arith}
+use Rattle.std.proofs.Common.{◌≡◌, ◌∙◌, ℕ, suc, ◌<◌, ◌≤◌, List, [], ◌∷◌, ◌++◌, slice_get, ◌⊎◌, inl, inr, refl, sym, ap, subst, arith}
 use Rattle.std.proofs.lemmas.Bool.{cases_eq, cases_lt}
 use Rattle.std.proofs.lemmas.Option.{same_Some}
 use Rattle.xk_races.specs.declared.deeds.Deed.{Deed}
-use Rattle.xk_races.specs.declared.deeds.Part.{Part}
-use Rattle.xk_races.specs.declared.deeds.Part.TheVariants as part
-use Rattle.xk_races.specs.Lists.{number_at, row_at, with_at, joined}
-use Rattle.xk_races.specs.Order.{IsAt, IsOf, IsSignal, IsCounted, IsEnd, Reason, Own, Passed, Closed, Edge, Leads, Before, finish_at}
+use Rattle.xk_races.specs.Lists.{number_at, with_at, joined}
+use Rattle.xk_races.specs.Order.{IsAt, Reason, Own, Passed, Closed, Edge, Leads, Before}
 use Rattle.xk_races.proofs.RowLemmas.{joined_at, with_at_same, with_at_other}
 
 -- ---- what some deeds are reached from

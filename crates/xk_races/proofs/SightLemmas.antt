@@ -1,14 +1,14 @@
 -- What is seen of a run has the rows of the least order.
-use Rattle.std.proofs.Common.{◌≡◌, ◌∙◌, ℕ, zero, suc, ◌+◌, ◌<◌, ◌≤◌, Bool, true, false, List, [], ◌∷◌, ◌++◌, Some, slice_get, ◌⊎◌, inl, inr, refl, sym, ap, subst, arith}
-use Rattle.std.specs.Prelude.{pred, nat_le, if◌then◌else◌}
+use Rattle.std.proofs.Common.{◌≡◌, ◌∙◌, ℕ, zero, suc, ◌+◌, ◌<◌, Bool, true, false, List, [], ◌∷◌, ◌++◌, Some, slice_get, ◌⊎◌, inl, inr, refl, sym, ap, subst, arith}
+use Rattle.std.specs.Prelude.{pred, if◌then◌else◌}
 use Rattle.std.proofs.lemmas.Bool.{leb-true, le-leb}
 use Rattle.std.proofs.lemmas.Option.{same_Some}
 use Rattle.xk_races.specs.declared.deeds.Deed.{Deed}
 use Rattle.xk_races.specs.Lists.{number_at, row_at}
-use Rattle.xk_races.specs.Knowledge.{Known, Sight, after, comes_before, is_sight, nothing_known, sight, sights_from, sights_of}
-use Rattle.xk_races.specs.Order.{IsAt, IsOf, Own, Edge, Before}
+use Rattle.xk_races.specs.Knowledge.{Known, Sight, after, is_sight, nothing_known, sight, sights_from}
+use Rattle.xk_races.specs.Order.{IsAt, IsOf, Own, Before}
 use Rattle.xk_races.specs.Exactness.{IsSeen, OrderIsExact}
-use Rattle.xk_races.proofs.OrderLemmas.{IsUpTo, Reaches, Tells, tells_within}
+use Rattle.xk_races.proofs.OrderLemmas.{Reaches, Tells, tells_within}
 use Rattle.xk_races.proofs.KnowledgeLemmas.{IsKnown, known_first, known_more, at_last}
 
 -- a deed of the run, with a row that tells of it

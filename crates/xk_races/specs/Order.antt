@@ -4,7 +4,6 @@
 -- of an activity comes before the close of the finish that it ends in (chapter Activities, Finish).
 use Rattle.std.specs.Prelude.{◌≡◌, ℕ, ◌<◌, List, [], ◌∷◌, ◌⊎◌, take, Some, slice_get}
 use Rattle.xk_races.specs.declared.deeds.Deed.{Deed}
-use Rattle.xk_races.specs.declared.deeds.Part.{Part}
 use Rattle.xk_races.specs.declared.deeds.Part.TheVariants as part
 use Rattle.xk_races.specs.Lists.{number_at}
 use Rattle.xk_races.specs.Knowledge.{Scopes, scoped, nothing_known}
