@@ -1,6 +1,6 @@
 #!/usr/bin/env python3
-"""Refuses each growth of memory in turn, the first, the second and so on, until a run ends without a refusal: in `xk_exhaust`, which makes each
-library call again where it was refused memory, and in `x10clock` itself on small programs, modules and source texts, and on words that are no
+"""Refuses each growth of memory in turn, the first, the second and so on, until a run ends without a refusal: in `xk_exhaust`, which makes
+library calls again that were refused memory and handed back what they were given, and in `x10clock` itself on small programs, modules and source texts, and on words that are no
 job, which has to answer as it does with ample memory, or with status 4, an empty standard output, nothing in the log that it was to write, and
 its line.
 
@@ -28,6 +28,35 @@ ROWS = TOP / "tests/answers/rows"
 LOGS = TOP / "tests/answers/logs"
 PROGRAM = TOP / "crates/x10clock/out/x10clock"
 EXHAUST = TOP / "crates/xk_exhaust/out/xk_exhaust"
+
+# Source texts that have a module: of no statement; of all sorts of statements; of bodies that take numbers; of methods that call each other in a
+# chain; of a main that takes numbers, by which its loops end.
+COMPILED = (
+    "def main() { }",
+    "def main() { val c = Clock.make(); var x: Long = -(1 + 2) * 3; if (x < 4) x = 5; else { c.resume(); } async clocked(c) { Clock.advanceAll(); } c.drop(); }",
+    "def main() { val a = 1; val b = 2; async { Console.OUT.println(b); async { val d = a + b; Console.OUT.println(d); } } }",
+    "def h(n: Long) { Console.OUT.println(n); } def g(c: Clock, n: Long) { h(n * 2); h(n); } def main() { val c = Clock.make(); g(c, 7); for (i in 2..1) h(i); }",
+    "def main(n: Long, k: Long) { var t = n; for (i in 1..Math.min(t * k, 9)) { for (j in 0..Math.min(i, 3)) t = t - j; async { Console.OUT.println(i); } } Console.OUT.println(t); }",
+)
+
+# Source texts that break a rule: on tokens, on syntax, on names, on `main`, on recursion, on tables.
+FAULTY = (
+    "def main() { # }",
+    "def main() { val x = ; }",
+    "def main() { val x = 1; async { val y = x; z = y; } }",
+    "def f() { }",
+    "def main(c: Clock) { }",
+    "def main() { for (i in 1..Math.min(i, 3)) { } }",
+    "def f() { g(); } def g() { async { f(); } } def main() { f(); }",
+    f"def main() {{ val a = 0; f({', '.join(['a'] * 65)}); }} def f({', '.join(f'n{i}: Long' for i in range(65))}) {{ }}",
+)
+
+# No modules: of no version, with an instruction that its version lacks, and no text.
+UNREAD = (
+    '{"version":3,"shared":[],"units":[]}',
+    '{"version":1,"shared":[],"units":[{"kind":"main","params":"","slots":2,"code":[["lit",1,2],["forto",0,1,1,3,2],["next",1],["ret"]]}]}',
+    "",
+)
 
 MEMORY = b"x10clock: out of memory\n"
 # A word that stands for the file of the log that a run is to write.
@@ -199,8 +228,25 @@ def each_row(calls: Calls) -> None:
             if printed.exists():
                 words = ["run", *given(row), "--order", order, "-"]
                 calls.need(f"{row.name}, order {order}", words, text, 0, printed.read_bytes(), b"")
+                logged = calls.need(f"{row.name}, order {order}, with a log", [*words, "--log", LOG], text, 0, printed.read_bytes(), b"")
+                if not logged.log:
+                    raise Wrong(f"{row.name}, order {order}: no log")
         if row.suffix == ".x10":
             calls.ask(f"{row.name}, compiled", ["compile", "-"], text)
+        if not err:
+            calls.ask(f"{row.name}, some outcomes", ["outcomes", *given(row), "--limit", "3", "-"], text)
+
+
+def each_text(calls: Calls) -> None:
+    """Texts that have a module, and texts that have none."""
+    for number, text in enumerate(COMPILED):
+        if calls.ask(f"text {number}, compiled", ["compile", "-"], text.encode()).status:
+            raise Wrong(f"not compiled: {text}")
+    for words, texts in (["check"], FAULTY), (["check", "--module"], UNREAD):
+        for number, text in enumerate(texts):
+            told = calls.ask(f"{' '.join(words)} of wrong text {number}", [*words, "-"], text.encode())
+            if told.status != 1 or told.out:
+                raise Wrong(f"not refused: {text}")
 
 
 def each_log(calls: Calls, folder: str) -> None:
@@ -293,6 +339,7 @@ def all_calls(folder: str, preloaded: str, given: argparse.Namespace) -> list[Ca
     each_log(calls, folder)
     each_mismatch(calls, folder)
     each_row(calls)
+    each_text(calls)
     each_search(calls)
     each_worker(calls)
     each_mistake(calls)

@@ -22,7 +22,7 @@ class Grid:
 
     def __init__(self, program: Program, played: Played, window: Window) -> None:
         seen = asked(played, window)
-        self.place = GAP + max((len(spot(program, taken)) for taken in seen), default=0)
+        self.place = GAP + max(len("at"), *(len(spot(program, taken)) for taken in seen), 0)
         self.lane = max(NARROWEST, GAP + max((len(telling_events.words(taken)) for taken in seen), default=0))
         self.lanes = range(min(MOST_LANES, len(played.world.activities)))
         self.left_out = len(played.world.activities) - len(self.lanes)

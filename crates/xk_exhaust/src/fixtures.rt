@@ -1,7 +1,7 @@
 //! Small programs as module text, and as source text, and logs.
 
 /// A sum of two numbers, and a phase of a clock on which main is alone.
-pub const SUM_AND_PHASE: &str =
+const SUM_AND_PHASE: &str =
     r#"{"version":1,"shared":[],"units":[{"kind":"main","params":"","slots":3,"code":[["lit",0,2],["lit",1,3],["add",0,0,1],["make",2],["advance"],["print",0],["ret"]]}]}"#;
 
 /// Two activities on a clock.
@@ -34,9 +34,8 @@ pub fn given() -> [(&'static str, &'static [i64]); 4] {
     ]
 }
 
-/// Programs that the verifier accepts: of one activity, of several, and with shared numbers; fifty activities that a loop starts, and a run
-/// of some thousand steps.
-pub fn accepted() -> [&'static str; 19] {
+/// Programs that the verifier accepts: of one activity, of several, and with shared numbers; and a run of some thousand steps.
+pub fn accepted() -> [&'static str; 18] {
     [
         SUM_AND_PHASE,
         r#"{"version":1,"shared":[7,-7],"units":[{"kind":"main","params":"","slots":1,"code":[["make",0],["resume",0],["resume",0],["advance"],["drop",0],["ret"]]}]}"#,
@@ -55,7 +54,6 @@ pub fn accepted() -> [&'static str; 19] {
         r#"{"version":1,"shared":[],"units":[{"kind":"main","params":"","slots":1,"code":[["finish",4],["make",0],["spawn",1,[0]],["drop",0],["endfinish",0],["ret"]]},{"kind":"body","params":"c","slots":1,"code":[["advance"],["ret"]]}]}"#,
         r#"{"version":1,"shared":[],"units":[{"kind":"main","params":"","slots":2,"code":[["make",0],["for",1,1,2,3],["call",1,[0,1]],["next",1],["ret"]]},{"kind":"method","params":"cn","slots":3,"code":[["finish",7],["make",2],["spawn",2,[2,1]],["resume",2],["spawn",2,[2,1]],["advance"],["drop",2],["endfinish",0],["resume",0],["ret"]]},{"kind":"body","params":"cn","slots":2,"code":[["advance"],["print",1],["ret"]]}]}"#,
         r#"{"version":1,"shared":[0],"units":[{"kind":"main","params":"","slots":2,"code":[["finish",4],["for",0,1,3,3],["spawn",1,[0]],["next",1],["endfinish",0],["get",1,0],["print",1],["ret"]]},{"kind":"body","params":"n","slots":1,"code":[["addto",0,0],["ret"]]}]}"#,
-        r#"{"version":1,"shared":[],"units":[{"kind":"main","params":"","slots":1,"code":[["for",0,1,50,2],["spawn",1,[]],["next",0],["ret"]]},{"kind":"body","params":"","slots":0,"code":[["ret"]]}]}"#,
         r#"{"version":1,"shared":[],"units":[{"kind":"main","params":"","slots":1,"code":[["for",0,1,3000,1],["next",0],["print",0],["ret"]]}]}"#,
     ]
 }
@@ -82,32 +80,10 @@ pub fn refused() -> [&'static str; 16] {
     ]
 }
 
-/// Texts that are no module: one beyond a limit, one of no version, one with an instruction that its version lacks, and no text.
-pub fn unread() -> [&'static str; 4] {
-    [
-        r#"{"version":1,"shared":[],"units":[{"kind":"main","params":"","slots":65,"code":[["ret"]]}]}"#,
-        r#"{"version":3,"shared":[],"units":[]}"#,
-        r#"{"version":1,"shared":[],"units":[{"kind":"main","params":"","slots":2,"code":[["lit",1,2],["forto",0,1,1,3,2],["next",1],["ret"]]}]}"#,
-        "",
-    ]
-}
-
-/// Source texts that have a module: of no statement; of all sorts of statements; of bodies that take numbers and clocks; of methods that call
-/// each other in a chain; of a main that takes numbers, by which its loops end.
-pub fn compiled() -> [&'static str; 6] {
-    [
-        "def main() { }",
-        "shared s = 0; def main() { finish { for (i in 1..3) async { atomic s = s + i; } } val r = s; Console.OUT.println(r); }",
-        "def main() { val c = Clock.make(); var x: Long = -(1 + 2) * 3; if (x < 4) x = 5; else { c.resume(); } async clocked(c) { Clock.advanceAll(); } c.drop(); }",
-        "def main() { val a = 1; val b = 2; async { Console.OUT.println(b); async { val d = a + b; Console.OUT.println(d); } } }",
-        "def h(n: Long) { Console.OUT.println(n); } def g(c: Clock, n: Long) { h(n * 2); h(n); } def main() { val c = Clock.make(); g(c, 7); for (i in 2..1) h(i); }",
-        "def main(n: Long, k: Long) { var t = n; for (i in 1..Math.min(t * k, 9)) { for (j in 0..Math.min(i, 3)) t = t - j; async { Console.OUT.println(i); } } Console.OUT.println(t); }",
-    ]
-}
-
 /// Source texts to be run, and the numbers that each prints where always the least activity goes first: two activities on a clock; three, each
-/// on two of three clocks; a method that goes a phase on; a shared sum; a finish with a clock.
-pub fn sources() -> [(&'static str, &'static [i64]); 5] {
+/// on two of three clocks; a method that goes a phase on; a shared sum; a finish with a clock; a sum and a phase; fifty activities that a loop
+/// starts.
+pub fn sources() -> [(&'static str, &'static [i64]); 7] {
     [
         (
             "def main() { val c = Clock.make(); async clocked(c) { Clock.advanceAll(); Console.OUT.println(2); } Clock.advanceAll(); Console.OUT.println(1); }",
@@ -129,23 +105,11 @@ pub fn sources() -> [(&'static str, &'static [i64]); 5] {
             "def main() { clocked finish { clocked async { Clock.advanceAll(); Console.OUT.println(12); } Clock.advanceAll(); Console.OUT.println(11); } Console.OUT.println(3); }",
             &[11, 12, 3],
         ),
-    ]
-}
-
-/// Fifty activities that a loop starts.
-pub const FIFTY: &str = "def main() { for (i in 1..50) async { } }";
-
-/// Source texts that break a rule: on tokens, on syntax, on names, on `main`, on recursion, on tables.
-pub fn faulty() -> [&'static str; 8] {
-    [
-        "def main() { # }",
-        "def main() { val x = ; }",
-        "def main() { val x = 1; async { val y = x; z = y; } }",
-        "def f() { }",
-        "def main(c: Clock) { }",
-        "def main() { for (i in 1..Math.min(i, 3)) { } }",
-        "def f() { g(); } def g() { async { f(); } } def main() { f(); }",
-        "def main() { val a = 0; f(a, a, a, a, a, a, a, a, a, a, a, a, a, a, a, a, a, a, a, a, a, a, a, a, a, a, a, a, a, a, a, a, a, a, a, a, a, a, a, a, a, a, a, a, a, a, a, a, a, a, a, a, a, a, a, a, a, a, a, a, a, a, a, a, a); } def f(n0: Long, n1: Long, n2: Long, n3: Long, n4: Long, n5: Long, n6: Long, n7: Long, n8: Long, n9: Long, n10: Long, n11: Long, n12: Long, n13: Long, n14: Long, n15: Long, n16: Long, n17: Long, n18: Long, n19: Long, n20: Long, n21: Long, n22: Long, n23: Long, n24: Long, n25: Long, n26: Long, n27: Long, n28: Long, n29: Long, n30: Long, n31: Long, n32: Long, n33: Long, n34: Long, n35: Long, n36: Long, n37: Long, n38: Long, n39: Long, n40: Long, n41: Long, n42: Long, n43: Long, n44: Long, n45: Long, n46: Long, n47: Long, n48: Long, n49: Long, n50: Long, n51: Long, n52: Long, n53: Long, n54: Long, n55: Long, n56: Long, n57: Long, n58: Long, n59: Long, n60: Long, n61: Long, n62: Long, n63: Long, n64: Long) { }",
+        (
+            "def main() { val sum = 2 + 3; val c = Clock.make(); Clock.advanceAll(); Console.OUT.println(sum); }",
+            &[5],
+        ),
+        ("def main() { for (i in 1..50) async { } }", &[]),
     ]
 }
 

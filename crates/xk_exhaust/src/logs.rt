@@ -1,4 +1,4 @@
-//! Logs are read and played again, and their runs charted and written; each call tried again where memory was refused.
+//! Logs are read, played again and written; each call tried again where memory was refused.
 
 ghost use Rattle.xk_types.specs.World.{AreArguments};
 
@@ -6,10 +6,8 @@ use crate::modules::{Wrong, accepted, fits, holds};
 use std::alloc::Global;
 use std::io;
 use xk_bounds::Verified;
-use xk_events::module_events;
-use xk_lanes::module_lanes;
 use xk_log::{Log, LogFault, read_log};
-use xk_replay::{ReplayFault, chart, replay, write_log};
+use xk_replay::{ReplayFault, replay, write_log};
 use xk_scheduler::Ended;
 use xk_types::{Counted, Tape};
 
@@ -36,27 +34,17 @@ fn replayed<'m>(
     }
 }
 
-/// A run is that of a whole log, and has a chart. Its log is written at the first try, since that takes no memory.
-fn is_charted(alloc: Global, ended: &Ended<'_>, is_whole: bool) -> Result<(), Wrong> {
+/// A run is that of a whole log, which is written at the first try, since that takes no memory.
+fn is_written(ended: &Ended<'_>, is_whole: bool) -> Result<(), Wrong> {
     holds(is_whole, "a log is played again that isn't of a whole run")?;
-    let is_charted = chart(alloc, ended).is_ok() || chart(alloc, ended).is_ok();
-    holds(is_charted, "a chart isn't made at the second try")?;
-    let is_told = module_events(alloc, ended).is_ok() || module_events(alloc, ended).is_ok();
-    holds(is_told, "events aren't told at the second try")?;
-    let is_drawn = module_lanes(alloc, ended).is_ok() || module_lanes(alloc, ended).is_ok();
-    holds(is_drawn, "lanes aren't drawn at the second try")?;
     let is_written = write_log(ended, &mut Counted::new(io::sink())).is_ok();
     holds(is_written, "a log isn't written at the first try")
 }
 
-/// A log was of a whole run, which is charted, or was refused for not being one.
-fn is_right(
-    alloc: Global,
-    answer: &Result<Ended<'_>, (Log, ReplayFault)>,
-    is_whole: bool,
-) -> Result<(), Wrong> {
+/// A log was of a whole run, or was refused for not being one.
+fn is_right(answer: &Result<Ended<'_>, (Log, ReplayFault)>, is_whole: bool) -> Result<(), Wrong> {
     match answer {
-        Ok(ended) => is_charted(alloc, ended, is_whole),
+        Ok(ended) => is_written(ended, is_whole),
         Err((_, fault)) => holds(
             !is_whole && *fault != ReplayFault::OutOfMemory,
             "a log isn't played again at the second try",
@@ -74,7 +62,7 @@ fn is_replayed(
 ) -> Result<(), Wrong> {
     fits(verified, arguments)?;
     let answer = replayed(alloc, verified, arguments, log);
-    is_right(alloc, &answer, is_whole)
+    is_right(&answer, is_whole)
 }
 
 /// A text is the log of a whole run of a module with these arguments, or is refused for not being one.

@@ -24,17 +24,6 @@ fn read(alloc: Global, text: &str) -> Result<Module, ModuleFault> {
     }
 }
 
-/// A text that names no module is refused for that.
-pub fn is_unread(alloc: Global, text: &str) -> Result<(), Wrong> {
-    match read(alloc, text) {
-        Ok(_) => Err(Wrong("a text is read that is no module")),
-        Err(fault) => holds(
-            fault != ModuleFault::OutOfMemory,
-            "a text isn't read at the second try",
-        ),
-    }
-}
-
 /// The module that a text names.
 fn module(alloc: Global, text: &str) -> Result<Module, Wrong> {
     match read(alloc, text) {

@@ -1,27 +1,17 @@
-//! Runs: by single steps, by a schedule, by choosers, and by turns; each call tried again where memory was refused.
+//! Runs: by single steps, by a schedule, and by turns; each call tried again where memory was refused.
 
 ghost use Rattle.std.specs.Prelude.{◌≡◌, IfOk};
-ghost use Rattle.xk_types.specs.World.{AreArguments};
 
 use crate::modules::{Wrong, fits, holds};
 use std::alloc::Global;
 use xk_bounds::Verified;
 use xk_core::Core;
-use xk_outcomes::{Limit, outcomes, outcomes_text};
-use xk_random::Random;
-use xk_scheduler::{
-    Chooser, Driver, Ended, First, Halt, Last, Partial, Ran, Round, drive, run_schedule,
-};
+use xk_scheduler::{Driver, Halt, Last, Ran, run_schedule};
 use xk_types::{Act, Event};
 
 /// A module is run in each way, its main being given these numbers.
 pub fn on_verified(alloc: Global, verified: &Verified, arguments: &[i64]) -> Result<(), Wrong> {
     by_hand(alloc, verified, arguments)?;
-    by_chooser(alloc, verified, arguments, First)?;
-    by_chooser(alloc, verified, arguments, Last)?;
-    by_chooser(alloc, verified, arguments, Round::new())?;
-    by_chooser(alloc, verified, arguments, Random::new(1))?;
-    by_search(alloc, verified, arguments)?;
     by_turns(alloc, verified, arguments)
 }
 
@@ -122,62 +112,6 @@ fn by_schedule(
         ends == Some(true),
         "a schedule isn't carried out to the end",
     )
-}
-
-/// Whether a driven run is over; None where memory was refused.
-fn is_over(answer: &Result<Ended<'_>, Partial<'_>>) -> Option<bool> {
-    match answer {
-        Ok(ended) => Some(ended.core.ended()),
-        Err(_) => None,
-    }
-}
-
-/// Whether a run that a chooser drives is over; None where memory was refused.
-fn is_driven<C: Chooser>(
-    alloc: Global,
-    verified: &Verified,
-    arguments: &[i64],
-    chooser: &mut C,
-) -> Result<Option<bool>, Wrong> {
-    let answer = drive(alloc, opened(alloc, verified, arguments)?, chooser);
-    Ok(is_over(&answer))
-}
-
-/// A run that a chooser drives.
-fn by_chooser<C: Chooser + Copy>(
-    alloc: Global,
-    verified: &Verified,
-    arguments: &[i64],
-    chooser: C,
-) -> Result<(), Wrong> {
-    let mut first = chooser;
-    let mut second = chooser;
-    let ends = match is_driven(alloc, verified, arguments, &mut first)? {
-        None => is_driven(alloc, verified, arguments, &mut second)?,
-        answer => answer,
-    };
-    holds(ends == Some(true), "a driven run isn't over")
-}
-
-/// What a module can print, as far as so many worlds show it, at the second try where memory was refused.
-fn by_search(alloc: Global, verified: &Verified, arguments: &[i64]) -> Result<(), Wrong> {
-    fits(verified, arguments)?;
-    let is_searched = is_found(alloc, verified, arguments) || is_found(alloc, verified, arguments);
-    holds(is_searched, "outcomes aren't found at the second try")
-}
-
-/// Whether outcomes are found and told; no more worlds are kept than show what growths there are.
-fn is_found(alloc: Global, verified: &Verified, arguments: &[i64]) -> bool
-    requires { AreArguments verified.now arguments.now }
-{
-    let limit = Limit {
-        entries: 3,
-        outcomes: 3,
-    };
-    match outcomes(alloc, verified, arguments, limit) {
-        Ok(found) => outcomes_text(alloc, &found.list, found.complete).is_ok(),
-        Err(_) => false,
-    }
 }
 
 /// A core that a driver takes over, at the second try, with what came back, where memory was refused.

@@ -1,10 +1,9 @@
 //! Parsing and compiling, each tried again where memory was refused.
 
-use crate::modules::{Wrong, checked, holds};
+use crate::modules::{Wrong, checked};
 use std::alloc::Global;
 use xk_bounds::Verified;
 use xk_codegen::compile;
-use xk_module::write_module;
 use xk_syntax::parse;
 use xk_tree::{FrontError, Tree};
 use xk_types::Module;
@@ -30,14 +29,6 @@ fn compiled(alloc: Global, text: &str) -> Result<Module, FrontError> {
     module(alloc, &tree)
 }
 
-/// A source text has a module, and the module a text.
-pub fn is_compiled(alloc: Global, text: &str) -> Result<(), Wrong> {
-    match compiled(alloc, text) {
-        Ok(module) => is_written(alloc, &module),
-        Err(_) => Err(Wrong("a source text isn't compiled at the second try")),
-    }
-}
-
 /// The module of a source text, verified.
 pub fn accepted(alloc: Global, text: &str) -> Result<Verified, Wrong> {
     let Ok(module) = compiled(alloc, text) else {
@@ -46,21 +37,5 @@ pub fn accepted(alloc: Global, text: &str) -> Result<Verified, Wrong> {
     match checked(alloc, module) {
         Ok(verified) => Ok(verified),
         Err(_) => Err(Wrong("a source text isn't accepted at the second try")),
-    }
-}
-
-fn is_written(alloc: Global, module: &Module) -> Result<(), Wrong> {
-    let is_written = write_module(alloc, module).is_ok() || write_module(alloc, module).is_ok();
-    holds(is_written, "a module isn't written at the second try")
-}
-
-/// A source text that breaks a rule is refused for that.
-pub fn is_faulty(alloc: Global, text: &str) -> Result<(), Wrong> {
-    match compiled(alloc, text) {
-        Ok(_) => Err(Wrong("a source text is compiled that breaks a rule")),
-        Err(error) => holds(
-            error != FrontError::OutOfMemory,
-            "a source text isn't refused at the second try",
-        ),
     }
 }

@@ -40,12 +40,12 @@ spot_by unit place None = decimal unit ++ (codes "." ++ decimal place)
 unfoldable pub spot : PlacesValue → RunStep → List ℕ
 spot p s = spot_by s.unit s.place (origin_of p s.unit s.place)
 
--- Lanes of the first 64 of so many activities. A column is two wider than the longest that stands in it, and a lane no narrower than 8, for
--- its title.
+-- Lanes of the first 64 of so many activities. A column is two wider than the longest that stands in it, its title too: so a lane is no
+-- narrower than 8.
 abbrev pub grid_of : PlacesValue → Window → List RunStep → ℕ → Grid
 grid_of p w steps n = record {
   window = w;
-  place = 2 + longest (map (spot p) steps);
+  place = max 4 (2 + longest (map (spot p) steps));
   lane = max 8 (2 + longest (map event_words steps));
   lanes = min 64 n;
 }

@@ -101,7 +101,7 @@ pub(crate) fn grid_of(
     let words = longest_words(alloc, steps)?;
     Ok(Grid {
         window,
-        place: 2 + place,
+        place: (2 + place).max(4),
         lane: (2 + words).max(8),
         lanes: activities.min(DRAWN),
     })
