@@ -2,7 +2,7 @@
 -- Clocks: an `advanceAll` blocks until each clock of the activity has advanced, and a clock advances when each activity that is registered on it
 -- has resumed it (Advancing clocks, and the chapter's beginning); dropping, or ending, ends a registration (Dropping clocks). Chapter Activities:
 -- a `finish` waits for those that it governs (Finish).
-use Rattle.std.specs.Prelude.{ℕ, ℤ, ◌==◌, nat_lt, Bool, false, not, ◌&&◌, ◌||◌, List, [], ◌∷◌, ◌++◌, length, map, flat_map, Option, Some, None, slice_get, if◌then◌else◌}
+use Rattle.std.specs.Prelude.{ℕ, ℤ, nat_lt, Bool, false, not, ◌&&◌, ◌||◌, List, [], ◌∷◌, ◌++◌, length, map, flat_map, Option, Some, None, slice_get, if◌then◌else◌}
 use Rattle.std.specs.Option.{option_map_or, option_to_list}
 use Rattle.xk_types.specs.declared.instr.Instr.{Instr}
 use Rattle.xk_types.specs.declared.instr.Instr.TheVariants as instr

@@ -6,7 +6,6 @@ use Rattle.xk_events.specs.declared.steps.RunStep.{RunStep}
 use Rattle.xk_events.specs.Events.{PlacesValue, event_words, origin_of, place_words}
 use Rattle.xk_races.specs.declared.pairs.Race.{Race}
 use Rattle.xk_races.specs.declared.pairs.Gap.{Gap}
-use Rattle.xk_races.specs.Knowledge.{Sight}
 use Rattle.xk_races.specs.Races.{races_in, gap_in, sights_of_run}
 
 -- `step 9 act 1 at 13:9`

@@ -3,6 +3,7 @@
 
 mod deeds;
 mod knowledge;
+pub mod laws;
 mod pairs;
 mod report;
 mod rows;

@@ -246,21 +246,26 @@ telling_whole : (picture : Picture) (kind : Form) (file bytes : List ℕ) (m : M
 telling_whole picture kind file bytes m args logged told h =
     let r = h.1.2 in (h.1.0, h.1.1, record { last = r.last; leads = r.leads; given = r.given; over = r.over })
 
+-- a text of a log that need not be that of a whole run isn't refused
+text_stands : (m : ModuleValue) (args : List ℤ) (logged : List ℕ) (es : List Entry) (f : Fault) → IsLogText logged es → IsNoRun m args logged f → MayStand Where f
+    → status_of f ≢ 4 → ⊥
+text_stands m args logged es (fault.NotEnabled i) text no may not4 = false≢true may
+text_stands m args logged es fault.NotEnded text no may not4 = false≢true may
+text_stands m args logged es (fault.Grammar line) text no may not4 = text_not_wrong logged line es text no
+text_stands m args logged es fault.Truncated text no may not4 = text_not_cut logged es text no
+text_stands m args logged es fault.OutOfMemory text no may not4 = not4 refl
+text_stands m args logged es (fault.Text f) text no may not4 = no
+text_stands m args logged es (fault.Front f) text no may not4 = no
+text_stands m args logged es (fault.Refused r) text no may not4 = no
+text_stands m args logged es (fault.Arguments wants has) text no may not4 = no
+text_stands m args logged es fault.Device text no may not4 = no
+
 -- a log of which something is told isn't refused
 telling_stands : (what : Doing) (kind : Form) (file bytes : List ℕ) (m : ModuleValue) (args : List ℤ) (logged : List ℕ) (told : Tale) (f : Fault) → reads_log what ≡ true
     → IsTelling what kind file bytes m args logged told → IsNoRun m args logged f → MayStand what f → status_of f ≢ 4 → ⊥
 telling_stands (Draw picture) kind file bytes m args logged told f reads h no may not4 =
     let whole = telling_whole picture kind file bytes m args logged told h in whole_not_refused m args logged f whole.0 no not4 whole.1 whole.2
-telling_stands Where kind file bytes m args logged told (fault.NotEnabled i) reads h no may not4 = false≢true may
-telling_stands Where kind file bytes m args logged told fault.NotEnded reads h no may not4 = false≢true may
-telling_stands Where kind file bytes m args logged told (fault.Grammar line) reads h no may not4 = text_not_wrong logged line h.1.1.0 h.1.1.1 no
-telling_stands Where kind file bytes m args logged told fault.Truncated reads h no may not4 = text_not_cut logged h.1.1.0 h.1.1.1 no
-telling_stands Where kind file bytes m args logged told fault.OutOfMemory reads h no may not4 = not4 refl
-telling_stands Where kind file bytes m args logged told (fault.Text f) reads h no may not4 = no
-telling_stands Where kind file bytes m args logged told (fault.Front f) reads h no may not4 = no
-telling_stands Where kind file bytes m args logged told (fault.Refused r) reads h no may not4 = no
-telling_stands Where kind file bytes m args logged told (fault.Arguments wants has) reads h no may not4 = no
-telling_stands Where kind file bytes m args logged told fault.Device reads h no may not4 = no
+telling_stands Where kind file bytes m args logged told f reads h no may not4 = text_stands m args logged h.1.1.0 f h.1.1.1 no may not4
 telling_stands Races kind file bytes m args logged told f reads h no may not4 = false≢true reads
 telling_stands (Tally seed runs) kind file bytes m args logged told f reads h no may not4 = false≢true reads
 telling_stands (Explain json) kind file bytes m args logged told f reads h no may not4 = false≢true reads
