@@ -1,5 +1,5 @@
 -- The log that a run has written tells that run: `replay` and `chart` take it.
-use Rattle.std.proofs.Common.{◌≡◌, ◌≢◌, ◌∙◌, ℕ, ℤ, Bool, true, List, [], Some, None, inl, inr, refl, sym, ap, subst}
+use Rattle.std.proofs.Common.{◌≡◌, ◌≢◌, ◌∙◌, ℕ, ℤ, true, List, [], Some, None, inl, inr, refl, sym, ap, subst}
 use Rattle.std.specs.Prelude.{◌⊎◌}
 use Rattle.xk_types.specs.declared.world.Entry.{Entry}
 use Rattle.xk_types.specs.Acceptance.{IsAccepted}
@@ -25,6 +25,7 @@ use Rattle.xk_serve.specs.OneAnswer.{IsChartOf, IsCharted, MayChart, charting, d
 use Rattle.xk_serve.specs.OrderedRun.{IsReplay, IsWholeRun}
 use Rattle.xk_serve.specs.Programs.{Gives}
 use Rattle.xk_serve.proofs.AnswerUniquenessLemmas.{done_zero, prints, prints_once, whole_done}
+use Rattle.xk_serve.proofs.TellingUniquenessLemmas.{same_tale}
 
 -- ---- what was written
 
@@ -120,12 +121,7 @@ whole_run m args numbers steps es r = record { last = r.last; leads = subst (λ 
 charts : (t : Task) (bytes logged : List ℕ) (m : ModuleValue) (es : List Entry) → Gives t.form bytes m → IsAccepted m → IsLogText logged es → IsWholeRun m t.arguments es
     → (d : Done) → IsChartOf (chart_text m t.arguments es) d → Answers (charting t) bytes logged (done_reply d)
 charts t bytes logged m es given accepted log whole (done.Told found all) is =
-    inl (done.Told found all, record { of = m; given = given; done = inr (accepted, (es, log, whole, pair is.0 is.1)) }, ap told_reply is.1)
-  where
-    pair : {a b : List ℕ} {x y : Bool} → a ≡ b → x ≡ y → (a, x) ≡ (b, y)
-    pair e d = cc
-    told_reply : Bool → Reply
-    told_reply w = done_reply (done.Told found w)
+    inl (done.Told found all, record { of = m; given = given; done = inr (accepted, (es, log, whole, same_tale is.0 is.1)) }, refl)
 charts t bytes logged m es given accepted log whole _ is = absurd is
 
 module _ (t : Task) (way : Way) (bytes logged : List ℕ) (r : Reply) (is : t.doing ≡ Run way true) (answers : Answers t bytes logged r) (zero : r.status ≡ 0) where

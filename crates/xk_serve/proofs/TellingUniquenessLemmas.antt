@@ -45,7 +45,7 @@ listed_once text m (Some o) a b h k = one_listing text o m a b h k
 listed_once text m None a b h k = one_listing [] [] m a b h k
 
 -- a text that is whole or not is one, if both are
-same_tale : {x y : List ℕ} {v w : Bool} → x ≡ y → v ≡ w → ◌≡◌ {A = Tale} (x, v) (y, w)
+pub same_tale : {x y : List ℕ} {v w : Bool} → x ≡ y → v ≡ w → ◌≡◌ {A = Tale} (x, v) (y, w)
 same_tale e d = cc
 
 -- a picture of a run is one
