@@ -254,7 +254,13 @@ pub fn rows() -> [Row; 21] {
         done("lanes", DRAWN, LOG, LANES, ""),
         done("where", Command::Where { log: "log" }, LOG, STOOD, ""),
         done("races", Command::Races { log: None }, "", RACED, ""),
-        done("tally", Command::Tally { seed: 1, runs: 4 }, "", TALLIED, ""),
+        done(
+            "tally",
+            Command::Tally { seed: 1, runs: 4 },
+            "",
+            TALLIED,
+            "",
+        ),
         refused(
             "check of no program",
             Command::Check,

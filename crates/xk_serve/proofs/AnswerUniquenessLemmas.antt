@@ -249,32 +249,32 @@ telling_whole picture kind file bytes m args logged told h =
 -- a text of a log that need not be that of a whole run isn't refused
 text_stands : (m : ModuleValue) (args : List ℤ) (logged : List ℕ) (es : List Entry) (f : Fault) → IsLogText logged es → IsNoRun m args logged f → MayStand Where f
     → status_of f ≢ 4 → ⊥
-text_stands m args logged es (fault.NotEnabled i) text no may not4 = false≢true may
-text_stands m args logged es fault.NotEnded text no may not4 = false≢true may
-text_stands m args logged es (fault.Grammar line) text no may not4 = text_not_wrong logged line es text no
-text_stands m args logged es fault.Truncated text no may not4 = text_not_cut logged es text no
-text_stands m args logged es fault.OutOfMemory text no may not4 = not4 refl
-text_stands m args logged es (fault.Text f) text no may not4 = no
-text_stands m args logged es (fault.Front f) text no may not4 = no
-text_stands m args logged es (fault.Refused r) text no may not4 = no
-text_stands m args logged es (fault.Arguments wants has) text no may not4 = no
-text_stands m args logged es fault.Device text no may not4 = no
+text_stands m args logged es (fault.NotEnabled i) text told_by may not4 = false≢true may
+text_stands m args logged es fault.NotEnded text told_by may not4 = false≢true may
+text_stands m args logged es (fault.Grammar line) text told_by may not4 = text_not_wrong logged line es text told_by
+text_stands m args logged es fault.Truncated text told_by may not4 = text_not_cut logged es text told_by
+text_stands m args logged es fault.OutOfMemory text told_by may not4 = not4 refl
+text_stands m args logged es (fault.Text f) text told_by may not4 = told_by
+text_stands m args logged es (fault.Front f) text told_by may not4 = told_by
+text_stands m args logged es (fault.Refused r) text told_by may not4 = told_by
+text_stands m args logged es (fault.Arguments wants has) text told_by may not4 = told_by
+text_stands m args logged es fault.Device text told_by may not4 = told_by
 
 -- a log of which something is told isn't refused
 telling_stands : (what : Doing) (kind : Form) (file bytes : List ℕ) (m : ModuleValue) (args : List ℤ) (logged : List ℕ) (told : Tale) (f : Fault) → reads_log what ≡ true
     → IsTelling what kind file bytes m args logged told → IsNoRun m args logged f → MayStand what f → status_of f ≢ 4 → ⊥
-telling_stands (Draw picture) kind file bytes m args logged told f reads h no may not4 =
-    let whole = telling_whole picture kind file bytes m args logged told h in whole_not_refused m args logged f whole.0 no not4 whole.1 whole.2
-telling_stands Where kind file bytes m args logged told f reads h no may not4 = text_stands m args logged h.1.1.0 f h.1.1.1 no may not4
-telling_stands Races kind file bytes m args logged told f reads h no may not4 = false≢true reads
-telling_stands (Tally seed runs) kind file bytes m args logged told f reads h no may not4 = false≢true reads
-telling_stands (Explain json) kind file bytes m args logged told f reads h no may not4 = false≢true reads
-telling_stands Listing kind file bytes m args logged told f reads h no may not4 = false≢true reads
-telling_stands Check kind file bytes m args logged told f reads h no may not4 = h
-telling_stands Compile kind file bytes m args logged told f reads h no may not4 = h
-telling_stands (Run way kept) kind file bytes m args logged told f reads h no may not4 = h
-telling_stands Replay kind file bytes m args logged told f reads h no may not4 = h
-telling_stands (Outcomes sets limit pick kept) kind file bytes m args logged told f reads h no may not4 = h
+telling_stands (Draw picture) kind file bytes m args logged told f reads h told_by may not4 =
+    let whole = telling_whole picture kind file bytes m args logged told h in whole_not_refused m args logged f whole.0 told_by not4 whole.1 whole.2
+telling_stands Where kind file bytes m args logged told f reads h told_by may not4 = text_stands m args logged h.1.1.0 f h.1.1.1 told_by may not4
+telling_stands Races kind file bytes m args logged told f reads h told_by may not4 = false≢true reads
+telling_stands (Tally seed count) kind file bytes m args logged told f reads h told_by may not4 = false≢true reads
+telling_stands (Explain json) kind file bytes m args logged told f reads h told_by may not4 = false≢true reads
+telling_stands Listing kind file bytes m args logged told f reads h told_by may not4 = false≢true reads
+telling_stands Check kind file bytes m args logged told f reads h told_by may not4 = h
+telling_stands Compile kind file bytes m args logged told f reads h told_by may not4 = h
+telling_stands (Run way kept) kind file bytes m args logged told f reads h told_by may not4 = h
+telling_stands Replay kind file bytes m args logged told f reads h told_by may not4 = h
+telling_stands (Outcomes sets limit pick kept) kind file bytes m args logged told f reads h told_by may not4 = h
 
 -- main of what is run takes as many numbers as it is given
 telling_taken : (what : Doing) (kind : Form) (file bytes : List ℕ) (m : ModuleValue) (args : List ℤ) (logged : List ℕ) (told : Tale) → runs what ≡ true
@@ -339,7 +339,6 @@ told_once t bytes logged m d e given p q =
     (ap (λ (tale : Tale). tale.0) same, a.3 ∙ sym b.3)
 
 -- ---- what is said of a module
-
 
 -- The reply is that of a refusal, of arguments that aren't as many as main takes, of a log of no run, of what the job comes to, or of what it tells.
 data Said (t : Task) (bytes : List ℕ) (m : ModuleValue) (logged : List ℕ) (r : Reply) : Type 0 where

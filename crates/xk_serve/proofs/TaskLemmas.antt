@@ -196,7 +196,7 @@ no_run_fails : (t : Task) (bytes logged : List ℕ) (m : ModuleValue) (f : Fault
 no_run_fails t bytes logged m (fault.Text f) reads wants given accepted taken h = absurd h
 no_run_fails t bytes logged m (fault.Front f) reads wants given accepted taken h = absurd h
 no_run_fails t bytes logged m (fault.Refused r) reads wants given accepted taken h = absurd h
-no_run_fails t bytes logged m (fault.Arguments wants has) reads wants given accepted taken h = absurd h
+no_run_fails t bytes logged m (fault.Arguments wants has) reads entire given accepted taken h = absurd h
 no_run_fails t bytes logged m (fault.Grammar line) reads wants given accepted taken h = (reads, (m, given, accepted, (taken, h)))
 no_run_fails t bytes logged m fault.Truncated reads wants given accepted taken h = (reads, (m, given, accepted, (taken, h)))
 no_run_fails t bytes logged m (fault.NotEnabled i) reads wants given accepted taken h = (wants, (reads, (m, given, accepted, (taken, h))))
@@ -216,7 +216,7 @@ against_run : (t : Task) (bytes : List ℕ) (known : Option (List ℕ)) (old new
 against_run t bytes known old new m (fault.Text f) reads wants given accepted taken h = no_run_stands t bytes known old new m (fault.Text f) reads wants given accepted taken h
 against_run t bytes known old new m (fault.Front f) reads wants given accepted taken h = no_run_stands t bytes known old new m (fault.Front f) reads wants given accepted taken h
 against_run t bytes known old new m (fault.Refused r) reads wants given accepted taken h = no_run_stands t bytes known old new m (fault.Refused r) reads wants given accepted taken h
-against_run t bytes known old new m (fault.Arguments wants has) reads wants given accepted taken h = no_run_stands t bytes known old new m (fault.Arguments wants has) reads wants given accepted taken h
+against_run t bytes known old new m (fault.Arguments wants has) reads entire given accepted taken h = no_run_stands t bytes known old new m (fault.Arguments wants has) reads entire given accepted taken h
 against_run t bytes known old new m (fault.Grammar line) reads wants given accepted taken h = no_run_stands t bytes known old new m (fault.Grammar line) reads wants given accepted taken h
 against_run t bytes known old new m fault.Truncated reads wants given accepted taken h = no_run_stands t bytes known old new m fault.Truncated reads wants given accepted taken h
 against_run t bytes known old new m (fault.NotEnabled i) reads wants given accepted taken h = no_run_stands t bytes known old new m (fault.NotEnabled i) reads wants given accepted taken h

@@ -94,6 +94,11 @@ window_given from to = record { first = unwrap_or from whole_run.first; last = u
 abbrev pub lanes_given : Option ℕ → Option ℕ → Bool → Picture
 lanes_given from to svg = if svg then picture.Image (window_given from to) else picture.Lanes (window_given from to)
 
+-- races are those of the run that a log has, if one is given, and else of the run in the order `first`
+abbrev pub races_by : Bool → Doing
+races_by true = Draw picture.Races
+races_by false = Races
+
 -- how many outcomes are looked for at most where nothing is said
 abbrev pub usual_limit : ℕ
 usual_limit = 40000
@@ -110,8 +115,7 @@ doing_of (command.Chart log) = Draw picture.Chart
 doing_of (command.Events log) = Draw picture.Events
 doing_of (command.Lanes log from to svg) = Draw (lanes_given from to svg)
 doing_of (command.Where log) = Where
-doing_of (command.Races (Some log)) = Draw picture.Races
-doing_of (command.Races None) = Races
+doing_of (command.Races path) = races_by (is_some path)
 doing_of (command.Tally seed runs) = Tally seed runs
 doing_of (command.Outcomes limit pick path sets) = Outcomes sets (unwrap_or limit usual_limit) (unwrap_or pick 1) (is_some path)
 

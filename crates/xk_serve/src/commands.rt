@@ -13,15 +13,15 @@ ghost use Rattle.xk_serve.specs.declared.fault.Fault.TheVariants.{OutOfMemory};
 
 use crate::explanation::{acceptance, listing};
 use crate::fault::Fault;
+use crate::first_races::raced;
 use crate::job_result::Done;
 use crate::logged_run::{run_by_workers, run_with_log, steps_of};
 use crate::ordered_run::run_in_order;
 use crate::outcome_search::searched;
-use crate::first_races::raced;
 use crate::picture::{Picture, drawn, lanes_given};
+use crate::program_loader::module_in;
 use crate::tally::tallied;
 use crate::whereabouts::stood;
-use crate::program_loader::module_in;
 use std::alloc::{AllocError, Global};
 use std::sync::Wait;
 use std::thread::Threads;
@@ -76,11 +76,14 @@ pub(crate) fn answer<R: Threads + Wait + Sync, L: Source>(
             drawn(alloc, lanes, job.form, bytes, module, arguments, log_in)
         }
         Command::Where { .. } => stood(alloc, job.form, bytes, module, arguments, log_in),
-        Command::Races { log: Some(_) } => {
-            let races = Picture::Races;
-            drawn(alloc, races, job.form, bytes, module, arguments, log_in)
+        Command::Races { log } => {
+            let given = log.is_some();
+            if given {
+                let races = Picture::Races;
+                return drawn(alloc, races, job.form, bytes, module, arguments, log_in);
+            }
+            raced(alloc, job.form, bytes, module, arguments)
         }
-        Command::Races { log: None } => raced(alloc, job.form, bytes, module, arguments),
         Command::Tally { seed, runs } => tallied(alloc, seed, runs, module, arguments),
         Command::Outcomes {
             sets,

@@ -9,9 +9,7 @@ use crate::fault::Fault;
 use crate::job_result::Done;
 use std::alloc::{AllocError, Global};
 use xk_bounds::Verified;
-use xk_outcomes::{
-    Limit, Outcome, Outcomes as OutcomeList, outcome_sets, outcomes, outcomes_text,
-};
+use xk_outcomes::{Limit, Outcome, Outcomes as OutcomeList, outcome_sets, outcomes, outcomes_text};
 use xk_types::{Entry, Module};
 
 /// How many worlds are kept at most, and how many outcomes are told, where nothing is said.

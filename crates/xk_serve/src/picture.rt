@@ -143,12 +143,7 @@ fn picture_of(
 }
 
 /// What others see of its steps.
-fn events_of(
-    alloc: Global,
-    form: Form,
-    bytes: &[u8],
-    ended: &Ended<'_>,
-) -> Result<Tale, AllocError>
+fn events_of(alloc: Global, form: Form, bytes: &[u8], ended: &Ended<'_>) -> Result<Tale, AllocError>
     ensures { IfOk result (λ tale. IsByOrigins form bytes.now
         (events_told bytes.now ended.now.module.now ended.now.core.world.arguments
         ended.now.log.items) (tale.text.items, tale.whole)) }

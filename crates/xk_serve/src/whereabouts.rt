@@ -85,9 +85,7 @@ fn whereabouts(
         (tale.text.items, tale.whole)) }
 {
     let found = match origins_in(alloc, form, bytes)? {
-        Some(origins) => {
-            source_where(alloc, bytes, origins.units(), verified, arguments, log)?
-        }
+        Some(origins) => { source_where(alloc, bytes, origins.units(), verified, arguments, log)? }
         None => module_where(alloc, verified, arguments, log)?,
     };
     Ok(Tale {

@@ -2,7 +2,7 @@ use Rattle.std.proofs.Common.{◌∙◌, refl, ap, sym}
 use Rattle.std.specs.Prelude.{unwrap_or}
 use Rattle.xk_serve.specs.declared.picture.Picture.TheVariants as picture
 use Rattle.std.proofs.lemmas.Result.{err_from_is_err_and}
-use Rattle.xk_serve.specs.Answer.{Check, Compile, Draw, Outcomes, Races, Replay, Run, Where, doing_of, task_of, usual_limit, way_given}
+use Rattle.xk_serve.specs.Answer.{Check, Compile, Draw, Outcomes, Races, Replay, Run, Where, doing_of, races_by, task_of, usual_limit, way_given}
 use Rattle.xk_serve.proofs.TaskLemmas.{against_any, against_log, against_memory, against_refused, against_run_of, against_text, done_of_any, done_of_log, done_of_none, done_of_run, done_of_text, done_of_told}
 use Rattle.xk_serve.proofs.commands.answer.Goals as goal
 
@@ -81,12 +81,12 @@ returns-in-Events-clause-fault g c =
 pub returns-in-Lanes-clause-done : goal.returns-in-Lanes-clause-done
 returns-in-Lanes-clause-done g c =
     let is = ap doing_of c.in-Lanes.is ∙ ap (λ p. Draw p) (sym c.lanes_given-lanes.ensures) in
-    done_of_run (task_of c.args.job.now) c.args.bytes.now (g.L.Source.remaining c.args.log_in.now) _ (Draw c.lanes_given-lanes.lanes) c.as_slice-arguments.result.now c.drawn-in-Lanes.result is c.as_slice-arguments.ensures.value refl c.in_ok-module.ensures.module (c.drawn-in-Lanes.ensures.done c.args.job.now.file.now)
+    done_of_run (task_of c.args.job.now) c.args.bytes.now (g.L.Source.remaining c.args.log_in.now) _ (Draw c.lanes_given-lanes.result) c.as_slice-arguments.result.now c.drawn-in-Lanes.result is c.as_slice-arguments.ensures.value refl c.in_ok-module.ensures.module (c.drawn-in-Lanes.ensures.done c.args.job.now.file.now)
 
 pub returns-in-Lanes-clause-fault : goal.returns-in-Lanes-clause-fault
 returns-in-Lanes-clause-fault g c =
     let is = ap doing_of c.in-Lanes.is ∙ ap (λ p. Draw p) (sym c.lanes_given-lanes.ensures) in
-    against_log (task_of c.args.job.now) c.args.bytes.now (g.L.Source.remaining c.args.log_in.now) _ _ _ (Draw c.lanes_given-lanes.lanes) c.as_slice-arguments.result.now c.drawn-in-Lanes.result is c.as_slice-arguments.ensures.value refl refl c.in_ok-module.ensures.module c.drawn-in-Lanes.ensures.fault
+    against_log (task_of c.args.job.now) c.args.bytes.now (g.L.Source.remaining c.args.log_in.now) _ _ _ (Draw c.lanes_given-lanes.result) c.as_slice-arguments.result.now c.drawn-in-Lanes.result is c.as_slice-arguments.ensures.value refl refl c.in_ok-module.ensures.module c.drawn-in-Lanes.ensures.fault
 
 pub returns-in-Where-clause-done : goal.returns-in-Where-clause-done
 returns-in-Where-clause-done g c =
@@ -96,21 +96,25 @@ pub returns-in-Where-clause-fault : goal.returns-in-Where-clause-fault
 returns-in-Where-clause-fault g c =
     against_text (task_of c.args.job.now) c.args.bytes.now (g.L.Source.remaining c.args.log_in.now) _ _ _ Where c.as_slice-arguments.result.now c.stood.result (ap doing_of c.in-Where.is) c.as_slice-arguments.ensures.value refl c.in_ok-module.ensures.module c.stood.ensures.fault
 
-pub returns-in-Races-clause-done : goal.returns-in-Races-clause-done
-returns-in-Races-clause-done g c =
-    done_of_run (task_of c.args.job.now) c.args.bytes.now (g.L.Source.remaining c.args.log_in.now) _ (Draw picture.Races) c.as_slice-arguments.result.now c.drawn-in-Races.result (ap doing_of c.in-Races.is) c.as_slice-arguments.ensures.value refl c.in_ok-module.ensures.module (c.drawn-in-Races.ensures.done c.args.job.now.file.now)
+pub returns-then-given-clause-done : goal.returns-then-given-clause-done
+returns-then-given-clause-done g c =
+    let is = ap doing_of c.in-Races.is ∙ ap races_by (sym c.is_some-given.ensures ∙ c.if-given.true) in
+    done_of_run (task_of c.args.job.now) c.args.bytes.now (g.L.Source.remaining c.args.log_in.now) _ (Draw picture.Races) c.as_slice-arguments.result.now c.drawn-then-given.result is c.as_slice-arguments.ensures.value refl c.in_ok-module.ensures.module (c.drawn-then-given.ensures.done c.args.job.now.file.now)
 
-pub returns-in-Races-clause-fault : goal.returns-in-Races-clause-fault
-returns-in-Races-clause-fault g c =
-    against_log (task_of c.args.job.now) c.args.bytes.now (g.L.Source.remaining c.args.log_in.now) _ _ _ (Draw picture.Races) c.as_slice-arguments.result.now c.drawn-in-Races.result (ap doing_of c.in-Races.is) c.as_slice-arguments.ensures.value refl refl c.in_ok-module.ensures.module c.drawn-in-Races.ensures.fault
+pub returns-else-given-clause-done : goal.returns-else-given-clause-done
+returns-else-given-clause-done g c =
+    let is = ap doing_of c.in-Races.is ∙ ap races_by (sym c.is_some-given.ensures ∙ c.if-given.false) in
+    done_of_told (task_of c.args.job.now) c.args.bytes.now (g.L.Source.remaining c.args.log_in.now) _ Races c.as_slice-arguments.result.now c.raced.result is c.as_slice-arguments.ensures.value c.in_ok-module.ensures.module (c.raced.ensures.done c.args.job.now.file.now)
 
-pub returns-in-Races-2-clause-done : goal.returns-in-Races-2-clause-done
-returns-in-Races-2-clause-done g c =
-    done_of_told (task_of c.args.job.now) c.args.bytes.now (g.L.Source.remaining c.args.log_in.now) _ Races c.as_slice-arguments.result.now c.raced.result (ap doing_of c.in-Races-2.is) c.as_slice-arguments.ensures.value c.in_ok-module.ensures.module (c.raced.ensures.done c.args.job.now.file.now)
+pub returns-then-given-clause-fault : goal.returns-then-given-clause-fault
+returns-then-given-clause-fault g c =
+    let is = ap doing_of c.in-Races.is ∙ ap races_by (sym c.is_some-given.ensures ∙ c.if-given.true) in
+    against_log (task_of c.args.job.now) c.args.bytes.now (g.L.Source.remaining c.args.log_in.now) _ _ _ (Draw picture.Races) c.as_slice-arguments.result.now c.drawn-then-given.result is c.as_slice-arguments.ensures.value refl refl c.in_ok-module.ensures.module c.drawn-then-given.ensures.fault
 
-pub returns-in-Races-2-clause-fault : goal.returns-in-Races-2-clause-fault
-returns-in-Races-2-clause-fault g c =
-    against_run_of (task_of c.args.job.now) c.args.bytes.now (g.L.Source.remaining c.args.log_in.now) _ _ _ c.as_slice-arguments.result.now c.raced.result (ap doing_of c.in-Races-2.is) c.as_slice-arguments.ensures.value refl c.in_ok-module.ensures.module c.raced.ensures.fault
+pub returns-else-given-clause-fault : goal.returns-else-given-clause-fault
+returns-else-given-clause-fault g c =
+    let is = ap doing_of c.in-Races.is ∙ ap races_by (sym c.is_some-given.ensures ∙ c.if-given.false) in
+    against_run_of (task_of c.args.job.now) c.args.bytes.now (g.L.Source.remaining c.args.log_in.now) _ _ Races c.as_slice-arguments.result.now c.raced.result is c.as_slice-arguments.ensures.value refl c.in_ok-module.ensures.module c.raced.ensures.fault
 
 pub returns-in-Tally-clause-done : goal.returns-in-Tally-clause-done
 returns-in-Tally-clause-done g c =
