@@ -1,8 +1,9 @@
--- The line that tells a fault of a program or of a log, with a line feed at its end. This project's own.
+-- The lines that the program prints of a program, a run or a fault, each with a line feed at its end, and statuses of faults. This project's own.
 use Rattle.std.specs.Prelude.{ℕ, List, [], ◌++◌, flat_map, codes, decimal, Option, Some, None}
 use Rattle.xk_types.specs.declared.rules.Rule.{Rule}
 use Rattle.xk_types.specs.declared.rules.Visit.{Visit}
 use Rattle.xk_types.specs.RuleNames.{rule_number, rule_name, kind_name}
+use Rattle.xk_cli.specs.Status.{status_memory, status_program}
 use Rattle.xk_tree.specs.declared.fault.FrontFault.{FrontFault}
 use Rattle.xk_tree.specs.Fault.{front_number, front_name}
 use Rattle.xk_typestate.specs.declared.fault.KindFault.{KindFault}
@@ -62,3 +63,26 @@ grammar_line n = line (codes "L1 Grammar line " ++ decimal n)
 
 abbrev pub not_enabled_line : ℕ → List ℕ
 not_enabled_line n = line (codes "L4 NotEnabled entry " ++ decimal n)
+
+-- ---- standard output
+
+-- a module that is accepted: `accepted steps 8 activities 1 clocks 1`
+abbrev pub accepted_line : ℕ → ℕ → ℕ → List ℕ
+accepted_line steps activities clocks =
+    codes "accepted steps " ++ (decimal steps ++ (codes " activities " ++ (decimal activities ++ (codes " clocks " ++ (decimal clocks ++ codes "\n")))))
+
+-- a run that came to its end: `ended steps 8`
+abbrev pub ended_line : ℕ → List ℕ
+ended_line steps = codes "ended steps " ++ (decimal steps ++ codes "\n")
+
+-- ---- statuses
+
+abbrev pub label_status : Option (List ℕ) → ℕ
+label_status (Some label) = status_program
+label_status None = status_memory
+
+abbrev pub refusal_status : Refusal → ℕ
+refusal_status (refusal.Shape f) = status_program
+refusal_status (refusal.Kind f) = status_program
+refusal_status (refusal.Bound f) = status_program
+refusal_status refusal.OutOfMemory = status_memory

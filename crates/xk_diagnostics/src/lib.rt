@@ -1,9 +1,11 @@
-//! The line that tells a fault of a program or of a log.
+//! The lines that the program prints of a program, a run or a fault, and the statuses of faults.
 #![tactic(auto)]
 
 mod lines;
+mod statuses;
 
 pub use lines::{
-    MEMORY_LINE, arguments_line, front_text, grammar_line, label_line, line, not_enabled_line,
-    refusal_line,
+    MEMORY_LINE, accepted_line, arguments_line, ended_line, front_text, grammar_line, label_line,
+    line, not_enabled_line, refusal_line,
 };
+pub use statuses::{label_status, refusal_status};

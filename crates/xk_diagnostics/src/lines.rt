@@ -1,8 +1,8 @@
-//! Faults, a line each.
+//! Programs, runs and faults, a line each.
 
 ghost use Rattle.std.specs.Prelude.{◌≡◌, IfOk, string_bytes};
 ghost use Rattle.xk_module.specs.Faults.{fault_label};
-ghost use Rattle.xk_diagnostics.specs.Lines.{arguments_line, bound_text, front_text, grammar_line, kind_text, label_line, line, not_enabled_line, place_text, refusal_line, rule_text, walk_text};
+ghost use Rattle.xk_diagnostics.specs.Lines.{accepted_line, arguments_line, bound_text, ended_line, front_text, grammar_line, kind_text, label_line, line, not_enabled_line, place_text, refusal_line, rule_text, walk_text};
 
 use std::alloc::{AllocError, Global};
 use xk_bounds::{BoundFault, KindFault, Refusal};
@@ -132,4 +132,23 @@ fn bound_text(alloc: Global, fault: &BoundFault) -> Result<String, AllocError>
     let rule = rule_text(alloc, fault.rule)?;
     let limit = fault.limit;
     format!(in alloc; "{rule} over {limit}")
+}
+
+/// `accepted steps 8 activities 1 clocks 1`. Err where memory was refused.
+pub fn accepted_line(
+    alloc: Global,
+    steps: u64,
+    activities: u32,
+    clocks: u32,
+) -> Result<String, AllocError>
+    ensures { IfOk result (λ text. string_bytes text ≡ accepted_line steps activities clocks) }
+{
+    format!(in alloc; "accepted steps {steps} activities {activities} clocks {clocks}\n")
+}
+
+/// `ended steps 8`. Err where memory was refused.
+pub fn ended_line(alloc: Global, steps: u64) -> Result<String, AllocError>
+    ensures { IfOk result (λ text. string_bytes text ≡ ended_line steps) }
+{
+    format!(in alloc; "ended steps {steps}\n")
 }

@@ -31,7 +31,8 @@ use Rattle.xk_serve.specs.Answer.{Answers, Check, ComesTo, Compile, Doing, Draw,
 use Rattle.xk_serve.specs.Explanation.{Tale}
 use Rattle.xk_serve.specs.declared.picture.Picture.{Picture}
 use Rattle.xk_output.specs.Lines.{number_lines}
-use Rattle.xk_serve.specs.Lines.{accepted_line, done_log, done_text, ended_line, fault_line, refusal_status, status_of}
+use Rattle.xk_serve.specs.Lines.{done_log, done_text, fault_line, status_of}
+use Rattle.xk_diagnostics.specs.Lines.{accepted_line, ended_line, refusal_status}
 use Rattle.xk_diagnostics.specs.Lines.{arguments_line}
 use Rattle.xk_serve.specs.OneAnswer.{ComesToOne, HasOneStatus, IsDetermined, IsLeftOpen, IsSameLine, IsSameReply, TellFaults}
 use Rattle.xk_serve.specs.OrderedRun.{IsLoggedRun, IsOrderedRun, IsReplay}

@@ -33,7 +33,7 @@ use Rattle.xk_cli.specs.declared.job.Form.{Form}
 use Rattle.xk_cli.specs.declared.job.Form.TheVariants as form
 use Rattle.xk_serve.specs.declared.fault.Fault.{Fault}
 use Rattle.xk_serve.specs.declared.fault.Fault.TheVariants as fault
-use Rattle.xk_serve.specs.Lines.{accepted_line}
+use Rattle.xk_diagnostics.specs.Lines.{accepted_line}
 use Rattle.xk_serve.specs.Programs.{GiveNone, Gives, IsNoSource, IsNoText, IsSource}
 
 -- ---- where instructions come from

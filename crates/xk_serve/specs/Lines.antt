@@ -4,7 +4,7 @@ use Rattle.xk_types.specs.declared.rules.Rule.{Rule}
 use Rattle.xk_types.specs.declared.rules.Visit.{Visit}
 use Rattle.xk_types.specs.RuleNames.{rule_number, rule_name, kind_name}
 use Rattle.xk_log.specs.LogText.{log_text}
-use Rattle.xk_diagnostics.specs.Lines.{arguments_line, front_text, grammar_line, label_line, line, memory_line, not_enabled_line, refusal_line}
+use Rattle.xk_diagnostics.specs.Lines.{accepted_line, arguments_line, ended_line, front_text, grammar_line, label_line, label_status, line, memory_line, not_enabled_line, refusal_line, refusal_status}
 use Rattle.xk_output.specs.Lines.{number_lines}
 use Rattle.xk_cli.specs.Status.{status_device, status_log, status_memory, status_program}
 use Rattle.xk_module.specs.Faults.{fault_label}
@@ -20,15 +20,6 @@ use Rattle.xk_serve.specs.declared.fault.Fault.{Fault}
 use Rattle.xk_serve.specs.declared.fault.Fault.TheVariants as fault
 
 -- ---- standard output
-
--- a module that is accepted: `accepted steps 8 activities 1 clocks 1`
-abbrev pub accepted_line : ℕ → ℕ → ℕ → List ℕ
-accepted_line steps activities clocks =
-    codes "accepted steps " ++ (decimal steps ++ (codes " activities " ++ (decimal activities ++ (codes " clocks " ++ (decimal clocks ++ codes "\n")))))
-
--- a run that came to its end: `ended steps 8`
-abbrev pub ended_line : ℕ → List ℕ
-ended_line steps = codes "ended steps " ++ (decimal steps ++ codes "\n")
 
 abbrev pub done_text : Done → List ℕ
 done_text (done.Compiled text) = string_bytes text ++ codes "\n"
@@ -90,16 +81,6 @@ fault_line fault.OutOfMemory = memory_line
 fault_line fault.Device = device_line
 
 -- ---- statuses
-
-abbrev pub label_status : Option (List ℕ) → ℕ
-label_status (Some label) = status_program
-label_status None = status_memory
-
-abbrev pub refusal_status : Refusal → ℕ
-refusal_status (refusal.Shape f) = status_program
-refusal_status (refusal.Kind f) = status_program
-refusal_status (refusal.Bound f) = status_program
-refusal_status refusal.OutOfMemory = status_memory
 
 abbrev pub status_of : Fault → ℕ
 status_of (fault.Text f) = label_status (fault_label f)

@@ -7,7 +7,6 @@ ghost use Rattle.xk_serve.specs.Answer.{Check, ComesTo, Compile, Explain, IsLogT
 ghost use Rattle.xk_cli.specs.CommandLine.{By, In};
 ghost use Rattle.xk_cli.specs.Status.{status_program};
 ghost use Rattle.xk_serve.specs.Lines.{status_of};
-ghost use Rattle.xk_serve.specs.declared.job_result.Done.TheVariants.{Told};
 ghost use Rattle.xk_serve.specs.Devices.{AgainstLog, AgainstModule, AgainstRun, read_of};
 ghost use Rattle.xk_serve.specs.declared.fault.Fault.TheVariants.{OutOfMemory};
 
@@ -103,20 +102,16 @@ fn compiled(alloc: Global, m: &Module) -> Result<Done, Fault>
     Ok(Done::Compiled(write_module(alloc, m)?))
 }
 
-/// A whole answer that is a text.
-pub(crate) fn whole(text: Vec<u8>) -> Done
-    ensures { result ≡ Told text true }
-{
-    Done::Told { text, whole: true }
-}
-
 /// The listing of a module that these bytes give, which are such a text.
 fn listed(alloc: Global, form: Form, bytes: &[u8], m: Module) -> Result<Done, Fault>
     ensures done { (file : List ℕ) (args : List ℤ) (logged : List ℕ) → IfOk result
         (IsText (IsTelling Listing form file bytes.now m args logged)) }
     ensures fault { IfErr result (λ f. f ≡ OutOfMemory) }
 {
-    Ok(whole(listing(alloc, form, bytes, m)?))
+    Ok(Done::Told {
+        text: listing(alloc, form, bytes, m)?,
+        whole: true,
+    })
 }
 
 /// What `explain` says of a module that these bytes give, which are such a text, if it is accepted.
@@ -133,7 +128,10 @@ fn explained(
     ensures fault { IfErr result (IsRefusal m) }
 {
     let verified = accepted(alloc, m)?;
-    Ok(whole(acceptance(alloc, json, form, file, bytes, &verified)?))
+    Ok(Done::Told {
+        text: acceptance(alloc, json, form, file, bytes, &verified)?,
+        whole: true,
+    })
 }
 
 /// The bounds on the runs of a module, if it is accepted.

@@ -10,12 +10,12 @@ ghost use Rattle.xk_serve.specs.Devices.{IsQuiet, IsSaid};
 ghost use Rattle.xk_serve.specs.declared.fault.Fault.TheVariants as found;
 
 use crate::fault::Fault;
-use crate::job_result::accepted_line;
 use crate::program_loader::{origins_in, program_in, tree_of};
 use std::alloc::{AllocError, Global};
 use xk_bounds::{Refusal, Verified};
 use xk_cli::{Command, Form, Job};
 use xk_declarations::front_notes;
+use xk_diagnostics::accepted_line;
 use xk_expected::expected_notes;
 use xk_explain::{
     Note, explain_front, explain_module, explain_refusal, explain_source, note_lines, plain_lines,

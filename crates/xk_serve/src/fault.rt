@@ -1,16 +1,16 @@
 //! What stands against a job.
 
 ghost use Rattle.std.specs.Prelude.{◌≡◌, IfOk, string_bytes};
-ghost use Rattle.xk_module.specs.Faults.{fault_label};
-ghost use Rattle.xk_serve.specs.Lines.{fault_line, label_status, refusal_status, status_of};
+ghost use Rattle.xk_serve.specs.Lines.{fault_line, status_of};
+ghost use Rattle.xk_diagnostics.specs.Lines.{label_status, refusal_status};
 
 use std::alloc::{AllocError, Global};
 use thiserror::Error;
 use xk_bounds::Refusal;
 use xk_cli::status;
 use xk_diagnostics::{
-    MEMORY_LINE, arguments_line, front_text, grammar_line, label_line, line, not_enabled_line,
-    refusal_line,
+    MEMORY_LINE, arguments_line, front_text, grammar_line, label_line, label_status, line,
+    not_enabled_line, refusal_line, refusal_status,
 };
 use xk_log::{Log, LogFault};
 use xk_module::ModuleFault;
@@ -191,25 +191,5 @@ impl From<(Log, ReplayFault)> for Fault {
             ReplayFault::NotEnded => Fault::NotEnded,
             ReplayFault::OutOfMemory => Fault::OutOfMemory,
         }
-    }
-}
-
-/// The status of a fault of the module text.
-fn label_status(fault: ModuleFault) -> u8
-    ensures { result ≡ label_status (fault_label fault) }
-{
-    match fault.label() {
-        Some(_) => status::PROGRAM,
-        None => status::MEMORY,
-    }
-}
-
-/// The status of a refusal.
-fn refusal_status(refusal: &Refusal) -> u8
-    ensures { result ≡ refusal_status refusal.now }
-{
-    match refusal {
-        Refusal::Shape(_) | Refusal::Kind(_) | Refusal::Bound(_) => status::PROGRAM,
-        Refusal::OutOfMemory => status::MEMORY,
     }
 }

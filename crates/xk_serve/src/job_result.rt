@@ -7,10 +7,12 @@ ghost use Rattle.xk_types.specs.Device.{Rose};
 ghost use Rattle.xk_log.specs.LogText.{log_text};
 ghost use Rattle.xk_log.specs.Writing.{AppendsBeginning};
 ghost use Rattle.xk_serve.specs.Answer.{done_status};
-ghost use Rattle.xk_serve.specs.Lines.{accepted_line, done_ending, done_front, done_log, done_text, ended_line};
+ghost use Rattle.xk_serve.specs.Lines.{done_ending, done_front, done_log, done_text};
+ghost use Rattle.xk_diagnostics.specs.Lines.{accepted_line, ended_line};
 
 use std::alloc::{AllocError, Global};
 use xk_cli::status;
+use xk_diagnostics::{accepted_line, ended_line};
 use xk_log::{Device, write_all};
 use xk_output::write_numbers;
 use xk_types::{Entry, Sink};
@@ -129,23 +131,4 @@ impl Done {
             Done::Ended { printed, .. } => write_numbers(printed, out),
         }
     }
-}
-
-/// `accepted steps 8 activities 1 clocks 1`.
-pub(crate) fn accepted_line(
-    alloc: Global,
-    steps: u64,
-    activities: u32,
-    clocks: u32,
-) -> Result<String, AllocError>
-    ensures { IfOk result (λ text. string_bytes text ≡ accepted_line steps activities clocks) }
-{
-    format!(in alloc; "accepted steps {steps} activities {activities} clocks {clocks}\n")
-}
-
-/// `ended steps 8`.
-fn ended_line(alloc: Global, steps: u64) -> Result<String, AllocError>
-    ensures { IfOk result (λ text. string_bytes text ≡ ended_line steps) }
-{
-    format!(in alloc; "ended steps {steps}\n")
 }

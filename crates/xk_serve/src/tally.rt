@@ -4,7 +4,7 @@ ghost use Rattle.std.specs.Prelude.{◌≡◌, ℕ, List, IfOk, IfErr};
 ghost use Rattle.xk_serve.specs.Answer.{IsNotRun, IsTelling, IsText, Tally};
 ghost use Rattle.xk_cli.specs.declared.job.Form.{Form as FormValue};
 
-use crate::commands::{runnable, whole};
+use crate::commands::runnable;
 use crate::fault::Fault;
 use crate::job_result::Done;
 use std::alloc::Global;
@@ -24,5 +24,8 @@ pub(crate) fn tallied(
     ensures fault { IfErr result (IsNotRun m arguments.now) }
 {
     let verified = runnable(alloc, m, arguments)?;
-    Ok(whole(tally(alloc, &verified, arguments, seed, runs)?))
+    Ok(Done::Told {
+        text: tally(alloc, &verified, arguments, seed, runs)?,
+        whole: true,
+    })
 }
