@@ -353,7 +353,7 @@ class Comparer:
             self.draws(text, judged, outcome)
 
     def draws(self, text: bytes, judged: Accepted, outcome: Outcome) -> None:
-        """`events` and `lanes` tell of a run by its log, unless it is a large one."""
+        """`events`, `lanes`, its picture, `races` and `where` tell of a run by its log, unless it is a large one."""
         way, given = random.Random(text).choice(ways(text, judged))
         log = telling_log.log_of(judged.module, way, given)
         if len(log) * judged.bounds.activities > MOST_DRAWN:
@@ -362,11 +362,11 @@ class Comparer:
         outcome.counts["runs drawn"] += 1
         with tempfile.NamedTemporaryFile() as file:
             pathlib.Path(file.name).write_bytes(telling_log.text_of(log))
-            for command in ("events", "lanes"):
-                told = done(telling_runs.teller(command, text, not self.source)(telling_log.replay(judged.module, log, given)))
-                answer = self.ask(text, command, *words_of(given), log=file.name)
+            for command, *flags in (["events"], ["lanes"], ["lanes", "--svg"], ["races"], ["where"]):
+                told = Answer(*telling_runs.answer(command, judged, text, not self.source, telling_log.text_of(log), given, is_picture=bool(flags)))
+                answer = self.ask(text, command, *flags, *words_of(given), log=file.name)
                 if answer != told:
-                    outcome.differ(f"{command}, run {' '.join(way.words())}", told, answer)
+                    outcome.differ(f"{' '.join([command, *flags])}, run {' '.join(way.words())}", told, answer)
 
     def finds_out(self, text: bytes, judged: Accepted, outcome: Outcome) -> None:
         """`outcomes` tells what the telling finds, and the log of one of them."""

@@ -445,7 +445,7 @@ def answered(job: Job, data: bytes, log_in: BinaryIO | None, log_out: BinaryIO |
         return tallied(job, judged)
     if job.command in ("run", "outcomes"):
         return ran(job, judged, log_out) if job.command == "run" else outcomes(job, judged, log_out)
-    log = contents(log_in) if log_in else first_log(judged, tuple(job.numbers))
+    log = contents(log_in) if "LOG" in job.values else first_log(judged, tuple(job.numbers))
     window = range(int(job.values.get("from", "0")), int(job.values.get("to", str(2**64 - 1))) + 1)
     status, out, err = telling_runs.answer(job.command, judged, data, "module" in job.flags, log, tuple(job.numbers), window, "svg" in job.flags)
     return Told(status, out, err.removesuffix("\n"))
