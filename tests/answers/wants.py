@@ -83,8 +83,8 @@ def to_events(steps: int) -> int:
 
 
 def to_lanes(steps: int) -> int:
-    """Twice the text, of which a row has some 28 bytes here, and the list of the steps that others see."""
-    return (2 * 28 + 64) * steps
+    """Twice the text, of which a row has some 28 bytes here, and the lists of the steps that others see and of those that are drawn."""
+    return (2 * 28 + 128) * steps
 
 
 # The programs.
