@@ -1,4 +1,5 @@
 pub mod StepEventLemmas
+pub mod PassEventLemmas
 pub mod StageLemmas
 pub mod InStepLemmas
 pub mod SwapLemmas

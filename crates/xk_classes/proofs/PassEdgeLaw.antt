@@ -18,7 +18,7 @@ use Rattle.xk_squares.proofs.QuietStepLaw.{enabled_step}
 use Rattle.xk_classes.specs.Classes.{AreOneClass}
 use Rattle.xk_classes.specs.Edges.{StepName, turns_of, IsTaken, IsEdge, AreSound, IsTurn, phase_of, IsPass, IsCause}
 use Rattle.xk_classes.specs.OneRun.{GoesAsWell}
-use Rattle.xk_classes.proofs.StepEventLemmas.{passes_arrived, arrived_free}
+use Rattle.xk_classes.proofs.PassEventLemmas.{passes_arrived, arrived_free}
 use Rattle.xk_classes.proofs.StageLemmas.{stage_at, moves_on, pending_stage, registered_stage, unsignalled_stage}
 use Rattle.xk_classes.proofs.SwapLemmas.{State, state_of}
 use Rattle.xk_classes.proofs.ClassLemmas.{states_by, class_same, class_as_well}
