@@ -27,7 +27,8 @@ use Rattle.xk_classes.proofs.StartEdgeLaw.{turns_all, start_taken}
 use Rattle.xk_classes.proofs.FinishEdgeLaw.{under_taken}
 
 -- no clock goes back
-phases_rise : (m : ModuleValue) → IsWithinLimits m → IsAccepted m → (list : List ℕ) (w v : World) (k : ℕ) → IsReached m w → run m list w ≡ Through v → phase_of w k ≤ phase_of v k
+phases_rise : (m : ModuleValue) → IsWithinLimits m → IsAccepted m → (list : List ℕ) (w v : World) (k : ℕ) → IsReached m w → run m list w ≡ Through v
+    → phase_of w k ≤ phase_of v k
 phases_rise m limits ok [] w v k reached legal = subst (λ z. phase_of w k ≤ phase_of z k) (same_through w v legal) (omega arith)
 phases_rise m limits ok (d ∷ list) w v k reached legal =
     let x = first_step w v (step m w d) (run m list) legal in
@@ -71,7 +72,8 @@ module _ (m : ModuleValue) (args : List ℤ) (limits : IsWithinLimits m) (ok : I
         let u = enabled_step (step m v y.0) enabled in
         let b = found_of m v y.0 u.0 u.1 u.2 in
         let both : plain_activity a.0 ≡ plain_activity b.0 =
-        same_Some (plain_activity a.0) (plain_activity b.0) (sym (ap (option_map plain_activity) a.1) ∙ ap (λ (t : State). t.0) same_pass ∙ ap (option_map plain_activity) b.1) in
+        same_Some (plain_activity a.0) (plain_activity b.0)
+        (sym (ap (option_map plain_activity) a.1) ∙ ap (λ (t : State). t.0) same_pass ∙ ap (option_map plain_activity) b.1) in
         let arrived : b.0.status ≡ status.Arrived = sym (ap (λ (t : Activity). t.status) both) ∙ passes_arrived m f.second.here f.there y.0 a.0 f.passes a.1 in
         arrived_free m v y.0 b.0 b.1 arrived enabled
 
@@ -105,11 +107,12 @@ module _ (m : ModuleValue) (args : List ℤ) (limits : IsWithinLimits m) (ok : I
         let stage : stage_at f.first.here f.clock x.0 ≡ stage_at r.here f.clock x.0 = ap (λ (t : State). t.1 f.clock) same in
         let rise = phases_rise m limits ok r.front v r.here f.clock (reached_run m before w v reached leads) r.leads in
         let p = pending_stage f.first.here.clocks f.clock x.0 f.pending in
-        let least = registered_stage r.here.clocks f.clock x.0 (some_stage (phase_of f.first.here f.clock) (stage_at f.first.here f.clock x.0) (stage_at r.here f.clock x.0) stage p.0) in
-        half (phase_of v f.clock) (phase_of r.here f.clock) (phase_of f.first.here f.clock) (stage_at f.first.here f.clock x.0) (stage_at r.here f.clock x.0) rise stage p.1 least
+        let least = registered_stage r.here.clocks f.clock x.0 (some_stage (stage_at f.first.here f.clock x.0) (stage_at r.here f.clock x.0) stage (omega (arith, p.0))) in
+        half (phase_of v f.clock) (phase_of r.here f.clock) (phase_of f.first.here f.clock)
+        (stage_at f.first.here f.clock x.0) (stage_at r.here f.clock x.0) rise stage p.1 least
       where
-        some_stage : (p a b : ℕ) → a ≡ b → suc (p + p) ≤ a → 0 < b
-        some_stage p a b h g = omega arith
+        some_stage : (a b : ℕ) → a ≡ b → 0 < a → 0 < b
+        some_stage a b h g = omega arith
 
         half : (v r p a b : ℕ) → v ≤ r → a ≡ b → a ≤ suc (suc (p + p)) → suc (r + r) ≤ b → v ≤ p
         half v r p a b h g k l = omega arith
