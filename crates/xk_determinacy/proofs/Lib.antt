@@ -1,0 +1,9 @@
+pub mod NumberedFinishLemmas
+pub mod StepNestingLemmas
+pub mod PhaseLemmas
+pub mod TurnLemmas
+pub mod DeedPartLemmas
+pub mod ScopeLemmas
+pub mod LinkLemmas
+pub mod AccessLemmas
+pub mod RaceFreeLaw
