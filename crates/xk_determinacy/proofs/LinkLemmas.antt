@@ -36,10 +36,6 @@ use Rattle.xk_determinacy.proofs.TurnLemmas.{Turn, name_of, IsToldOf, deeds, dee
 use Rattle.xk_determinacy.proofs.DeedPartLemmas.{Says, IsPart, is_pass, parts_of}
 use Rattle.xk_determinacy.proofs.ScopeLemmas.{nest, opened_in, scopes_append, scopes_step, numbered_run, opening_numbered, ended_stays}
 
--- what an edge can stand for: a start, a finish, or a clock that was waited for
-abbrev pub Cause : ModuleValue → World → List ℕ → StepName → StepName → Type 0
-Cause m w s x y = IsCause m w s x y ⊎ IsPass m w s x y
-
 abbrev pub Edges : Type 0
 Edges = List (StepName × StepName)
 
@@ -82,7 +78,7 @@ before_more xs ys has x y b = record { between = b.between; way = way_more xs ys
 -- some edges, each of which has a cause, by which x is before y
 pub record IsLed (m : ModuleValue) (w : World) (s : List ℕ) (x y : StepName) : Type 0 where
   pub edges : Edges
-  pub causes : (u v : StepName) → IsEdge edges u v → Cause m w s u v
+  pub causes : (u v : StepName) → IsEdge edges u v → IsCause m w s u v
   pub before : IsBefore edges x y
 
 -- or x is y
@@ -90,7 +86,7 @@ abbrev pub UpTo : ModuleValue → World → List ℕ → StepName → StepName �
 UpTo m w s x y = (x ≡ y) ⊎ IsLed m w s x y
 
 module _ (m : ModuleValue) (w : World) (s : List ℕ) where
-  led_cause : (x y : StepName) → Cause m w s x y → IsLed m w s x y
+  led_cause : (x y : StepName) → IsCause m w s x y → IsLed m w s x y
   led_cause x y c = record { edges = (x, y) ∷ []; causes = λ u v h. of u v h.0 h.1; before = record { between = []; way = inl (0, refl) } }
     where
       one : Edges
@@ -99,8 +95,8 @@ module _ (m : ModuleValue) (w : World) (s : List ℕ) where
       same : (p q : StepName × StepName) → Some p ≡ Some q → p ≡ q
       same p q h = cc
 
-      of : (u v : StepName) (k : ℕ) → slice_get one k ≡ Some (u, v) → Cause m w s u v
-      of u v zero h = subst (λ (p : StepName × StepName). Cause m w s p.0 p.1) (same (x, y) (u, v) h) c
+      of : (u v : StepName) (k : ℕ) → slice_get one k ≡ Some (u, v) → IsCause m w s u v
+      of u v zero h = subst (λ (p : StepName × StepName). IsCause m w s p.0 p.1) (same (x, y) (u, v) h) c
       of u v (suc k) h = absurd (none-some (u, v) h)
 
   led_own : (x y : StepName) → x.0 ≡ y.0 → x.1 < y.1 → IsLed m w s x y
@@ -122,7 +118,7 @@ module _ (m : ModuleValue) (w : World) (s : List ℕ) where
     };
   }
     where
-      of : (u v : StepName) → IsEdge p.edges u v ⊎ IsEdge q.edges u v → Cause m w s u v
+      of : (u v : StepName) → IsEdge p.edges u v ⊎ IsEdge q.edges u v → IsCause m w s u v
       of u v (inl h) = p.causes u v h
       of u v (inr h) = q.causes u v h
 

@@ -9,14 +9,14 @@ use Rattle.xk_types.specs.declared.world.Event.{Event}
 use Rattle.xk_types.specs.Acceptance.{IsAccepted}
 use Rattle.xk_types.specs.Code.{ModuleValue, IsWithinLimits}
 use Rattle.xk_types.specs.World.{World, AreArguments, opening}
-use Rattle.xk_types.specs.Schedule.{Through, run, IsReached}
+use Rattle.xk_types.specs.Schedule.{Through, run, IsReached, all_ended}
 use Rattle.xk_laws.proofs.ReachabilityLemmas.{opening_reached}
 use Rattle.xk_squares.specs.Conflicts.{next_instruction}
 use Rattle.xk_squares.proofs.ChangeSquareLemmas.{found_of}
 use Rattle.xk_classes.specs.Classes.{HasNoRace}
-use Rattle.xk_classes.specs.Edges.{StepName, turns_of, IsEdge, IsBefore, instruction_of, AreApart, AreSound, AreOrdered}
-use Rattle.xk_classes.specs.OneRun.{IsWholeRun}
+use Rattle.xk_classes.specs.Edges.{StepName, turns_of, IsEdge, IsBefore, instruction_of, AreApart, IsCause, AreOrdered}
 use Rattle.xk_classes.proofs.OneRunLaw.{ordered_run}
+use Rattle.xk_classes.proofs.PassEdgeLaw.{causes_sound}
 use Rattle.xk_classes.proofs.EdgeLaw.{run_behind, turns_on}
 use Rattle.xk_classes.proofs.StartEdgeLaw.{grown_run}
 use Rattle.xk_races.specs.declared.deeds.Deed.{Deed}
@@ -30,7 +30,7 @@ use Rattle.xk_races.specs.Exactness.{Has}
 use Rattle.xk_races.proofs.SightLemmas.{order_is_exact}
 use Rattle.xk_races.proofs.RaceListLemmas.{races_are_exact}
 use Rattle.xk_determinacy.proofs.TurnLemmas.{Turn, name_of, IsToldOf, deeds, deed_at, turn_reached}
-use Rattle.xk_determinacy.proofs.LinkLemmas.{Cause, Edges, HasAll, edge_left, edge_right, edge_split, before_more, IsLed, UpTo, before_up}
+use Rattle.xk_determinacy.proofs.LinkLemmas.{Edges, HasAll, edge_left, edge_right, edge_split, before_more, IsLed, UpTo, before_up}
 use Rattle.xk_determinacy.proofs.AccessLemmas.{Mode, event_of, Accesses, Sort, Does, DoesNone, sort_of, apart_none, apart_turned, apart_by, IsAccess, access_of, IsTurnOf, turn_of_step, IsSight, sight_of}
 
 -- ---- edges of many
@@ -38,7 +38,7 @@ use Rattle.xk_determinacy.proofs.AccessLemmas.{Mode, event_of, Accesses, Sort, D
 -- some edges, each of which has a cause, of which P holds
 pub record Gathered (m : ModuleValue) (w : World) (s : List ℕ) (P : Edges → Type 0) : Type 0 where
   pub edges : Edges
-  pub causes : (x y : StepName) → IsEdge edges x y → Cause m w s x y
+  pub causes : (x y : StepName) → IsEdge edges x y → IsCause m w s x y
   pub holds : P edges
 
 -- what holds of edges holds of more
@@ -55,7 +55,7 @@ both m w s P Q R more grows to p q = record {
       (grows q.edges (p.edges ++ q.edges) (edge_right p.edges q.edges) q.holds);
 }
   where
-    of : (x y : StepName) → IsEdge p.edges x y ⊎ IsEdge q.edges x y → Cause m w s x y
+    of : (x y : StepName) → IsEdge p.edges x y ⊎ IsEdge q.edges x y → IsCause m w s x y
     of x y (inl h) = p.causes x y h
     of x y (inr h) = q.causes x y h
 
@@ -243,7 +243,7 @@ module _ (m : ModuleValue) (args : List ℤ) (limits : IsWithinLimits m) (ok : I
       by (inr (inl b)) = inr (inl (before_more xs ys has x y b))
       by (inr (inr b)) = inr (inr (before_more xs ys has y x b))
 
-  no_cause : (x y : StepName) → IsEdge [] x y → Cause m w s x y
+  no_cause : (x y : StepName) → IsEdge [] x y → IsCause m w s x y
   no_cause x y h = absurd (none-some (x, y) h.1)
 
   pair : (x y : StepName) → Gathered m w s (InOrder x y)
@@ -312,6 +312,6 @@ module _ (m : ModuleValue) (args : List ℤ) (limits : IsWithinLimits m) (ok : I
           let q = inside y j there in
           all_pairs.holds x.0 p.0 x.1 p.1 y.0 q.0 y.1 q.1 differ
 
-  -- where edges with causes are sound, there is no race
-  pub no_race : IsWholeRun m args s z → ((edges : Edges) → ((x y : StepName) → IsEdge edges x y → Cause m w s x y) → AreSound m w s edges) → HasNoRace m w s
-  no_race one sound = ordered_run m args limits ok taken s z all_pairs.edges one (sound all_pairs.edges all_pairs.causes) ordered
+  pub free_run : all_ended z ≡ true → HasNoRace m w s
+  free_run over = ordered_run m args limits ok taken s z all_pairs.edges (record { legal = legal; ended = over })
+      (causes_sound m args limits ok taken s z legal over all_pairs.edges all_pairs.causes) ordered
