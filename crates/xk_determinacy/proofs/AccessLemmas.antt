@@ -1,9 +1,9 @@
 -- Each step that reads or changes a shared number is told of as an access to it, which is seen.
-use Rattle.std.proofs.Common.{◌≡◌, ℕ, ℤ, zero, suc, ◌+◌, ◌<◌, ◌==◌, ◌&&◌, ◌⊎◌, inl, inr, Bool, true, false, true≢false, cond, List, [], ◌∷◌, ◌++◌, map, length, Some, None, Option, refl, sym, ap, ◌∙◌, subst, eqb-true, eq-eqb, arith}
-use Rattle.std.specs.Prelude.{slice_get, filter, option_and_then, option_map, if◌then◌else◌}
+use Rattle.std.proofs.Common.{◌≡◌, ℕ, ℤ, zero, suc, ◌+◌, ◌==◌, ◌&&◌, Bool, true, false, true≢false, cond, List, [], ◌∷◌, ◌++◌, map, length, Some, None, Option, refl, sym, ap, ◌∙◌, subst, eqb-true, eq-eqb, arith}
+use Rattle.std.specs.Prelude.{slice_get, filter, option_and_then, if◌then◌else◌}
 use Rattle.std.specs.Int.{w64, int_wrapping_add}
 use Rattle.std.specs.Option.{option_map_or}
-use Rattle.std.proofs.lemmas.Bool.{and_parts, eqb-false}
+use Rattle.std.proofs.lemmas.Bool.{and_parts}
 use Rattle.std.proofs.lemmas.Option.{none-some, same_Some, get_or_from_slice_get}
 use Rattle.xk_types.specs.declared.instr.Instr.{Instr}
 use Rattle.xk_types.specs.declared.instr.Instr.TheVariants as instr
@@ -25,16 +25,15 @@ use Rattle.xk_classes.specs.Edges.{StepName, turns_of, carried_on, carried, carr
 use Rattle.xk_classes.proofs.StepEventLemmas.{at_advance}
 use Rattle.xk_classes.proofs.SwapLemmas.{next_of, run_first}
 use Rattle.xk_classes.proofs.EdgeLaw.{turns_same, turns_other}
-use Rattle.xk_activity.specs.Activities.{act_at, nobody}
+use Rattle.xk_activity.specs.Activities.{nobody}
 use Rattle.xk_events.specs.Steps.{run_step}
 use Rattle.xk_races.specs.declared.deeds.Deed.{Deed}
-use Rattle.xk_races.specs.declared.deeds.Part.{Part}
 use Rattle.xk_races.specs.declared.deeds.Part.TheVariants as part
 use Rattle.xk_races.specs.Deeds.{cell_of, cell_at, deed, tell_deeds}
 use Rattle.xk_races.specs.Knowledge.{Known, Sight, after, is_sight, nothing_known, sight, sights_from, sights_of}
 use Rattle.xk_races.specs.Order.{IsAt}
 use Rattle.xk_races.specs.Races.{clash}
-use Rattle.xk_determinacy.proofs.TurnLemmas.{Turn, name_of, IsToldOf, deeds}
+use Rattle.xk_determinacy.proofs.TurnLemmas.{Turn, IsToldOf, deeds}
 
 -- ---- kinds of accesses
 

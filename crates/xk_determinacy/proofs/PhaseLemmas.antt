@@ -2,12 +2,11 @@
 use Rattle.std.proofs.Common.{◌≡◌, ℕ, zero, suc, ◌+◌, ◌<◌, ◌≤◌, ◌==◌, Bool, true, false, true≢false, cond, List, [], ◌∷◌, ◌++◌, map, length, Some, None, Option, refl, sym, ap, ◌∙◌, subst, eqb-true, arith}
 use Rattle.std.specs.Prelude.{slice_get, option_map}
 use Rattle.std.specs.Option.{option_map_or}
-use Rattle.std.proofs.lemmas.Option.{none-some, same_Some}
 use Rattle.xk_types.specs.declared.world.Standing.{Standing}
 use Rattle.xk_types.specs.declared.world.Event.{Event}
 use Rattle.xk_types.specs.Code.{ModuleValue}
 use Rattle.xk_types.specs.World.{Clock, World}
-use Rattle.xk_types.specs.Step.{Outcome, Blocked, Wrong, Stepped, is_ready, settled_clock, advanced, moved, moved_on, joined, joined_on, new_clock, is_given, none, all, dropped, resumed, step}
+use Rattle.xk_types.specs.Step.{Outcome, Blocked, Wrong, Stepped, is_ready, settled_clock, advanced, moved, joined, new_clock, is_given, none, all, dropped, resumed, step}
 use Rattle.xk_types.specs.Schedule.{Through, run}
 use Rattle.xk_laws.proofs.ReachabilityLemmas.{same_through, first_step}
 use Rattle.xk_laws.proofs.StepFormLemmas.{step_kind}

@@ -1,18 +1,17 @@
 -- The finish that an activity is in, by the number that its deeds give it, is the one of the world, as long as it is open.
-use Rattle.std.proofs.Common.{◌≡◌, ℕ, ℤ, zero, suc, ◌+◌, ◌-◌, ◌<◌, ◌≤◌, ◌==◌, ◌⊎◌, inl, inr, Bool, true, false, true≢false, cond, List, [], ◌∷◌, ◌++◌, length, set, Some, None, Option, refl, sym, ap, ◌∙◌, subst, length-append, length-set, eq-eqb, arith}
+use Rattle.std.proofs.Common.{◌≡◌, ℕ, ℤ, zero, suc, ◌<◌, ◌==◌, ◌⊎◌, inl, inr, true, false, true≢false, cond, List, [], ◌∷◌, ◌++◌, length, set, Some, refl, sym, ap, ◌∙◌, subst, length-set, arith}
 use Rattle.std.specs.Prelude.{slice_get}
 use Rattle.std.specs.Option.{option_map_or}
 use Rattle.std.proofs.lemmas.Bool.{cases_eq, ne_eqb}
-use Rattle.std.proofs.lemmas.List.{length_push, get_or_append_left}
-use Rattle.std.proofs.lemmas.Option.{none-some, same_Some, slice_get_within, slice_get_past}
-use Rattle.std.proofs.Math.Seq.{get_or-append_seam}
+use Rattle.std.proofs.lemmas.List.{length_push}
+use Rattle.std.proofs.lemmas.Option.{slice_get_within}
 use Rattle.xk_types.specs.declared.world.Event.{Event}
 use Rattle.xk_types.specs.declared.world.Event.TheVariants as event
 use Rattle.xk_types.specs.Code.{ModuleValue}
-use Rattle.xk_types.specs.World.{Finish, Activity, World, AreArguments, opening, root, is_ended}
+use Rattle.xk_types.specs.World.{Finish, Activity, World, opening, root, is_ended}
 use Rattle.xk_types.specs.Step.{Stepped, governing, step}
 use Rattle.xk_types.specs.Schedule.{Through, run}
-use Rattle.xk_types.proofs.ListLemmas.{get-set_same, get-set_other, get-append_left, get_push, get-push_other}
+use Rattle.xk_types.proofs.ListLemmas.{get-set_same, get-set_other, get_push, get-push_other}
 use Rattle.xk_laws.proofs.ReachabilityLemmas.{same_through, first_step}
 use Rattle.xk_squares.proofs.ChangeSquareLemmas.{found_of}
 use Rattle.xk_squares.proofs.StartSquareLemmas.{alive_of}
@@ -27,7 +26,7 @@ use Rattle.xk_races.specs.Order.{scopes_after}
 use Rattle.xk_races.specs.Deeds.{tell_deeds, at_clocks, awaiting}
 use Rattle.xk_races.proofs.RowLemmas.{with_at_same, with_at_other}
 use Rattle.xk_events.specs.Steps.{run_step}
-use Rattle.xk_determinacy.proofs.NumberedFinishLemmas.{finish, Nest, base, number, AreNumbered, Opens, opened_numbered, Closes, closed_numbered, Begins, begun_numbered, Keeps, kept_numbered}
+use Rattle.xk_determinacy.proofs.NumberedFinishLemmas.{finish, Nest, AreNumbered, opened_numbered, closed_numbered, begun_numbered, kept_numbered}
 use Rattle.xk_determinacy.proofs.StepNestingLemmas.{Nests, Effect, DoesGo, DoesStart, effect_of}
 use Rattle.xk_determinacy.proofs.TurnLemmas.{deeds, deeds_first}
 use Rattle.xk_determinacy.proofs.DeedPartLemmas.{at_clock, clock_parts}

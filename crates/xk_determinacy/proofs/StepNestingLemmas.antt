@@ -14,7 +14,7 @@ use Rattle.xk_types.specs.declared.unit.ParamKind.{ParamKind}
 use Rattle.xk_types.specs.declared.unit.ParamKind.TheVariants as param
 use Rattle.xk_types.specs.Code.{UnitValue, ModuleValue, is_method, compares, Loop, loop_head}
 use Rattle.xk_types.specs.World.{Frame, Activity, Clock, World, standing_of, is_ended, instruction_at}
-use Rattle.xk_types.specs.Step.{Cause, Outcome, Blocked, Wrong, Stepped, ClockUse, OutOfRange, is_registered, number_in, clock_in, registered_on, put_in, slot_at, arguments_in, no_further, turning, again, beginning, spawned, spawning, carried_out, run_at, done, made, waits, passing, past, passed, step_by, step_of, step, called, calling, back_in, returning, none, only, all, resumed, dropped, awaits, innermost, governing, child, onward, going, with_slots, entered, left, ended, arrived, closing, cell_in, stored}
+use Rattle.xk_types.specs.Step.{Outcome, Blocked, Wrong, Stepped, ClockUse, OutOfRange, is_registered, number_in, clock_in, registered_on, put_in, slot_at, arguments_in, no_further, turning, again, beginning, carried_out, run_at, done, waits, passing, past, passed, step_by, step_of, step, called, calling, returning, none, only, all, resumed, dropped, awaits, innermost, governing, child, onward, going, with_slots, entered, left, ended, arrived, closing, cell_in}
 use Rattle.xk_laws.proofs.StepFormLemmas.{spawning_form, finishes_of}
 use Rattle.xk_classes.specs.Moments.{is_start}
 

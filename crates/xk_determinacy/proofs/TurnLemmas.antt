@@ -1,7 +1,6 @@
 -- Each deed of a run is told of a step of its schedule, and a later deed of the same step or of a later one.
-use Rattle.std.proofs.Common.{◌≡◌, ℕ, zero, suc, ◌+◌, ◌<◌, ◌≤◌, ◌⊎◌, inl, inr, List, [], ◌∷◌, ◌++◌, length, Some, refl, sym, ap, ◌∙◌, subst, append_assoc, length-append, eq-eqb, arith}
+use Rattle.std.proofs.Common.{◌≡◌, ℕ, zero, suc, ◌+◌, ◌<◌, ◌⊎◌, inl, inr, List, [], ◌∷◌, ◌++◌, length, Some, refl, sym, ap, ◌∙◌, subst, append_assoc, length-append, eq-eqb, arith}
 use Rattle.std.specs.Prelude.{slice_get}
-use Rattle.std.proofs.lemmas.Bool.{cases_lt}
 use Rattle.std.proofs.lemmas.Option.{none-some, slice_get_within}
 use Rattle.xk_types.specs.declared.world.Event.{Event}
 use Rattle.xk_types.specs.Code.{ModuleValue}
@@ -134,8 +133,8 @@ told_at m (a ∷ s) w z legal k d at =
       record {
         offset = r.offset;
         number =
-          (let n = r.number in let l = ap length (deeds_first m t.before w x.0 a x.1 x.2) ∙ length-append front (deeds m t.before x.0) in
-          omega (arith, is, n, l));
+            (let n = r.number in let l = ap length (deeds_first m t.before w x.0 a x.1 x.2) ∙ length-append front (deeds m t.before x.0) in
+            omega (arith, is, n, l));
         among = r.among;
       },
     )
@@ -207,8 +206,8 @@ module _ (m : ModuleValue) (w : World) (s : List ℕ) where
   numbers_rise : (t u : Turn m w s) (k j : ℕ) (d e : Deed) → IsToldOf m w s t k d → IsToldOf m w s u j e → IsEarlier u t → j < k
   numbers_rise t u k j d e p q earlier =
       let l = ap (λ b. length (deeds m b w)) earlier.1 ∙ ap length (deeds_run m u.before (u.act ∷ earlier.0) w u.here u.leads
-          ∙ ap (λ l. deeds m u.before w ++ l) (deeds_first m earlier.0 u.here u.there u.act u.e u.takes))
-          ∙ length-append (deeds m u.before w) (tell_deeds m u.act u.here u.there u.e ++ deeds m earlier.0 u.there) in
+      ∙ ap (λ l. deeds m u.before w ++ l) (deeds_first m earlier.0 u.here u.there u.act u.e u.takes))
+      ∙ length-append (deeds m u.before w) (tell_deeds m u.act u.here u.there u.e ++ deeds m earlier.0 u.there) in
       let n = length-append (tell_deeds m u.act u.here u.there u.e) (deeds m earlier.0 u.there) in
       let i = slice_get_within (tell_deeds m u.act u.here u.there u.e) q.offset e q.among in
       let a = p.number in
