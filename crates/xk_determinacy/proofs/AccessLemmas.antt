@@ -25,7 +25,6 @@ use Rattle.xk_classes.specs.Edges.{StepName, turns_of, carried_on, carried, carr
 use Rattle.xk_classes.proofs.StepEventLemmas.{at_advance}
 use Rattle.xk_classes.proofs.SwapLemmas.{next_of, run_first}
 use Rattle.xk_classes.proofs.EdgeLaw.{turns_same, turns_other}
-use Rattle.xk_activity.specs.Activities.{nobody}
 use Rattle.xk_events.specs.Steps.{run_step}
 use Rattle.xk_races.specs.declared.deeds.Deed.{Deed}
 use Rattle.xk_races.specs.declared.deeds.Part.TheVariants as part
@@ -208,7 +207,7 @@ cell_is : (m : ModuleValue) (w v : World) (a : ℕ) (e : Event) (i : Instr) (act
     → cell_at m (run_step a w v e) ≡ cell_of (Some i)
 cell_is m w v a e i act at here =
     ap (λ (x : Activity). option_map_or (λ (unit : UnitValue). cell_of (slice_get unit.code x.frame.place)) (slice_get m.units x.frame.unit) 0)
-    (get_or_from_slice_get w.activities a act nobody at)
+    (get_or_from_slice_get w.activities a act _ at)
     ∙ by (slice_get m.units act.frame.unit) here
   where
     by : (o : Option UnitValue) → option_and_then (λ (unit : UnitValue). slice_get unit.code act.frame.place) o ≡ Some i
