@@ -1,9 +1,12 @@
+pub mod TurnLemmas
+pub mod EdgeListLemmas
+pub mod PhaseLemmas
 pub mod NumberedFinishLemmas
 pub mod StepNestingLemmas
-pub mod PhaseLemmas
-pub mod TurnLemmas
 pub mod DeedPartLemmas
 pub mod ScopeLemmas
 pub mod LinkLemmas
+pub mod SeenLemmas
+pub mod StepDeedLemmas
 pub mod AccessLemmas
 pub mod RaceFreeLaw

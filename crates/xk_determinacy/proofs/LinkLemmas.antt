@@ -24,106 +24,17 @@ use Rattle.xk_races.specs.declared.deeds.Part.TheVariants as part
 use Rattle.xk_races.specs.Deeds.{awaits, tell_deeds}
 use Rattle.xk_races.specs.Knowledge.{Scopes, nothing_known}
 use Rattle.xk_races.specs.Lists.{number_at}
+use Rattle.xk_races.proofs.OrderLemmas.{IsUpTo}
 use Rattle.xk_races.specs.Order.{IsAt, Reason, Own, Passed, Closed, Edge, Leads, Before, IsSignal, finish_at, scopes_after}
 use Rattle.xk_events.specs.declared.steps.RunStep.{RunStep}
 use Rattle.xk_events.specs.Steps.{run_step}
+use Rattle.xk_determinacy.proofs.EdgeListLemmas.{IsLed, UpTo, led_cause, led_own, led_through, up_through}
 use Rattle.xk_determinacy.proofs.PhaseLemmas.{phase_grows, phase_advances}
 use Rattle.xk_determinacy.proofs.NumberedFinishLemmas.{AreNumbered, finish, base, number}
 use Rattle.xk_determinacy.proofs.StepNestingLemmas.{Nests, Effect, DoesGo, DoesStart, effect_of}
 use Rattle.xk_determinacy.proofs.TurnLemmas.{Turn, name_of, IsToldOf, deeds, deeds_run, deeds_first, get_split, get_left, get_right, told_at, deeds_around, deed_at, IsEarlier, AreOne, run_between, one_here, one_event, one_name, earlier_turns, turn_taken, turn_reached, in_order}
 use Rattle.xk_determinacy.proofs.DeedPartLemmas.{Says, IsPart, is_pass, parts_of}
 use Rattle.xk_determinacy.proofs.ScopeLemmas.{nest, opened_in, scopes_append, scopes_step, numbered_run, opening_numbered, ended_stays}
-
-abbrev pub Edges : Type 0
-Edges = List (StepName × StepName)
-
--- ---- edges and ways
-
-pub edge_left : (xs ys : Edges) (x y : StepName) → IsEdge xs x y → IsEdge (xs ++ ys) x y
-edge_left xs ys x y h = (h.0, get_left xs ys h.0 (x, y) h.1)
-
-pub edge_right : (xs ys : Edges) (x y : StepName) → IsEdge ys x y → IsEdge (xs ++ ys) x y
-edge_right xs ys x y h = (length xs + h.0, get_right xs ys h.0 ∙ h.1)
-
-pub edge_split : (xs ys : Edges) (x y : StepName) → IsEdge (xs ++ ys) x y → IsEdge xs x y ⊎ IsEdge ys x y
-edge_split xs ys x y h = by (get_split xs ys h.0 (x, y) h.1)
-  where
-    by : ((h.0 < length xs) × (slice_get xs h.0 ≡ Some (x, y))) ⊎ ((j : ℕ) × (h.0 ≡ length xs + j) × (slice_get ys j ≡ Some (x, y))) → IsEdge xs x y ⊎ IsEdge ys x y
-    by (inl p) = inl (h.0, p.1)
-    by (inr p) = inr (p.0, p.2)
-
--- the second list has each edge of the first
-abbrev pub HasAll : Edges → Edges → Type 0
-HasAll xs ys = (x y : StepName) → IsEdge xs x y → IsEdge ys x y
-
-link_more : (xs ys : Edges) → HasAll xs ys → (x y : StepName) → IsLink xs x y → IsLink ys x y
-link_more xs ys has x y (inl e) = inl (has x y e)
-link_more xs ys has x y (inr o) = inr o
-
-way_more : (xs ys : Edges) → HasAll xs ys → (x : StepName) (zs : List StepName) (y : StepName) → IsWay xs x zs y → IsWay ys x zs y
-way_more xs ys has x [] y way = link_more xs ys has x y way
-way_more xs ys has x (z ∷ zs) y way = (link_more xs ys has x z way.0, way_more xs ys has z zs y way.1)
-
-way_on : (xs : Edges) (x : StepName) (zs : List StepName) (y : StepName) (us : List StepName) (v : StepName) → IsWay xs x zs y → IsWay xs y us v → IsWay xs x (zs ++ y ∷ us) v
-way_on xs x [] y us v way rest = (way, rest)
-way_on xs x (z ∷ zs) y us v way rest = (way.0, way_on xs z zs y us v way.1 rest)
-
-pub before_more : (xs ys : Edges) → HasAll xs ys → (x y : StepName) → IsBefore xs x y → IsBefore ys x y
-before_more xs ys has x y b = record { between = b.between; way = way_more xs ys has x b.between y b.way }
-
--- ---- what leads from step to step
-
--- some edges, each of which has a cause, by which x is before y
-pub record IsLed (m : ModuleValue) (w : World) (s : List ℕ) (x y : StepName) : Type 0 where
-  pub edges : Edges
-  pub causes : (u v : StepName) → IsEdge edges u v → IsCause m w s u v
-  pub before : IsBefore edges x y
-
--- or x is y
-abbrev pub UpTo : ModuleValue → World → List ℕ → StepName → StepName → Type 0
-UpTo m w s x y = (x ≡ y) ⊎ IsLed m w s x y
-
-module _ (m : ModuleValue) (w : World) (s : List ℕ) where
-  led_cause : (x y : StepName) → IsCause m w s x y → IsLed m w s x y
-  led_cause x y c = record { edges = (x, y) ∷ []; causes = λ u v h. of u v h.0 h.1; before = record { between = []; way = inl (0, refl) } }
-    where
-      one : Edges
-      one = (x, y) ∷ []
-
-      same : (p q : StepName × StepName) → Some p ≡ Some q → p ≡ q
-      same p q h = cc
-
-      of : (u v : StepName) (k : ℕ) → slice_get one k ≡ Some (u, v) → IsCause m w s u v
-      of u v zero h = subst (λ (p : StepName × StepName). IsCause m w s p.0 p.1) (same (x, y) (u, v) h) c
-      of u v (suc k) h = absurd (none-some (u, v) h)
-
-  led_own : (x y : StepName) → x.0 ≡ y.0 → x.1 < y.1 → IsLed m w s x y
-  led_own x y same less = record {
-    edges = [];
-    causes = λ u v h. absurd (none-some (u, v) h.1);
-    before = record { between = []; way = inr (same, less) };
-  }
-
-  led_through : (x y z : StepName) → IsLed m w s x y → IsLed m w s y z → IsLed m w s x z
-  led_through x y z p q = record {
-    edges = p.edges ++ q.edges;
-    causes = λ u v h. of u v (edge_split p.edges q.edges u v h);
-    before = record {
-      between = p.before.between ++ y ∷ q.before.between;
-      way = way_on (p.edges ++ q.edges) x p.before.between y q.before.between z
-          (way_more p.edges (p.edges ++ q.edges) (edge_left p.edges q.edges) x p.before.between y p.before.way)
-          (way_more q.edges (p.edges ++ q.edges) (edge_right p.edges q.edges) y q.before.between z q.before.way);
-    };
-  }
-    where
-      of : (u v : StepName) → IsEdge p.edges u v ⊎ IsEdge q.edges u v → IsCause m w s u v
-      of u v (inl h) = p.causes u v h
-      of u v (inr h) = q.causes u v h
-
-  up_through : (x y z : StepName) → UpTo m w s x y → UpTo m w s y z → UpTo m w s x z
-  up_through x y z (inl p) q = subst (λ a. UpTo m w s a z) (sym p) q
-  up_through x y z (inr p) (inl q) = inr (subst (IsLed m w s x) q p)
-  up_through x y z (inr p) (inr q) = inr (led_through x y z p q)
 
 -- ---- lists
 
@@ -161,7 +72,7 @@ module _ (m : ModuleValue) (args : List ℤ) (limits : IsWithinLimits m) (ok : I
   start = nothing_known.scopes
 
   -- what a deed says of its turn
-  says : (t : Turn m w s) (k : ℕ) (d : Deed) (r : IsToldOf m w s t k d) → IsPart m (run_step t.act t.here t.there t.e) t.here t.there t.e r.offset d
+  pub says : (t : Turn m w s) (k : ℕ) (d : Deed) (r : IsToldOf m w s t k d) → IsPart m (run_step t.act t.here t.there t.e) t.here t.there t.e r.offset d
   says t k d r = parts_of m t.act t.here t.there t.e r.offset d r.among
 
   whose : (t : Turn m w s) (k : ℕ) (d : Deed) → IsToldOf m w s t k d → d.step.act ≡ t.act
@@ -409,6 +320,13 @@ module _ (m : ModuleValue) (args : List ℤ) (limits : IsWithinLimits m) (ok : I
       let v = told_at m s w z legal k c.0 c.1 in
       up_through m w s (name_of t) (name_of v.0) (name_of u) (leads_up ks t v.0 i k d c.0 p v.1 h.0) (edge_up v.0 u k j c.0 e v.1 q h.1)
 
-  -- where a deed comes before another, its step is that of the other, or before it
-  pub before_up : (t u : Turn m w s) (i j : ℕ) (d e : Deed) → IsToldOf m w s t i d → IsToldOf m w s u j e → Before ds i j → UpTo m w s (name_of t) (name_of u)
-  before_up t u i j d e p q h = leads_up h.0 t u i j d e p q h.1
+  -- where a deed of one activity comes before a deed of another, its step leads to that of the other
+  pub up_led : (t u : Turn m w s) (i j : ℕ) (d e : Deed) → IsToldOf m w s t i d → IsToldOf m w s u j e → (u.act ≡ t.act → ⊥) → IsUpTo ds i j → IsLed m w s (name_of t) (name_of u)
+  up_led t u i j d e p q differ (inl is) =
+      let same : d ≡ e = same_Some d e (sym (deed_at m w s t i d p) ∙ ap (slice_get ds) is ∙ deed_at m w s u j e q) in
+      absurd (differ (sym (whose u j e q) ∙ sym (ap (λ (c : Deed). c.step.act) same) ∙ whose t i d p))
+  up_led t u i j d e p q differ (inr before) = by (leads_up before.0 t u i j d e p q before.1)
+    where
+      by : UpTo m w s (name_of t) (name_of u) → IsLed m w s (name_of t) (name_of u)
+      by (inl same) = absurd (differ (sym (ap (λ (n : StepName). n.0) same)))
+      by (inr led) = led

@@ -18,6 +18,7 @@ use Rattle.xk_classes.proofs.OneRunLaw.{ordered_run}
 use Rattle.xk_classes.proofs.PassEdgeLaw.{causes_sound}
 use Rattle.xk_classes.proofs.EdgeLaw.{run_behind}
 use Rattle.xk_classes.proofs.StartEdgeLaw.{grown_run}
+use Rattle.xk_events.specs.declared.steps.RunStep.{RunStep}
 use Rattle.xk_races.specs.declared.deeds.Deed.{Deed}
 use Rattle.xk_races.specs.declared.deeds.Part.{Part}
 use Rattle.xk_races.specs.declared.deeds.Part.TheVariants as part
@@ -28,58 +29,13 @@ use Rattle.xk_races.specs.Races.{clash, have_one_number, is_race, races_in, has_
 use Rattle.xk_races.specs.Exactness.{Has}
 use Rattle.xk_races.proofs.SightLemmas.{order_is_exact}
 use Rattle.xk_races.proofs.RaceListLemmas.{races_are_exact}
-use Rattle.xk_determinacy.proofs.TurnLemmas.{Turn, name_of, IsToldOf, deeds, deed_at, turn_reached}
-use Rattle.xk_determinacy.proofs.LinkLemmas.{Edges, HasAll, edge_left, edge_right, edge_split, before_more, IsLed, UpTo, before_up}
-use Rattle.xk_determinacy.proofs.AccessLemmas.{Mode, event_of, Accesses, Sort, Does, DoesNone, sort_of, apart_none, apart_turned, apart_by, IsAccess, access_of, IsTurnOf, turn_of_step, IsSight, sight_of}
-
--- ---- edges of many
-
--- some edges, each of which has a cause, of which P holds
-pub record Gathered (m : ModuleValue) (w : World) (s : List ℕ) (P : Edges → Type 0) : Type 0 where
-  pub edges : Edges
-  pub causes : (x y : StepName) → IsEdge edges x y → IsCause m w s x y
-  pub holds : P edges
-
--- what holds of edges holds of more
-abbrev Grows : (Edges → Type 0) → Type 0
-Grows P = (xs ys : Edges) → HasAll xs ys → P xs → P ys
-
--- edges for two give edges for both
-both : (m : ModuleValue) (w : World) (s : List ℕ) (P Q R : Edges → Type 0) → Grows P → Grows Q → ((edges : Edges) → P edges → Q edges → R edges)
-    → Gathered m w s P → Gathered m w s Q → Gathered m w s R
-both m w s P Q R more grows to p q = record {
-  edges = p.edges ++ q.edges;
-  causes = λ x y h. of x y (edge_split p.edges q.edges x y h);
-  holds = to (p.edges ++ q.edges) (more p.edges (p.edges ++ q.edges) (edge_left p.edges q.edges) p.holds)
-      (grows q.edges (p.edges ++ q.edges) (edge_right p.edges q.edges) q.holds);
-}
-  where
-    of : (x y : StepName) → IsEdge p.edges x y ⊎ IsEdge q.edges x y → IsCause m w s x y
-    of x y (inl h) = p.causes x y h
-    of x y (inr h) = q.causes x y h
-
--- and edges for each number below this one give edges for all
-gather : (m : ModuleValue) (w : World) (s : List ℕ) (P : ℕ → Edges → Type 0) → ((k : ℕ) → Grows (P k)) → (n : ℕ) → ((k : ℕ) → Gathered m w s (P k))
-    → Gathered m w s (λ edges. (k : ℕ) → k < n → P k edges)
-gather m w s P grows zero each = record { edges = []; causes = λ x y h. absurd (none-some (x, y) h.1); holds = λ k less. absurd (omega (arith, less)) }
-gather m w s P grows (suc n) each =
-    both m w s (λ edges. (k : ℕ) → k < n → P k edges) (P n) (λ edges. (k : ℕ) → k < suc n → P k edges) (λ xs ys has h k less. grows k xs ys has (h k less)) (grows n)
-    (λ edges h g k less. by edges h g k less (cases_lt k n)) (gather m w s P grows n each) (each n)
-  where
-    by : (edges : Edges) → ((k : ℕ) → k < n → P k edges) → P n edges → (k : ℕ) → k < suc n → (k < n) ⊎ (n ≤ k) → P k edges
-    by edges h g k less (inl lower) = h k lower
-    by edges h g k less (inr upper) = let is : n ≡ k = omega (arith, less, upper) in subst (λ j. P j edges) is g
+use Rattle.xk_determinacy.proofs.TurnLemmas.{Turn, name_of, deeds, deed_at, turn_reached, IsTurnOf, turn_of_step, name_inside}
+use Rattle.xk_determinacy.proofs.EdgeListLemmas.{Edges, before_more, IsLed, Grows, Gathered, gather_pairs}
+use Rattle.xk_determinacy.proofs.LinkLemmas.{says, up_led}
+use Rattle.xk_determinacy.proofs.SeenLemmas.{IsSight, sight_of, sight_up}
+use Rattle.xk_determinacy.proofs.AccessLemmas.{Mode, event_of, Accesses, Sort, Does, DoesNone, sort_of, apart_none, apart_turned, apart_by, IsAccess, access_of}
 
 -- ---- the order of accesses
-
--- nobody takes more turns than there are
-turns_le : (a : ℕ) (s : List ℕ) → turns_of a s ≤ length s
-turns_le a [] = omega arith
-turns_le a (b ∷ s) = by (b == a) (turns_le a s)
-  where
-    by : (q : Bool) → turns_of a s ≤ length s → length (cond q (b ∷ filter (λ c. c == a) s) (filter (λ c. c == a) s)) ≤ length (b ∷ s)
-    by true h = omega (arith, h)
-    by false h = omega (arith, h)
 
 -- a list with an element isn't empty
 not_none : (rs : List Race) (r : Race) → Has rs r → has_none rs ≡ true → ⊥
@@ -111,30 +67,6 @@ module _ (m : ModuleValue) (args : List ℤ) (limits : IsWithinLimits m) (ok : I
           let r = (races_are_exact (sights_of ds)).complete p q x y less here there is in
           absurd (not_none (races_in (sights_of ds)) r.0 r.1 free)
 
-  sight_led : (t u : Turn m w s) (k j : ℕ) (d e : Deed) → IsToldOf m w s t k d → IsToldOf m w s u j e → (u.act ≡ t.act → ⊥) → d.step.act ≡ t.act → e.step.act ≡ u.act
-      → (x : IsSight ds k d) (y : IsSight ds j e) → x.place < y.place → have_one_number d.part e.part ≡ true → clash d.step.event e.step.event ≡ true
-      → IsLed m w s (name_of t) (name_of u)
-  sight_led t u k j d e p q differ who whose x y less one clashes = by order
-    where
-      order : (k ≡ j) ⊎ Before ds k j
-      order =
-          subst (λ i. (i ≡ j) ⊎ Before ds i j) (ap pred x.number)
-          (subst (λ i. (pred x.sight.number ≡ i) ⊎ Before ds (pred x.sight.number) i) (ap pred y.number)
-          ((order_is_exact ds).sound x.place y.place x.sight y.sight x.there y.there
-          (clash_before x.place y.place x.sight y.sight less x.there y.there
-          (ap (λ (c : Deed). have_one_number c.part y.sight.deed.part) x.deed ∙ ap (λ (c : Deed). have_one_number d.part c.part) y.deed ∙ one)
-          (ap (λ (c : Deed). clash c.step.event y.sight.deed.step.event) x.deed ∙ ap (λ (c : Deed). clash d.step.event c.step.event) y.deed ∙ clashes))))
-
-      up : UpTo m w s (name_of t) (name_of u) → IsLed m w s (name_of t) (name_of u)
-      up (inl same) = absurd (differ (sym (ap (λ (n : StepName). n.0) same)))
-      up (inr led) = led
-
-      by : (k ≡ j) ⊎ Before ds k j → IsLed m w s (name_of t) (name_of u)
-      by (inl is) =
-          let same : d ≡ e = same_Some d e (sym (deed_at m w s t k d p) ∙ ap (slice_get ds) is ∙ deed_at m w s u j e q) in
-          absurd (differ (sym whose ∙ sym (ap (λ (c : Deed). c.step.act) same) ∙ who))
-      by (inr before) = up (before_up m args limits ok taken s z legal t u k j d e p q before)
-
   clash_turned : (k l : Mode) → clash (event_of k) (event_of l) ≡ clash (event_of l) (event_of k)
   clash_turned Mode.Gets Mode.Gets = refl
   clash_turned Mode.Gets Mode.Puts = refl
@@ -146,6 +78,40 @@ module _ (m : ModuleValue) (args : List ℤ) (limits : IsWithinLimits m) (ok : I
   clash_turned Mode.Adds Mode.Puts = refl
   clash_turned Mode.Adds Mode.Adds = refl
 
+  -- a sight of an access is of this shared number, and was seen to do this
+  cell_seen : (t : Turn m w s) (c : ℕ) (k : Mode) (p : IsAccess m w s t c k) (x : IsSight ds p.deed.number p.deed.deed) → x.sight.deed.part ≡ part.Access c
+  cell_seen t c k p x = ap (λ (d : Deed). d.part) x.deed ∙ p.deed.part
+
+  event_seen : (t : Turn m w s) (c : ℕ) (k : Mode) (p : IsAccess m w s t c k) (x : IsSight ds p.deed.number p.deed.deed) → x.sight.deed.step.event ≡ event_of k
+  event_seen t c k p x =
+      ap (λ (d : Deed). d.step.event) x.deed
+      ∙ ap (λ (r : RunStep). r.event) (says m args limits ok taken s z legal t p.deed.number p.deed.deed p.deed.told).0 ∙ p.event
+
+  act_seen : (t : Turn m w s) (c : ℕ) (k : Mode) (p : IsAccess m w s t c k) (x : IsSight ds p.deed.number p.deed.deed) → x.sight.deed.step.act ≡ t.act
+  act_seen t c k p x =
+      ap (λ (d : Deed). d.step.act) x.deed ∙ ap (λ (r : RunStep). r.act) (says m args limits ok taken s z legal t p.deed.number p.deed.deed p.deed.told).0
+
+  one_number : (f g : Part) (c d : ℕ) → f ≡ part.Access c → g ≡ part.Access d → c ≡ d → have_one_number f g ≡ true
+  one_number f g c d p q same = ap (λ h. have_one_number h g) p ∙ ap (have_one_number (part.Access c)) q ∙ eq-eqb c d same
+
+  -- of two accesses that clash, the one that is seen first leads to the other
+  sights_led : (t u : Turn m w s) (c d : ℕ) (k l : Mode) (p : IsAccess m w s t c k) (q : IsAccess m w s u d l) → (u.act ≡ t.act → ⊥) → c ≡ d
+      → clash (event_of k) (event_of l) ≡ true → (x : IsSight ds p.deed.number p.deed.deed) (y : IsSight ds q.deed.number q.deed.deed) → x.place < y.place
+      → IsLed m w s (name_of t) (name_of u)
+  sights_led t u c d k l p q differ same clashes x y less =
+      up_led m args limits ok taken s z legal t u p.deed.number q.deed.number p.deed.deed q.deed.deed p.deed.told q.deed.told differ
+      (sight_up ds p.deed.number q.deed.number p.deed.deed q.deed.deed x y
+      (clash_before x.place y.place x.sight y.sight less x.there y.there
+      (one_number x.sight.deed.part y.sight.deed.part c d (cell_seen t c k p x) (cell_seen u d l q y) same)
+      (ap (λ f. clash f y.sight.deed.step.event) (event_seen t c k p x) ∙ ap (clash (event_of k)) (event_seen u d l q y) ∙ clashes)))
+
+  -- and one sight is of one activity
+  one_act : (t u : Turn m w s) (c d : ℕ) (k l : Mode) (p : IsAccess m w s t c k) (q : IsAccess m w s u d l) (x : IsSight ds p.deed.number p.deed.deed)
+      (y : IsSight ds q.deed.number q.deed.deed) → x.place ≡ y.place → u.act ≡ t.act
+  one_act t u c d k l p q x y is =
+      let sights : x.sight ≡ y.sight = same_Some x.sight y.sight (sym x.there ∙ ap (slice_get (sights_of ds)) is ∙ y.there) in
+      sym (act_seen u d l q y) ∙ sym (ap (λ (a : Sight). a.deed.step.act) sights) ∙ act_seen t c k p x
+
   -- one of two steps leads to the other
   abbrev EitherLed : StepName → StepName → Type 0
   EitherLed x y = IsLed m w s x y ⊎ IsLed m w s y x
@@ -154,37 +120,25 @@ module _ (m : ModuleValue) (args : List ℤ) (limits : IsWithinLimits m) (ok : I
       → clash (event_of k) (event_of l) ≡ true → EitherLed (name_of t) (name_of u)
   access_led t u c d k l p q differ same clashes = by (cases_lt x.place y.place)
     where
-      x : IsSight ds p.number p.deed
-      x = sight_of ds p.number p.deed (deed_at m w s t p.number p.deed p.told) (ap is_sight p.part)
+      x : IsSight ds p.deed.number p.deed.deed
+      x = sight_of ds p.deed.number p.deed.deed (deed_at m w s t p.deed.number p.deed.deed p.deed.told) (ap is_sight p.deed.part)
 
-      y : IsSight ds q.number q.deed
-      y = sight_of ds q.number q.deed (deed_at m w s u q.number q.deed q.told) (ap is_sight q.part)
-
-      one : (a b : ℕ) (f g : Part) → f ≡ part.Access a → g ≡ part.Access b → a ≡ b → have_one_number f g ≡ true
-      one a b f g h i j = ap (λ r. have_one_number r g) h ∙ ap (have_one_number (part.Access a)) i ∙ eq-eqb a b j
+      y : IsSight ds q.deed.number q.deed.deed
+      y = sight_of ds q.deed.number q.deed.deed (deed_at m w s u q.deed.number q.deed.deed q.deed.told) (ap is_sight q.deed.part)
 
       first : x.place < y.place → IsLed m w s (name_of t) (name_of u)
-      first less =
-          sight_led t u p.number q.number p.deed q.deed p.told q.told differ p.act q.act x y less (one c d p.deed.part q.deed.part p.part q.part same)
-          (ap (λ f. clash f q.deed.step.event) p.event ∙ ap (clash (event_of k)) q.event ∙ clashes)
+      first less = sights_led t u c d k l p q differ same clashes x y less
 
       second : y.place < x.place → IsLed m w s (name_of u) (name_of t)
-      second less =
-          sight_led u t q.number p.number q.deed p.deed q.told p.told (λ e. differ (sym e)) q.act p.act y x less (one d c q.deed.part p.deed.part q.part p.part (sym same))
-          (ap (λ f. clash f p.deed.step.event) q.event ∙ ap (clash (event_of l)) p.event ∙ sym (clash_turned k l) ∙ clashes)
-
-      neither : x.place ≡ y.place → ⊥
-      neither is =
-          let sights : x.sight ≡ y.sight = same_Some x.sight y.sight (sym x.there ∙ ap (slice_get (sights_of ds)) is ∙ y.there) in
-          differ (sym q.act ∙ ap (λ (a : Deed). a.step.act) (sym y.deed ∙ sym (ap (λ (a : Sight). a.deed) sights) ∙ x.deed) ∙ p.act)
-
-      later : y.place ≤ x.place → (y.place < x.place) ⊎ (x.place ≤ y.place) → EitherLed (name_of t) (name_of u)
-      later le (inl less) = inr (second less)
-      later le (inr ge) = absurd (neither (omega (arith, le, ge)))
+      second less = sights_led u t d c l k q p (λ e. differ (sym e)) (sym same) (sym (clash_turned k l) ∙ clashes) y x less
 
       by : (x.place < y.place) ⊎ (y.place ≤ x.place) → EitherLed (name_of t) (name_of u)
       by (inl less) = inl (first less)
-      by (inr le) = later le (cases_lt y.place x.place)
+      by (inr le) = later (cases_lt y.place x.place)
+        where
+          later : (y.place < x.place) ⊎ (x.place ≤ y.place) → EitherLed (name_of t) (name_of u)
+          later (inl less) = inr (second less)
+          later (inr ge) = absurd (differ (one_act t u c d k l p q x y (omega (arith, le, ge))))
 
   -- ---- all steps
 
@@ -257,42 +211,9 @@ module _ (m : ModuleValue) (args : List ℤ) (limits : IsWithinLimits m) (ok : I
       by (inl same) = record { edges = []; causes = no_cause; holds = λ differ. absurd (differ same) }
       by (inr differ) = of (led x y differ)
 
-  abbrev acts : ℕ
-  acts = length z.activities
-
-  abbrev turns : ℕ
-  turns = length s
-
-  -- all of these
-  abbrev OfLast : ℕ → ℕ → ℕ → Edges → Type 0
-  OfLast a k b edges = (l : ℕ) → l < turns → InOrder (a, k) (b, l) edges
-
-  abbrev OfSecond : ℕ → ℕ → Edges → Type 0
-  OfSecond a k edges = (b : ℕ) → b < acts → OfLast a k b edges
-
-  abbrev OfFirst : ℕ → Edges → Type 0
-  OfFirst a edges = (k : ℕ) → k < turns → OfSecond a k edges
-
-  pub all_pairs : Gathered m w s (λ edges. (a : ℕ) → a < acts → OfFirst a edges)
-  all_pairs =
-      gather m w s OfFirst (λ a xs ys has h k lk b lb l ll. order_grows (a, k) (b, l) xs ys has (h k lk b lb l ll)) acts
-      (λ a. gather m w s (OfSecond a) (λ k xs ys has h b lb l ll. order_grows (a, k) (b, l) xs ys has (h b lb l ll)) turns
-      (λ k. gather m w s (OfLast a k) (λ b xs ys has h l ll. order_grows (a, k) (b, l) xs ys has (h l ll)) acts
-      (λ b. gather m w s (λ l edges. InOrder (a, k) (b, l) edges) (λ l. order_grows (a, k) (b, l)) turns
-      (λ l. pair (a, k) (b, l)))))
-
-  -- a step that is taken has such a name
-  inside : (x : StepName) (i : Instr) → instruction_of m s w x ≡ Some i → (x.0 < acts) × (x.1 < turns)
-  inside x i is =
-      let r = turn_of_step m s w z x i legal is in
-      let t = r.turn in
-      let act = found_of m t.here t.act t.there t.e t.takes in
-      let here = slice_get_within t.here.activities t.act act.0 act.1 in
-      let grown = grown_run m (t.act ∷ t.after) t.here z (sym (run_behind m t.before (t.act ∷ t.after) w t.here t.leads) ∙ ap (λ l. run m l w) (sym t.whole) ∙ legal) in
-      let who = r.who in
-      let many = r.many in
-      let few = turns_le x.0 t.before in
-      let long = ap length t.whole ∙ length-append t.before (t.act ∷ t.after) in (omega (arith, here, grown, who), omega (arith, many, few, long))
+  pub all_pairs : Gathered m w s (λ edges. (a : ℕ) → a < length z.activities → (k : ℕ) → k < length s → (b : ℕ) → b < length z.activities → (l : ℕ) → l < length s
+      → InOrder (a, k) (b, l) edges)
+  all_pairs = gather_pairs m w s InOrder order_grows (length z.activities) (length s) pair
 
   pub ordered : AreOrdered m w s all_pairs.edges
   ordered x y differ = by (instruction_of m s w x) (instruction_of m s w y) refl refl
@@ -307,8 +228,8 @@ module _ (m : ModuleValue) (args : List ℤ) (limits : IsWithinLimits m) (ok : I
           inl (subst (λ p. AreApart (instruction_of m s w x) p) (sym there)
           (apart_turned None (instruction_of m s w x) (apart_none None (instruction_of m s w x) (λ c. refl) (λ c. refl) (λ c. refl))))
       by (Some i) (Some j) here there =
-          let p = inside x i here in
-          let q = inside y j there in
+          let p = name_inside m s w z x i legal here in
+          let q = name_inside m s w z y j legal there in
           all_pairs.holds x.0 p.0 x.1 p.1 y.0 q.0 y.1 q.1 differ
 
   pub free_run : all_ended z ≡ true → HasNoRace m w s

@@ -1,17 +1,20 @@
 -- Each deed of a run is told of a step of its schedule, and a later deed of the same step or of a later one.
-use Rattle.std.proofs.Common.{◌≡◌, ℕ, zero, suc, ◌+◌, ◌<◌, ◌⊎◌, inl, inr, List, [], ◌∷◌, ◌++◌, length, Some, refl, sym, ap, ◌∙◌, subst, append_assoc, length-append, eq-eqb, arith}
-use Rattle.std.specs.Prelude.{slice_get}
-use Rattle.std.proofs.lemmas.Option.{none-some, slice_get_within}
+use Rattle.std.proofs.Common.{◌≡◌, ℕ, zero, suc, ◌+◌, ◌<◌, ◌≤◌, ◌==◌, ◌⊎◌, inl, inr, Bool, true, false, cond, Option, None, map, eqb-true, List, [], ◌∷◌, ◌++◌, length, Some, refl, sym, ap, ◌∙◌, subst, append_assoc, length-append, eq-eqb, arith}
+use Rattle.std.specs.Prelude.{slice_get, filter, option_and_then}
+use Rattle.std.proofs.lemmas.Option.{none-some, same_Some, slice_get_within}
+use Rattle.xk_types.specs.declared.instr.Instr.{Instr}
 use Rattle.xk_types.specs.declared.world.Event.{Event}
 use Rattle.xk_types.specs.Code.{ModuleValue}
 use Rattle.xk_types.specs.World.{World}
 use Rattle.xk_types.specs.Step.{Stepped, step}
 use Rattle.xk_types.specs.Schedule.{Through, run, IsReached}
 use Rattle.xk_laws.proofs.ReachabilityLemmas.{same_through, first_step}
-use Rattle.xk_squares.proofs.ChangeSquareLemmas.{same_step}
-use Rattle.xk_classes.specs.Edges.{StepName, turns_of, IsTaken}
+use Rattle.xk_squares.specs.Conflicts.{next_instruction}
+use Rattle.xk_squares.proofs.ChangeSquareLemmas.{same_step, found_of}
+use Rattle.xk_classes.specs.Edges.{StepName, turns_of, IsTaken, carried_on, carried, carried_by, instruction_of}
 use Rattle.xk_classes.proofs.SwapLemmas.{run_first}
-use Rattle.xk_classes.proofs.EdgeLaw.{turns_on, turns_same, run_behind, reached_run}
+use Rattle.xk_classes.proofs.EdgeLaw.{turns_on, turns_same, turns_other, run_behind, reached_run}
+use Rattle.xk_classes.proofs.StartEdgeLaw.{grown_run}
 use Rattle.xk_events.specs.Steps.{told_on, told}
 use Rattle.xk_races.specs.declared.deeds.Deed.{Deed}
 use Rattle.xk_races.specs.Deeds.{tell_deeds}
@@ -221,3 +224,88 @@ module _ (m : ModuleValue) (w : World) (s : List ℕ) where
       by (First zs is) = inl (zs, is)
       by (Here is same) = inr (is, same)
       by (Second zs is) = absurd (let back = numbers_rise t u k j d e p q (zs, is) in omega (arith, less, back))
+
+-- ---- the turn of a step that carries out an instruction
+
+pub record IsTurnOf (m : ModuleValue) (w : World) (s : List ℕ) (a k : ℕ) (o : Option Instr) : Type 0 where
+  pub turn : Turn m w s
+  pub who : turn.act ≡ a
+  pub many : turns_of a turn.before ≡ k
+  pub next : o ≡ next_instruction m turn.here a
+
+abbrev second_of : ℕ × Option Instr → Option Instr
+second_of p = p.1
+
+abbrev is_by : ℕ → ℕ × Option Instr → Bool
+is_by a p = p.0 == a
+
+turn_at : (m : ModuleValue) (s : List ℕ) (w z : World) (a k : ℕ) (o : Option Instr) → run m s w ≡ Through z → slice_get (carried_by m s w a) k ≡ Some o → IsTurnOf m w s a k o
+turn_at m [] w z a k o legal at = absurd (none-some o at)
+turn_at m (d ∷ s) w z a k o legal at =
+    by (d == a) refl k (subst (λ l. slice_get (map second_of (filter (is_by a) l)) k ≡ Some o) (ap (λ q. carried_on (d, next_instruction m w d) q (carried m s)) x.2) at)
+    (λ j h. turn_at m s x.0 z a j o x.3 h)
+  where
+    x : (u : World) × (e : Event) × (step m w d ≡ Stepped u e) × (run m s u ≡ Through z)
+    x = first_step w z (step m w d) (run m s) legal
+
+    behind : (j k : ℕ) (r : IsTurnOf m x.0 s a j o) → turns_of a (d ∷ r.turn.before) ≡ k → IsTurnOf m w (d ∷ s) a k o
+    behind j k r many = record {
+      turn = record {
+        before = d ∷ r.turn.before;
+        after = r.turn.after;
+        act = r.turn.act;
+        here = r.turn.here;
+        there = r.turn.there;
+        e = r.turn.e;
+        whole = ap (λ l. d ∷ l) r.turn.whole;
+        leads = run_first m r.turn.before w x.0 d x.1 x.2 ∙ r.turn.leads;
+        takes = r.turn.takes;
+      };
+      who = r.who;
+      many = many;
+      next = r.next;
+    }
+
+    by : (q : Bool) → (d == a) ≡ q → (k : ℕ)
+        → slice_get (map second_of (cond q ((d, next_instruction m w d) ∷ filter (is_by a) (carried m s x.0)) (filter (is_by a) (carried m s x.0)))) k ≡ Some o
+        → ((j : ℕ) → slice_get (carried_by m s x.0 a) j ≡ Some o → IsTurnOf m x.0 s a j o) → IsTurnOf m w (d ∷ s) a k o
+    by true e zero h rest = record {
+      turn = record { before = []; after = s; act = d; here = w; there = x.0; e = x.1; whole = refl; leads = refl; takes = x.2 };
+      who = eqb-true d a e;
+      many = refl;
+      next = sym (same_Some (next_instruction m w d) o h) ∙ ap (next_instruction m w) (eqb-true d a e);
+    }
+    by true e (suc k) h rest = let r = rest k h in behind k (suc k) r (turns_same a d r.turn.before e ∙ ap suc r.many)
+    by false e k h rest = let r = rest k h in behind k k r (turns_other a d r.turn.before e ∙ r.many)
+
+-- the turn of a step that carries out instruction i
+pub turn_of_step : (m : ModuleValue) (s : List ℕ) (w z : World) (x : StepName) (i : Instr) → run m s w ≡ Through z → instruction_of m s w x ≡ Some i
+    → IsTurnOf m w s x.0 x.1 (Some i)
+turn_of_step m s w z x i legal is = turn_at m s w z x.0 x.1 (Some i) legal (by (slice_get (carried_by m s w x.0) x.1) is)
+  where
+    by : (o : Option (Option Instr)) → option_and_then (λ q. q) o ≡ Some i → o ≡ Some (Some i)
+    by None h = absurd (none-some i h)
+    by (Some q) h = ap Some h
+
+-- nobody takes more turns than there are
+turns_le : (a : ℕ) (s : List ℕ) → turns_of a s ≤ length s
+turns_le a [] = omega arith
+turns_le a (b ∷ s) = by (b == a) (turns_le a s)
+  where
+    by : (q : Bool) → turns_of a s ≤ length s → length (cond q (b ∷ filter (λ c. c == a) s) (filter (λ c. c == a) s)) ≤ length (b ∷ s)
+    by true h = omega (arith, h)
+    by false h = omega (arith, h)
+
+-- a step of the schedule is of an activity that there is at the end, which has taken fewer before than there are
+pub name_inside : (m : ModuleValue) (s : List ℕ) (w z : World) (x : StepName) (i : Instr) → run m s w ≡ Through z → instruction_of m s w x ≡ Some i
+    → (x.0 < length z.activities) × (x.1 < length s)
+name_inside m s w z x i legal is =
+    let r = turn_of_step m s w z x i legal is in
+    let t = r.turn in
+    let act = found_of m t.here t.act t.there t.e t.takes in
+    let here = slice_get_within t.here.activities t.act act.0 act.1 in
+    let grown = grown_run m (t.act ∷ t.after) t.here z (sym (run_behind m t.before (t.act ∷ t.after) w t.here t.leads) ∙ ap (λ l. run m l w) (sym t.whole) ∙ legal) in
+    let who = r.who in
+    let many = r.many in
+    let few = turns_le x.0 t.before in
+    let long = ap length t.whole ∙ length-append t.before (t.act ∷ t.after) in (omega (arith, here, grown, who), omega (arith, many, few, long))
