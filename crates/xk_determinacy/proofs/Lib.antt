@@ -10,3 +10,5 @@ pub mod SeenLemmas
 pub mod StepDeedLemmas
 pub mod AccessLemmas
 pub mod RaceFreeLaw
+pub mod PrintOrderLaw
+pub mod BeginningOrderLemmas
