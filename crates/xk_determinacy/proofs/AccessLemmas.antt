@@ -1,36 +1,24 @@
 -- Which instructions access shared numbers, and where two conflict; and that a step at such an instruction is told of as that access.
-use Rattle.std.proofs.Common.{◌≡◌, ℕ, ℤ, zero, suc, ◌+◌, ◌==◌, ◌&&◌, Bool, true, false, true≢false, cond, List, [], ◌∷◌, ◌++◌, map, length, Some, None, Option, refl, sym, ap, ◌∙◌, subst, eqb-true, eq-eqb, arith}
-use Rattle.std.specs.Prelude.{slice_get, filter, option_and_then, if◌then◌else◌}
+use Rattle.std.proofs.Common.{◌≡◌, ℕ, ℤ, ◌==◌, ◌&&◌, Bool, true, false, true≢false, List, Some, None, Option, refl, sym, ap, ◌∙◌, subst, eqb-true, eq-eqb}
+use Rattle.std.specs.Prelude.{slice_get}
 use Rattle.std.specs.Int.{w64, int_wrapping_add}
-use Rattle.std.specs.Option.{option_map_or}
 use Rattle.std.proofs.lemmas.Bool.{and_parts}
-use Rattle.std.proofs.lemmas.Option.{none-some, same_Some, get_or_from_slice_get}
 use Rattle.xk_types.specs.declared.instr.Instr.{Instr}
 use Rattle.xk_types.specs.declared.instr.Instr.TheVariants as instr
 use Rattle.xk_types.specs.declared.world.Value.{Value}
 use Rattle.xk_types.specs.declared.world.Value.TheVariants as value
-use Rattle.xk_types.specs.declared.world.Status.{Status}
-use Rattle.xk_types.specs.declared.world.Status.TheVariants as status
 use Rattle.xk_types.specs.declared.world.Event.{Event}
 use Rattle.xk_types.specs.declared.world.Event.TheVariants as event
 use Rattle.xk_types.specs.Acceptance.{IsAccepted}
-use Rattle.xk_types.specs.Code.{UnitValue, ModuleValue, IsWithinLimits}
-use Rattle.xk_types.specs.World.{Activity, World, instruction_at}
-use Rattle.xk_types.specs.Step.{Outcome, Blocked, Wrong, Stepped, slot_at, number_in, cell_in, put_in, done, none, stored, carried_out, run_at, step_by, step_of, step}
-use Rattle.xk_types.specs.Schedule.{Through, run, IsReached}
-use Rattle.xk_laws.proofs.ReachabilityLemmas.{first_step, reached_sound}
+use Rattle.xk_types.specs.Code.{ModuleValue, IsWithinLimits}
+use Rattle.xk_types.specs.World.{Activity, World}
+use Rattle.xk_types.specs.Step.{slot_at, number_in, cell_in, put_in, done, none, stored, carried_out}
+use Rattle.xk_types.specs.Schedule.{IsReached}
 use Rattle.xk_squares.specs.Conflicts.{reads, puts, stores, next_instruction}
-use Rattle.xk_squares.proofs.ChangeSquareLemmas.{found_of}
-use Rattle.xk_classes.specs.Edges.{StepName, turns_of, carried_on, carried, carried_by, instruction_of, AreApart, does}
-use Rattle.xk_classes.proofs.StepEventLemmas.{at_advance}
-use Rattle.xk_classes.proofs.SwapLemmas.{next_of, run_first}
-use Rattle.xk_classes.proofs.EdgeLaw.{turns_same, turns_other}
+use Rattle.xk_classes.specs.Edges.{AreApart, does}
 use Rattle.xk_events.specs.Steps.{run_step}
-use Rattle.xk_races.specs.declared.deeds.Deed.{Deed}
 use Rattle.xk_races.specs.declared.deeds.Part.TheVariants as part
 use Rattle.xk_races.specs.Deeds.{cell_of, cell_at, deed, tell_deeds}
-use Rattle.xk_races.specs.Knowledge.{Known, Sight, after, is_sight, nothing_known, sight, sights_from, sights_of}
-use Rattle.xk_races.specs.Order.{IsAt}
 use Rattle.xk_races.specs.Races.{clash}
 use Rattle.xk_determinacy.proofs.TurnLemmas.{Turn}
 use Rattle.xk_determinacy.proofs.StepDeedLemmas.{HasEvent, event_at, cell_is, IsDeedOf, first_deed}

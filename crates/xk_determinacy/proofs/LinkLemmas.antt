@@ -1,9 +1,9 @@
 -- Where one deed comes before another, a cause, or the order of an activity's own steps, has the step of the one before that of the other.
-use Rattle.std.proofs.Common.{◌≡◌, ℕ, ℤ, zero, suc, ◌+◌, ◌-◌, ◌<◌, ◌≤◌, ◌==◌, ◌⊎◌, inl, inr, true, false, true≢false, List, [], ◌∷◌, ◌++◌, length, take, Some, None, Option, refl, sym, ap, ◌∙◌, subst, arith}
+use Rattle.std.proofs.Common.{◌≡◌, ℕ, ℤ, zero, suc, ◌-◌, ◌<◌, ◌≤◌, ◌==◌, ◌⊎◌, inl, inr, true, false, true≢false, List, [], ◌∷◌, ◌++◌, length, take, Some, None, Option, refl, sym, ap, ◌∙◌, subst, arith}
 use Rattle.std.specs.Prelude.{slice_get, nat_lt}
 use Rattle.std.specs.Option.{option_map_or}
 use Rattle.std.proofs.lemmas.Bool.{and_parts}
-use Rattle.std.proofs.lemmas.Option.{none-some, same_Some, slice_get_within}
+use Rattle.std.proofs.lemmas.Option.{same_Some, slice_get_within}
 use Rattle.xk_types.specs.declared.world.Standing.TheVariants as standing
 use Rattle.xk_types.specs.declared.world.Event.TheVariants as event
 use Rattle.xk_types.specs.Acceptance.{IsAccepted}
@@ -16,7 +16,7 @@ use Rattle.xk_laws.proofs.ReachabilityLemmas.{opening_reached, reached_sound, re
 use Rattle.xk_laws.proofs.ScopeLemmas.FinishOwnerLemmas.{AreOwned, under_governed}
 use Rattle.xk_squares.proofs.ChangeSquareLemmas.{found_of}
 use Rattle.xk_squares.proofs.StartSquareLemmas.{alive_of}
-use Rattle.xk_classes.specs.Edges.{StepName, turns_of, IsEdge, IsLink, IsWay, IsBefore, IsStart, IsTurn, IsCause, standing_on, phase_of}
+use Rattle.xk_classes.specs.Edges.{StepName, turns_of, IsStart, IsTurn, standing_on, phase_of}
 use Rattle.xk_classes.proofs.EdgeLaw.{run_behind}
 use Rattle.xk_races.specs.declared.deeds.Deed.{Deed}
 use Rattle.xk_races.specs.declared.deeds.Part.{Part}
@@ -25,14 +25,14 @@ use Rattle.xk_races.specs.Deeds.{awaits, tell_deeds}
 use Rattle.xk_races.specs.Knowledge.{Scopes, nothing_known}
 use Rattle.xk_races.specs.Lists.{number_at}
 use Rattle.xk_races.proofs.OrderLemmas.{IsUpTo}
-use Rattle.xk_races.specs.Order.{IsAt, Reason, Own, Passed, Closed, Edge, Leads, Before, IsSignal, finish_at, scopes_after}
+use Rattle.xk_races.specs.Order.{IsAt, Reason, Own, Passed, Closed, Edge, Leads, IsSignal, finish_at, scopes_after}
 use Rattle.xk_events.specs.declared.steps.RunStep.{RunStep}
 use Rattle.xk_events.specs.Steps.{run_step}
 use Rattle.xk_determinacy.proofs.EdgeListLemmas.{IsLed, UpTo, led_cause, led_own, led_through, up_through}
 use Rattle.xk_determinacy.proofs.PhaseLemmas.{phase_grows, phase_advances}
 use Rattle.xk_determinacy.proofs.NumberedFinishLemmas.{AreNumbered, finish, base, number}
 use Rattle.xk_determinacy.proofs.StepNestingLemmas.{Nests, Effect, DoesGo, DoesStart, effect_of}
-use Rattle.xk_determinacy.proofs.TurnLemmas.{Turn, name_of, IsToldOf, deeds, deeds_run, deeds_first, get_split, get_left, get_right, told_at, deeds_around, deed_at, IsEarlier, AreOne, run_between, one_here, one_event, one_name, earlier_turns, turn_taken, turn_reached, in_order}
+use Rattle.xk_determinacy.proofs.TurnLemmas.{Turn, name_of, IsToldOf, deeds, deeds_run, deeds_first, told_at, deeds_around, deed_at, IsEarlier, AreOne, run_between, one_here, one_event, one_name, earlier_turns, turn_taken, turn_reached, in_order}
 use Rattle.xk_determinacy.proofs.DeedPartLemmas.{Says, IsPart, is_pass, parts_of}
 use Rattle.xk_determinacy.proofs.ScopeLemmas.{nest, opened_in, scopes_append, scopes_step, numbered_run, opening_numbered, ended_stays}
 

@@ -1,6 +1,6 @@
 -- Where the prints of a run are told to be in one order, no two numbers could be printed at once in any schedule of its class: so each of them prints
 -- the same list.
-use Rattle.std.proofs.Common.{◌≡◌, ◌∙◌, ℕ, ℤ, zero, suc, ◌+◌, ◌<◌, ◌≤◌, ◌⊎◌, inl, inr, Bool, true, false, true≢false, List, [], ◌∷◌, ◌++◌, length, Some, None, Option, refl, sym, ap, subst, arith}
+use Rattle.std.proofs.Common.{◌≡◌, ◌∙◌, ℕ, ℤ, zero, suc, ◌<◌, ◌≤◌, ◌⊎◌, inl, inr, Bool, true, false, true≢false, List, [], ◌∷◌, ◌++◌, length, Some, None, Option, refl, sym, ap, subst, arith}
 use Rattle.std.specs.Prelude.{slice_get, pred, if◌then◌else◌}
 use Rattle.std.specs.Option.{option_map_or}
 use Rattle.std.proofs.lemmas.Bool.{cases_eq, cases_lt}
@@ -29,7 +29,6 @@ use Rattle.xk_classes.proofs.SwapLemmas.{next_of}
 use Rattle.xk_classes.proofs.EdgeLaw.{never_two_ordered}
 use Rattle.xk_classes.proofs.PassEdgeLaw.{causes_sound}
 use Rattle.xk_races.specs.declared.deeds.Deed.{Deed}
-use Rattle.xk_races.specs.declared.deeds.Part.{Part}
 use Rattle.xk_races.specs.declared.deeds.Part.TheVariants as part
 use Rattle.xk_races.specs.declared.pairs.Gap.{Gap}
 use Rattle.xk_races.specs.Knowledge.{Sight, sights_of, comes_before, is_sight}
@@ -41,7 +40,7 @@ use Rattle.xk_races.proofs.SightLemmas.{order_is_exact}
 use Rattle.xk_events.specs.declared.steps.RunStep.{RunStep}
 use Rattle.xk_events.specs.Steps.{run_step}
 use Rattle.xk_races.specs.Deeds.{deed, tell_deeds}
-use Rattle.xk_determinacy.proofs.TurnLemmas.{Turn, name_of, deeds, deed_at, turn_reached, IsTurnOf, turn_of_step, name_inside}
+use Rattle.xk_determinacy.proofs.TurnLemmas.{Turn, name_of, deeds, deed_at, turn_reached, turn_of_step, name_inside}
 use Rattle.xk_determinacy.proofs.EdgeListLemmas.{Edges, before_more, IsLed, Grows, Gathered, gather_pairs}
 use Rattle.xk_determinacy.proofs.LinkLemmas.{says, up_led}
 use Rattle.xk_determinacy.proofs.SeenLemmas.{IsSight, sight_of}

@@ -1,9 +1,9 @@
 -- A run of which no race is told has none in any schedule of its class. For of two accesses that conflict one comes before the other by the least
 -- order of the run's deeds; so what orders those orders their steps.
-use Rattle.std.proofs.Common.{◌≡◌, ℕ, ℤ, zero, suc, ◌<◌, ◌≤◌, ◌==◌, ◌&&◌, ◌⊎◌, inl, inr, not, Bool, true, false, true≢false, cond, List, [], ◌∷◌, ◌++◌, length, Some, None, Option, refl, sym, ap, ◌∙◌, subst, length-append, eq-eqb, arith}
-use Rattle.std.specs.Prelude.{slice_get, filter, pred}
+use Rattle.std.proofs.Common.{◌≡◌, ℕ, ℤ, ◌<◌, ◌≤◌, ◌&&◌, ◌⊎◌, inl, inr, not, Bool, true, false, true≢false, List, [], ◌∷◌, length, Some, None, Option, refl, sym, ap, ◌∙◌, subst, eq-eqb, arith}
+use Rattle.std.specs.Prelude.{slice_get}
 use Rattle.std.proofs.lemmas.Bool.{cases_eq, cases_lt}
-use Rattle.std.proofs.lemmas.Option.{none-some, same_Some, slice_get_within}
+use Rattle.std.proofs.lemmas.Option.{none-some, same_Some}
 use Rattle.xk_types.specs.declared.instr.Instr.{Instr}
 use Rattle.xk_types.specs.Acceptance.{IsAccepted}
 use Rattle.xk_types.specs.Code.{ModuleValue, IsWithinLimits}
@@ -11,23 +11,18 @@ use Rattle.xk_types.specs.World.{World, AreArguments, opening}
 use Rattle.xk_types.specs.Schedule.{Through, run, IsReached, all_ended}
 use Rattle.xk_laws.proofs.ReachabilityLemmas.{opening_reached}
 use Rattle.xk_squares.specs.Conflicts.{next_instruction}
-use Rattle.xk_squares.proofs.ChangeSquareLemmas.{found_of}
 use Rattle.xk_classes.specs.Classes.{HasNoRace}
 use Rattle.xk_classes.specs.Edges.{StepName, turns_of, IsEdge, IsBefore, instruction_of, AreApart, IsCause, AreOrdered}
 use Rattle.xk_classes.proofs.OneRunLaw.{ordered_run}
 use Rattle.xk_classes.proofs.PassEdgeLaw.{causes_sound}
-use Rattle.xk_classes.proofs.EdgeLaw.{run_behind}
-use Rattle.xk_classes.proofs.StartEdgeLaw.{grown_run}
 use Rattle.xk_events.specs.declared.steps.RunStep.{RunStep}
 use Rattle.xk_races.specs.declared.deeds.Deed.{Deed}
 use Rattle.xk_races.specs.declared.deeds.Part.{Part}
 use Rattle.xk_races.specs.declared.deeds.Part.TheVariants as part
 use Rattle.xk_races.specs.declared.pairs.Race.{Race}
 use Rattle.xk_races.specs.Knowledge.{Sight, sights_of, comes_before, is_sight}
-use Rattle.xk_races.specs.Order.{Before}
 use Rattle.xk_races.specs.Races.{clash, have_one_number, is_race, races_in, has_none}
 use Rattle.xk_races.specs.Exactness.{Has}
-use Rattle.xk_races.proofs.SightLemmas.{order_is_exact}
 use Rattle.xk_races.proofs.RaceListLemmas.{races_are_exact}
 use Rattle.xk_determinacy.proofs.TurnLemmas.{Turn, name_of, deeds, deed_at, turn_reached, IsTurnOf, turn_of_step, name_inside}
 use Rattle.xk_determinacy.proofs.EdgeListLemmas.{Edges, before_more, IsLed, Grows, Gathered, gather_pairs}
