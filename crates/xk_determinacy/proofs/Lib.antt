@@ -12,3 +12,5 @@ pub mod AccessLemmas
 pub mod RaceFreeLaw
 pub mod PrintOrderLaw
 pub mod BeginningOrderLemmas
+pub mod SpeaksForAllLaw
+pub mod Examples
