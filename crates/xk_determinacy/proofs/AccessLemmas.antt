@@ -112,7 +112,8 @@ pub apart_turned : (o p : Option Instr) → AreApart o p → AreApart p o
 apart_turned o p a = record { second_reads = a.first_reads; first_reads = a.second_reads; first_puts = a.second_puts; second_puts = a.first_puts }
 
 -- two accesses of shared number s are so if they are both to c
-pub apart_by : (i j : Instr) (c d : ℕ) (k l : Mode) → Accesses i c k → Accesses j d l → (c ≡ d → clash (event_of k) (event_of l) ≡ false) → AreApart (Some i) (Some j)
+pub apart_by : (i j : Instr) (c d : ℕ) (k l : Mode) → Accesses i c k → Accesses j d l → (c ≡ d → clash (event_of k) (event_of l) ≡ false)
+    → AreApart (Some i) (Some j)
 apart_by i j c d k l p q free = record {
   second_reads = λ s h g. clashing s changes gets (reading k l) (parts (changes k) (s == c) (sym (p.stores s) ∙ h)) (parts (gets l) (s == d) (sym (q.reads s) ∙ g));
   first_reads = λ s h g. clashing s gets changes (read k l) (parts (gets k) (s == c) (sym (p.reads s) ∙ g)) (parts (changes l) (s == d) (sym (q.stores s) ∙ h));

@@ -13,7 +13,8 @@ use Rattle.xk_classes.specs.OneRun.{GoesAsWell, IsBegun, IsWholeRun}
 use Rattle.xk_classes.proofs.StartEdgeLaw.{Log, first_in, events_run}
 use Rattle.xk_classes.proofs.OneRunLaw.{same, begun_every}
 
-takers_run : (test : Event → Bool) (m : ModuleValue) (p q : List ℕ) (w v : World) → run m p w ≡ Through v → takers test m (p ++ q) w ≡ takers test m p w ++ takers test m q v
+takers_run : (test : Event → Bool) (m : ModuleValue) (p q : List ℕ) (w v : World) → run m p w ≡ Through v
+    → takers test m (p ++ q) w ≡ takers test m p w ++ takers test m q v
 takers_run test m p q w v h =
     ap (λ (es : Log). map first_in (filter (λ x. test x.1) es)) (events_run m p q w v h)
     ∙ ap (map first_in) (filter-append (λ (x : ℕ × Event). test x.1) (events m p w) (events m q v))
@@ -23,7 +24,8 @@ takers_run test m p q w v h =
     map_on [] vs = refl
     map_on (u ∷ us) vs = ap (λ l. u.0 ∷ l) (map_on us vs)
 
-pub begins_in_order : (m : ModuleValue) (args : List ℤ) → IsWithinLimits m → IsAccepted m → AreArguments m args → (s t : List ℕ) (z y : World) → IsWholeRun m args s z
+pub begins_in_order : (m : ModuleValue) (args : List ℤ) → IsWithinLimits m → IsAccepted m → AreArguments m args → (s t : List ℕ) (z y : World)
+    → IsWholeRun m args s z
     → HasNoRace m (opening m args) s → HasNeverTwo is_make m (opening m args) s → HasNeverTwo is_start m (opening m args) s → IsWholeRun m args t y
     → BeginsInOrder m (opening m args) t s
 begins_in_order m args limits ok taken s t z y one free made started other = record {

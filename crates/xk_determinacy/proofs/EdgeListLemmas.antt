@@ -38,7 +38,8 @@ way_more : (xs ys : Edges) → HasAll xs ys → (x : StepName) (zs : List StepNa
 way_more xs ys has x [] y way = link_more xs ys has x y way
 way_more xs ys has x (z ∷ zs) y way = (link_more xs ys has x z way.0, way_more xs ys has z zs y way.1)
 
-way_on : (xs : Edges) (x : StepName) (zs : List StepName) (y : StepName) (us : List StepName) (v : StepName) → IsWay xs x zs y → IsWay xs y us v → IsWay xs x (zs ++ y ∷ us) v
+way_on : (xs : Edges) (x : StepName) (zs : List StepName) (y : StepName) (us : List StepName) (v : StepName) → IsWay xs x zs y → IsWay xs y us v
+    → IsWay xs x (zs ++ y ∷ us) v
 way_on xs x [] y us v way rest = (way, rest)
 way_on xs x (z ∷ zs) y us v way rest = (way.0, way_on xs z zs y us v way.1 rest)
 

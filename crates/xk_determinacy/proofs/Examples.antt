@@ -128,14 +128,16 @@ met_prints = refl
 -- so every run by which all have ended prints 7 and 5
 meeting_prints : (t : List ℕ) (y : World) → IsWholeRun meeting [] t y → printed meeting t (fresh meeting) ≡ pos 7 ∷ pos 5 ∷ []
 meeting_prints t y other =
-    sym (prints_every meeting [] meeting_limits meeting_accepted refl (log_of met) (last meeting met) met_whole met_free meeting_main met_ordered t y other) ∙ met_prints
+    sym (prints_every meeting [] meeting_limits meeting_accepted refl (log_of met) (last meeting met) met_whole met_free meeting_main met_ordered t y other)
+    ∙ met_prints
 
 -- ---- main starts one that writes a number, and reads it: a race, whoever comes first
 
 abbrev racing : ModuleValue
 racing = record {
   shared = pos 0 ∷ [];
-  units = main_with 1 (instr.Spawn 1 [] ∷ instr.Get 0 0 ∷ instr.Print 0 ∷ instr.Ret ∷ []) ∷ body_with [] 1 (instr.Lit 0 (pos 5) ∷ instr.Put 0 0 ∷ instr.Ret ∷ []) ∷ [];
+  units = main_with 1 (instr.Spawn 1 [] ∷ instr.Get 0 0 ∷ instr.Print 0 ∷ instr.Ret ∷ [])
+      ∷ body_with [] 1 (instr.Lit 0 (pos 5) ∷ instr.Put 0 0 ∷ instr.Ret ∷ []) ∷ [];
 }
 
 racing_told : (is_race_free racing [] (log_of (0 ∷ 1 ∷ 1 ∷ 1 ∷ 0 ∷ 0 ∷ 0 ∷ [])) ≡ false) × (is_race_free racing [] (log_of (0 ∷ 0 ∷ 0 ∷ 0 ∷ 1 ∷ 1 ∷ 1 ∷ [])) ≡ false)
@@ -159,7 +161,8 @@ twins = record {
 
 twins_accepted : IsAccepted twins
 unfolding Rattle.xk_types.specs.Bound.total_within Rattle.xk_types.specs.Bound.chain_within
-twins_accepted = accepted_by twins (λ unit. number_kinds) refl refl (record { steps = omega arith; activities = omega arith; clocks = omega arith; stack = omega arith })
+twins_accepted = accepted_by twins (λ unit. number_kinds) refl refl
+    (record { steps = omega arith; activities = omega arith; clocks = omega arith; stack = omega arith })
 
 abbrev first_begins : List ℕ
 first_begins = 0 ∷ 0 ∷ 0 ∷ 1 ∷ 1 ∷ 2 ∷ 2 ∷ 3 ∷ 3 ∷ 3 ∷ 4 ∷ 4 ∷ 4 ∷ []
@@ -168,8 +171,9 @@ abbrev second_begins : List ℕ
 second_begins = 0 ∷ 0 ∷ 0 ∷ 2 ∷ 2 ∷ 1 ∷ 1 ∷ 3 ∷ 3 ∷ 3 ∷ 4 ∷ 4 ∷ 4 ∷ []
 
 -- no race is told of either, and all end; but number 3 prints another number
-twins_differ : (is_race_free twins [] (log_of first_begins) ≡ true) × (is_race_free twins [] (log_of second_begins) ≡ true) × (all_ended (last twins first_begins) ≡ true)
-    × (all_ended (last twins second_begins) ≡ true) × (printed_by twins first_begins (fresh twins) 3 ≡ pos 1 ∷ []) × (printed_by twins second_begins (fresh twins) 3 ≡ pos 2 ∷ [])
+twins_differ : (is_race_free twins [] (log_of first_begins) ≡ true) × (is_race_free twins [] (log_of second_begins) ≡ true)
+    × (all_ended (last twins first_begins) ≡ true) × (all_ended (last twins second_begins) ≡ true)
+    × (printed_by twins first_begins (fresh twins) 3 ≡ pos 1 ∷ []) × (printed_by twins second_begins (fresh twins) 3 ≡ pos 2 ∷ [])
 twins_differ = (refl, refl, refl, refl, refl, refl)
 
 -- where prints aren't told to be in one order

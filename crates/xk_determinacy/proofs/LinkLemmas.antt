@@ -48,7 +48,8 @@ take_front xs ys k is = ap (λ n. take n (xs ++ ys)) is ∙ by xs
 -- who is awaited on a clock is registered there, and hasn't signalled
 awaited_pending : (w : World) (a c : ℕ) → awaits w a c ≡ true → is_pending (standing_on w a c) ≡ true
 awaited_pending w a c h =
-    by (slice_get w.clocks c) (and_parts (nat_lt a (length w.activities)) (option_map_or (λ (k : Clock). is_pending (standing_of k a)) (slice_get w.clocks c) false) h).1
+    by (slice_get w.clocks c)
+    (and_parts (nat_lt a (length w.activities)) (option_map_or (λ (k : Clock). is_pending (standing_of k a)) (slice_get w.clocks c) false) h).1
   where
     by : (o : Option Clock) → option_map_or (λ (k : Clock). is_pending (standing_of k a)) o false ≡ true
         → is_pending (option_map_or (λ (k : Clock). standing_of k a) o standing.Apart) ≡ true
@@ -136,7 +137,8 @@ module _ (m : ModuleValue) (args : List ℤ) (limits : IsWithinLimits m) (ok : I
     passes = u.takes ∙ ap (Stepped u.there) is;
     awaited = awaited_pending u.here u.act c waits;
     advanced = (let a = phase_between t v c first in
-        let b = phase_advances m v.here v.there v.act c v.e v.takes (λ k at. ((reached_sound m limits ok v.here (turn_reached m w s v reached)).clocks c k at).last) advances in
+        let sound = reached_sound m limits ok v.here (turn_reached m w s v reached) in
+        let b = phase_advances m v.here v.there v.act c v.e v.takes (λ k at. (sound.clocks c k at).last) advances in
         let d = phase_grows m second.0 v.there u.here c (run_between m w s v u second) in
         omega (arith, a, b, d));
   }))
@@ -313,7 +315,8 @@ module _ (m : ModuleValue) (args : List ℤ) (limits : IsWithinLimits m) (ok : I
   edge_up : (t u : Turn m w s) (k j : ℕ) (d e : Deed) → IsToldOf m w s t k d → IsToldOf m w s u j e → Edge ds k j → UpTo m w s (name_of t) (name_of u)
   edge_up t u k j d e p q edge = reason_up t u k j d e p q (subst (Reason ds k j) (same_deed u j edge.0 e edge.1 q) edge.2)
 
-  leads_up : (ks : List ℕ) (t u : Turn m w s) (i j : ℕ) (d e : Deed) → IsToldOf m w s t i d → IsToldOf m w s u j e → Leads ds i ks j → UpTo m w s (name_of t) (name_of u)
+  leads_up : (ks : List ℕ) (t u : Turn m w s) (i j : ℕ) (d e : Deed) → IsToldOf m w s t i d → IsToldOf m w s u j e → Leads ds i ks j
+      → UpTo m w s (name_of t) (name_of u)
   leads_up [] t u i j d e p q h = edge_up t u i j d e p q h
   leads_up (k ∷ ks) t u i j d e p q h =
       let c = reason_at k j h.1.0 h.1.2 in
@@ -321,7 +324,8 @@ module _ (m : ModuleValue) (args : List ℤ) (limits : IsWithinLimits m) (ok : I
       up_through m w s (name_of t) (name_of v.0) (name_of u) (leads_up ks t v.0 i k d c.0 p v.1 h.0) (edge_up v.0 u k j c.0 e v.1 q h.1)
 
   -- where a deed of one activity comes before a deed of another, its step leads to that of the other
-  pub up_led : (t u : Turn m w s) (i j : ℕ) (d e : Deed) → IsToldOf m w s t i d → IsToldOf m w s u j e → (u.act ≡ t.act → ⊥) → IsUpTo ds i j → IsLed m w s (name_of t) (name_of u)
+  pub up_led : (t u : Turn m w s) (i j : ℕ) (d e : Deed) → IsToldOf m w s t i d → IsToldOf m w s u j e → (u.act ≡ t.act → ⊥) → IsUpTo ds i j
+      → IsLed m w s (name_of t) (name_of u)
   up_led t u i j d e p q differ (inl is) =
       let same : d ≡ e = same_Some d e (sym (deed_at m w s t i d p) ∙ ap (slice_get ds) is ∙ deed_at m w s u j e q) in
       absurd (differ (sym (whose u j e q) ∙ sym (ap (λ (c : Deed). c.step.act) same) ∙ whose t i d p))

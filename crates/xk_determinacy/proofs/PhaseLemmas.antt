@@ -67,7 +67,8 @@ settled_marks : (now : ℕ) (ds : List Clock) (c : ℕ) → IsSettled ds (map (s
 settled_marks now [] c = record { grows = omega arith; advances = λ h g. absurd (omega (arith, h, g)) }
 settled_marks now (k ∷ ds) zero = by (is_ready k)
   where
-    by : (b : Bool) → IsSettled (k ∷ ds) (cond b (record { phase = k.phase + 1; last = now; standings = map advanced k.standings }) k ∷ map (settled_clock now) ds) now zero
+    by : (b : Bool)
+        → IsSettled (k ∷ ds) (cond b (record { phase = k.phase + 1; last = now; standings = map advanced k.standings }) k ∷ map (settled_clock now) ds) now zero
     by true = record { grows = omega arith; advances = λ h g. omega arith }
     by false = record { grows = omega arith; advances = λ h g. absurd (omega (arith, h, g)) }
 settled_marks now (k ∷ ds) (suc c) = let r = settled_marks now ds c in record { grows = r.grows; advances = r.advances }
@@ -108,15 +109,19 @@ goes_up w u c ds near clocks steps = record {
     second : phase_of u c ≡ phase_by (at_clock (map (settled_clock (w.steps + 1)) ds) c)
     second = phase_marks u.clocks c ∙ ap (λ cs. phase_by (at_clock cs c)) clocks
 
+moved_up : (w u : World) (a c : ℕ) (change : ℕ → Standing → Standing) → u.clocks ≡ map (settled_clock (w.steps + 1)) (moved a change w.clocks)
+    → u.steps ≡ w.steps + 1 → GoesUp w u c
+moved_up w u a c change = goes_up w u c (moved a change w.clocks) (as_before w.clocks (moved a change w.clocks) c (moved_marks a change w.clocks c))
+
 go_up : (m : ModuleValue) (w : World) (a c : ℕ) → GoUp w c (step m w a)
 go_up m w a c = step_kind (GoUp w c) m w a tt (λ d. tt) (λ act found lives. record {
-  closed = λ n some nobody runs. goes_up w _ c (moved a none w.clocks) (as_before w.clocks (moved a none w.clocks) c (moved_marks a none w.clocks c)) refl refl;
-  over = λ here none'. goes_up w _ c (moved a (all dropped) w.clocks)
-      (as_before w.clocks (moved a (all dropped) w.clocks) c (moved_marks a (all dropped) w.clocks c)) refl refl;
-  arrives = goes_up w _ c (moved a (all resumed) w.clocks) (as_before w.clocks (moved a (all resumed) w.clocks) c (moved_marks a (all resumed) w.clocks c)) refl refl;
-  done = λ next change e goes quiet rests. goes_up w _ c (moved a change w.clocks) (as_before w.clocks (moved a change w.clocks) c (moved_marks a change w.clocks c)) refl refl;
-  made = λ next goes. goes_up w _ c (w.clocks ++ new_clock (length w.activities) a ∷ []) (push_as_before w.clocks (new_clock (length w.activities) a) c refl refl) refl refl;
-  stored = λ s n e goes quiet. goes_up w _ c (moved a none w.clocks) (as_before w.clocks (moved a none w.clocks) c (moved_marks a none w.clocks c)) refl refl;
+  closed = λ n some nobody runs. moved_up w _ a c none refl refl;
+  over = λ here none'. moved_up w _ a c (all dropped) refl refl;
+  arrives = moved_up w _ a c (all resumed) refl refl;
+  done = λ next change e goes quiet rests. moved_up w _ a c change refl refl;
+  made = λ next goes. goes_up w _ c (w.clocks ++ new_clock (length w.activities) a ∷ [])
+      (push_as_before w.clocks (new_clock (length w.activities) a) c refl refl) refl refl;
+  stored = λ s n e goes quiet. moved_up w _ a c none refl refl;
   spawned = λ t args values at goes. goes_up w _ c (joined a (is_given values) w.clocks)
       (as_before w.clocks (joined a (is_given values) w.clocks) c (joined_marks a (is_given values) w.clocks c)) refl refl;
 })

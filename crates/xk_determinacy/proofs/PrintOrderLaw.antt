@@ -60,7 +60,8 @@ up_on ds i k m (inr h) (inr g) = inr (g.0 ++ k ∷ h.0, leads_on ds i k h.0 g.0 
 -- ---- prints that are told to be in one order
 
 -- where no print is told to have a gap behind it, each comes before each later one, by any relation that leads on and is told of neighbours
-module _ (T : Sight → Sight → Type 0) (on : (x y z : Sight) → T x y → T y z → T x z) (M : Sight → Type 0) (tells : (x y : Sight) → M x → M y → comes_before x y ≡ true → T x y) where
+module _ (T : Sight → Sight → Type 0) (on : (x y z : Sight) → T x y → T y z → T x z) (M : Sight → Type 0)
+    (tells : (x y : Sight) → M x → M y → comes_before x y ≡ true → T x y) where
   abbrev IsPrint : Sight → Type 0
   IsPrint x = races.is_print x.deed.part ≡ true
 
@@ -113,7 +114,8 @@ module _ (T : Sight → Sight → Type 0) (on : (x y z : Sight) → T x y → T 
       by false e h = (λ is. absurd (true≢false (sym is ∙ e)), (Some x, h))
 
   pub pairs : (o : Option Sight) (ys : List Sight) → ((i : ℕ) (y : Sight) → slice_get ys i ≡ Some y → M y) → gap_behind o ys ≡ None
-      → (p q : ℕ) (x y : Sight) → p < q → slice_get ys p ≡ Some x → slice_get ys q ≡ Some y → races.is_print x.deed.part ≡ true → races.is_print y.deed.part ≡ true → T x y
+      → (p q : ℕ) (x y : Sight) → p < q → slice_get ys p ≡ Some x → slice_get ys q ≡ Some y → races.is_print x.deed.part ≡ true
+      → races.is_print y.deed.part ≡ true → T x y
   pairs o [] all none p q x y less here there first second = absurd (none-some x here)
   pairs o (z ∷ ys) all none p zero x y less here there first second = absurd (omega (arith, less))
   pairs o (z ∷ ys) all none zero (suc q) x y less here there first second =
@@ -131,7 +133,8 @@ prints_up : (ds : List Deed) → gap_in (sights_of ds) ≡ None → (k j : ℕ) 
 prints_up ds none k j d e x y less first second =
     subst (λ n. IsUpTo ds n j) (ap pred x.number) (subst (λ n. IsUpTo ds (pred x.sight.number) n) (ap pred y.number)
     (pairs AreUpTo (λ a b c. up_on ds (pred a.number) (pred b.number) (pred c.number)) Seen
-    (λ a b p q before. (order_is_exact ds).sound p.0 q.0 a b p.1 q.1 before) None (sights_of ds) (λ i v at. (i, at)) none x.place y.place x.sight y.sight less x.there y.there
+    (λ a b p q before. (order_is_exact ds).sound p.0 q.0 a b p.1 q.1 before) None (sights_of ds) (λ i v at. (i, at)) none x.place y.place x.sight y.sight less
+    x.there y.there
     (ap (λ (c : Deed). races.is_print c.part) x.deed ∙ ap races.is_print first) (ap (λ (c : Deed). races.is_print c.part) y.deed ∙ ap races.is_print second)))
   where
     AreUpTo : Sight → Sight → Type 0
@@ -175,7 +178,8 @@ print_deed m limits ok w s t reached i next is =
         (λ act. printed_event t.here t.act act (slot_at act form.0))
 
 -- who is seen to print stands at such an instruction
-print_says : (m : ModuleValue) (v u : World) (a : ℕ) (e : Event) → step m v a ≡ Stepped u e → is_print e ≡ true → option_map_or prints (next_instruction m v a) false ≡ true
+print_says : (m : ModuleValue) (v u : World) (a : ℕ) (e : Event) → step m v a ≡ Stepped u e → is_print e ≡ true
+    → option_map_or prints (next_instruction m v a) false ≡ true
 print_says m v u a e takes is = by (goes m v v a x.0 x.0.since (sees_itself m v a x.0 x.1))
   where
     x : (z : Activity) × (slice_get v.activities a ≡ Some z)
@@ -186,7 +190,8 @@ print_says m v u a e takes is = by (goes m v v a x.0 x.0.since (sees_itself m v 
     seen event.Local h g = true≢false (sym h)
     seen _ h g = true≢false (sym h)
 
-    at : (b : Bool) → option_map_or prints (instruction_at m x.0.frame) false ≡ b → (b ≡ false → number_printed e ≡ None) → option_map_or prints (next_instruction m v a) false ≡ true
+    at : (b : Bool) → option_map_or prints (instruction_at m x.0.frame) false ≡ b → (b ≡ false → number_printed e ≡ None)
+        → option_map_or prints (next_instruction m v a) false ≡ true
     at true h g = ap (λ o. option_map_or prints o false) (next_of m v a x.0 x.1) ∙ h
     at false h g = absurd (seen e is (g refl))
 

@@ -218,7 +218,8 @@ module _ (m : ModuleValue) (args : List ℤ) (limits : IsWithinLimits m) (ok : I
 
       by : (o p : Option Instr) → instruction_of m s w x ≡ o → instruction_of m s w y ≡ p
           → AreApart (instruction_of m s w x) (instruction_of m s w y) ⊎ (IsBefore all_pairs.edges x y ⊎ IsBefore all_pairs.edges y x)
-      by None p here there = inl (subst (λ o. AreApart o (instruction_of m s w y)) (sym here) (apart_none None (instruction_of m s w y) (λ c. refl) (λ c. refl) (λ c. refl)))
+      by None p here there =
+          inl (subst (λ o. AreApart o (instruction_of m s w y)) (sym here) (apart_none None (instruction_of m s w y) (λ c. refl) (λ c. refl) (λ c. refl)))
       by (Some i) None here there =
           inl (subst (λ p. AreApart (instruction_of m s w x) p) (sym there)
           (apart_turned None (instruction_of m s w x) (apart_none None (instruction_of m s w x) (λ c. refl) (λ c. refl) (λ c. refl))))

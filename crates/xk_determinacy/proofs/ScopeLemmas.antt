@@ -286,7 +286,8 @@ step_over m w u a x e s act takes at over =
     by _ = refl
 
 -- and along a run
-pub ended_stays : (m : ModuleValue) (list : List ℕ) (w v : World) (s : Scopes) (x : ℕ) (act : Activity) → run m list w ≡ Through v → slice_get w.activities x ≡ Some act
+pub ended_stays : (m : ModuleValue) (list : List ℕ) (w v : World) (s : Scopes) (x : ℕ) (act : Activity) → run m list w ≡ Through v
+    → slice_get w.activities x ≡ Some act
     → is_ended act.status ≡ true
     → (slice_get v.activities x ≡ Some act) × (number_at (scopes_after (deeds m list w) s).within x ≡ number_at s.within x)
 ended_stays m [] w v s x act h at over = (ap (λ (z : World). slice_get z.activities x) (sym (same_through w v h)) ∙ at, refl)

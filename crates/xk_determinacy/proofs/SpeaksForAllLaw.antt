@@ -25,10 +25,12 @@ module _ (m : ModuleValue) (args : List ℤ) (limits : IsWithinLimits m) (ok : I
   pub in_order : (t : List ℕ) (y : World) → IsWholeRun m args t y → BeginsInOrder m (opening m args) t (schedule_of log) → ComeToOne m args (schedule_of log) t z y
   in_order t y other order = one_in_order m args limits ok taken (schedule_of log) t z y one no_race other order
 
-  pub prints_in_order : gap_in (sights_of_run m args log) ≡ None → (t : List ℕ) (y : World) → IsWholeRun m args t y → BeginsInOrder m (opening m args) t (schedule_of log)
+  pub prints_in_order : gap_in (sights_of_run m args log) ≡ None → (t : List ℕ) (y : World) → IsWholeRun m args t y
+      → BeginsInOrder m (opening m args) t (schedule_of log)
       → printed m (schedule_of log) (opening m args) ≡ printed m t (opening m args)
   prints_in_order none t y other order =
-      one_prints m args limits ok taken (schedule_of log) t z y one no_race (never_two_prints m args limits ok taken (schedule_of log) z one.legal none one.ended) other order
+      one_prints m args limits ok taken (schedule_of log) t z y one no_race
+      (never_two_prints m args limits ok taken (schedule_of log) z one.legal none one.ended) other order
 
   module _ (only : OnlyMainBegins m) where
     made : HasNeverTwo is_make m (opening m args) (schedule_of log)

@@ -32,7 +32,8 @@ HasEvent P (Stepped u e) = P e
 
 -- A step at instruction i has an event as that instruction has, if it isn't an `advance`, whose second half is another step.
 pub event_at : (m : ModuleValue) (limits : IsWithinLimits m) (ok : IsAccepted m) (w u : World) (a : ℕ) (e : Event) → IsReached m w → step m w a ≡ Stepped u e
-    → (i : Instr) → next_instruction m w a ≡ Some i → (i ≡ instr.Advance → ⊥) → (P : Event → Type 0) → ((act : Activity) → HasEvent P (carried_out m w a act i)) → P e
+    → (i : Instr) → next_instruction m w a ≡ Some i → (i ≡ instr.Advance → ⊥) → (P : Event → Type 0)
+    → ((act : Activity) → HasEvent P (carried_out m w a act i)) → P e
 event_at m limits ok w u a e reached takes i next other P has =
     subst (HasEvent P) takes (subst (HasEvent P) (sym (ap (step_of m w a) x.1)) (by x.0.status refl))
   where

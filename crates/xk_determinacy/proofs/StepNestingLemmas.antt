@@ -62,7 +62,8 @@ module _ (m : ModuleValue) (w : World) (a : ℕ) (act : Activity) where
       DoesGo (record { next = next; governed = governed; nests = nests; alone = alone; activities = ap (λ l. set l a next) same })
 
   -- in its unit, where others see nothing of its finishes
-  rests : (frame : Frame) (callers : List Frame) (change : ℕ → Standing → Standing) (e : Event) → Nests m e act (record act { frame = frame; callers = callers }) → is_start e ≡ false
+  rests : (frame : Frame) (callers : List Frame) (change : ℕ → Standing → Standing) (e : Event)
+      → Nests m e act (record act { frame = frame; callers = callers }) → is_start e ≡ false
       → Has m w a act (done w a (record act { frame = frame; callers = callers }) change e)
   rests frame callers change e nests alone = goes w (record act { frame = frame; callers = callers }) change e refl refl nests alone
 
@@ -116,7 +117,8 @@ module _ (m : ModuleValue) (w : World) (a : ℕ) (act : Activity) where
   of_write e nests alone d v = of_put (slot_at act d) d v _ (rests _ act.callers none e (nests _) alone)
 
   of_computing : (d x y : ℕ) (f : ℤ → ℤ → ℤ)
-      → Has m w a act (number_in (slot_at act x) (λ p. number_in (slot_at act y) (λ q. put_in (slot_at act d) act d (value.Number (f p q)) (λ next. done w a next none event.Local))))
+      → Has m w a act
+      (number_in (slot_at act x) (λ p. number_in (slot_at act y) (λ q. put_in (slot_at act d) act d (value.Number (f p q)) (λ next. done w a next none event.Local))))
   of_computing d x y f = of_number (slot_at act x) _ (λ p. of_number (slot_at act y) _ (λ q. of_write event.Local (λ frame. refl) refl d _))
 
   of_either : (q : Bool) (f g : Frame) → Has m w a act (done w a (cond q (record act { frame = f }) (record act { frame = g })) none event.Local)
@@ -127,7 +129,8 @@ module _ (m : ModuleValue) (w : World) (a : ℕ) (act : Activity) where
   of_beginning k lo t top = by (int_le lo top)
     where
       by : (q : Bool)
-          → Has m w a act (cond q (put_in (slot_at act k) act k (value.Number lo) (λ next. done w a next none event.Local)) (done w a (going act t) none event.Local))
+          → Has m w a act
+          (cond q (put_in (slot_at act k) act k (value.Number lo) (λ next. done w a next none event.Local)) (done w a (going act t) none event.Local))
       by true = of_write event.Local (λ frame. refl) refl k (value.Number lo)
       by false = rests _ act.callers none event.Local refl refl
 
@@ -174,11 +177,19 @@ module _ (m : ModuleValue) (w : World) (a : ℕ) (act : Activity) where
       more n = omega arith
   of_instruction (instr.EndFinish b) here = of_closing b act.opened here refl
   of_instruction (instr.Get d s) here = of_cell (slice_get w.cells s) _ (λ n. of_write event.Got (λ frame. refl) refl d (value.Number n))
-  of_instruction (instr.Put s x) here = of_number (slot_at act x) _ (λ n. of_cell (slice_get w.cells s) _ (λ old. goes _ (onward act) none event.Put refl refl refl refl))
-  of_instruction (instr.AddTo s x) here = of_number (slot_at act x) _ (λ n. of_cell (slice_get w.cells s) _ (λ old. goes _ (onward act) none event.Added refl refl refl refl))
+  of_instruction (instr.Put s x) here = of_number (slot_at act x) _
+      (λ n. of_cell (slice_get w.cells s) _ (λ old. goes _ (onward act) none event.Put refl refl refl refl))
+  of_instruction (instr.AddTo s x) here = of_number (slot_at act x) _
+      (λ n. of_cell (slice_get w.cells s) _ (λ old. goes _ (onward act) none event.Added refl refl refl refl))
   of_instruction (instr.Print x) here = of_number (slot_at act x) _ (λ n. rests _ act.callers none (event.Printed n) refl refl)
   of_instruction (instr.Make k) here = of_put (slot_at act k) k _ _
-      (DoesGo (record { next = onward (with_slots act (set act.frame.slots k (value.Clock (length w.clocks)))); governed = refl; nests = refl; alone = refl; activities = refl }))
+      (DoesGo (record {
+        next = onward (with_slots act (set act.frame.slots k (value.Clock (length w.clocks))));
+        governed = refl;
+        nests = refl;
+        alone = refl;
+        activities = refl;
+      }))
   of_instruction (instr.Resume k) here = of_clock (slot_at act k) _ (λ c. rests _ act.callers (only c resumed) event.Resumed refl refl)
   of_instruction (instr.Drop k) here = of_clock (slot_at act k) _ (λ c. rests _ act.callers (only c dropped) event.Dropped refl refl)
   of_instruction instr.Advance here = goes w (arrived act) (all resumed) event.Arrived refl refl refl refl
@@ -213,5 +224,6 @@ module _ (m : ModuleValue) (w : World) (a : ℕ) (act : Activity) where
   of_status status.Ended = tt
 
 -- the effect of each step
-pub effect_of : (m : ModuleValue) (w u : World) (a : ℕ) (act : Activity) (e : Event) → slice_get w.activities a ≡ Some act → step m w a ≡ Stepped u e → Effect m w u a act e
+pub effect_of : (m : ModuleValue) (w u : World) (a : ℕ) (act : Activity) (e : Event) → slice_get w.activities a ≡ Some act → step m w a ≡ Stepped u e
+    → Effect m w u a act e
 effect_of m w u a act e at takes = subst (Has m w a act) (sym (ap (step_of m w a) at) ∙ takes) (of_status m w a act act.status)

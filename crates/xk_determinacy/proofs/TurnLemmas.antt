@@ -239,10 +239,12 @@ second_of p = p.1
 abbrev is_by : ℕ → ℕ × Option Instr → Bool
 is_by a p = p.0 == a
 
-turn_at : (m : ModuleValue) (s : List ℕ) (w z : World) (a k : ℕ) (o : Option Instr) → run m s w ≡ Through z → slice_get (carried_by m s w a) k ≡ Some o → IsTurnOf m w s a k o
+turn_at : (m : ModuleValue) (s : List ℕ) (w z : World) (a k : ℕ) (o : Option Instr) → run m s w ≡ Through z → slice_get (carried_by m s w a) k ≡ Some o
+    → IsTurnOf m w s a k o
 turn_at m [] w z a k o legal at = absurd (none-some o at)
 turn_at m (d ∷ s) w z a k o legal at =
-    by (d == a) refl k (subst (λ l. slice_get (map second_of (filter (is_by a) l)) k ≡ Some o) (ap (λ q. carried_on (d, next_instruction m w d) q (carried m s)) x.2) at)
+    by (d == a) refl k
+    (subst (λ l. slice_get (map second_of (filter (is_by a) l)) k ≡ Some o) (ap (λ q. carried_on (d, next_instruction m w d) q (carried m s)) x.2) at)
     (λ j h. turn_at m s x.0 z a j o x.3 h)
   where
     x : (u : World) × (e : Event) × (step m w d ≡ Stepped u e) × (run m s u ≡ Through z)
@@ -304,7 +306,8 @@ name_inside m s w z x i legal is =
     let t = r.turn in
     let act = found_of m t.here t.act t.there t.e t.takes in
     let here = slice_get_within t.here.activities t.act act.0 act.1 in
-    let grown = grown_run m (t.act ∷ t.after) t.here z (sym (run_behind m t.before (t.act ∷ t.after) w t.here t.leads) ∙ ap (λ l. run m l w) (sym t.whole) ∙ legal) in
+    let grown = grown_run m (t.act ∷ t.after) t.here z
+    (sym (run_behind m t.before (t.act ∷ t.after) w t.here t.leads) ∙ ap (λ l. run m l w) (sym t.whole) ∙ legal) in
     let who = r.who in
     let many = r.many in
     let few = turns_le x.0 t.before in
