@@ -25,11 +25,13 @@ use Rattle.xk_determinacy.proofs.StepDeedLemmas.{HasEvent, event_at, cell_is, Is
 
 -- ---- kinds of accesses
 
+-- a shared number is read, written, or added to
 pub data Mode : Type 0 where
   Gets : Mode
   Puts : Mode
   Adds : Mode
 
+-- what each is seen to do
 abbrev pub event_of : Mode → Event
 event_of Gets = event.Got
 event_of Puts = event.Put
@@ -74,6 +76,7 @@ stored_event w a act s e f (Some (value.Clock c)) q = tt
 stored_event w a act s e f (Some (value.Number n)) None = tt
 stored_event w a act s e f (Some (value.Number n)) (Some old) = refl
 
+-- each instruction is of one sort
 pub sort_of : (i : Instr) → Sort i
 sort_of (instr.Get d c) = Does c Gets (record {
   reads = λ s. refl;
@@ -100,6 +103,7 @@ sort_of _ = DoesNone (λ s. refl) (λ s. refl) (λ s. refl)
 
 -- ---- where two instructions are apart
 
+-- an instruction that accesses none conflicts with none
 pub apart_none : (o p : Option Instr) → ((s : ℕ) → does reads o s ≡ false) → ((s : ℕ) → does puts o s ≡ false) → ((s : ℕ) → does stores o s ≡ false) → AreApart o p
 apart_none o p none_read none_put none_stored = record {
   second_reads = λ c h g. true≢false (sym h ∙ none_stored c);
@@ -108,6 +112,7 @@ apart_none o p none_read none_put none_stored = record {
   second_puts = λ c h g. true≢false (sym g ∙ none_stored c);
 }
 
+-- the other way round
 pub apart_turned : (o p : Option Instr) → AreApart o p → AreApart p o
 apart_turned o p a = record { second_reads = a.first_reads; first_reads = a.second_reads; first_puts = a.second_puts; second_puts = a.first_puts }
 
@@ -174,6 +179,7 @@ pub record IsAccess (m : ModuleValue) (w : World) (s : List ℕ) (t : Turn m w s
   pub event : t.e ≡ event_of k
   pub deed : IsDeedOf m w s t (part.Access c)
 
+-- so a step at an instruction that accesses a shared number
 pub access_of : (m : ModuleValue) (limits : IsWithinLimits m) (ok : IsAccepted m) (w : World) (s : List ℕ) (t : Turn m w s) → IsReached m t.here
     → (i : Instr) (c : ℕ) (k : Mode) → next_instruction m t.here t.act ≡ Some i → Accesses i c k → IsAccess m w s t c k
 access_of m limits ok w s t reached i c k next p = record {

@@ -13,6 +13,7 @@ use Rattle.xk_classes.specs.OneRun.{GoesAsWell, IsBegun, IsWholeRun}
 use Rattle.xk_classes.proofs.StartEdgeLaw.{Log, first_in, events_run}
 use Rattle.xk_classes.proofs.OneRunLaw.{same, begun_every}
 
+-- who takes the steps with such events, in two runs one after the other
 takers_run : (test : Event → Bool) (m : ModuleValue) (p q : List ℕ) (w v : World) → run m p w ≡ Through v
     → takers test m (p ++ q) w ≡ takers test m p w ++ takers test m q v
 takers_run test m p q w v h =
@@ -24,6 +25,7 @@ takers_run test m p q w v h =
     map_on [] vs = refl
     map_on (u ∷ us) vs = ap (λ l. u.0 ∷ l) (map_on us vs)
 
+-- a whole run makes clocks and starts activities in the order of one that speaks for all
 pub begins_in_order : (m : ModuleValue) (args : List ℤ) → IsWithinLimits m → IsAccepted m → AreArguments m args → (s t : List ℕ) (z y : World)
     → IsWholeRun m args s z
     → HasNoRace m (opening m args) s → HasNeverTwo is_make m (opening m args) s → HasNeverTwo is_start m (opening m args) s → IsWholeRun m args t y

@@ -91,6 +91,7 @@ at_clock (part.Pass c) = true
 at_clock _ = false
 
 module _ (m : ModuleValue) (a : ℕ) (w v : World) where
+  -- the step, as deeds tell of it
   abbrev pub of_step : Event → RunStep
   of_step e = run_step a w v e
 
@@ -109,6 +110,7 @@ module _ (m : ModuleValue) (a : ℕ) (w v : World) where
       (every_flat (λ c. has_advanced v c ≡ true) (IsClockPart e) (advance (of_step e)) (advanced_now v) (every_filter (has_advanced v) _)
       (λ c is. every_one (IsClockPart e) (deed (of_step e) (part.Advance c)) (refl, refl, (is, not_pass))))
 
+  -- each deed at a clock is one
   pub clock_parts : (e : Event) → Every (IsClockPart e) (at_clocks v (of_step e) (awaiting w a) e)
   clock_parts event.Resumed = signals_parts event.Resumed refl
   clock_parts event.Dropped = signals_parts event.Dropped refl

@@ -5,16 +5,19 @@ use Rattle.std.proofs.lemmas.Bool.{cases_lt}
 use Rattle.std.proofs.lemmas.Option.{none-some}
 use Rattle.xk_types.specs.Code.{ModuleValue}
 use Rattle.xk_types.specs.World.{World}
+use Rattle.xk_types.proofs.ListLemmas.{get-append_left}
 use Rattle.xk_classes.specs.Edges.{StepName, IsEdge, IsLink, IsWay, IsBefore, IsCause}
-use Rattle.xk_determinacy.proofs.TurnLemmas.{get_split, get_left, get_right}
+use Rattle.xk_determinacy.proofs.TurnLemmas.{get_split, get_right}
 
+-- edges between steps, each from a step to a later one
 abbrev pub Edges : Type 0
 Edges = List (StepName × StepName)
 
 -- ---- edges and ways
 
+-- an edge of one of two lists is one of both, and the other way round
 pub edge_left : (xs ys : Edges) (x y : StepName) → IsEdge xs x y → IsEdge (xs ++ ys) x y
-edge_left xs ys x y h = (h.0, get_left xs ys h.0 (x, y) h.1)
+edge_left xs ys x y h = (h.0, get-append_left xs ys h.0 (x, y) h.1)
 
 pub edge_right : (xs ys : Edges) (x y : StepName) → IsEdge ys x y → IsEdge (xs ++ ys) x y
 edge_right xs ys x y h = (length xs + h.0, get_right xs ys h.0 ∙ h.1)
@@ -43,6 +46,7 @@ way_on : (xs : Edges) (x : StepName) (zs : List StepName) (y : StepName) (us : L
 way_on xs x [] y us v way rest = (way, rest)
 way_on xs x (z ∷ zs) y us v way rest = (way.0, way_on xs z zs y us v way.1 rest)
 
+-- what is before by some edges is so by more
 pub before_more : (xs ys : Edges) → HasAll xs ys → (x y : StepName) → IsBefore xs x y → IsBefore ys x y
 before_more xs ys has x y b = record { between = b.between; way = way_more xs ys has x b.between y b.way }
 
@@ -72,6 +76,7 @@ module _ (m : ModuleValue) (w : World) (s : List ℕ) where
       of u v zero h = subst (λ (p : StepName × StepName). IsCause m w s p.0 p.1) (same (x, y) (u, v) h) c
       of u v (suc k) h = absurd (none-some (u, v) h)
 
+  -- an activity's own steps, in their order
   pub led_own : (x y : StepName) → x.0 ≡ y.0 → x.1 < y.1 → IsLed m w s x y
   led_own x y same less = record {
     edges = [];
@@ -79,6 +84,7 @@ module _ (m : ModuleValue) (w : World) (s : List ℕ) where
     before = record { between = []; way = inr (same, less) };
   }
 
+  -- one leads on to the next
   pub led_through : (x y z : StepName) → IsLed m w s x y → IsLed m w s y z → IsLed m w s x z
   led_through x y z p q = record {
     edges = p.edges ++ q.edges;
@@ -95,6 +101,7 @@ module _ (m : ModuleValue) (w : World) (s : List ℕ) where
       of u v (inl h) = p.causes u v h
       of u v (inr h) = q.causes u v h
 
+  -- and so does what may be one step
   pub up_through : (x y z : StepName) → UpTo m w s x y → UpTo m w s y z → UpTo m w s x z
   up_through x y z (inl p) q = subst (λ a. UpTo m w s a z) (sym p) q
   up_through x y z (inr p) (inl q) = inr (subst (IsLed m w s x) q p)

@@ -87,6 +87,7 @@ StaysBut a f g = (b : ℕ) → (b ≡ a → ⊥) → g b ≡ f b
 
 -- ---- activity a opens a finish
 
+-- it goes into a finish of the next number, which has the one around it that the activity was in
 pub record Opens (s t : Nest) (a : ℕ) : Type 0 where
   pub known : a < s.activities
   pub goes : t.within a ≡ s.finishes
@@ -134,6 +135,7 @@ module _ (s t : Nest) (a : ℕ) (was : AreNumbered s) (o : Opens s t a) where
       by (inl is) = subst (λ c. base t c ≡ base s c) (sym is) (ap (number t a) o.more ∙ own_number (s.opened a))
       by (inr differs) = ap (number t x) (o.opened x differs) ∙ other_number x (s.opened x) differs
 
+  -- the new finish has a number of its own
   pub opened_numbered : AreNumbered t
   opened_numbered = record {
     within = λ b. (let e = o.finishes in by b (cases_eq b a));
@@ -154,6 +156,7 @@ module _ (s t : Nest) (a : ℕ) (was : AreNumbered s) (o : Opens s t a) where
 
 -- ---- activity a closes a finish
 
+-- it goes into the finish around the one that it was in
 pub record Closes (s t : Nest) (a : ℕ) : Type 0 where
   pub goes : t.within a ≡ s.around (s.within a)
   pub others : StaysBut a s.within t.within
@@ -192,6 +195,7 @@ module _ (s t : Nest) (a : ℕ) (was : AreNumbered s) (c : Closes s t a) where
       by (inl is) = subst (λ d. base t d ≡ base s d) (sym is) (own_closed (t.opened a) ∙ ap (number s a) (sym c.fewer))
       by (inr differs) = ap (number t x) (c.opened x differs) ∙ other_kept x (s.opened x) differs
 
+  -- those that are still open keep their numbers
   pub closed_numbered : AreNumbered t
   closed_numbered = record {
     within = λ b. by b (cases_eq b a);
@@ -208,6 +212,7 @@ module _ (s t : Nest) (a : ℕ) (was : AreNumbered s) (c : Closes s t a) where
 
 -- ---- activity a starts the next one
 
+-- that one is in the finish in which the activity is, which governs it
 pub record Begins (s t : Nest) (a : ℕ) : Type 0 where
   pub known : a < s.activities
   pub goes : t.within s.activities ≡ s.within a
@@ -267,6 +272,7 @@ module _ (s t : Nest) (a : ℕ) (was : AreNumbered s) (c : Begins s t a) where
           (sym (still b k p) ∙ one ∙ ap (number t x) (c.opened x differs) ∙ still x (s.opened x) differs)
           ∙ ap (λ i. finish b (i - k)) (sym n)
 
+  -- it is governed by the finish whose number it has
   pub begun_numbered : AreNumbered t
   begun_numbered = record {
     within = λ b. by b (cases_eq b s.activities);
@@ -291,6 +297,7 @@ pub record Keeps (s t : Nest) : Type 0 where
   pub finishes : t.finishes ≡ s.finishes
   pub activities : t.activities ≡ s.activities
 
+-- then finishes are numbered as before
 pub kept_numbered : (s t : Nest) → AreNumbered s → Keeps s t → AreNumbered t
 kept_numbered s t was c = record {
   within = λ b. (let e = c.within b in let f = c.finishes in let i = was.within b in omega (arith, e, f, i));

@@ -131,6 +131,7 @@ step_up m w u a c e takes = subst (GoUp w c) takes (go_up m w a c)
 
 -- ---- what others use
 
+-- along a run a phase only grows
 pub phase_grows : (m : ModuleValue) (list : List ℕ) (w v : World) (c : ℕ) → run m list w ≡ Through v → phase_of w c ≤ phase_of v c
 phase_grows m [] w v c h = let e = ap (λ (z : World). phase_of z c) (same_through w v h) in omega (arith, e)
 phase_grows m (a ∷ list) w v c h =
@@ -139,6 +140,7 @@ phase_grows m (a ∷ list) w v c h =
     let rest = phase_grows m list x.0 v c x.3 in
     omega (arith, one, rest)
 
+-- where a clock is seen to have advanced in a step, its phase has grown by that
 pub phase_advances : (m : ModuleValue) (w u : World) (a c : ℕ) (e : Event) → step m w a ≡ Stepped u e
     → ((k : Clock) → slice_get w.clocks c ≡ Some k → k.last ≤ w.steps) → option_map_or (λ (k : Clock). k.last == u.steps) (slice_get u.clocks c) false ≡ true
     → phase_of w c < phase_of u c

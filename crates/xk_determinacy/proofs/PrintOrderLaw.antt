@@ -113,6 +113,7 @@ module _ (T : Sight → Sight → Type 0) (on : (x y z : Sight) → T x y → T 
       by true e h = let o = in_order x z ys (comes_before x z) h in (λ is. o.1, (Some z, o.1))
       by false e h = (λ is. absurd (true≢false (sym is ∙ e)), (Some x, h))
 
+  -- so it is of each two prints
   pub pairs : (o : Option Sight) (ys : List Sight) → ((i : ℕ) (y : Sight) → slice_get ys i ≡ Some y → M y) → gap_behind o ys ≡ None
       → (p q : ℕ) (x y : Sight) → p < q → slice_get ys p ≡ Some x → slice_get ys q ≡ Some y → races.is_print x.deed.part ≡ true
       → races.is_print y.deed.part ≡ true → T x y
@@ -331,6 +332,7 @@ module _ (m : ModuleValue) (args : List ℤ) (limits : IsWithinLimits m) (ok : I
       let q = inside y second in
       all_prints.holds x.0 p.0 x.1 p.1 y.0 q.0 y.1 q.1 differ first second
 
+  -- no two numbers could be printed at once
   pub never_two_prints : all_ended z ≡ true → HasNeverTwo is_print m w s
   never_two_prints over =
       never_two_ordered m limits ok w z reached s legal over is_print prints (λ v u a e there takes is. print_says m v u a e takes is) all_prints.edges

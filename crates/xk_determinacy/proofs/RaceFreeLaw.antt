@@ -206,10 +206,12 @@ module _ (m : ModuleValue) (args : List ℤ) (limits : IsWithinLimits m) (ok : I
       by (inl same) = record { edges = []; causes = no_cause; holds = λ differ. absurd (differ same) }
       by (inr differ) = of (led x y differ)
 
+  -- edges with causes that order each pair of steps that conflict
   pub all_pairs : Gathered m w s (λ edges. (a : ℕ) → a < length z.activities → (k : ℕ) → k < length s → (b : ℕ) → b < length z.activities → (l : ℕ) → l < length s
       → InOrder (a, k) (b, l) edges)
   all_pairs = gather_pairs m w s InOrder order_grows (length z.activities) (length s) pair
 
+  -- they order all that conflict
   pub ordered : AreOrdered m w s all_pairs.edges
   ordered x y differ = by (instruction_of m s w x) (instruction_of m s w y) refl refl
     where
@@ -228,6 +230,7 @@ module _ (m : ModuleValue) (args : List ℤ) (limits : IsWithinLimits m) (ok : I
           let q = name_inside m s w z y j legal there in
           all_pairs.holds x.0 p.0 x.1 p.1 y.0 q.0 y.1 q.1 differ
 
+  -- so where all have ended, the class has no race
   pub free_run : all_ended z ≡ true → HasNoRace m w s
   free_run over = ordered_run m args limits ok taken s z all_pairs.edges (record { legal = legal; ended = over })
       (causes_sound m args limits ok taken s z legal over all_pairs.edges all_pairs.causes) ordered

@@ -33,6 +33,7 @@ use Rattle.xk_determinacy.proofs.DeedPartLemmas.{at_clock, clock_parts}
 
 -- ---- scopes along deeds
 
+-- of some deeds and of others behind them
 pub scopes_append : (xs ys : List Deed) (s : Scopes) → scopes_after (xs ++ ys) s ≡ scopes_after ys (scopes_after xs s)
 scopes_append [] ys s = refl
 scopes_append (d ∷ xs) ys s = scopes_append xs ys (scoped d.step.act d.part s)
@@ -64,6 +65,7 @@ module _ (m : ModuleValue) (a : ℕ) (w v : World) (s : Scopes) where
       by (part.Access x) h b q = absurd (true≢false (sym h))
       by part.Print h b q = absurd (true≢false (sym h))
 
+  -- the deeds of a step lead there
   pub scopes_step : (e : Event) → scopes_after (tell_deeds m a w v e) s ≡ scopes_by a (length w.activities) e s
   scopes_step event.Opened = refl
   scopes_step event.Closed = refl
@@ -82,6 +84,7 @@ module _ (m : ModuleValue) (a : ℕ) (w v : World) (s : Scopes) where
 
 -- ---- scopes and worlds
 
+-- how many finishes activity a has open, and which one governs it
 abbrev pub opened_in : List Activity → ℕ → ℕ
 opened_in acts a = option_map_or (λ act. act.opened) (slice_get acts a) 0
 
@@ -218,6 +221,7 @@ module _ (m : ModuleValue) (acts : List Activity) (a : ℕ) (act : Activity) (fo
       by : (o n : ℕ) → o ≡ suc n → cond (o == 0) act.governed (finish a o) ≡ finish a (suc n)
       by o n is = ap (λ k. cond (k == 0) act.governed (finish a k)) is ∙ ap (λ q. cond q act.governed (finish a (suc n))) (some_open n)
 
+-- a step keeps finishes numbered
 pub numbered_step : (m : ModuleValue) (w u : World) (a : ℕ) (e : Event) (s : Scopes) → step m w a ≡ Stepped u e → AreNumbered (nest s w.activities)
     → AreNumbered (nest (scopes_after (tell_deeds m a w u e) s) u.activities)
 numbered_step m w u a e s takes was =
@@ -237,6 +241,7 @@ numbered_step m w u a e s takes was =
 
 -- ---- a run
 
+-- and so does each one of a run
 pub numbered_run : (m : ModuleValue) (list : List ℕ) (w v : World) (s : Scopes) → run m list w ≡ Through v → AreNumbered (nest s w.activities)
     → AreNumbered (nest (scopes_after (deeds m list w) s) v.activities)
 numbered_run m [] w v s h was = subst (λ (z : World). AreNumbered (nest s z.activities)) (same_through w v h) was
@@ -246,6 +251,7 @@ numbered_run m (a ∷ list) w v s h was =
     (sym (ap (λ ds. scopes_after ds s) (deeds_first m list w x.0 a x.1 x.2) ∙ scopes_append (tell_deeds m a w x.0 x.1) (deeds m list x.0) s))
     (numbered_run m list x.0 v (scopes_after (tell_deeds m a w x.0 x.1) s) x.3 (numbered_step m w x.0 a x.1 s x.2 was))
 
+-- in the opening world they are
 pub opening_numbered : (m : ModuleValue) (args : List ℤ) → AreNumbered (nest nothing_known.scopes (opening m args).activities)
 opening_numbered m args = record {
   within = λ a. omega arith;

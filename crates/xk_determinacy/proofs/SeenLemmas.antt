@@ -42,6 +42,7 @@ sight_from known n (e ∷ es) (suc k) d at h = by (is_sight e.part) (sight_from 
     by true r = record { place = suc r.place; seen = r.seen; there = r.there; number = (let i = r.number in omega (arith, i)); same = r.same }
     by false r = record { place = r.place; seen = r.seen; there = r.there; number = (let i = r.number in omega (arith, i)); same = r.same }
 
+-- each access and each print is seen
 pub sight_of : (ds : List Deed) (k : ℕ) (d : Deed) → IsAt ds k d → is_sight d.part ≡ true → IsSight ds k d
 sight_of ds k d at h =
     let r = sight_from nothing_known 0 ds k d at h in

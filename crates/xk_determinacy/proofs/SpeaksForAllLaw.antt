@@ -19,12 +19,15 @@ use Rattle.xk_determinacy.proofs.BeginningOrderLemmas.{begins_in_order}
 
 module _ (m : ModuleValue) (args : List ℤ) (limits : IsWithinLimits m) (ok : IsAccepted m) (taken : AreArguments m args) (log : List Entry) (z : World)
     (one : IsWholeRun m args (schedule_of log) z) (free : is_race_free m args log ≡ true) where
+  -- its class has no race
   pub no_race : HasNoRace m (opening m args) (schedule_of log)
   no_race = free_run m args limits ok taken (schedule_of log) z one.legal free one.ended
 
+  -- each whole run in the same order comes to one with it
   pub in_order : (t : List ℕ) (y : World) → IsWholeRun m args t y → BeginsInOrder m (opening m args) t (schedule_of log) → ComeToOne m args (schedule_of log) t z y
   in_order t y other order = one_in_order m args limits ok taken (schedule_of log) t z y one no_race other order
 
+  -- and prints the same list, if its prints are told to be in one order
   pub prints_in_order : gap_in (sights_of_run m args log) ≡ None → (t : List ℕ) (y : World) → IsWholeRun m args t y
       → BeginsInOrder m (opening m args) t (schedule_of log)
       → printed m (schedule_of log) (opening m args) ≡ printed m t (opening m args)
@@ -39,6 +42,7 @@ module _ (m : ModuleValue) (args : List ℤ) (limits : IsWithinLimits m) (ok : I
     started : HasNeverTwo is_start m (opening m args) (schedule_of log)
     started = never_two_begun is_start start_begun m ok only args (schedule_of log)
 
+    -- where main alone begins, each whole run does
     pub every : (t : List ℕ) (y : World) → IsWholeRun m args t y → ComeToOne m args (schedule_of log) t z y
     every t y other = one_every m args limits ok taken (schedule_of log) t z y one no_race made started other
 

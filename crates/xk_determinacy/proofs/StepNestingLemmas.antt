@@ -45,6 +45,7 @@ pub record Starts (w u : World) (a : ℕ) (act : Activity) (e : Event) : Type 0 
   pub under : one.governed ≡ governing a act
   pub activities : u.activities ≡ set w.activities a next ++ one ∷ []
 
+-- one of the two
 pub data Effect (m : ModuleValue) (w u : World) (a : ℕ) (act : Activity) (e : Event) : Type 0 where
   DoesGo : Goes m w u a act e → Effect m w u a act e
   DoesStart : Starts w u a act e → Effect m w u a act e

@@ -8,6 +8,7 @@ use Rattle.xk_types.specs.Code.{ModuleValue}
 use Rattle.xk_types.specs.World.{World}
 use Rattle.xk_types.specs.Step.{Stepped, step}
 use Rattle.xk_types.specs.Schedule.{Through, run, IsReached}
+use Rattle.xk_types.proofs.ListLemmas.{get-append_left}
 use Rattle.xk_laws.proofs.ReachabilityLemmas.{same_through, first_step}
 use Rattle.xk_squares.specs.Conflicts.{next_instruction}
 use Rattle.xk_squares.proofs.ChangeSquareLemmas.{same_step, found_of}
@@ -25,6 +26,7 @@ deeds m list w = told (tell_deeds m) m list w
 
 -- ---- lists
 
+-- an element of two lists, one behind the other, is one of the first, or of the second
 pub get_split : {X : Type 0} (xs ys : List X) (k : ℕ) (x : X) → slice_get (xs ++ ys) k ≡ Some x
     → ((k < length xs) × (slice_get xs k ≡ Some x)) ⊎ ((j : ℕ) × (k ≡ length xs + j) × (slice_get ys j ≡ Some x))
 get_split [] ys k x h = inr (k, omega arith, h)
@@ -36,11 +38,7 @@ get_split (y ∷ xs) ys (suc k) x h = by (get_split xs ys k x h)
     by (inl p) = let less = p.0 in inl (omega (arith, less), p.1)
     by (inr p) = let e = p.1 in inr (p.0, omega (arith, e), p.2)
 
-pub get_left : {X : Type 0} (xs ys : List X) (k : ℕ) (x : X) → slice_get xs k ≡ Some x → slice_get (xs ++ ys) k ≡ Some x
-get_left [] ys k x h = absurd (none-some x h)
-get_left (y ∷ xs) ys zero x h = h
-get_left (y ∷ xs) ys (suc k) x h = get_left xs ys k x h
-
+-- what stands behind the first list
 pub get_right : {X : Type 0} (xs ys : List X) (k : ℕ) → slice_get (xs ++ ys) (length xs + k) ≡ slice_get ys k
 get_right [] ys k = let e : 0 + k ≡ k = omega arith in ap (slice_get ys) e
 get_right (x ∷ xs) ys k = let e : suc (length xs) + k ≡ suc (length xs + k) = omega arith in ap (slice_get (x ∷ (xs ++ ys))) e ∙ get_right xs ys k
@@ -83,6 +81,7 @@ pub record Turn (m : ModuleValue) (w : World) (s : List ℕ) : Type 0 where
   pub leads : run m before w ≡ Through here
   pub takes : step m here act ≡ Stepped there e
 
+-- the step by its name
 abbrev pub name_of : {m : ModuleValue} {w : World} {s : List ℕ} → Turn m w s → StepName
 name_of t = (t.act, turns_of t.act t.before)
 
@@ -92,10 +91,12 @@ pub record IsToldOf (m : ModuleValue) (w : World) (s : List ℕ) (t : Turn m w s
   pub number : k ≡ length (deeds m t.before w) + offset
   pub among : slice_get (tell_deeds m t.act t.here t.there t.e) offset ≡ Some d
 
+-- the deeds of the first step, and those of the rest
 pub deeds_first : (m : ModuleValue) (list : List ℕ) (w u : World) (a : ℕ) (e : Event) → step m w a ≡ Stepped u e
     → deeds m (a ∷ list) w ≡ tell_deeds m a w u e ++ deeds m list u
 deeds_first m list w u a e takes = ap (λ o. told_on (tell_deeds m) a w o (told (tell_deeds m) m list)) takes
 
+-- the deeds of two runs, one after the other
 pub deeds_run : (m : ModuleValue) (p q : List ℕ) (w v : World) → run m p w ≡ Through v → deeds m (p ++ q) w ≡ deeds m p w ++ deeds m q v
 deeds_run m [] q w v h = ap (deeds m q) (same_through w v h)
 deeds_run m (a ∷ p) q w v h =
@@ -160,7 +161,7 @@ module _ (m : ModuleValue) (w : World) (s : List ℕ) where
   deed_at t k d r =
       ap (λ l. slice_get l k) (deeds_around t) ∙ ap (slice_get (deeds m t.before w ++ (tell_deeds m t.act t.here t.there t.e ++ deeds m t.after t.there))) r.number
       ∙ get_right (deeds m t.before w) (tell_deeds m t.act t.here t.there t.e ++ deeds m t.after t.there) r.offset
-      ∙ get_left (tell_deeds m t.act t.here t.there t.e) (deeds m t.after t.there) r.offset d r.among
+      ∙ get-append_left (tell_deeds m t.act t.here t.there t.e) (deeds m t.after t.there) r.offset d r.among
 
   -- ---- two turns
 
@@ -177,6 +178,7 @@ module _ (m : ModuleValue) (w : World) (s : List ℕ) where
   run_between t u e =
       sym (run_first m e.0 t.here t.there t.act t.e t.takes) ∙ sym (run_behind m t.before (t.act ∷ e.0) w t.here t.leads) ∙ ap (λ l. run m l w) (sym e.1) ∙ u.leads
 
+  -- one turn is taken in one world, is seen to do one thing, and has one name
   pub one_here : (t u : Turn m w s) → AreOne t u → t.here ≡ u.here
   one_here t u o = same_through t.here u.here (sym t.leads ∙ ap (λ l. run m l w) o.0 ∙ u.leads)
 
@@ -186,6 +188,7 @@ module _ (m : ModuleValue) (w : World) (s : List ℕ) where
   pub one_name : (t u : Turn m w s) → AreOne t u → name_of t ≡ name_of u
   one_name t u o = ap (λ a. (a, turns_of a t.before)) o.1 ∙ ap (λ l. (u.act, turns_of u.act l)) o.0
 
+  -- of turns of one activity, the later one comes after more of its steps
   pub earlier_turns : (t u : Turn m w s) → IsEarlier t u → t.act ≡ u.act → turns_of t.act t.before < turns_of u.act u.before
   earlier_turns t u e same =
       let n = turns_on t.act t.before (t.act ∷ e.0) in
@@ -202,6 +205,7 @@ module _ (m : ModuleValue) (w : World) (s : List ℕ) where
       let b = ap (turns_of t.act) t.whole in
       omega (arith, n, o, b)
 
+  -- the world before a turn is reached
   pub turn_reached : (t : Turn m w s) → IsReached m w → IsReached m t.here
   turn_reached t reached = reached_run m t.before w t.here reached t.leads
 
@@ -217,6 +221,7 @@ module _ (m : ModuleValue) (w : World) (s : List ℕ) where
       let b = q.number in
       omega (arith, l, n, i, a, b)
 
+  -- of two deeds, the later one is told of the same turn or of a later one
   pub in_order : (t u : Turn m w s) (k j : ℕ) (d e : Deed) → IsToldOf m w s t k d → IsToldOf m w s u j e → k < j → IsEarlier t u ⊎ AreOne t u
   in_order t u k j d e p q less = by (cut_of t.before t.after u.before u.after t.act u.act (sym t.whole ∙ u.whole))
     where
@@ -227,6 +232,7 @@ module _ (m : ModuleValue) (w : World) (s : List ℕ) where
 
 -- ---- the turn of a step that carries out an instruction
 
+-- activity a's turn before which it took k, and the instruction that it carries out there
 pub record IsTurnOf (m : ModuleValue) (w : World) (s : List ℕ) (a k : ℕ) (o : Option Instr) : Type 0 where
   pub turn : Turn m w s
   pub who : turn.act ≡ a
