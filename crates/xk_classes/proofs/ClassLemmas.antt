@@ -1,5 +1,5 @@
 -- Classes: a step put in front, one class after another, and what all schedules of a class have in common.
-use Rattle.std.proofs.Common.{◌≡◌, ℕ, ℤ, ◌==◌, Bool, true, false, cond, List, [], ◌∷◌, ◌++◌, map, Option, refl, sym, ap, ◌∙◌, subst, eqb-true}
+use Rattle.std.proofs.Common.{◌≡◌, ℕ, ℤ, ◌==◌, Bool, true, false, cond, List, [], ◌∷◌, ◌++◌, map, refl, sym, ap, ◌∙◌, subst, eqb-true}
 use Rattle.std.specs.Prelude.{filter, not}
 use Rattle.std.specs.List.{filter_map}
 use Rattle.std.proofs.lemmas.List.Elements.{filter-append}
@@ -7,14 +7,14 @@ use Rattle.xk_types.specs.declared.world.Event.{Event}
 use Rattle.xk_types.specs.declared.world.Event.TheVariants as event
 use Rattle.xk_types.specs.Acceptance.{IsAccepted}
 use Rattle.xk_types.specs.Code.{ModuleValue, IsWithinLimits}
-use Rattle.xk_types.specs.World.{Activity, World}
+use Rattle.xk_types.specs.World.{World}
 use Rattle.xk_types.specs.Step.{Stepped, step}
 use Rattle.xk_types.specs.Schedule.{Through, run, IsReached, is_local, events, number_printed, printed}
 use Rattle.xk_squares.specs.PlainWorlds.{AreAlike}
 use Rattle.xk_classes.specs.Moments.{is_print, is_make, is_start}
 use Rattle.xk_classes.specs.Classes.{DoCommute, AreSwapped, AreJoined, AreOneClass, IsMet, HasNeverTwo}
 use Rattle.xk_classes.specs.OneRun.{GoesAsWell}
-use Rattle.xk_classes.proofs.SwapLemmas.{Entry, entries, event_in, events_filtered, first_entry, second_entry, run_first, IsExchange, exchange}
+use Rattle.xk_classes.proofs.SwapLemmas.{Entry, State, entries, event_in, events_filtered, first_entry, second_entry, run_first, IsExchange, exchange}
 
 -- ---- one class after another
 
@@ -133,10 +133,10 @@ by_event test x = test x.1
 abbrev pub by_taker : ℕ → Entry → Bool
 by_taker a x = x.0 == a
 
-abbrev pub state_in : Entry → Option Activity
+abbrev pub state_in : Entry → State
 state_in x = x.2
 
-abbrev pub states_by : ModuleValue → List ℕ → World → ℕ → List (Option Activity)
+abbrev pub states_by : ModuleValue → List ℕ → World → ℕ → List State
 states_by m list w a = map state_in (filter (by_taker a) (entries m list w))
 
 pub never_one : (m : ModuleValue) (w : World) (s : List ℕ) (d : ℕ) → NeverCrosses (by_taker d) m w s

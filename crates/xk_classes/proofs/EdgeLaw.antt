@@ -15,7 +15,6 @@ use Rattle.xk_types.specs.Step.{Stepped, step}
 use Rattle.xk_types.specs.Schedule.{Through, run, IsReached, is_step, is_enabled, all_ended}
 use Rattle.xk_laws.proofs.ReachabilityLemmas.{same_through, first_step, reached_step}
 use Rattle.xk_squares.specs.Conflicts.{next_instruction, AreConflictFree}
-use Rattle.xk_squares.specs.PlainWorlds.{plain_activity}
 use Rattle.xk_squares.proofs.ChangeSquareLemmas.{found_of}
 use Rattle.xk_squares.proofs.StartSquareLemmas.{alive_of}
 use Rattle.xk_squares.proofs.QuietStepLaw.{enabled_step, alike_worlds_go_alike}
@@ -23,7 +22,7 @@ use Rattle.xk_classes.specs.Classes.{AreOneClass, IsMet, HasNoRace, HasNeverTwo}
 use Rattle.xk_classes.specs.Edges.{StepName, turns_of, IsTaken, carried_by, instruction_of, AreApart, IsLink, IsWay, IsBefore, AreSound, AreOrdered, AreOneByOne}
 use Rattle.xk_classes.specs.OneRun.{GoesAsWell}
 use Rattle.xk_classes.proofs.StepEventLemmas.{others_stay}
-use Rattle.xk_classes.proofs.SwapLemmas.{Entry, entries, entries_first, state_of, instruction_by, instruction_in, carried_filtered, get_map, next_by_state, run_first}
+use Rattle.xk_classes.proofs.SwapLemmas.{Entry, State, state_stays, entries, entries_first, state_of, instruction_by, instruction_in, carried_filtered, get_map, next_by_state, run_first}
 use Rattle.xk_classes.proofs.ClassLemmas.{by_taker, state_in, states_by, same_states, class_as_well}
 
 -- ---- turns
@@ -128,7 +127,7 @@ at_turn m (d ∷ before) after w v a h =
     let x = first_step w v (step m w d) (run m before) h in
     ap (λ l. slice_get l (turns_of a (d ∷ before))) (by_first m (before ++ after) w x.0 d x.1 a x.2) ∙ by x.0 (state_of w d) (d == a) ∙ at_turn m before after x.0 v a x.3
   where
-    by : (u : World) (i : Option Activity) (q : Bool)
+    by : (u : World) (i : State) (q : Bool)
         → slice_get (cond q (i ∷ states_by m (before ++ after) u a) (states_by m (before ++ after) u a)) (length (cond q (d ∷ filter (λ b. b == a) before) (filter (λ b. b == a) before)))
         ≡ slice_get (states_by m (before ++ after) u a) (turns_of a before)
     by u i true = refl
@@ -142,21 +141,22 @@ ended_at (z ∷ xs) zero x h at =
 ended_at (z ∷ xs) (suc a) x h at = ended_at xs a x (and_parts (is_ended z.status) (list_all (λ (act : Activity). is_ended act.status) xs) h).1 at
 
 -- one that hasn't ended takes its next step as it stands, if all end
-stands_next : (m : ModuleValue) (after : List ℕ) (v z : World) (a : ℕ) (act : Activity) → slice_get v.activities a ≡ Some act → is_ended act.status ≡ false
-    → run m after v ≡ Through z → all_ended z ≡ true → slice_get (states_by m after v a) 0 ≡ Some (state_of v a)
-stands_next m [] v z a act at alive h ended =
+stands_next : (m : ModuleValue) → IsWithinLimits m → IsAccepted m → (after : List ℕ) (v z : World) (a : ℕ) (act : Activity) → IsReached m v → slice_get v.activities a ≡ Some act
+    → is_ended act.status ≡ false → run m after v ≡ Through z → all_ended z ≡ true → slice_get (states_by m after v a) 0 ≡ Some (state_of v a)
+stands_next m limits ok [] v z a act reached at alive h ended =
     absurd (true≢false (sym (ended_at v.activities a act (ap all_ended (same_through v z h) ∙ ended) at) ∙ alive))
-stands_next m (d ∷ after) v z a act at alive h ended =
+stands_next m limits ok (d ∷ after) v z a act reached at alive h ended =
     let x = first_step v z (step m v d) (run m after) h in
-    ap (λ l. slice_get l 0) (by_first m after v x.0 d x.1 a x.2) ∙ by (d == a) refl x.0 x.1 x.2 (λ there. stands_next m after x.0 z a act there alive x.3 ended)
+    ap (λ l. slice_get l 0) (by_first m after v x.0 d x.1 a x.2)
+    ∙ by (d == a) refl x.0 x.1 x.2 (λ there. stands_next m limits ok after x.0 z a act (reached_step m v x.0 d x.1 reached x.2) there alive x.3 ended)
   where
     by : (q : Bool) → (d == a) ≡ q → (u : World) (e : Event) → step m v d ≡ Stepped u e
         → (slice_get u.activities a ≡ Some act → slice_get (states_by m after u a) 0 ≡ Some (state_of u a))
         → slice_get (cond q (state_of v d ∷ states_by m after u a) (states_by m after u a)) 0 ≡ Some (state_of v a)
     by true g u e takes shorter = ap (λ c. Some (state_of v c)) (eqb-true d a g)
     by false g u e takes shorter =
-        let there : slice_get u.activities a ≡ Some act = others_stay m v u d a e act takes (λ q. eqb-false d a g (sym q)) at in
-        shorter there ∙ ap (λ o. Some (option_map plain_activity o)) (there ∙ sym at)
+        let differs : a ≡ d → ⊥ = λ q. eqb-false d a g (sym q) in
+        shorter (others_stay m v u d a e act takes differs at) ∙ ap (λ x. Some x) (state_stays m limits ok v u d a e act reached takes differs at)
 
 -- what an activity carries out is what it does as it stands
 carried_is : (m : ModuleValue) (list : List ℕ) (w : World) (a : ℕ) → carried_by m list w a ≡ map (instruction_by m) (states_by m list w a)
@@ -206,7 +206,7 @@ module _ (m : ModuleValue) (limits : IsWithinLimits m) (ok : IsAccepted m) (w z 
       let u = enabled_step (step m v a) enabled in
       let x = found_of m v a u.0 u.1 u.2 in
       ap (λ l. slice_get l (turns_of a before)) (same_states m limits ok w z reached s (before ++ after) member legal a)
-      ∙ at_turn m before after w v a leads ∙ stands_next m after v g.last a x.0 x.1 (alive_of m v a x.0 u.0 u.1 x.1 u.2) rest over
+      ∙ at_turn m before after w v a leads ∙ stands_next m limits ok after v g.last a x.0 (reached_run m before w v reached leads) x.1 (alive_of m v a x.0 u.0 u.1 x.1 u.2) rest over
 
   -- and what it carries out
   carries : (before after : List ℕ) (v : World) → AreOneClass m w s (before ++ after) → run m before w ≡ Through v → (a : ℕ) → is_enabled m v a ≡ true

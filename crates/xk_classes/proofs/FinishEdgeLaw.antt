@@ -28,13 +28,13 @@ use Rattle.xk_squares.proofs.StartSquareLemmas.{alive_of}
 use Rattle.xk_squares.proofs.QuietStepLaw.{enabled_step}
 use Rattle.xk_classes.specs.Moments.{is_start}
 use Rattle.xk_classes.specs.Classes.{AreOneClass}
-use Rattle.xk_classes.specs.Edges.{StepName, turns_of, IsTaken, IsEdge, AreSound, IsUnderFinish, IsCause}
+use Rattle.xk_classes.specs.Edges.{StepName, turns_of, IsTaken, IsUnderFinish}
 use Rattle.xk_classes.specs.OneRun.{GoesAsWell}
-use Rattle.xk_classes.proofs.StepEventLemmas.{others_stay, at_advance}
-use Rattle.xk_classes.proofs.SwapLemmas.{events_first, run_first, state_of, get_map}
+use Rattle.xk_classes.proofs.StepEventLemmas.{others_stay, at_advance, not_start}
+use Rattle.xk_classes.proofs.SwapLemmas.{State, events_first, run_first, state_of, get_map}
 use Rattle.xk_classes.proofs.ClassLemmas.{states_by, class_same, class_as_well}
 use Rattle.xk_classes.proofs.EdgeLaw.{turns_on, turns_same, turns_other, WasTaken, was_taken, run_behind, reached_run, stands}
-use Rattle.xk_classes.proofs.StartEdgeLaw.{Log, starts_of, first_in, takers_of, own_of, events_run, turns_own, not_start, grown_run, same_start, start_taken}
+use Rattle.xk_classes.proofs.StartEdgeLaw.{Log, starts_of, first_in, takers_of, own_of, events_run, turns_own, turns_all, grown_run, same_start}
 
 -- ---- who stays as it is, and what governs it
 
@@ -296,7 +296,7 @@ module _ (m : ModuleValue) (args : List ℤ) (limits : IsWithinLimits m) (ok : I
           a.0,
           a.1,
           same_Some (plain_activity f.closer) (plain_activity a.0)
-              (sym (ap (option_map plain_activity) f.found) ∙ states ∙ ap (option_map plain_activity) a.1),
+              (sym (ap (option_map plain_activity) f.found) ∙ ap (λ (x : State). x.0) states ∙ ap (option_map plain_activity) a.1),
         )
 
     free : awaits v.activities finish ≡ false
@@ -332,10 +332,6 @@ module _ (m : ModuleValue) (args : List ℤ) (limits : IsWithinLimits m) (ok : I
         by false h = absurd (true≢false (sym (awaits_given v.activities finish (record { b = c; act = q; found = at; under = under; alive = h })) ∙ free))
 
     -- so that it has taken all its steps
-    turns_all : (c : ℕ) → turns_of c s ≡ turns_of c before + turns_of c after
-    turns_all c =
-        turns_own m c s w z legal ∙ ap length (g.same.each c) ∙ sym (turns_own m c (before ++ after) w g.last g.legal) ∙ turns_on c before after
-
     none_later : (c : ℕ) (q : Activity) → slice_get v.activities c ≡ Some q → is_ended q.status ≡ true → (n : ℕ) → turns_of c after ≡ n → n ≡ 0
     none_later c q at is zero h = refl
     none_later c q at is (suc n) h =
@@ -349,7 +345,7 @@ module _ (m : ModuleValue) (args : List ℤ) (limits : IsWithinLimits m) (ok : I
         let q = get_inside v.activities c inside in
         let later : turns_of c after ≡ 0 =
         none_later c q.0 q.1 (ended_there c q.0 q.1 (under_there (suc c) c (omega arith) inside p at under)) (turns_of c after) refl in
-        let all = turns_all c in
+        let all = turns_all m limits ok w z reached s legal before after member c in
         omega arith
 
     -- ---- who isn't there yet
@@ -475,10 +471,3 @@ module _ (m : ModuleValue) (args : List ℤ) (limits : IsWithinLimits m) (ok : I
 
     pub under_taken : IsTaken before x
     under_taken = all_taken x.0 x.1 (are_there (suc x.0) x.0 (omega arith) f.child f.known f.under) f.child f.known f.under f.taken
-
-  pub causes_sound : (edges : List (StepName × StepName)) → ((x y : StepName) → IsEdge edges x y → IsCause m w s x y) → AreSound m w s edges
-  causes_sound edges all x y edge before after v member leads turn enabled = by (all x y edge)
-    where
-      by : IsCause m w s x y → IsTaken before x
-      by (inl start) = start_taken m limits ok w z reached s legal x y start before after v member leads enabled
-      by (inr f) = under_taken x y f before after v member leads turn enabled

@@ -1,27 +1,28 @@
 -- The start of an activity comes before its first step, in each schedule of a class: an edge that is sound. For in all of them the same activity
 -- takes the n-th start, and as the same of its own steps.
-use Rattle.std.proofs.Common.{◌≡◌, ℕ, suc, zero, ◌+◌, ◌<◌, ◌==◌, Bool, true, false, true≢false, cond, List, [], ◌∷◌, ◌++◌, map, length, set, refl, sym, ap, ◌∙◌, subst, append_assoc, length-append, length-set, eq-eqb, arith}
+use Rattle.std.proofs.Common.{◌≡◌, ℕ, suc, zero, ◌+◌, ◌<◌, ◌==◌, Bool, true, false, true≢false, cond, List, [], ◌∷◌, ◌++◌, map, length, refl, sym, ap, ◌∙◌, append_assoc, length-append, eq-eqb, arith}
 use Rattle.std.specs.Prelude.{filter}
-use Rattle.std.proofs.lemmas.List.{length-map, length_push}
+use Rattle.std.proofs.lemmas.List.{length-map}
 use Rattle.std.proofs.lemmas.List.Elements.{filter-append}
 use Rattle.std.proofs.lemmas.Option.{slice_get_within}
 use Rattle.xk_types.specs.declared.world.Event.{Event}
 use Rattle.xk_types.specs.declared.world.Event.TheVariants as event
 use Rattle.xk_types.specs.Acceptance.{IsAccepted}
 use Rattle.xk_types.specs.Code.{ModuleValue, IsWithinLimits}
-use Rattle.xk_types.specs.World.{Activity, World}
-use Rattle.xk_types.specs.Step.{Outcome, Blocked, Wrong, Stepped, child, onward, left, ended, arrived, step}
+use Rattle.xk_types.specs.World.{World}
+use Rattle.xk_types.specs.Step.{step}
 use Rattle.xk_types.specs.Schedule.{Through, run, IsReached, is_enabled, events}
 use Rattle.xk_laws.proofs.ReachabilityLemmas.{same_through, first_step}
-use Rattle.xk_laws.proofs.StepFormLemmas.{starts_or_arrives, step_kind}
 use Rattle.xk_squares.proofs.ChangeSquareLemmas.{found_of}
 use Rattle.xk_squares.proofs.QuietStepLaw.{enabled_step}
 use Rattle.xk_classes.specs.Moments.{is_start, takers}
 use Rattle.xk_classes.specs.Classes.{AreOneClass}
 use Rattle.xk_classes.specs.Edges.{StepName, turns_of, IsTaken, IsStart}
 use Rattle.xk_classes.specs.OneRun.{GoesAsWell}
+use Rattle.xk_classes.proofs.StepEventLemmas.{grown}
 use Rattle.xk_classes.proofs.SwapLemmas.{events_first}
 use Rattle.xk_classes.proofs.ClassLemmas.{class_as_well}
+use Rattle.xk_classes.proofs.EdgeLaw.{turns_on}
 
 -- ---- lists of events
 
@@ -173,31 +174,6 @@ turns_own m a (d ∷ p) w v h =
     by e es true g = ap suc g
     by e es false g = g
 
--- a start brings one activity more, and nothing else does
-abbrev Grows : World → Outcome → Type 0
-Grows w Blocked = Unit {0}
-Grows w (Wrong c) = Unit {0}
-Grows w (Stepped u e) = length u.activities ≡ length w.activities + cond (is_start e) 1 0
-
-pub not_start : (e : Event) → starts_or_arrives e ≡ false → is_start e ≡ false
-not_start event.Spawned h = h
-not_start _ h = refl
-
-grown : (m : ModuleValue) (w u : World) (a : ℕ) (e : Event) → step m w a ≡ Stepped u e → length u.activities ≡ length w.activities + cond (is_start e) 1 0
-grown m w u a e h = subst (Grows w) h (step_kind (Grows w) m w a tt (λ c. tt) (λ act found lives. record {
-  closed = λ n some nobody runs. kept (left act n);
-  over = λ here none. kept (ended act);
-  arrives = kept (arrived act);
-  done = λ next change f goes quiet rests. kept next ∙ ap (λ q. length w.activities + cond q 1 0) (sym (not_start f quiet));
-  made = λ next goes. kept next;
-  stored = λ s n f goes quiet. kept (onward act) ∙ ap (λ q. length w.activities + cond q 1 0) (sym (not_start f quiet));
-  spawned = λ t args values at goes.
-      (let p = length_push (set w.activities a (onward act)) (child m a act t values) in let q = length-set w.activities a (onward act) in omega arith);
-}))
-  where
-    kept : (next : Activity) → length (set w.activities a next) ≡ length w.activities + 0
-    kept next = let p = length-set w.activities a next in omega arith
-
 pub grown_run : (m : ModuleValue) (p : List ℕ) (w v : World) → run m p w ≡ Through v → length v.activities ≡ length w.activities + length (starts_of (events m p w))
 grown_run m [] w v h = let e = ap (λ (z : World). length z.activities) (same_through w v h) in omega arith
 grown_run m (d ∷ p) w v h =
@@ -255,6 +231,12 @@ taken_by x before P R F B K who e is takers many own turn turns =
     less k p f r t l h g n q = omega arith
 
 module _ (m : ModuleValue) (limits : IsWithinLimits m) (ok : IsAccepted m) (w z : World) (reached : IsReached m w) (s : List ℕ) (legal : run m s w ≡ Through z) where
+  -- all that one takes, before and after
+  pub turns_all : (before after : List ℕ) → AreOneClass m w s (before ++ after) → (c : ℕ) → turns_of c s ≡ turns_of c before + turns_of c after
+  turns_all before after member c =
+      let g : GoesAsWell m w s (before ++ after) z = class_as_well m limits ok w z reached s (before ++ after) member legal in
+      turns_own m c s w z legal ∙ ap length (g.same.each c) ∙ sym (turns_own m c (before ++ after) w g.last g.legal) ∙ turns_on c before after
+
   pub start_taken : (x y : StepName) → IsStart m w s x y → (before after : List ℕ) (v : World) → AreOneClass m w s (before ++ after) → run m before w ≡ Through v
       → is_enabled m v y.0 ≡ true → IsTaken before x
   start_taken x y start before after v member leads enabled =

@@ -1,8 +1,9 @@
 -- A step at an instruction that makes a clock has that event, and so has one at an instruction that starts an activity. A step leaves all other
--- activities as they are.
-use Rattle.std.proofs.Common.{◌≡◌, ℕ, [], ◌∷◌, set, Bool, true, false, true≢false, Some, None, Option, length, refl, sym, ap, ◌∙◌, subst}
+-- activities as they are, and there is one more behind a start.
+use Rattle.std.proofs.Common.{◌≡◌, ℕ, ◌+◌, [], ◌∷◌, set, Bool, true, false, true≢false, cond, Some, None, Option, length, refl, sym, ap, ◌∙◌, subst, length-set, arith}
 use Rattle.std.specs.Prelude.{slice_get, option_and_then}
 use Rattle.std.specs.Option.{option_map_or}
+use Rattle.std.proofs.lemmas.List.{length_push}
 use Rattle.xk_types.specs.declared.instr.Instr.{Instr}
 use Rattle.xk_types.specs.declared.instr.Instr.TheVariants as instr
 use Rattle.xk_types.specs.declared.world.Value.{Value}
@@ -14,12 +15,12 @@ use Rattle.xk_types.specs.declared.world.Event.TheVariants as event
 use Rattle.xk_types.specs.Acceptance.{IsAccepted}
 use Rattle.xk_types.specs.Code.{UnitValue, ModuleValue, IsWithinLimits}
 use Rattle.xk_types.specs.World.{Activity, World, instruction_at}
-use Rattle.xk_types.specs.Step.{child, onward, Outcome, Blocked, Wrong, Stepped, slot_at, put_in, made, run_at, step_by, step_of, step}
+use Rattle.xk_types.specs.Step.{child, onward, left, ended, arrived, Outcome, Blocked, Wrong, Stepped, slot_at, put_in, made, run_at, step_by, step_of, step}
 use Rattle.xk_types.specs.Schedule.{IsReached}
 use Rattle.xk_types.proofs.ListLemmas.{get-set_other, get-append_left}
 use Rattle.xk_laws.proofs.Invariant.{IsSound}
 use Rattle.xk_laws.proofs.ReachabilityLemmas.{reached_sound}
-use Rattle.xk_laws.proofs.StepFormLemmas.{finishes_of, spawning_form}
+use Rattle.xk_laws.proofs.StepFormLemmas.{finishes_of, spawning_form, starts_or_arrives, step_kind}
 use Rattle.xk_squares.specs.Conflicts.{next_instruction}
 use Rattle.xk_squares.specs.Squares.{makes, starts, makes_next, starts_next}
 use Rattle.xk_squares.proofs.StepEffect.{enacted}
@@ -29,7 +30,7 @@ use Rattle.xk_squares.proofs.ViewLemmas.{Goes, IsNone, DoesAct, DoesMake, DoesSt
 use Rattle.xk_classes.specs.Moments.{is_make, is_start}
 
 -- it isn't a step, or its event passes
-abbrev Has : (Event → Bool) → Outcome → Type 0
+abbrev pub Has : (Event → Bool) → Outcome → Type 0
 Has test Blocked = Unit {0}
 Has test (Wrong c) = Unit {0}
 Has test (Stepped u e) = test e ≡ true
@@ -110,3 +111,30 @@ others_stay m w u a b e act h differs at = by (goes m w w a x.0 x.0.since (sees_
     by (DoesStart S) =
         ap (λ (z : World). slice_get z.activities b) (same_step u (started_world m w a x.0 S.unit S.values) e event.Spawned (sym h ∙ S.here)).0
         ∙ get-append_left (set w.activities a (onward x.0)) (child m a x.0 S.unit S.values ∷ []) b act (get-set_other w.activities a b (onward x.0) differs ∙ at)
+
+-- ---- how many there are
+
+-- a start brings one activity more, and nothing else does
+abbrev Grows : World → Outcome → Type 0
+Grows w Blocked = Unit {0}
+Grows w (Wrong c) = Unit {0}
+Grows w (Stepped u e) = length u.activities ≡ length w.activities + cond (is_start e) 1 0
+
+pub not_start : (e : Event) → starts_or_arrives e ≡ false → is_start e ≡ false
+not_start event.Spawned h = h
+not_start _ h = refl
+
+pub grown : (m : ModuleValue) (w u : World) (a : ℕ) (e : Event) → step m w a ≡ Stepped u e → length u.activities ≡ length w.activities + cond (is_start e) 1 0
+grown m w u a e h = subst (Grows w) h (step_kind (Grows w) m w a tt (λ c. tt) (λ act found lives. record {
+  closed = λ n some nobody runs. kept (left act n);
+  over = λ here none. kept (ended act);
+  arrives = kept (arrived act);
+  done = λ next change f goes quiet rests. kept next ∙ ap (λ q. length w.activities + cond q 1 0) (sym (not_start f quiet));
+  made = λ next goes. kept next;
+  stored = λ s n f goes quiet. kept (onward act) ∙ ap (λ q. length w.activities + cond q 1 0) (sym (not_start f quiet));
+  spawned = λ t args values at goes.
+      (let p = length_push (set w.activities a (onward act)) (child m a act t values) in let q = length-set w.activities a (onward act) in omega arith);
+}))
+  where
+    kept : (next : Activity) → length (set w.activities a next) ≡ length w.activities + 0
+    kept next = let p = length-set w.activities a next in omega arith

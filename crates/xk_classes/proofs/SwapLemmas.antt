@@ -1,7 +1,8 @@
 -- Two neighbours whose steps commute, in either order: both schedules are legal or neither, they lead to worlds that are alike, and have the same
 -- entries but for these two.
-use Rattle.std.proofs.Common.{◌≡◌, ℕ, suc, zero, Bool, true, false, cond, List, [], ◌∷◌, ◌++◌, map, Option, Some, None, refl, sym, ap, ◌∙◌, subst}
+use Rattle.std.proofs.Common.{◌≡◌, ℕ, suc, zero, Bool, true, false, cond, ◌<◌, List, [], ◌∷◌, ◌++◌, map, length, Option, Some, None, refl, sym, ap, ◌∙◌, subst}
 use Rattle.std.specs.Prelude.{filter, slice_get, option_and_then, option_map}
+use Rattle.std.proofs.lemmas.Option.{slice_get_within}
 use Rattle.xk_types.specs.declared.instr.Instr.{Instr}
 use Rattle.xk_types.specs.declared.world.Event.{Event}
 use Rattle.xk_types.specs.Acceptance.{IsAccepted}
@@ -19,21 +20,26 @@ use Rattle.xk_squares.proofs.SquareLaw.{all_squares}
 use Rattle.xk_classes.specs.Classes.{DoCommute}
 use Rattle.xk_classes.specs.Edges.{carried, carried_on}
 use Rattle.xk_classes.proofs.StepEventLemmas.{event_made, event_started, others_stay}
+use Rattle.xk_classes.proofs.StageLemmas.{stage_at, moves_on}
+use Rattle.xk_classes.proofs.InStepLemmas.{AreInStep, steps_in_step, square_in_step}
 
 -- ---- entries: who takes each step of a run, with what event, carrying out what
 
-abbrev pub Entry : Type 0
-Entry = ℕ × Event × Option Activity
+-- how an activity stands: what it is, if it's there, but for when it passed last; and its stage on each clock
+abbrev pub State : Type 0
+State = Option Activity × (ℕ → ℕ)
 
--- how an activity stands, if it's there, but for when it passed last
-abbrev pub state_of : World → ℕ → Option Activity
-state_of w a = option_map plain_activity (slice_get w.activities a)
+abbrev pub Entry : Type 0
+Entry = ℕ × Event × State
+
+abbrev pub state_of : World → ℕ → State
+state_of w a = (option_map plain_activity (slice_get w.activities a), λ k. stage_at w k a)
 
 -- what an activity that stands so carries out
-abbrev pub instruction_by : ModuleValue → Option Activity → Option Instr
-instruction_by m o = option_and_then (λ act. instruction_at m act.frame) o
+abbrev pub instruction_by : ModuleValue → State → Option Instr
+instruction_by m x = option_and_then (λ act. instruction_at m act.frame) x.0
 
-abbrev pub entries_on : ℕ → Option Activity → Outcome → (World → List Entry) → List Entry
+abbrev pub entries_on : ℕ → State → Outcome → (World → List Entry) → List Entry
 entries_on a i Blocked go = []
 entries_on a i (Wrong c) go = []
 entries_on a i (Stepped next e) go = (a, e, i) ∷ go next
@@ -62,7 +68,7 @@ instruction_in m x = (x.0, instruction_by m x.2)
 pub next_by_state : (m : ModuleValue) (w : World) (a : ℕ) → next_instruction m w a ≡ instruction_by m (state_of w a)
 next_by_state m w a = by (slice_get w.activities a)
   where
-    by : (o : Option Activity) → option_and_then (λ (x : Activity). instruction_at m x.frame) o ≡ instruction_by m (option_map plain_activity o)
+    by : (o : Option Activity) → option_and_then (λ (x : Activity). instruction_at m x.frame) o ≡ instruction_by m (option_map plain_activity o, λ k. stage_at w k a)
     by None = refl
     by (Some x) = refl
 
@@ -104,17 +110,23 @@ get_map g [] k = refl
 get_map g (x ∷ xs) zero = refl
 get_map g (x ∷ xs) (suc k) = get_map g xs k
 
--- in worlds that are alike one stands alike
-state_alike : (w v : World) (a : ℕ) → AreAlike w v → state_of w a ≡ state_of v a
-state_alike w v a alike =
-    sym (get_map plain_activity w.activities a) ∙ ap (λ (z : World). slice_get z.activities a) alike ∙ get_map plain_activity v.activities a
+-- in two worlds one stands alike that is the same in both, and has come as far on each clock
+same_state : (w v : World) (a : ℕ) → option_map plain_activity (slice_get w.activities a) ≡ option_map plain_activity (slice_get v.activities a)
+    → ((k : ℕ) → stage_at w k a ≡ stage_at v k a) → state_of w a ≡ state_of v a
+same_state w v a h g = λ i. (h i, λ k. g k i)
+
+-- so it does in worlds that are alike and in step
+state_alike : (w v : World) (a : ℕ) → AreAlike w v → AreInStep w v → a < length w.activities → state_of w a ≡ state_of v a
+state_alike w v a alike same inside = same_state w v a
+    (sym (get_map plain_activity w.activities a) ∙ ap (λ (z : World). slice_get z.activities a) alike ∙ get_map plain_activity v.activities a)
+    (λ k. same k a inside)
 
 -- another's step leaves that as it is
-pub state_stays : (m : ModuleValue) (w u v : World) (a b : ℕ) (e f : Event) → step m w a ≡ Stepped u e → step m w b ≡ Stepped v f → (b ≡ a → ⊥)
-    → state_of u b ≡ state_of w b
-state_stays m w u v a b e f hu hv differs =
-    let y = found_of m w b v f hv in
-    ap (option_map plain_activity) (others_stay m w u a b e y.0 hu differs y.1 ∙ sym y.1)
+pub state_stays : (m : ModuleValue) → IsWithinLimits m → IsAccepted m → (w u : World) (a b : ℕ) (e : Event) (y : Activity) → IsReached m w → step m w a ≡ Stepped u e
+    → (b ≡ a → ⊥) → slice_get w.activities b ≡ Some y → state_of u b ≡ state_of w b
+state_stays m limits ok w u a b e y reached h differs at = same_state u w b
+    (ap (option_map plain_activity) (others_stay m w u a b e y h differs at ∙ sym at))
+    (λ k. (moves_on m limits ok w u a e reached h).others k b (slice_get_within w.activities b y at) differs)
 
 -- ---- the first step of a run
 
@@ -128,7 +140,7 @@ events_first m list w u a e h = ap (λ o. events_on a o (events m list)) h
 pub run_first : (m : ModuleValue) (list : List ℕ) (w u : World) (a : ℕ) (e : Event) → step m w a ≡ Stepped u e → run m (a ∷ list) w ≡ run m list u
 run_first m list w u a e h = ap (λ o. run_on w o (run m list)) h
 
--- ---- worlds that are alike
+-- ---- worlds that are alike and in step
 
 pub record RunsAlike (m : ModuleValue) (list : List ℕ) (w v z : World) : Type 0 where
   pub last : World
@@ -136,18 +148,23 @@ pub record RunsAlike (m : ModuleValue) (list : List ℕ) (w v z : World) : Type 
   pub alike : AreAlike z last
   pub same : entries m list w ≡ entries m list v
 
-pub runs_alike : (m : ModuleValue) (list : List ℕ) (w v z : World) → AreAlike w v → run m list w ≡ Through z → RunsAlike m list w v z
-runs_alike m [] w v z alike h = record { last = v; legal = refl; alike = subst (λ x. AreAlike x v) (same_through w z h) alike; same = refl }
-runs_alike m (a ∷ list) w v z alike h =
+runs_alike : (m : ModuleValue) → IsWithinLimits m → IsAccepted m → (list : List ℕ) (w v z : World) → IsReached m w → IsReached m v → AreAlike w v → AreInStep w v
+    → run m list w ≡ Through z → RunsAlike m list w v z
+runs_alike m limits ok [] w v z here there alike same h = record { last = v; legal = refl; alike = subst (λ x. AreAlike x v) (same_through w z h) alike; same = refl }
+runs_alike m limits ok (a ∷ list) w v z here there alike same h =
     let f = first_step w z (step m w a) (run m list) h in
     let next = (alike_worlds_go_alike m).steps w v f.0 a f.1 alike f.2 in
-    let rest : RunsAlike m list f.0 next.0 z = runs_alike m list f.0 next.0 z next.2 f.3 in
+    let x = found_of m w a f.0 f.1 f.2 in
+    let rest : RunsAlike m list f.0 next.0 z =
+    runs_alike m limits ok list f.0 next.0 z (reached_step m w f.0 a f.1 here f.2) (reached_step m v next.0 a f.1 there next.1) next.2
+    (steps_in_step m limits ok w v f.0 next.0 a f.1 here there alike same f.2 next.1 next.2) f.3 in
     record {
       last = rest.last;
       legal = run_first m list v next.0 a f.1 next.1 ∙ rest.legal;
       alike = rest.alike;
       same = entries_first m list w f.0 a f.1 f.2 ∙ ap (λ es. (a, f.1, state_of w a) ∷ es) rest.same
-          ∙ ap (λ i. (a, f.1, i) ∷ entries m list next.0) (state_alike w v a alike) ∙ sym (entries_first m list v next.0 a f.1 next.1);
+          ∙ ap (λ i. (a, f.1, i) ∷ entries m list next.0) (state_alike w v a alike same (slice_get_within w.activities a x.0 x.1))
+          ∙ sym (entries_first m list v next.0 a f.1 next.1);
     }
 
 -- ---- a swap
@@ -186,8 +203,13 @@ module _ (m : ModuleValue) (limits : IsWithinLimits m) (ok : IsAccepted m) where
       let s = square_of w a b reached c u v e f c.first_steps c.second_steps in
       let x : World = s.0 in
       let y : World = s.1 in
+      let here = found_of m w a u e c.first_steps in
+      let there = found_of m w b v f c.second_steps in
+      let turned : a ≡ b → ⊥ = λ q. c.differ (sym q) in
       let r : RunsAlike m after y x z =
-      runs_alike m after y x z (sym s.4) (sym (run_first m (b ∷ after) w u a e c.first_steps ∙ run_first m after u y b f s.3) ∙ h) in
+      runs_alike m limits ok after y x z
+      (reached_step m u y b f (reached_step m w u a e reached c.first_steps) s.3) (reached_step m v x a e (reached_step m w v b f reached c.second_steps) s.2) (sym s.4)
+      (square_in_step m limits ok w v u y x b a f e reached turned c.second_steps c.first_steps s.3 s.2 (sym s.4) (λ p q. c.starts q p)) (sym (run_first m (b ∷ after) w u a e c.first_steps ∙ run_first m after u y b f s.3) ∙ h) in
       record {
         last = r.last;
         legal = run_first m (a ∷ after) w v b f c.second_steps ∙ run_first m after v x a e s.2 ∙ r.legal;
@@ -195,10 +217,10 @@ module _ (m : ModuleValue) (limits : IsWithinLimits m) (ok : IsAccepted m) where
         front = [];
         back = entries m after y;
         this = entries_first m (b ∷ after) w u a e c.first_steps
-            ∙ ap (λ es. first_entry m w a b c ∷ es) (entries_first m after u y b f s.3 ∙ ap (λ i. (b, f, i) ∷ entries m after y) (state_stays m w u v a b e f c.first_steps c.second_steps c.differ));
+            ∙ ap (λ es. first_entry m w a b c ∷ es) (entries_first m after u y b f s.3 ∙ ap (λ i. (b, f, i) ∷ entries m after y) (state_stays m limits ok w u a b e there.0 reached c.first_steps c.differ there.1));
         other = entries_first m (a ∷ after) w v b f c.second_steps
             ∙ ap (λ es. second_entry m w a b c ∷ es)
-            (entries_first m after v x a e s.2 ∙ ap (λ i. (a, e, i) ∷ entries m after x) (state_stays m w v u b a f e c.second_steps c.first_steps (λ q. c.differ (sym q)))
+            (entries_first m after v x a e s.2 ∙ ap (λ i. (a, e, i) ∷ entries m after x) (state_stays m limits ok w v b a f here.0 reached c.second_steps turned here.1)
             ∙ ap (λ es. first_entry m w a b c ∷ es) (sym r.same));
       }
 
