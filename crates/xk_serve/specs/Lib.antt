@@ -8,3 +8,4 @@ pub mod Explanation
 pub mod Answer
 pub mod Devices
 pub mod EveryRun
+pub mod AskedRun

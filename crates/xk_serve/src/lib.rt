@@ -1,6 +1,7 @@
 //! What the program answers: a job and the bytes of its files to a status, two texts and a log.
 #![tactic(auto)]
 
+mod asked_run;
 mod bounded_read;
 mod commands;
 mod devices;
@@ -17,5 +18,6 @@ mod program_loader;
 mod tally;
 mod whereabouts;
 
+pub use asked_run::serve_asked;
 pub use devices::{report, serve, tell, tell_words};
 pub use fault::Fault;
