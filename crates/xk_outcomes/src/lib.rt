@@ -4,11 +4,15 @@
 mod all_outcomes;
 mod digest;
 mod found;
+mod holding;
 mod listing;
 mod order;
+mod reading;
 mod search;
 mod text;
 
 pub use all_outcomes::{Limit, outcome_sets, outcomes};
+pub use holding::{Held, hold};
 pub use listing::{Outcome, Outcomes};
+pub use reading::{Expected, ListFault, read_expected};
 pub use text::outcomes_text;

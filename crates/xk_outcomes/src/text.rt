@@ -22,7 +22,11 @@ pub fn outcomes_text(alloc: Global, list: &[Outcome], complete: bool) -> Result<
 }
 
 /// The line of the outcome of this number.
-fn outcome_line(alloc: Global, number: usize, outcome: &Outcome) -> Result<String, AllocError>
+pub(crate) fn outcome_line(
+    alloc: Global,
+    number: usize,
+    outcome: &Outcome,
+) -> Result<String, AllocError>
     ensures { IfOk result
         (λ text. string_bytes text ≡ outcome_line number outcome.now.numbers.items) }
 {
@@ -31,7 +35,7 @@ fn outcome_line(alloc: Global, number: usize, outcome: &Outcome) -> Result<Strin
 }
 
 /// Numbers, each after a blank.
-fn numbers_text(alloc: Global, numbers: &[i64]) -> Result<String, AllocError>
+pub(crate) fn numbers_text(alloc: Global, numbers: &[i64]) -> Result<String, AllocError>
     ensures { IfOk result (λ text. string_bytes text ≡ numbers_text numbers.now) }
 {
     let mut text = String::new(alloc);
@@ -50,7 +54,7 @@ fn number_text(alloc: Global, number: i64) -> Result<String, AllocError>
 }
 
 /// The last line.
-fn last_line(alloc: Global, count: usize, complete: bool) -> Result<String, AllocError>
+pub(crate) fn last_line(alloc: Global, count: usize, complete: bool) -> Result<String, AllocError>
     ensures { IfOk result (λ text. string_bytes text
         ≡ codes "outcomes " ++ (decimal count ++ completeness complete)) }
 {
