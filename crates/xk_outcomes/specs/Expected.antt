@@ -6,6 +6,8 @@ use Rattle.std.specs.Option.{option_map_or}
 use Rattle.xk_outcomes.specs.declared.reading.ListFault.{ListFault}
 use Rattle.xk_outcomes.specs.declared.reading.ListFault.TheVariants as fault
 use Rattle.xk_outcomes.specs.declared.listing.Outcome.{Outcome}
+use Rattle.xk_types.specs.Code.{ModuleValue}
+use Rattle.xk_outcomes.specs.Sets.{AreAllAs, AreDistinctAs, AreShownAs}
 use Rattle.xk_outcomes.specs.Text.{completeness, numbers_text, outcome_line}
 
 -- ---- lines
@@ -122,3 +124,14 @@ TellsAll told list complete text whole = AreTold told list (length list) × (tex
 -- what is said of outcomes that are held against what is told
 abbrev pub AreHeld : List (List ℕ) → List Outcome → Bool → List ℕ → Bool → Type 0
 AreHeld told list complete text whole = TellsUntold told list text whole ⊎ TellsAll told list complete text whole
+
+-- What a module can print that is given these arguments, as lists of numbers or without their order, is held against the list in these bytes: the text
+-- tells the first outcome that isn't in it, or whether they are all. The answer is whole where they are all and each is in the list.
+pub record AreExpected (m : ModuleValue) (args : List ℤ) (sets : Bool) (bytes text : List ℕ) (whole : Bool) : Type 0 where
+  pub list : List Outcome
+  pub complete : Bool
+  pub shown : AreShownAs sets m args list
+  pub distinct : AreDistinctAs sets list
+  pub all : complete ≡ true → AreAllAs sets m args list
+  pub may_stand : stray_line bytes ≡ None
+  pub held : AreHeld (told_by bytes) list complete text whole

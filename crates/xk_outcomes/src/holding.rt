@@ -1,14 +1,17 @@
 //! Outcomes are held against a list.
 
-ghost use Rattle.std.specs.Prelude.{◌≡◌, ℕ, ◌<◌, ◌++◌, ◌+◌, length, false, true, map, slice_get, IfOk, IfSome, IfNone, Some, codes, decimal, string_bytes};
+ghost use Rattle.std.specs.Prelude.{◌≡◌, ℕ, ◌<◌, ◌++◌, ◌+◌, length, false, true, map, slice_get, IfOk, IfSome, IfNone, Some, codes, decimal, string_bytes, List, None, IfErr};
 ghost use Rattle.xk_outcomes.specs.declared.listing.Outcome.{Outcome as AnOutcome};
-ghost use Rattle.xk_outcomes.specs.Expected.{AreHeld, AreTold, IsFirstUntold, IsTold, last_line};
+ghost use Rattle.xk_types.specs.World.{AreArguments};
+ghost use Rattle.xk_outcomes.specs.Expected.{AreExpected, AreHeld, AreTold, IsFirstUntold, IsStrayIn, IsTold, stray_line, told_by};
 ghost use Rattle.xk_outcomes.specs.Text.{numbers_text};
 
+use crate::all_outcomes::{Limit, outcomes_as};
 use crate::listing::Outcome;
-use crate::reading::Expected;
+use crate::reading::{Expected, ListFault, read_expected};
 use crate::text::{last_line, numbers_text, outcome_line};
 use std::alloc::{AllocError, Global};
+use xk_bounds::Verified;
 
 /// What is said of outcomes that are held against a list.
 #[derive(Debug, Drop)]
@@ -73,7 +76,7 @@ fn first_untold(
 }
 
 /// Holds outcomes against a list: the line of the first that isn't in it, and else their last line.
-pub fn hold(
+fn hold(
     alloc: Global,
     list: &[Outcome],
     complete: bool,
@@ -97,4 +100,44 @@ pub fn hold(
             })
         }
     }
+}
+
+/// What a module can print that is given these arguments, as lists of numbers or without their order, is held against the list in these bytes.
+pub fn expected_outcomes(
+    alloc: Global,
+    sets: bool,
+    verified: &Verified,
+    arguments: &[i64],
+    limit: Limit,
+    list: &[u8],
+) -> Result<Held, ListFault>
+    requires { AreArguments verified.now arguments.now }
+    ensures held { IfOk result (λ r.
+        AreExpected verified.now arguments.now sets list.now r.text.items r.whole) }
+    ensures stray { IfErr result (IsStrayIn list.now) }
+{
+    let expected = read_expected(alloc, list)?;
+    match held_by(alloc, sets, verified, arguments, limit, &expected) {
+        Ok(held) => Ok(held),
+        Err(_) => Err(ListFault::OutOfMemory),
+    }
+}
+
+/// The same with what the list tells.
+fn held_by(
+    alloc: Global,
+    sets: bool,
+    verified: &Verified,
+    arguments: &[i64],
+    limit: Limit,
+    expected: &Expected<'_>,
+) -> Result<Held, AllocError>
+    requires { AreArguments verified.now arguments.now }
+    ensures { (bytes : List ℕ) → stray_line bytes ≡ None → expected.now ≡ told_by bytes
+        → IfOk result (λ r.
+        AreExpected verified.now arguments.now sets bytes r.text.items r.whole) }
+{
+    let found = outcomes_as(alloc, sets, verified, arguments, limit)?;
+    let held = hold(alloc, &found.list, found.complete, expected)?;
+    Ok(held)
 }

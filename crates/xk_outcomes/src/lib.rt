@@ -11,8 +11,8 @@ mod reading;
 mod search;
 mod text;
 
-pub use all_outcomes::{Limit, outcome_sets, outcomes};
-pub use holding::{Held, hold};
+pub use all_outcomes::{Limit, outcome_sets, outcomes, outcomes_as};
+pub use holding::{Held, expected_outcomes};
 pub use listing::{Outcome, Outcomes};
-pub use reading::{Expected, ListFault, read_expected};
-pub use text::outcomes_text;
+pub use reading::ListFault;
+pub use text::{is_whole, outcomes_text};

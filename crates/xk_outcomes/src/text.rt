@@ -1,6 +1,6 @@
 //! How outcomes are told.
 
-ghost use Rattle.std.specs.Prelude.{◌≡◌, ◌++◌, codes, decimal, IfOk, OnOk, string_bytes};
+ghost use Rattle.std.specs.Prelude.{◌≡◌, ◌++◌, ◌&&◌, not, codes, decimal, IfOk, OnOk, string_bytes};
 ghost use Rattle.xk_outcomes.specs.Text.{completeness, number_text, numbers_text, outcome_line, outcomes_text};
 
 use crate::listing::Outcome;
@@ -19,6 +19,13 @@ pub fn outcomes_text(alloc: Global, list: &[Outcome], complete: bool) -> Result<
     let last = last_line(alloc, list.len(), complete)?;
     put(&mut text, last)?;
     Ok(text.into_bytes())
+}
+
+/// Whether an answer is whole: all is told, and the log is there if it is to be kept.
+pub fn is_whole(complete: bool, keeps_log: bool, is_kept: bool) -> bool
+    ensures { result ≡ (complete && not (keeps_log && not is_kept)) }
+{
+    complete && !(keeps_log && !is_kept)
 }
 
 /// The line of the outcome of this number.

@@ -1,0 +1,13 @@
+use Rattle.std.proofs.Common.{◌≡◌, true, IfOk, subst, sym}
+use Rattle.xk_outcomes.specs.Sets.{AreAllAs}
+use Rattle.xk_outcomes.proofs.all_outcomes.outcomes_as.Goals as goal
+
+pub returns-then-sets-clause-all : goal.returns-then-sets-clause-all
+returns-then-sets-clause-all c =
+    subst (λ sets. IfOk c.outcome_sets.result (λ r. r.complete ≡ true → AreAllAs sets c.args.verified.now c.args.arguments.now r.list.items))
+    (sym c.if-sets.true) c.outcome_sets.ensures.all
+
+pub returns-clause-all : goal.returns-clause-all
+returns-clause-all c =
+    subst (λ sets. IfOk c.outcomes.result (λ r. r.complete ≡ true → AreAllAs sets c.args.verified.now c.args.arguments.now r.list.items))
+    (sym c.if-sets.false) c.outcomes.ensures.all
