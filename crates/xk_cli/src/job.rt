@@ -78,6 +78,15 @@ pub enum Command<'a> {
         /// `--sets`: outcomes that differ in the order of their numbers alone are one.
         sets: bool,
     },
+    /// `outcomes --expect`: say whether all that FILE can print is in a list.
+    Expected {
+        /// The list's path.
+        list: &'a str,
+        /// `--limit`, as for `outcomes`.
+        limit: Option<u64>,
+        /// `--sets`, as for `outcomes`.
+        sets: bool,
+    },
 }
 
 /// What stands in FILE.
