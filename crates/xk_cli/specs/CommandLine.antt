@@ -240,7 +240,7 @@ texts words = map (λ w. w.now) words
 
 -- the names of the orders
 abbrev pub AreOrders : Names → Type 0
-AreOrders names = texts names.now ≡ codes "first" ∷ codes "last" ∷ codes "round" ∷ codes "random" ∷ []
+AreOrders names = texts names.now ≡ codes "first" ∷ codes "last" ∷ codes "round" ∷ codes "random" ∷ codes "ask" ∷ []
 
 -- This holds of the names of the orders. `clap` is told of a list of names by where it lies in memory; nothing that is said here looks at
 -- that.
@@ -299,15 +299,16 @@ task_value (command.Races log) = Races (option_map (λ s. s.now) log)
 task_value (command.Outcomes limit pick log sets) = Outcomes limit pick (option_map (λ s. s.now) log) sets
 task_value (command.Expected list limit sets) = Expected list.now limit sets
 
--- a job without where its texts and numbers lie in memory
+-- a job without where its texts and numbers lie in memory; a person is asked for the order of its run, or not
 pub record Asked : Type 0 where
   pub task : Task
   pub form : Form
   pub file : Text
   pub arguments : List ℤ
+  pub asks : Bool
 
 abbrev pub asked_value : Job → Asked
-asked_value job = record { task = task_value job.command; form = job.form; file = job.file.now; arguments = job.arguments.items }
+asked_value job = record { task = task_value job.command; form = job.form; file = job.file.now; arguments = job.arguments.items; asks = job.asks }
 
 -- the value of a flag is `true` where it was given
 abbrev pub is_true : Text → Bool
@@ -333,7 +334,7 @@ count_in name given = option_and_then count_named (first_of name given)
 abbrev pub seed_in : List Row → ℕ
 seed_in given = unwrap_or (count_in (codes "SEED") given) 0
 
--- the order of a name, where by chance from this seed
+-- the order of a name, where by chance from this seed; one that is asked for has none
 abbrev pub order_named : Text → ℕ → Option Order
 order_named name seed =
     if bytes_eq name (codes "first") then Some order.First
@@ -347,6 +348,10 @@ order_in given = option_and_then (λ name. order_named name (seed_in given)) (fi
 -- whether the order was given that goes by chance
 abbrev pub is_random : List Row → Bool
 is_random given = option_map_or (λ name. bytes_eq name (codes "random")) (first_of (codes "ORDER") given) false
+
+-- whether the order was given that a person is asked for
+abbrev pub is_asked : List Row → Bool
+is_asked given = option_map_or (λ name. bytes_eq name (codes "ask")) (first_of (codes "ORDER") given) false
 
 -- a seed was given, and no order by chance
 abbrev pub is_seed_alone : List Row → Bool
@@ -442,7 +447,7 @@ command_by name given =
 
 -- this command on this file, with what else was given to it
 abbrev pub asked_of : Task → Text → List Row → Option Asked
-asked_of t file given = option_map (λ args. record { task = t; form = form_in given; file = file; arguments = args }) (arguments_in given)
+asked_of t file given = option_map (λ args. record { task = t; form = form_in given; file = file; arguments = args; asks = is_asked given }) (arguments_in given)
 
 -- the job of a command's name and what was given with it
 abbrev pub asked_by : Text → List Row → Option Asked

@@ -2,7 +2,7 @@
 
 ghost use Rattle.std.specs.Prelude.{◌≡◌, [], false, Some, None, IfOk, OnOk, IfErr, IsOkAnd, option_map};
 ghost use Rattle.clap.specs.Words.{app_of, first_of, found_of, kind_of, rows_of, rule_of, subcommand_rows_of, with_subcommand};
-ghost use Rattle.xk_cli.specs.CommandLine.{FitsKind, HasNoGlobals, IsRefused, WithOrders, are_runs_misplaced, arg_option, arguments_in, asked_by, asked_in, asked_of, asked_value, by_chance, by_order, by_workers, command_by, command_by_log, command_line, command_on, count_in, count_option, crowds_by, crowds_in, drive_in, excludes_by, excludes_in, expect_option, explain_line, faults_in, flag, form_in, form_named, from_option, is_both, is_flagged, is_list_misplaced, is_random, is_seed_alone, is_true, job_of, json_flag, lanes_from, lanes_line, lanes_within, limit_option, limited, log_choice, log_option, maybe_on_log, misplaces_by, misplaces_in, module_flag, on_either, on_file, on_log, on_run, option, order_in, order_named, order_option, outcomes_by, outcomes_in, outcomes_line, outcomes_of, pick_option, picked, place, program, races_line, repeated, run_by, run_in, run_line, runs_option, seed_in, seed_option, sets_flag, strays_by, strays_in, svg_flag, task_value, texts, to_option, way_value, with_expected, with_log, with_outcome_log, with_sets, without_logs, workers_in, workers_named, workers_option};
+ghost use Rattle.xk_cli.specs.CommandLine.{FitsKind, HasNoGlobals, IsRefused, WithOrders, are_runs_misplaced, arg_option, arguments_in, asked_by, asked_in, asked_of, asked_value, by_chance, by_order, by_workers, command_by, command_by_log, command_line, command_on, count_in, count_option, crowds_by, crowds_in, drive_in, excludes_by, excludes_in, expect_option, explain_line, faults_in, flag, form_in, form_named, from_option, is_asked, is_both, is_flagged, is_list_misplaced, is_random, is_seed_alone, is_true, job_of, json_flag, lanes_from, lanes_line, lanes_within, limit_option, limited, log_choice, log_option, maybe_on_log, misplaces_by, misplaces_in, module_flag, on_either, on_file, on_log, on_run, option, order_in, order_named, order_option, outcomes_by, outcomes_in, outcomes_line, outcomes_of, pick_option, picked, place, program, races_line, repeated, run_by, run_in, run_line, runs_option, seed_in, seed_option, sets_flag, strays_by, strays_in, svg_flag, task_value, texts, to_option, way_value, with_expected, with_log, with_outcome_log, with_sets, without_logs, workers_in, workers_named, workers_option};
 
 use crate::job::{Command, Drive, Form, Job, MOST_WORKERS, Order, Workers};
 use crate::numbers::{count_named, numbers_named};
@@ -16,7 +16,7 @@ use std::alloc::{AllocError, Global};
 const VERSION: &str = "1.0.0";
 
 /// The names of the orders.
-static ORDERS: [&str; 4] = ["first", "last", "round", "random"];
+static ORDERS: [&str; 5] = ["first", "last", "round", "random", "ask"];
 
 /// The job that the words ask for; the first word is the program's name. Where they ask for help or aren't understood,
 /// the fault has `clap`'s text.
@@ -624,6 +624,7 @@ fn job_of<'a>(
             form: form_in(given),
             file,
             arguments,
+            asks: is_asked(given),
         })),
         None => Ok(None),
     }
@@ -783,6 +784,16 @@ fn is_random(given: &ArgMatches<'_>) -> bool
     }
 }
 
+/// Whether the order was given that a person is asked for.
+fn is_asked(given: &ArgMatches<'_>) -> bool
+    ensures { result ≡ is_asked (rows_of (found_of given.now)) }
+{
+    match given_in(given, "ORDER") {
+        Some(name) => name == "ask",
+        None => false,
+    }
+}
+
 /// The whole number that was given under this name.
 fn count_in(given: &ArgMatches<'_>, name: &str) -> Option<u64>
     ensures { result ≡ count_in name.now (rows_of (found_of given.now)) }
@@ -881,7 +892,7 @@ fn order_in(given: &ArgMatches<'_>) -> Option<Order>
     order_named(name, seed_in(given))
 }
 
-/// The order of a name, where by chance from this seed.
+/// The order of a name, where by chance from this seed. None of one that is asked for.
 fn order_named(name: &str, seed: u64) -> Option<Order>
     ensures { result ≡ order_named name.now seed }
 {

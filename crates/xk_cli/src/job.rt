@@ -161,4 +161,6 @@ pub struct Job<'a> {
     pub file: &'a str,
     /// `--arg`: the numbers that main is given, in order. `check`, `compile`, `explain` and `listing` are given none.
     pub arguments: Vec<i64>,
+    /// `--order ask`: a person is asked for the order of the run.
+    pub asks: bool,
 }

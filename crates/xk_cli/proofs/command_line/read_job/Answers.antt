@@ -65,7 +65,7 @@ crowds_are names a words found e h = ap crowds_by (h ∙ ap (λ b. subcommand_of
 
 -- want of memory says nothing of the names
 without_memory : WithOrders (λ names. Unit {0})
-without_memory = (record { ref_ptr = (0, 0); now = map (λ t. record { ref_ptr = (0, 0); now = t }) (codes "first" ∷ codes "last" ∷ codes "round" ∷ codes "random" ∷ []) }, refl, tt)
+without_memory = (record { ref_ptr = (0, 0); now = map (λ t. record { ref_ptr = (0, 0); now = t }) (codes "first" ∷ codes "last" ∷ codes "round" ∷ codes "random" ∷ codes "ask" ∷ []) }, refl, tt)
 
 pub returns-in-Ok-clause-job : goal.returns-in-Ok-clause-job
 returns-in-Ok-clause-job c =
