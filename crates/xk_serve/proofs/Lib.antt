@@ -12,4 +12,3 @@ pub mod TextUniquenessLemmas
 pub mod ExplanationLemmas
 pub mod UnfitModuleLemmas
 pub mod UnfitTextLemmas
-pub mod AskedRunLemmas

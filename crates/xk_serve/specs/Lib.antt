@@ -8,4 +8,3 @@ pub mod Explanation
 pub mod Answer
 pub mod Devices
 pub mod EveryRun
-pub mod AskedRun

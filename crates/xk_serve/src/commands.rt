@@ -190,7 +190,7 @@ fn replayed<L: Source>(
 }
 
 /// The module, if the verifier accepts it and its main takes as many numbers as it is given (A1).
-pub(crate) fn runnable(alloc: Global, m: Module, arguments: &[i64]) -> Result<Verified, Fault>
+pub fn runnable(alloc: Global, m: Module, arguments: &[i64]) -> Result<Verified, Fault>
     ensures accepted { IfOk result (λ v. (v ≡ m) × IsAccepted m) }
     ensures taken { OnOk result (AreArguments m arguments.now) }
     ensures refused { IfErr result (IsNotRun m arguments.now) }

@@ -154,7 +154,7 @@ fn done_on<R: Threads + Wait + Sync, L: Source>(
 }
 
 /// All that counts of the bytes in FILE: one byte more than its text may have, at most, and no others are read then.
-pub(crate) fn read_program<P: Source>(alloc: Global, form: Form, program: &mut P) -> Result<Vec<u8>, Fault>
+pub fn read_program<P: Source>(alloc: Global, form: Form, program: &mut P) -> Result<Vec<u8>, Fault>
     ensures kept { IfOk result (λ bytes.
         IfSome (P.remaining program.old) (λ known. bytes.items ≡ kept form known)) }
     ensures no_further { IsReadToLimit form (P.remaining program.old) (P.remaining program.new) }

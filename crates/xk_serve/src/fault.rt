@@ -6,7 +6,6 @@ ghost use Rattle.xk_diagnostics.specs.Lines.{label_status, refusal_status};
 
 use std::alloc::{AllocError, Global};
 use thiserror::Error;
-use xk_ask::AskFault;
 use xk_bounds::Refusal;
 use xk_cli::status;
 use xk_diagnostics::{
@@ -185,19 +184,6 @@ impl From<LogFault> for Fault {
             LogFault::Truncated => Fault::Truncated,
             LogFault::Device => Fault::Device,
             LogFault::OutOfMemory => Fault::OutOfMemory,
-        }
-    }
-}
-
-impl From<AskFault> for Fault {
-    ghost use Rattle.xk_serve.specs.AskedRun.{of_ask};
-
-    ghost from_gives = { λ found fault. fault ≡ of_ask found };
-
-    fn from(found: AskFault) -> Fault {
-        match found {
-            AskFault::Device => Fault::Device,
-            AskFault::OutOfMemory => Fault::OutOfMemory,
         }
     }
 }

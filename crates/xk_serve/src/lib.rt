@@ -1,7 +1,6 @@
 //! What the program answers: a job and the bytes of its files to a status, two texts and a log.
 #![tactic(auto)]
 
-mod asked_run;
 mod bounded_read;
 mod commands;
 mod devices;
@@ -18,6 +17,7 @@ mod program_loader;
 mod tally;
 mod whereabouts;
 
-pub use asked_run::serve_asked;
-pub use devices::{report, serve, tell, tell_words};
+pub use commands::runnable;
+pub use devices::{read_program, report, serve, tell, tell_words};
 pub use fault::Fault;
+pub use program_loader::{module_by, origins_in};

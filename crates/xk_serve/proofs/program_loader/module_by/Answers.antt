@@ -1,5 +1,6 @@
 use Rattle.std.proofs.lemmas.Result.{err_from_is_err_and}
-use Rattle.xk_serve.proofs.AskedRunLemmas.{no_module, no_source}
+use Rattle.xk_serve.proofs.UnfitModuleLemmas.{no_module}
+use Rattle.xk_serve.proofs.UnfitTextLemmas.{no_source}
 use Rattle.xk_serve.proofs.program_loader.module_by.Goals as goal
 
 pub returns-in_err-module_of-in-Module-clause-fault : goal.returns-in_err-module_of-in-Module-clause-fault

@@ -25,16 +25,6 @@ use Rattle.xk_serve.specs.AskedRun.{AnsweredAsked, FailsWhile, GivesNone, IfBoth
 use Rattle.xk_serve.specs.Faults.{of_front, of_text}
 use Rattle.xk_serve.specs.Programs.{IsUnfit, IsUnfitModule}
 
-pub no_module : (form : Form) (bytes : List ℕ) (f : ModuleFault) → form ≡ forms.Module → IsUnfitModule bytes f → GivesNone form bytes (of_text f)
-no_module form bytes text.NotJson is h = (is, h)
-no_module form bytes text.NotAModule is h = (is, h)
-no_module form bytes text.Limit is h = (is, h)
-no_module form bytes text.OutOfMemory is h = tt
-
-pub no_source : (form : Form) (bytes : List ℕ) (f : FrontError) → form ≡ forms.Source → IsUnfit bytes f → GivesNone form bytes (of_front f)
-no_source form bytes (error.Fault f) is h = (is, h)
-no_source form bytes error.OutOfMemory is h = tt
-
 -- ---- what was written
 
 -- a run was written, and nothing more to standard error

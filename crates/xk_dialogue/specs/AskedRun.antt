@@ -7,7 +7,6 @@ use Rattle.xk_types.specs.Code.{ModuleValue}
 use Rattle.xk_types.specs.Device.{Rose}
 use Rattle.xk_types.specs.World.{AreArguments}
 use Rattle.xk_cli.specs.declared.job.Form.{Form}
-use Rattle.xk_cli.specs.declared.job.Form.TheVariants as forms
 use Rattle.xk_log.specs.LogText.{log_text}
 use Rattle.xk_output.specs.Lines.{number_lines}
 use Rattle.xk_diagnostics.specs.Lines.{ended_line}
@@ -18,7 +17,8 @@ use Rattle.xk_serve.specs.declared.fault.Fault.{Fault}
 use Rattle.xk_serve.specs.declared.fault.Fault.TheVariants as fault
 use Rattle.xk_serve.specs.Answer.{IsNotRun, Reply, fault_reply, whole_status}
 use Rattle.xk_serve.specs.Explanation.{IsByOrigins, places_in}
-use Rattle.xk_serve.specs.Programs.{Gives, IsNoModule, IsNoSource}
+use Rattle.xk_serve.specs.Faults.{GivesNoModule}
+use Rattle.xk_serve.specs.Programs.{Gives}
 
 -- want of memory is one fault, whoever met it
 abbrev pub of_ask : AskFault → Fault
@@ -57,16 +57,9 @@ asked_reply keeps told log numbers steps whole = record {
   log = if keeps then log_text log else [];
 }
 
--- the bytes give no module, for this reason; of want of memory nothing is claimed
-abbrev pub GivesNone : Form → List ℕ → Fault → Type 0
-GivesNone form bytes (fault.Text f) = (form ≡ forms.Module) × IsNoModule bytes f
-GivesNone form bytes (fault.Front f) = (form ≡ forms.Source) × IsNoSource bytes f
-GivesNone form bytes fault.OutOfMemory = ⊤
-GivesNone form bytes _ = ⊥
-
--- they give none, or one that isn't run with these arguments
+-- the bytes give no module, or one that isn't run with these arguments
 abbrev pub IsUnfitFor : Form → List ℕ → List ℤ → Fault → Type 0
-IsUnfitFor form bytes args f = GivesNone form bytes f ⊎ ((m : ModuleValue) × Gives form bytes m × IsNotRun m args f)
+IsUnfitFor form bytes args f = GivesNoModule form bytes f ⊎ ((m : ModuleValue) × Gives form bytes m × IsNotRun m args f)
 
 -- the program may answer so: by such a run, or by what stands against it
 abbrev pub AnswersAsked : Form → List ℕ → List ℤ → List ℕ → Bool → Reply → Type 0
