@@ -278,7 +278,7 @@ pub fn rows() -> [Row; 24] {
         in_part("some outcomes", SOME, SOME_OUTCOMES),
         done("outcomes in a list", HELD, OUTCOMES, ALL_EXPECTED, ""),
         in_part("outcomes in no list", HELD, UNEXPECTED),
-        log_refused("no list of outcomes", HELD, BEGINNING, STRAY),
+        refused("no list of outcomes", HELD, IN_STEP, BEGINNING, 3, STRAY),
         done("replay", REPLAY, LOG, PRINTED, ""),
         done("chart", CHART, LOG, CHARTED, ""),
         done("events", Command::Events { log: "log" }, LOG, EVENTS, ""),
