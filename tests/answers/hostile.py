@@ -90,6 +90,7 @@ def full_devices(tried: Tried) -> None:
     tried.answers("exec $x listing in-step.x10 > /dev/full", 5, err=DEVICE)
     tried.answers("exec $x outcomes in-step.x10 > /dev/full", 5, err=DEVICE)
     tried.answers("exec $x outcomes --log /dev/full in-step.x10", 5, OUTCOMES, DEVICE)
+    tried.answers("$x outcomes in-step.x10 > list; exec $x outcomes --expect list in-step.x10 > /dev/full", 5, err=DEVICE)
     tried.answers("exec $x events in-step.x10 log > /dev/full", 5, err=DEVICE)
     for command in ("lanes", "lanes --svg", "where", "races"):
         tried.answers(f"exec $x {command} in-step.x10 log > /dev/full", 5, err=DEVICE)
@@ -164,6 +165,25 @@ def strange_files(tried: Tried) -> None:
         tried.answers(f"exec $x {command} in-step.x10 /dev/null", 3, err="x10clock: L2 Truncated\n")
 
 
+def strange_lists(tried: Tried) -> None:
+    """Lists of outcomes that are none, that come in pieces, or that have no end: what is behind the most that is read isn't looked at."""
+    tried.file("outcomes", OUTCOMES)
+    last = OUTCOMES.splitlines(keepends=True)[-1]
+    tried.answers("exec $x outcomes --expect outcomes in-step.x10", 0, last)
+    tried.answers("exec $x outcomes --expect outcomes - < in-step.x10", 0, last)
+    tried.answers("{ head -c 30 outcomes; sleep 0.1; tail -c +31 outcomes; } | $x outcomes --expect /dev/stdin in-step.x10", 0, last)
+    tried.answers("head -n 1 outcomes | $x outcomes --expect /dev/stdin in-step.x10", 6, OUTCOMES.splitlines(keepends=True)[1])
+    tried.answers("exec $x outcomes --expect . in-step.x10", 5, err=DEVICE)
+    tried.answers("exec $x outcomes --expect no-such-file in-step.x10", 5, err=DEVICE)
+    tried.answers("exec $x outcomes --expect /dev/null in-step.x10", 6, OUTCOMES.splitlines(keepends=True)[0])
+    tried.answers("exec $x outcomes --expect /dev/zero in-step.x10", 3, err="x10clock: L6 NoOutcome line 1\n")
+    tried.answers("exec $x outcomes --expect in-step.x10 in-step.x10", 3, err="x10clock: L6 NoOutcome line 1\n")
+    tried.answers("exec $x outcomes --expect no-such-file bad.x10", 5, err=DEVICE)
+    tried.answers("exec $x outcomes --expect /dev/zero bad.x10", 1, err="x10clock: F2 Syntax at 0\n")
+    tried.answers("yes | $x outcomes --expect /dev/stdin in-step.x10", 3, err="x10clock: L6 NoOutcome line 1\n")
+    tried.answers("{ cat outcomes; yes ''; } | $x outcomes --expect /dev/stdin in-step.x10", 0, last)
+
+
 def pipes(tried: Tried) -> None:
     """Texts that come in pieces, and pipes that end early."""
     text = IN_STEP.read_bytes()
@@ -224,7 +244,7 @@ def small_files(tried: Tried) -> None:
 def little_memory(tried: Tried) -> None:
     """An answer, or none for want of memory; no more than that."""
     many = tried.file("many.x10", "def main() { val c = Clock.make(); for (i in 1..9000) async clocked(c) { Clock.advanceAll(); } Clock.advanceAll(); }")
-    words = [f"check {many}", f"listing {many}", f"explain --json {many}", f"run {many}", f"run --log log {many}", f"run --workers 8 {many}", f"run --workers 64 {many}", f"outcomes {many}", "replay in-step.x10 kept.log",
+    words = [f"check {many}", f"listing {many}", f"explain --json {many}", f"run {many}", f"run --log log {many}", f"run --workers 8 {many}", f"run --workers 64 {many}", f"outcomes {many}", "outcomes --expect /dev/zero in-step.x10", "replay in-step.x10 kept.log",
              "events in-step.x10 kept.log", "lanes in-step.x10 kept.log", "--help"]
     whole = {word: tried.shell(f"exec $x {word}") for word in words}
     for word, size in ((word, size) for word in words for size in LIMITS_OF_MEMORY):
@@ -277,7 +297,7 @@ def killed(tried: Tried) -> None:
 
 
 def all_of_them() -> Iterator[Callable[[Tried], None]]:
-    yield from (full_devices, streams, over_file, strange_files, pipes, endless, growing, small_files)
+    yield from (full_devices, streams, over_file, strange_files, strange_lists, pipes, endless, growing, small_files)
     yield from (little_memory, few_files, few_threads, small_stack, killed)
 
 

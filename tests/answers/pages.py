@@ -32,7 +32,7 @@ PROGRAM = pathlib.Path(os.environ.get("X10CLOCK", TOP / "crates/x10clock/out/x10
 PAGES = [TOP / "README.md", TOP / "examples/README.md", *sorted((TOP / "docs").glob("*.md"))]
 REFUSALS = TOP / "docs/REFUSALS.md"
 # (L3, a read that failed, is told as `x10clock: device`.)
-NUMBERS = {"F": range(1, 16), "M": range(1, 4), "V": range(1, 18), "A": (1,), "L": (1, 2, 4, 5)}
+NUMBERS = {"F": range(1, 16), "M": range(1, 4), "V": range(1, 18), "A": (1,), "L": (1, 2, 4, 5, 6)}
 RULES = {f"{letter}{number}" for letter, numbers in NUMBERS.items() for number in numbers}
 
 BLOCK = re.compile(r"^```\w*\n(.*?)^```$", re.MULTILINE | re.DOTALL)

@@ -302,6 +302,19 @@ def each_search(calls: Calls) -> None:
         calls.ask(f"{name}, outcomes without order", ["outcomes", *given(row), "--sets", "--limit", limit, "-"], row.read_bytes())
 
 
+def each_list(calls: Calls, folder: str) -> None:
+    """Outcomes that are held against a list which has them all, against one that hasn't, and against one that is none."""
+    row = ROWS / "in-step.x10"
+    for name, lines, status, out, err in (
+            ("all", "outcome 2 prints 1 2\noutcome 1 prints 2 1\noutcomes 2 complete\n", 0, b"outcomes 2 complete\n", b""),
+            ("some", "outcome 1 prints 1 2\n", 6, b"outcome 2 prints 2 1\n", b""),
+            ("none", "outcome 1 prints 1 2\n1 2\n", 3, b"", b"x10clock: L6 NoOutcome line 2\n")):
+        kept = pathlib.Path(folder) / f"{name}.list"
+        kept.write_text(lines)
+        calls.need(f"a list of {name}", ["outcomes", "--expect", str(kept), "-"], row.read_bytes(), status, out, err)
+        calls.ask(f"a list of {name}, without order", ["outcomes", "--sets", "--limit", "4", "--expect", str(kept), "-"], row.read_bytes())
+
+
 def each_worker(calls: Calls) -> None:
     """Runs by one worker, which takes the steps as in the order `first`; and fifty activities."""
     for name in ("in-step.x10", "ring.json", "shared-sum.x10", "two-loops.x10", "as-many.x10"):
@@ -332,6 +345,7 @@ def each_mistake(calls: Calls) -> None:
              "x10clock: --workers and --order exclude each other"),
             ("a seed without chance", ["run", "--module", "--seed", "2", "-"], "x10clock: --seed goes with --order random"),
             ("a tally without chance", ["run", "--runs", "2", "-"], "x10clock: --runs goes with --order random, and not with --log"),
+            ("a list beside a log", ["outcomes", "--expect", "list", "--log", LOG, "-"], "x10clock: --expect goes without --log and --pick"),
             ("no outcomes", ["outcomes", "--limit", "0", "-"],
              "error: invalid value '0' for '--limit <LIMIT>': 0 is not in 1..18446744073709551615")):
         calls.begins(name, words, 2, "", err)
@@ -349,6 +363,7 @@ def all_calls(folder: str, preloaded: str, given: argparse.Namespace) -> list[Ca
     each_row(calls)
     each_text(calls)
     each_search(calls)
+    each_list(calls, folder)
     each_worker(calls)
     each_mistake(calls)
     return calls.calls

@@ -87,6 +87,11 @@ def to_lanes(steps: int) -> int:
     return (2 * 28 + 128) * steps
 
 
+def to_list(text: str) -> int:
+    """Three times the text of a list of outcomes, as it grows, and three times 16 for each of its lines."""
+    return 3 * len(text) + 48 * text.count("\n")
+
+
 # The programs.
 
 
@@ -229,6 +234,16 @@ class Calls:
         yield Call("chart, 900,000 advances", ["chart", self.file(text), log], small + to_log(45_062) + to_chart(900_000))
 
 
+    def of_lists(self) -> Iterator[Call]:
+        text, path = "def main(){Console.OUT.println(7);}", self.folder / "list"
+        # Somewhat more than a power of two bytes, so that half of the room is empty.
+        for name, line in (("short", "outcome 1 prints 7\n"), ("empty", "\n")):
+            listed = "outcome 1 prints 7\n" + line * (34_000_000 // len(line))
+            path.write_text(listed)
+            small = to_read(text.encode()) + to_run(judged(text))
+            yield Call(f"outcomes --expect, {name} lines", ["outcomes", "--expect", path, self.file(text)], small + to_list(listed))
+
+
 def ask(program: pathlib.Path, call: Call, most: int | None) -> tuple[int, bytes, bytes]:
     limit = (lambda: resource.setrlimit(resource.RLIMIT_AS, (most, most))) if most else None
     ran = subprocess.run([program, *map(str, call.words)], capture_output=True, timeout=SECONDS, preexec_fn=limit, check=False)
@@ -252,7 +267,7 @@ def main() -> int:
     program, wrong, count = given.program.resolve(), [], 0
     with tempfile.TemporaryDirectory() as folder:
         calls = Calls(pathlib.Path(folder))
-        for kind in (calls.of_texts, calls.of_refused_texts, calls.of_modules, calls.of_runs, calls.of_logs):
+        for kind in (calls.of_texts, calls.of_refused_texts, calls.of_modules, calls.of_runs, calls.of_logs, calls.of_lists):
             for call in kind():
                 count += 1
                 whole = ask(program, call, None)

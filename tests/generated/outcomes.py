@@ -7,7 +7,8 @@
 300 cases, seed 1, 2 jobs, crates/x10clock/out/x10clock and 3,000 worlds at most where nothing else is said. A program has 2 to 4 activities that
 print, and mostly shared numbers, clocks and finishes; some are asked about as their modules, some take numbers. The program is asked with no limit,
 for the log of each outcome, or of 8 that are spread evenly, for that of one which there isn't, and with a limit; with `--sets` the same where the
-order of numbers doesn't count. Each log is played again by the program, and by the telling. `--tally` tells how often each answer was given;
+order of numbers doesn't count. Each log is played again by the program, and by the telling. All outcomes are held against lists, too: against what
+the program told, in another order, against that without one line or with another, and with a limit. `--tally` tells how often each answer was given;
 `--only` prints one program alone.
 """
 
@@ -132,6 +133,37 @@ class Asker:
         if answer[0] != 0 or asked.told(tuple(map(int, answer[1].rpartition("ended")[0].split()))) != lists[pick - 1]:
             yield f"its log is played again: {answer}"
 
+    def held(self, lines: list[str], limit: int | None) -> Iterator[str]:
+        """What is wrong with an answer where outcomes are held against a list of these lines."""
+        file, listed = self.program.folder / "text", self.program.folder / "list"
+        file.write_bytes(self.case.text.data)
+        listed.write_text("".join(lines))
+        options = [*(["--sets"] if self.sets else []), *(["--limit", limit] if limit else []), "--expect", listed]
+        status, out, err = self.program.call("outcomes", *self.case.text.words(), *options, file)
+        self.counts["lists"] += 1
+        try:
+            told = telling_outcomes.expected(listed.read_bytes())
+        except telling_outcomes.Stray as fault:
+            wrong = [] if (status, out, err) == (telling_outcomes.NO_LIST, "", f"x10clock: {fault}\n") else [f"the list is none: {fault}"]
+        else:
+            asked = Asked(limit or telling_outcomes.USUAL_LIMIT, None, self.sets)
+            wrong = [*telling_outcomes.held_faults(self.case.walk, asked, told, Answer(status, out))] + ([f"on standard error: {err}"] if err else [])
+        yield from (f"outcomes {' '.join(map(str, options))} of {lines}: {what}: {(status, out, err)}" for what in wrong)
+
+    def lists(self, rng: random.Random) -> Iterator[str]:
+        """What is wrong with answers where outcomes are held against what the program told, and against what it didn't."""
+        file = self.program.folder / "text"
+        file.write_bytes(self.case.text.data)
+        _, out, _ = self.program.call("outcomes", *self.case.text.words(), *(["--sets"] if self.sets else []), file)
+        lines = out.splitlines(keepends=True)
+        rng.shuffle(lines)
+        yield from self.held(lines, None)
+        yield from self.held(lines, rng.choice([1, 2, 3, 10]))
+        missing, place = rng.randrange(len(lines)), rng.randrange(len(lines) + 1)
+        yield from self.held(lines[:missing] + lines[missing + 1 :], None)
+        other = rng.choice(["outcome 1 prints 987654321\n", "outcome 0 prints -1 -1 -1 -1 -1 -1\n", "\n", "outcomes\n", "outcome 5 prints \n", " outcome 5 prints 1\n"])
+        yield from self.held([*lines[:place], other, *lines[place:]], None)
+
     def differences(self, rng: random.Random) -> Iterator[str]:
         count = len(Asked(sets=self.sets).outcomes(self.case.walk))
         yield from self.asked(None, None)
@@ -141,6 +173,7 @@ class Asker:
         yield from self.asked(None, rng.choice([count + 1, 2 * count + 1, 2**64 - 1]))
         limit = rng.choice([1, 2, 3, 10, max(1, count - 1), count, count + 1, telling_outcomes.SPARE * self.case.walk.entries + 1])
         yield from self.asked(limit, rng.choice([None, 1, 2, count]))
+        yield from self.lists(rng)
 
 
 def count_case(counts: collections.Counter[str], case: Case) -> None:

@@ -7,7 +7,8 @@
 the ends of what may be given, and names of small files, of which some are texts, modules or logs, one is a folder, and some aren't there; mostly they make a call that could be meant,
 with a word left out, doubled, put in or replaced. Each call is made in a folder of its own, and told in another: the status, standard output, the first
 line of standard error and what is in the folder then have to be the same. What a run by workers prints is compared in any order, and its log is
-played again; outcomes, which the program tells in an order of its own, have to be right (tests/reference/telling_outcomes.py), and so has their log.
+played again; outcomes, which the program tells in an order of its own, have to be right (tests/reference/telling_outcomes.py), and so has their log,
+and what is said of them where they are held against a list.
 `--tally` tells how often each answer was given; `--only` prints the words of one case. It fails where something is answered otherwise, and where of
 500 calls or more none told outcomes, events or lanes.
 """
@@ -59,6 +60,10 @@ FILES = {
     "many.log": LOG_OF_MANY,
     "cut.log": LOG[:40],
     "waits.log": b"x10log 1\n1 1\nend 1\n",
+    "step.list": b"outcome 1 prints 1 2\noutcome 2 prints 2 1\noutcomes 2 complete\n",
+    "many.list": b"outcome 1 prints\noutcome 2 prints 1\n\noutcome 7 prints 1 2",
+    "part.list": b"outcome 1 prints 2 1\noutcomes 1 and perhaps more\n",
+    "stray.list": b"outcome 1 prints 1 2\noutcome 2 prints  2 1\n",
 }
 FOLDER, LINK = "folder", "link"
 
@@ -69,7 +74,7 @@ NUMBERS = ["0", "1", "2", "3", "64", "65", "-1", "+2", "007", "92233720368547758
            "18446744073709551615", "18446744073709551616", "+18446744073709551615", "99999999999999999999x", "x", "", "-", "+", "1.5", " 1", "٣", "1e3"]  # fmt: skip
 ORDERS = ["first", "last", "round", "random", "least", "First", "", "firs", "-", "first "]
 STRANGE = ["--", "-h", "--help", "help", "-", "", "-x", "-5", "-hx", "--module=x", "--help=x", "--modul", "--Module", "--orders", "--=", "---", "--version", "-V", "walk",
-           "chek", "run", "check", "--no-module", "--log", "--order", "--workers", "--arg", "--seed", "--runs", "--limit", "--pick", "--sets", "--from", "--to", "--svg", "outcome", "\udcff", "--log=\udcfe", "ü", "--ü", "a b", "=", "@step.x10"]  # fmt: skip
+           "chek", "run", "check", "--no-module", "--log", "--order", "--workers", "--arg", "--seed", "--runs", "--limit", "--pick", "--sets", "--expect", "--from", "--to", "--svg", "outcome", "\udcff", "--log=\udcfe", "ü", "--ü", "a b", "=", "@step.x10"]  # fmt: skip
 
 
 # For some commands options that are a number each.
@@ -98,15 +103,19 @@ def options(rng: random.Random, command: str, text: str) -> Iterator[list[str]]:
         seed = rng.choice(["0", "1", "7", "18446744073709551615"] if rng.random() < 0.6 else NUMBERS)
         yield from [option(rng, "seed", seed)] if rng.random() < (0.7 if order == "random" else 0.1) else []
         yield from [option(rng, "runs", small(rng))] if rng.random() < (0.6 if order == "random" else 0.1) else []
+    # Outcomes that are held against a list have no log.
+    is_held = command == "outcomes" and rng.random() < 0.35
     for name in COUNTED.get(command, ()):
-        yield from [option(rng, name, small(rng))] if rng.random() < 0.4 else []
+        yield from [option(rng, name, small(rng))] if rng.random() < (0.05 if is_held and name == "pick" else 0.4) else []
     if command == "lanes" and rng.random() < 0.3:
         yield ["--svg"]
     if command == "outcomes" and rng.random() < 0.3:
         yield ["--sets"]
+    if is_held:
+        yield option(rng, "expect", f"{text[:4]}.list" if rng.random() < 0.5 else rng.choice(["part.list", "stray.list", *NAMES]))
     if command == "run" and rng.random() < 0.3:
         yield option(rng, "workers", small(rng))
-    if command in ("run", "outcomes") and rng.random() < 0.4:
+    if command in ("run", "outcomes") and rng.random() < (0.05 if is_held else 0.4):
         yield option(rng, "log", rng.choice(["made", "step.log", *NAMES]))
     if command in ("run", "outcomes", "races", *telling_runs.COMMANDS):
         for _ in range(text.startswith("many") if rng.random() < 0.8 else rng.randrange(3)):
@@ -241,7 +250,12 @@ def log_path(job: Job) -> str:
 def program_of(job: Job, given: str) -> bytes:
     """The bytes of the program."""
     file = job.values["FILE"]
-    return FILES["step.x10" if file == LINK else given if file == "-" else os.path.normpath(file)]
+    return FILES[given] if file == "-" else contents_of(file)
+
+
+def contents_of(path: str) -> bytes:
+    """The bytes of a file that was there before the call."""
+    return FILES["step.x10" if path == LINK else os.path.normpath(path)]
 
 
 def are_others_same(job: Job, left: Folder, there: Folder) -> bool:
@@ -271,9 +285,12 @@ def outcome_faults(job: Job, given: str, got: Told, left: Folder, there: Folder)
         yield f"other files differ, or something is on standard error: {got}"
     module, numbers = telling_words.judge(job, program_of(job, given)).module, tuple(job.numbers)
     log = there.get(log_path(job), b"no log") if "log" in job.values else b""
-    walk = telling_outcomes.walked(module, numbers)
-    for fault in telling_outcomes.faults(walk, module, numbers, telling_words.asked_outcomes(job), Answer(got.status, got.out, log)):
-        yield f"{fault}: {got}"
+    walk, asked, answer = telling_outcomes.walked(module, numbers), telling_words.asked_outcomes(job), Answer(got.status, got.out, log)
+    if "expect" in job.values:
+        faults = telling_outcomes.held_faults(walk, asked, telling_outcomes.expected(contents_of(job.values["expect"])), answer)
+    else:
+        faults = telling_outcomes.faults(walk, module, numbers, asked, answer)
+    yield from (f"{fault}: {got}" for fault in faults)
 
 
 # Cases.

@@ -7,7 +7,9 @@ program's own: so an answer is judged here, and one that may be given is made.
 
 Where sets are asked for, lists of the same numbers, each as often, in whatever order, are one, and it is told rising.
 
-    python3 tests/reference/telling_outcomes.py [--module] [--sets] FILE [LIMIT] [--arg=N]..
+Outcomes may be held against a list, a text of such lines: then one is told that isn't in it, or how many they are.
+
+    python3 tests/reference/telling_outcomes.py [--module] [--sets] [--expect=LIST] FILE [LIMIT] [--arg=N]..
 """
 
 from __future__ import annotations
@@ -32,15 +34,23 @@ MOST_WORLDS, MOST_LISTS = 100_000, 100_000
 USUAL_LIMIT = 100_000
 # It keeps apart worlds that are the same here, as by what an activity held that has ended: so many times as many are granted.
 SPARE = 4
-WHOLE, NOT_WHOLE = 0, 6
+WHOLE, NOT_WHOLE, NO_LIST = 0, 6, 3
+# What is behind these bytes of a list isn't looked at.
+LONGEST_LIST = 100_000_000
 
 Numbers = tuple[int, ...]
 LINE = re.compile(r"outcome (\d+) prints((?: -?\d+)*)")
 LAST = re.compile(r"outcomes (\d+) (complete|and perhaps more)")
+# A line of a list: what stands behind `prints` has to be what is told of an outcome; lines of the other sort are passed over.
+LISTED, PASSED = re.compile(rb"outcome [0-9]+ prints((?: -?[0-9]+)*)"), re.compile(rb"|outcomes .*", re.DOTALL)
 
 
 class TooMany(Exception):
     """There are too many worlds, or too many lists of numbers."""
+
+
+class Stray(Exception):
+    """A line of a list is none; the message is what is said of it."""
 
 
 # The walk.
@@ -194,6 +204,58 @@ def read(out: str) -> tuple[list[Numbers], bool] | None:
     return (lists, is_complete) if text_of(lists, is_complete) == out else None
 
 
+def expected(data: bytes) -> set[bytes]:
+    """What a list tells, a text for each outcome; raises Stray."""
+    told = set()
+    for number, line in enumerate(data[:LONGEST_LIST].split(b"\n"), start=1):
+        found = LISTED.fullmatch(line)
+        if not found and not PASSED.fullmatch(line):
+            raise Stray(f"L6 NoOutcome line {number}")
+        told |= {found[1]} if found else set()
+    return told
+
+
+def is_told(told: set[bytes], numbers: Numbers) -> bool:
+    return "".join(f" {number}" for number in numbers).encode() in told
+
+
+def held_faults(walk: Walk | None, asked: Asked, told: set[bytes], given: Answer) -> Iterator[str]:
+    """What is wrong with what is said of outcomes that are held against a list."""
+    line, last = LINE.fullmatch(given.out.removesuffix("\n")), LAST.fullmatch(given.out.removesuffix("\n"))
+    if not line and not last or not given.out.endswith("\n"):
+        yield "neither an outcome nor a last line is told"
+        return
+    is_whole = bool(last) and last[2] == "complete"
+    if given.status != (WHOLE if is_whole else NOT_WHOLE):
+        yield f"the status is {given.status}"
+    outcomes = asked.outcomes(walk) if walk else None
+    if line:
+        numbers = tuple(map(int, line[2].split()))
+        if is_told(told, numbers):
+            yield "what is told is in the list"
+        if outcomes is not None and numbers not in outcomes:
+            yield "no run prints what is told"
+        if not 1 <= int(line[1]) <= asked.limit:
+            yield "the outcome has a number beyond the limit"
+    elif outcomes is not None:
+        untold = [numbers for numbers in outcomes if not is_told(told, numbers)]
+        if is_whole and untold:
+            yield f"not in the list: {sorted(untold)}"
+        if int(last[1]) > min(asked.limit, len(outcomes)) or is_whole and int(last[1]) != len(outcomes):
+            yield f"there are {len(outcomes)} outcomes"
+        if not is_whole and int(last[1]) < asked.limit and SPARE * walk.entries < asked.limit:
+            yield f"not complete, and there are {walk.entries} worlds"
+
+
+def held(walk: Walk, asked: Asked, told: set[bytes]) -> Answer:
+    """What may be said of outcomes that are held against a list: the first in their order as lists that isn't in it, and else the last line."""
+    outcomes = asked.outcomes(walk)
+    lists = sorted(outcomes)[: asked.limit]
+    untold = next((number for number, numbers in enumerate(lists) if not is_told(told, numbers)), None)
+    lines, is_complete = text_of(lists, len(lists) == len(outcomes)).splitlines(keepends=True), len(lists) == len(outcomes)
+    return Answer(NOT_WHOLE, lines[untold]) if untold is not None else Answer(WHOLE if is_complete else NOT_WHOLE, lines[-1])
+
+
 def faults(walk: Walk | None, module: Module, arguments: Arguments, asked: Asked, given: Answer) -> Iterator[str]:
     """What is wrong with an answer; where the walk is too long, by the answer alone."""
     told = read(given.out)
@@ -246,14 +308,21 @@ def log_faults(module: Module, arguments: Arguments, asked: Asked, picked: list[
 def main(words: list[str]) -> int:
     more, arguments = telling.parted(words)
     is_module, are_sets = "--module" in more, "--sets" in more
-    path, *limit = [word for word in more if word not in ("--module", "--sets")]
+    path, *limit = [word for word in more if word not in ("--module", "--sets") and not word.startswith("--expect=")]
+    lists = [word.removeprefix("--expect=") for word in more if word.startswith("--expect=")]
     data = pathlib.Path(path).read_bytes()
     judged = telling.judge(data) if is_module else telling_source.judge(data)
     line = telling.refusal("outcomes", judged, arguments)
     if line:
         print(f"x10clock: {line}", file=sys.stderr)
         return 1
-    told = answer(Walk(judged.module, arguments), Asked(*map(int, limit[:1] or [USUAL_LIMIT]), sets=are_sets))
+    asked = Asked(*map(int, limit[:1] or [USUAL_LIMIT]), sets=are_sets)
+    try:
+        texts = [expected(pathlib.Path(name).read_bytes()) for name in lists[:1]]
+    except Stray as fault:
+        print(f"x10clock: {fault}", file=sys.stderr)
+        return NO_LIST
+    told = held(Walk(judged.module, arguments), asked, texts[0]) if texts else answer(Walk(judged.module, arguments), asked)
     print(told.out, end="")
     return told.status
 

@@ -1,8 +1,8 @@
 """A second telling of the command line, in Python: what words ask for, or why they are no job; and what a job on files is answered.
 
 Of clap's texts it tells the first line, and help by its place in tests/answers/words.txt. The words are taken one after another, and the first that is wrong
-is told; what an option is given is looked at when the next argument begins, and what is missing at the end. Files are opened, in this order: FILE, LOG,
-and PATH of `--log`, which is emptied; then FILE is read.
+is told; what an option is given is looked at when the next argument begins, and what is missing at the end. Files are opened, in this order: FILE, LOG
+or the list of `--expect`, and PATH of `--log`, which is emptied; then FILE is read.
 """
 
 from __future__ import annotations
@@ -40,6 +40,7 @@ NO_TEXT = "x10clock: a word is not in UTF-8"
 EXCLUDED = "x10clock: --workers and --order exclude each other"
 SEED_ALONE = "x10clock: --seed goes with --order random"
 RUNS_MISPLACED = "x10clock: --runs goes with --order random, and not with --log"
+LIST_MISPLACED = "x10clock: --expect goes without --log and --pick"
 OVER_FILE = "x10clock: --log would write over FILE"
 VERSION = "x10clock 1.0.0\n"
 
@@ -87,6 +88,7 @@ OPTIONS = {
     "from": Option("--from <STEP>", COUNTS),
     "to": Option("--to <STEP>", COUNTS),
     "log": Option("--log <PATH>"),
+    "expect": Option("--expect <FILE2>"),
     "arg": Option("--arg <N>", SIGNED, is_list=True),
 }
 # A place that may stay empty.
@@ -98,7 +100,7 @@ COMMANDS: dict[str, tuple[set[str], set[str], list[str]]] = {
     "compile": (set(), set(), ["FILE"]),
     "listing": (set(), {"module"}, ["FILE"]),
     "run": ({"order", "seed", "runs", "workers", "log", "arg"}, {"module"}, ["FILE"]),
-    "outcomes": ({"limit", "pick", "log", "arg"}, {"module", "sets"}, ["FILE"]),
+    "outcomes": ({"limit", "pick", "log", "expect", "arg"}, {"module", "sets"}, ["FILE"]),
     "races": ({"arg"}, {"module"}, ["FILE", "LOG" + MAYBE]),
     "replay": ({"arg"}, {"module"}, ["FILE", "LOG"]),
     "chart": ({"arg"}, {"module"}, ["FILE", "LOG"]),
@@ -280,6 +282,8 @@ def read(words: list[str]) -> Job:
             raise Mistake(SEED_ALONE)
         if "runs" in job.values and ("log" in job.values or job.values.get("order") != telling.ByChance.NAME):
             raise Mistake(RUNS_MISPLACED)
+        if "expect" in job.values and {"log", "pick"} & {*job.values}:
+            raise Mistake(LIST_MISPLACED)
         return job
     if first == "help":
         raise helped(rest)
@@ -423,6 +427,19 @@ def outcomes(job: Job, judged: Accepted, log: BinaryIO | None) -> Told:
     return Told(answer.status, answer.out)
 
 
+def held(job: Job, judged: Accepted, list_in: BinaryIO | None) -> Told:
+    """An answer that may be given where outcomes are held against a list."""
+    try:
+        told = telling_outcomes.expected(contents(list_in))
+    except telling_outcomes.Stray as fault:
+        return Told(telling_outcomes.NO_LIST, "", f"x10clock: {fault}")
+    walk = telling_outcomes.walked(judged.module, tuple(job.numbers))
+    if walk is None:
+        raise TooLong
+    answer = telling_outcomes.held(walk, asked_outcomes(job), told)
+    return Told(answer.status, answer.out)
+
+
 def first_log(judged: Accepted, arguments: Arguments) -> bytes:
     """The log of the run in the order `first`, whose races are told where no log is given."""
     way = telling.way_of("first", 0)
@@ -443,6 +460,8 @@ def answered(job: Job, data: bytes, log_in: BinaryIO | None, log_out: BinaryIO |
         return Told(0, accepted(job, data, judged.bounds.line() + "\n"))
     if "runs" in job.values:
         return tallied(job, judged)
+    if "expect" in job.values:
+        return held(job, judged, log_in)
     if job.command in ("run", "outcomes"):
         return ran(job, judged, log_out) if job.command == "run" else outcomes(job, judged, log_out)
     log = contents(log_in) if "LOG" in job.values else first_log(judged, tuple(job.numbers))
@@ -456,8 +475,8 @@ def done(job: Job, given: BinaryIO) -> Told:
     file, log_in, log_out = job.values["FILE"], None, None
     program = given if file == "-" else opened(file, "rb")
     try:
-        if "LOG" in job.values:
-            log_in = opened(job.values["LOG"], "rb")
+        if {"LOG", "expect"} & {*job.values}:
+            log_in = opened(job.values["LOG" if "LOG" in job.values else "expect"], "rb")
         if "log" in job.values:
             if is_same(job.values["log"], program):
                 return Told(2, "", OVER_FILE)

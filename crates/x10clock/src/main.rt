@@ -6,7 +6,7 @@ ghost use Rattle.std.specs.Io.KnownBytes.{Appends};
 ghost use Rattle.xk_types.specs.Device.{Rose};
 ghost use Rattle.xk_cli.specs.CommandLine.{texts};
 ghost use Rattle.xk_cli.specs.Status.{status_device, status_memory, status_program, status_words};
-ghost use Rattle.xk_serve.specs.Answer.{reads_log, task_of};
+ghost use Rattle.xk_serve.specs.Answer.{reads_more, task_of};
 ghost use Rattle.xk_serve.specs.Lines.{device_line};
 ghost use Rattle.xk_diagnostics.specs.Lines.{memory_line};
 ghost use Rattle.xk_serve.specs.Devices.{Answered, ErrBegins, IfKnown, OutBegins, Reports, Tells, TellsWords};
@@ -122,7 +122,7 @@ fn on_job<R: Runtime, O: Sink, E: Sink>(rt: &R, job: &Job<'_>, out: &mut O, err:
     }
 }
 
-/// Opens the log that is read, where there is one, and does the job on an open program.
+/// Opens the log or the list that is read, where there is one, and does the job on an open program.
 fn on_program<R: Runtime, P: Read + Drop, O: Sink, E: Sink>(
     rt: &R,
     job: &Job<'_>,
@@ -152,7 +152,8 @@ fn on_program<R: Runtime, P: Read + Drop, O: Sink, E: Sink>(
     | Command::Events { log: path }
     | Command::Lanes { log: path, .. }
     | Command::Where { log: path }
-    | Command::Races { log: Some(path) }) = job.command
+    | Command::Races { log: Some(path) }
+    | Command::Expected { list: path, .. }) = job.command
     else {
         return on_log(rt, job, program, &mut Counted::new(io::empty()), out, err);
     };
@@ -188,7 +189,7 @@ fn on_log<R: Runtime, P: Read + Drop, L: Source, O: Sink, E: Sink>(
     ensures device_err { result ≡ status_device
         → Appends (E.contents err.old) (E.contents err.new) device_line
         ⊎ Rose (E.fault_count err.old) (E.fault_count err.new) }
-    ensures log_in { reads_log (task_of job.now).doing ≡ false → log_in.new ≡ log_in.old }
+    ensures log_in { reads_more (task_of job.now).doing ≡ false → log_in.new ≡ log_in.old }
     ensures log_unread { result ≡ status_program → log_in.new ≡ log_in.old }
 {
     let Some(path) = path_of_log(job.command) else {
@@ -220,7 +221,8 @@ fn path_of_log<'a>(command: Command<'a>) -> Option<&'a str> {
         | Command::Lanes { .. }
         | Command::Where { .. }
         | Command::Races { .. }
-        | Command::Tally { .. } => None,
+        | Command::Tally { .. }
+        | Command::Expected { .. } => None,
     }
 }
 
@@ -297,7 +299,7 @@ fn on_devices<
     ensures device_err { result ≡ status_device
         → Appends (E.contents err.old) (E.contents err.new) device_line
         ⊎ Rose (E.fault_count err.old) (E.fault_count err.new) }
-    ensures log_in { reads_log (task_of job.now).doing ≡ false → log_in.new ≡ log_in.old }
+    ensures log_in { reads_more (task_of job.now).doing ≡ false → log_in.new ≡ log_in.old }
     ensures log_unread { result ≡ status_program → log_in.new ≡ log_in.old }
 {
     let mut source = Counted::new(program);

@@ -165,9 +165,17 @@ sets_flag = flag (codes "sets")
 abbrev pub with_sets : App
 with_sets = with_rule with_outcome_log sets_flag
 
+-- `--expect FILE2`
+abbrev pub expect_option : Rule
+expect_option = option (codes "FILE2") (codes "expect")
+
+-- the same, which may be held against a list
+abbrev pub with_expected : App
+with_expected = with_rule with_sets expect_option
+
 -- the same, whose main may be given numbers
 abbrev pub outcomes_line : App
-outcomes_line = with_rule with_sets arg_option
+outcomes_line = with_rule with_expected arg_option
 
 -- LOG, which needn't be there
 abbrev pub log_choice : Rule
@@ -232,7 +240,7 @@ texts words = map (λ w. w.now) words
 
 -- the names of the orders
 abbrev pub AreOrders : Names → Type 0
-AreOrders names = texts names.now ≡ codes "first" ∷ codes "last" ∷ codes "round" ∷ codes "random" ∷ []
+AreOrders names = texts names.now ≡ codes "first" ∷ codes "last" ∷ codes "round" ∷ codes "random" ∷ codes "ask" ∷ []
 
 -- This holds of the names of the orders. `clap` is told of a list of names by where it lies in memory; nothing that is said here looks at
 -- that.
@@ -257,7 +265,8 @@ way_value (drive.Workers w) = By w.count
 -- A command without where its texts lie in memory. What is explained may be a JSON value. A run has who takes its steps, and the log's path, where
 -- they were given; a tally has the first seed, and how many runs there are. Lanes have the log's path, the first step and the last, where they were
 -- given, and may be a picture; races have the log's path, where it was given; the others on a log have its path. Outcomes have how many there are at
--- most, which is picked, and the path of its log; numbers of them may have no order.
+-- most, which is picked, and the path of its log; numbers of them may have no order. Where they are held against a list they have its path, how many
+-- there are at most, and whether numbers of them have no order.
 pub data Task : Type 0 where
   Check : Task
   Compile : Task
@@ -272,6 +281,7 @@ pub data Task : Type 0 where
   Where : Text → Task
   Races : Option Text → Task
   Outcomes : Option ℕ → Option ℕ → Option Text → Bool → Task
+  Expected : Text → Option ℕ → Bool → Task
 
 abbrev pub task_value : Command → Task
 task_value command.Check = Check
@@ -287,16 +297,18 @@ task_value (command.Lanes log from to svg) = Lanes log.now from to svg
 task_value (command.Where log) = Where log.now
 task_value (command.Races log) = Races (option_map (λ s. s.now) log)
 task_value (command.Outcomes limit pick log sets) = Outcomes limit pick (option_map (λ s. s.now) log) sets
+task_value (command.Expected list limit sets) = Expected list.now limit sets
 
--- a job without where its texts and numbers lie in memory
+-- a job without where its texts and numbers lie in memory; a person is asked for the order of its run, or not
 pub record Asked : Type 0 where
   pub task : Task
   pub form : Form
   pub file : Text
   pub arguments : List ℤ
+  pub asks : Bool
 
 abbrev pub asked_value : Job → Asked
-asked_value job = record { task = task_value job.command; form = job.form; file = job.file.now; arguments = job.arguments.items }
+asked_value job = record { task = task_value job.command; form = job.form; file = job.file.now; arguments = job.arguments.items; asks = job.asks }
 
 -- the value of a flag is `true` where it was given
 abbrev pub is_true : Text → Bool
@@ -322,7 +334,7 @@ count_in name given = option_and_then count_named (first_of name given)
 abbrev pub seed_in : List Row → ℕ
 seed_in given = unwrap_or (count_in (codes "SEED") given) 0
 
--- the order of a name, where by chance from this seed
+-- the order of a name, where by chance from this seed; one that is asked for has none
 abbrev pub order_named : Text → ℕ → Option Order
 order_named name seed =
     if bytes_eq name (codes "first") then Some order.First
@@ -336,6 +348,10 @@ order_in given = option_and_then (λ name. order_named name (seed_in given)) (fi
 -- whether the order was given that goes by chance
 abbrev pub is_random : List Row → Bool
 is_random given = option_map_or (λ name. bytes_eq name (codes "random")) (first_of (codes "ORDER") given) false
+
+-- whether the order was given that a person is asked for
+abbrev pub is_asked : List Row → Bool
+is_asked given = option_map_or (λ name. bytes_eq name (codes "ask")) (first_of (codes "ORDER") given) false
 
 -- a seed was given, and no order by chance
 abbrev pub is_seed_alone : List Row → Bool
@@ -383,10 +399,23 @@ run_in given = runs_of (count_in (codes "RUNS") given) (seed_in given) (drive_in
 abbrev pub run_by : List Row → Option Task
 run_by given = if is_both given || is_seed_alone given || are_runs_misplaced given then None else Some (run_in given)
 
+-- a list was given, and an outcome to pick or a log's path
+abbrev pub is_list_misplaced : List Row → Bool
+is_list_misplaced given = is_some (first_of (codes "FILE2") given) && (is_some (first_of (codes "K") given) || is_some (first_of (codes "PATH") given))
+
+-- outcomes that are held against this list, or else told, maybe with a log
+abbrev pub outcomes_of : Option Text → List Row → Task
+outcomes_of (Some list) given = Expected list (count_in (codes "LIMIT") given) (is_flagged (codes "sets") given)
+outcomes_of None given =
+    Outcomes (count_in (codes "LIMIT") given) (count_in (codes "K") given) (first_of (codes "PATH") given) (is_flagged (codes "sets") given)
+
 -- `outcomes` with what was given to it
 abbrev pub outcomes_in : List Row → Task
-outcomes_in given =
-    Outcomes (count_in (codes "LIMIT") given) (count_in (codes "K") given) (first_of (codes "PATH") given) (is_flagged (codes "sets") given)
+outcomes_in given = outcomes_of (first_of (codes "FILE2") given) given
+
+-- What is held against a list has no log.
+abbrev pub outcomes_by : List Row → Option Task
+outcomes_by given = if is_list_misplaced given then None else Some (outcomes_in given)
 
 -- `lanes` on a log, with what else was given to it
 abbrev pub lanes_on : Text → List Row → Task
@@ -413,12 +442,12 @@ command_by name given =
     else (if bytes_eq name (codes "explain") then Some (Explain (is_flagged (codes "json") given))
     else (if bytes_eq name (codes "listing") then Some Listing
     else (if bytes_eq name (codes "run") then run_by given
-    else (if bytes_eq name (codes "outcomes") then Some (outcomes_in given)
+    else (if bytes_eq name (codes "outcomes") then outcomes_by given
     else (if bytes_eq name (codes "races") then Some (Races (first_of (codes "LOG") given)) else command_by_log name given))))))
 
 -- this command on this file, with what else was given to it
 abbrev pub asked_of : Task → Text → List Row → Option Asked
-asked_of t file given = option_map (λ args. record { task = t; form = form_in given; file = file; arguments = args }) (arguments_in given)
+asked_of t file given = option_map (λ args. record { task = t; form = form_in given; file = file; arguments = args; asks = is_asked given }) (arguments_in given)
 
 -- the job of a command's name and what was given with it
 abbrev pub asked_by : Text → List Row → Option Asked
@@ -455,6 +484,14 @@ misplaces_by found = option_map_or (λ p. are_runs_misplaced p.1) found false
 unfoldable pub misplaces_in : Names → List Text → Bool
 misplaces_in names words = misplaces_by (subcommand_of (command_line names) words)
 
+-- a list was given to the command that was found, and an outcome to pick or a log's path
+abbrev pub crowds_by : Option (Text × List Row) → Bool
+crowds_by found = option_map_or (λ p. is_list_misplaced p.1) found false
+
+-- the words have a list beside an outcome to pick or a log's path, as `clap` takes them apart
+unfoldable pub crowds_in : Names → List Text → Bool
+crowds_in names words = crowds_by (subcommand_of (command_line names) words)
+
 -- ---- why words are refused
 
 -- the fault fits the kind of `clap`'s error
@@ -464,6 +501,7 @@ FitsKind k (fault.NotUnderstood text) = (k ≢ kind.DisplayHelp) × (k ≢ kind.
 FitsKind k fault.OrderAndWorkers = ⊥
 FitsKind k fault.SeedAlone = ⊥
 FitsKind k fault.MisplacedRuns = ⊥
+FitsKind k fault.MisplacedList = ⊥
 FitsKind k fault.OutOfMemory = ⊤
 
 -- a mistake is among the kinds: one that is no request for help or for the version
@@ -472,15 +510,16 @@ HasMistake kinds = (k : ErrorKind) × IsAmong k kinds × (k ≢ kind.DisplayHelp
 
 -- Help is told only where it was asked for, words are called not understood only where `clap` finds a mistake in them, or where it finds
 -- nothing wrong and no job. The order and the workers are called to exclude each other only where both were given, a seed to stand alone only where
--- it does, and a number of runs to be misplaced only where it is, and nothing is wrong else.
-abbrev pub IsRefused : Kinds → Option Asked → Bool → Bool → Bool → WordsFault → Type 0
-IsRefused kinds asked both alone misplaced (fault.Help text) = IsAmong kind.DisplayHelp kinds ⊎ IsAmong kind.DisplayVersion kinds
-IsRefused kinds asked both alone misplaced (fault.NotUnderstood text) =
-    HasMistake kinds ⊎ ((kinds ≡ []) × (asked ≡ None) × (both ≡ false) × (alone ≡ false) × (misplaced ≡ false))
-IsRefused kinds asked both alone misplaced fault.OrderAndWorkers = (kinds ≡ []) × (both ≡ true)
-IsRefused kinds asked both alone misplaced fault.SeedAlone = (kinds ≡ []) × (alone ≡ true)
-IsRefused kinds asked both alone misplaced fault.MisplacedRuns = (kinds ≡ []) × (misplaced ≡ true)
-IsRefused kinds asked both alone misplaced fault.OutOfMemory = ⊤
+-- it does, and a number of runs or a list to be misplaced only where it is, and nothing is wrong else.
+abbrev pub IsRefused : Kinds → Option Asked → Bool → Bool → Bool → Bool → WordsFault → Type 0
+IsRefused kinds asked both alone misplaced crowded (fault.Help text) = IsAmong kind.DisplayHelp kinds ⊎ IsAmong kind.DisplayVersion kinds
+IsRefused kinds asked both alone misplaced crowded (fault.NotUnderstood text) =
+    HasMistake kinds ⊎ ((kinds ≡ []) × (asked ≡ None) × (both ≡ false) × (alone ≡ false) × (misplaced ≡ false) × (crowded ≡ false))
+IsRefused kinds asked both alone misplaced crowded fault.OrderAndWorkers = (kinds ≡ []) × (both ≡ true)
+IsRefused kinds asked both alone misplaced crowded fault.SeedAlone = (kinds ≡ []) × (alone ≡ true)
+IsRefused kinds asked both alone misplaced crowded fault.MisplacedRuns = (kinds ≡ []) × (misplaced ≡ true)
+IsRefused kinds asked both alone misplaced crowded fault.MisplacedList = (kinds ≡ []) × (crowded ≡ true)
+IsRefused kinds asked both alone misplaced crowded fault.OutOfMemory = ⊤
 
 -- the status that the program ends with
 abbrev pub status_of : WordsFault → ℕ
@@ -489,4 +528,5 @@ status_of (fault.NotUnderstood text) = status_words
 status_of fault.OrderAndWorkers = status_words
 status_of fault.SeedAlone = status_words
 status_of fault.MisplacedRuns = status_words
+status_of fault.MisplacedList = status_words
 status_of fault.OutOfMemory = status_memory

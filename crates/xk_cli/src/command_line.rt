@@ -2,7 +2,7 @@
 
 ghost use Rattle.std.specs.Prelude.{◌≡◌, [], false, Some, None, IfOk, OnOk, IfErr, IsOkAnd, option_map};
 ghost use Rattle.clap.specs.Words.{app_of, first_of, found_of, kind_of, rows_of, rule_of, subcommand_rows_of, with_subcommand};
-ghost use Rattle.xk_cli.specs.CommandLine.{FitsKind, HasNoGlobals, IsRefused, WithOrders, are_runs_misplaced, arg_option, arguments_in, asked_by, asked_in, asked_of, asked_value, by_chance, by_order, by_workers, command_by, command_by_log, command_line, command_on, count_in, count_option, drive_in, excludes_by, excludes_in, explain_line, faults_in, flag, form_in, form_named, from_option, is_both, is_flagged, is_random, is_seed_alone, is_true, job_of, json_flag, lanes_from, lanes_line, lanes_within, limit_option, limited, log_choice, log_option, maybe_on_log, misplaces_by, misplaces_in, module_flag, on_either, on_file, on_log, on_run, option, order_in, order_named, order_option, outcomes_in, outcomes_line, pick_option, picked, place, program, races_line, repeated, run_by, run_in, run_line, runs_option, seed_in, seed_option, sets_flag, strays_by, strays_in, svg_flag, task_value, texts, to_option, way_value, with_log, with_outcome_log, with_sets, without_logs, workers_in, workers_named, workers_option};
+ghost use Rattle.xk_cli.specs.CommandLine.{FitsKind, HasNoGlobals, IsRefused, WithOrders, are_runs_misplaced, arg_option, arguments_in, asked_by, asked_in, asked_of, asked_value, by_chance, by_order, by_workers, command_by, command_by_log, command_line, command_on, count_in, count_option, crowds_by, crowds_in, drive_in, excludes_by, excludes_in, expect_option, explain_line, faults_in, flag, form_in, form_named, from_option, is_asked, is_both, is_flagged, is_list_misplaced, is_random, is_seed_alone, is_true, job_of, json_flag, lanes_from, lanes_line, lanes_within, limit_option, limited, log_choice, log_option, maybe_on_log, misplaces_by, misplaces_in, module_flag, on_either, on_file, on_log, on_run, option, order_in, order_named, order_option, outcomes_by, outcomes_in, outcomes_line, outcomes_of, pick_option, picked, place, program, races_line, repeated, run_by, run_in, run_line, runs_option, seed_in, seed_option, sets_flag, strays_by, strays_in, svg_flag, task_value, texts, to_option, way_value, with_expected, with_log, with_outcome_log, with_sets, without_logs, workers_in, workers_named, workers_option};
 
 use crate::job::{Command, Drive, Form, Job, MOST_WORKERS, Order, Workers};
 use crate::numbers::{count_named, numbers_named};
@@ -16,7 +16,7 @@ use std::alloc::{AllocError, Global};
 const VERSION: &str = "1.0.0";
 
 /// The names of the orders.
-static ORDERS: [&str; 4] = ["first", "last", "round", "random"];
+static ORDERS: [&str; 5] = ["first", "last", "round", "random", "ask"];
 
 /// The job that the words ask for; the first word is the program's name. Where they ask for help or aren't understood,
 /// the fault has `clap`'s text.
@@ -28,7 +28,8 @@ pub fn read_job<'a>(alloc: Global, words: &'a [&'a str]) -> Result<Job<'a>, Word
     ensures refused { IfErr result (λ fault. WithOrders (λ names. IsRefused
         (faults_in names (texts words.entry.now)) (job_of names (texts words.entry.now))
         (excludes_in names (texts words.entry.now)) (strays_in names (texts words.entry.now))
-        (misplaces_in names (texts words.entry.now)) fault)) }
+        (misplaces_in names (texts words.entry.now))
+        (crowds_in names (texts words.entry.now)) fault)) }
 {
     let command_line = line(alloc)?;
     match command_line.try_get_matches_from(words) {
@@ -185,11 +186,20 @@ fn outcomes_line<'a>(alloc: Global) -> Result<clap::Command<'a>, AllocError>
     ensures shape { IfOk result (λ c. app_of c ≡ outcomes_line) }
     ensures local { IfOk result HasNoGlobals }
 {
-    let command = with_sets(alloc)?;
+    let command = with_expected(alloc)?;
     command.arg(arg_option(alloc))
 }
 
 /// The command `outcomes` without `--arg`.
+fn with_expected<'a>(alloc: Global) -> Result<clap::Command<'a>, AllocError>
+    ensures shape { IfOk result (λ c. app_of c ≡ with_expected) }
+    ensures local { IfOk result HasNoGlobals }
+{
+    let command = with_sets(alloc)?;
+    command.arg(expect_option(alloc))
+}
+
+/// The command `outcomes` without `--expect` and `--arg`.
 fn with_sets<'a>(alloc: Global) -> Result<clap::Command<'a>, AllocError>
     ensures shape { IfOk result (λ c. app_of c ≡ with_sets) }
     ensures local { IfOk result HasNoGlobals }
@@ -374,6 +384,19 @@ fn pick_option<'a>(alloc: Global) -> Arg<'a>
     )
 }
 
+/// `--expect FILE2`.
+fn expect_option<'a>(alloc: Global) -> Arg<'a>
+    ensures rule { rule_of result ≡ expect_option }
+    ensures local { result.global ≡ false }
+{
+    option(
+        alloc,
+        "FILE2",
+        "expect",
+        "A list of outcomes as this command prints them: tells the first outcome that isn't in it",
+    )
+}
+
 /// `--from STEP`.
 fn from_option<'a>(alloc: Global) -> Arg<'a>
     ensures rule { rule_of result ≡ from_option }
@@ -547,7 +570,8 @@ fn asked<'a>(alloc: Global, matches: &ArgMatches<'a>) -> Result<Job<'a>, WordsFa
     ensures refused { IfErr result (IsRefused [] (asked_in (subcommand_rows_of matches.now))
         (excludes_by (subcommand_rows_of matches.now))
         (strays_by (subcommand_rows_of matches.now))
-        (misplaces_by (subcommand_rows_of matches.now))) }
+        (misplaces_by (subcommand_rows_of matches.now))
+        (crowds_by (subcommand_rows_of matches.now))) }
 {
     match job_in(alloc, matches)? {
         Some(job) => Ok(job),
@@ -600,6 +624,7 @@ fn job_of<'a>(
             form: form_in(given),
             file,
             arguments,
+            asks: is_asked(given),
         })),
         None => Ok(None),
     }
@@ -628,7 +653,7 @@ fn command_by<'a>(name: &str, given: &ArgMatches<'a>) -> Option<Command<'a>>
         }),
         "listing" => Some(Command::Listing),
         "run" => run_by(given),
-        "outcomes" => Some(outcomes_in(given)),
+        "outcomes" => outcomes_by(given),
         "races" => Some(Command::Races {
             log: given_in(given, "LOG"),
         }),
@@ -665,16 +690,41 @@ fn command_on<'a>(name: &str, log: &'a str, given: &ArgMatches<'a>) -> Option<Co
     }
 }
 
-/// The command `outcomes` with what was given to it.
+/// The command `outcomes` with what was given to it. None where a list was, and an outcome to pick or a log's path.
+fn outcomes_by<'a>(given: &ArgMatches<'a>) -> Option<Command<'a>>
+    ensures { option_map task_value result ≡ outcomes_by (rows_of (found_of given.now)) }
+{
+    if is_list_misplaced(given) {
+        return None;
+    }
+    Some(outcomes_in(given))
+}
+
+/// The command `outcomes` with what was given to it: outcomes are held against a list, or told.
 fn outcomes_in<'a>(given: &ArgMatches<'a>) -> Command<'a>
     ensures { task_value result ≡ outcomes_in (rows_of (found_of given.now)) }
 {
-    Command::Outcomes {
-        limit: count_in(given, "LIMIT"),
-        pick: count_in(given, "K"),
-        log: given_in(given, "PATH"),
-        sets: is_flagged(given, "sets"),
+    match given_in(given, "FILE2") {
+        Some(list) => Command::Expected {
+            list,
+            limit: count_in(given, "LIMIT"),
+            sets: is_flagged(given, "sets"),
+        },
+        None => Command::Outcomes {
+            limit: count_in(given, "LIMIT"),
+            pick: count_in(given, "K"),
+            log: given_in(given, "PATH"),
+            sets: is_flagged(given, "sets"),
+        },
     }
+}
+
+/// Whether a list was given, and an outcome to pick or a log's path.
+fn is_list_misplaced(given: &ArgMatches<'_>) -> bool
+    ensures { result ≡ is_list_misplaced (rows_of (found_of given.now)) }
+{
+    given_in(given, "FILE2").is_some()
+        && (given_in(given, "K").is_some() || given_in(given, "PATH").is_some())
 }
 
 /// The command `run` with what was given to it. None where both an order and workers were, or a seed or a number of runs that has no place there.
@@ -730,6 +780,16 @@ fn is_random(given: &ArgMatches<'_>) -> bool
 {
     match given_in(given, "ORDER") {
         Some(name) => name == "random",
+        None => false,
+    }
+}
+
+/// Whether the order was given that a person is asked for.
+fn is_asked(given: &ArgMatches<'_>) -> bool
+    ensures { result ≡ is_asked (rows_of (found_of given.now)) }
+{
+    match given_in(given, "ORDER") {
+        Some(name) => name == "ask",
         None => false,
     }
 }
@@ -832,7 +892,7 @@ fn order_in(given: &ArgMatches<'_>) -> Option<Order>
     order_named(name, seed_in(given))
 }
 
-/// The order of a name, where by chance from this seed.
+/// The order of a name, where by chance from this seed. None of one that is asked for.
 fn order_named(name: &str, seed: u64) -> Option<Order>
     ensures { result ≡ order_named name.now seed }
 {
@@ -845,12 +905,13 @@ fn order_named(name: &str, seed: u64) -> Option<Order>
     }
 }
 
-/// What is said where `clap` took the words and they name no job: they have both an order and workers, or a seed or a number of runs that has no
-/// place there.
+/// What is said where `clap` took the words and they name no job: they have both an order and workers, or a seed, a number of runs or a list that
+/// has no place there.
 fn no_job(alloc: Global, matches: &ArgMatches<'_>) -> WordsFault
     ensures { IsRefused [] None (excludes_by (subcommand_rows_of matches.now))
         (strays_by (subcommand_rows_of matches.now))
-        (misplaces_by (subcommand_rows_of matches.now)) result }
+        (misplaces_by (subcommand_rows_of matches.now))
+        (crowds_by (subcommand_rows_of matches.now)) result }
 {
     if excludes(matches) {
         return WordsFault::OrderAndWorkers;
@@ -860,6 +921,9 @@ fn no_job(alloc: Global, matches: &ArgMatches<'_>) -> WordsFault
     }
     if misplaces(matches) {
         return WordsFault::MisplacedRuns;
+    }
+    if crowds(matches) {
+        return WordsFault::MisplacedList;
     }
     not_a_job(alloc)
 }
@@ -894,9 +958,19 @@ fn misplaces(matches: &ArgMatches<'_>) -> bool
     }
 }
 
+/// Whether a list was given to the command, and an outcome to pick or a log's path.
+fn crowds(matches: &ArgMatches<'_>) -> bool
+    ensures { result ≡ crowds_by (subcommand_rows_of matches.now) }
+{
+    match matches.subcommand() {
+        Some((_, given)) => is_list_misplaced(given),
+        None => false,
+    }
+}
+
 /// What is said where `clap` took the words, they name no job, and that isn't for what excludes one another. It doesn't come to that.
 fn not_a_job(alloc: Global) -> WordsFault
-    ensures { IsRefused [] None false false false result }
+    ensures { IsRefused [] None false false false false result }
 {
     match String::from_str(alloc, "error: no command on a file was given\n") {
         Ok(text) => WordsFault::NotUnderstood(text),

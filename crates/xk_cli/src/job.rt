@@ -78,6 +78,15 @@ pub enum Command<'a> {
         /// `--sets`: outcomes that differ in the order of their numbers alone are one.
         sets: bool,
     },
+    /// `outcomes --expect`: say whether all that FILE can print is in a list.
+    Expected {
+        /// The list's path.
+        list: &'a str,
+        /// `--limit`, as for `outcomes`.
+        limit: Option<u64>,
+        /// `--sets`, as for `outcomes`.
+        sets: bool,
+    },
 }
 
 /// What stands in FILE.
@@ -152,4 +161,6 @@ pub struct Job<'a> {
     pub file: &'a str,
     /// `--arg`: the numbers that main is given, in order. `check`, `compile`, `explain` and `listing` are given none.
     pub arguments: Vec<i64>,
+    /// `--order ask`: a person is asked for the order of the run.
+    pub asks: bool,
 }

@@ -24,6 +24,9 @@ pub enum WordsFault {
     /// `--runs` stands without `--order random`, or beside `--log`.
     #[error("x10clock: --runs goes with --order random, and not with --log\n")]
     MisplacedRuns,
+    /// `--expect` stands beside `--log` or `--pick`.
+    #[error("x10clock: --expect goes without --log and --pick\n")]
+    MisplacedList,
     /// Memory ran out.
     #[error("out of memory")]
     OutOfMemory,
@@ -41,7 +44,8 @@ impl WordsFault {
             WordsFault::NotUnderstood(_)
             | WordsFault::OrderAndWorkers
             | WordsFault::SeedAlone
-            | WordsFault::MisplacedRuns => status::WORDS,
+            | WordsFault::MisplacedRuns
+            | WordsFault::MisplacedList => status::WORDS,
             WordsFault::OutOfMemory => status::MEMORY,
         }
     }

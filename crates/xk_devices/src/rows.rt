@@ -3,7 +3,7 @@
 use std::alloc::Global;
 use xk_cli::{Command, Drive, Form, Job, Workers};
 
-/// A command on a program and perhaps a log, and what is answered where no device fails.
+/// A command on a program and perhaps a log or a list, and what is answered where no device fails.
 #[derive(Clone, Copy)]
 pub struct Row {
     pub name: &'static str,
@@ -151,6 +151,21 @@ const SOME: Command<'static> = Command::Outcomes {
     sets: false,
 };
 
+/// All outcomes are held against a list.
+const HELD: Command<'static> = Command::Expected {
+    list: "list",
+    limit: None,
+    sets: false,
+};
+
+/// What is said where each is in it.
+const ALL_EXPECTED: &str = "outcomes 2 complete\n";
+
+/// What is said where none is.
+const UNEXPECTED: &str = "outcome 1 prints 1 2\n";
+
+const STRAY: &str = "x10clock: L6 NoOutcome line 1\n";
+
 /// The lanes of the whole run.
 const DRAWN: Command<'static> = Command::Lanes {
     log: "log",
@@ -246,8 +261,8 @@ fn in_part(name: &'static str, command: Command<'static>, out: &'static str) -> 
     }
 }
 
-/// Each command, and texts and a log that are refused.
-pub fn rows() -> [Row; 21] {
+/// Each command, and texts, a log and a list that are refused.
+pub fn rows() -> [Row; 24] {
     let by_worker = Command::Run {
         drive: Workers::new(1).map(Drive::Workers),
         log: Some("log"),
@@ -261,6 +276,9 @@ pub fn rows() -> [Row; 21] {
         done("run by a worker", by_worker, "", PRINTED, LOG),
         done("outcomes", ALL, "", OUTCOMES, OUTCOME_LOG),
         in_part("some outcomes", SOME, SOME_OUTCOMES),
+        done("outcomes in a list", HELD, OUTCOMES, ALL_EXPECTED, ""),
+        in_part("outcomes in no list", HELD, UNEXPECTED),
+        refused("no list of outcomes", HELD, IN_STEP, BEGINNING, 3, STRAY),
         done("replay", REPLAY, LOG, PRINTED, ""),
         done("chart", CHART, LOG, CHARTED, ""),
         done("events", Command::Events { log: "log" }, LOG, EVENTS, ""),

@@ -64,6 +64,10 @@ grammar_line n = line (codes "L1 Grammar line " ++ decimal n)
 abbrev pub not_enabled_line : ℕ → List ℕ
 not_enabled_line n = line (codes "L4 NotEnabled entry " ++ decimal n)
 
+-- a fault of a list of outcomes: `L6 NoOutcome line 3`
+abbrev pub no_outcome_line : ℕ → List ℕ
+no_outcome_line n = line (codes "L6 NoOutcome line " ++ decimal n)
+
 -- ---- standard output
 
 -- a module that is accepted: `accepted steps 8 activities 1 clocks 1`

@@ -2,7 +2,7 @@
 
 ghost use Rattle.std.specs.Prelude.{◌≡◌, IfOk, string_bytes};
 ghost use Rattle.xk_module.specs.Faults.{fault_label};
-ghost use Rattle.xk_diagnostics.specs.Lines.{accepted_line, arguments_line, bound_text, ended_line, front_text, grammar_line, kind_text, label_line, line, not_enabled_line, place_text, refusal_line, rule_text, walk_text};
+ghost use Rattle.xk_diagnostics.specs.Lines.{accepted_line, arguments_line, bound_text, ended_line, front_text, grammar_line, kind_text, label_line, line, no_outcome_line, not_enabled_line, place_text, refusal_line, rule_text, walk_text};
 
 use std::alloc::{AllocError, Global};
 use xk_bounds::{BoundFault, KindFault, Refusal};
@@ -72,6 +72,16 @@ pub fn grammar_line(alloc: Global, number: u64) -> Result<String, AllocError>
     line(
         alloc,
         format!(in alloc; "L1 Grammar line {number}")?.as_str(),
+    )
+}
+
+/// `L6 NoOutcome line 3`. Err where memory was refused.
+pub fn no_outcome_line(alloc: Global, number: u64) -> Result<String, AllocError>
+    ensures { IfOk result (λ text. string_bytes text ≡ no_outcome_line number) }
+{
+    line(
+        alloc,
+        format!(in alloc; "L6 NoOutcome line {number}")?.as_str(),
     )
 }
 

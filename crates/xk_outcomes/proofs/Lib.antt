@@ -3,3 +3,4 @@ mod SearchLemmas
 mod ExplorationLemmas
 mod RisingLemmas
 mod ListingLemmas
+mod ExpectedLemmas

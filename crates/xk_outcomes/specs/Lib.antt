@@ -5,3 +5,4 @@ pub mod Search
 pub mod Rising
 pub mod Listing
 pub mod Text
+pub mod Expected

@@ -1,10 +1,10 @@
 -- What the runs of a module print, where the order of the numbers doesn't count.
-use Rattle.std.specs.Prelude.{◌≡◌, ℕ, ℤ, ◌≤ℤ◌, List, [], ◌∷◌, Some, slice_get, count_by}
+use Rattle.std.specs.Prelude.{◌≡◌, ℕ, ℤ, ◌≤ℤ◌, Bool, true, false, List, [], ◌∷◌, Some, slice_get, count_by}
 use Rattle.std.specs.Ordering.{int_eq}
 use Rattle.xk_types.specs.Code.{ModuleValue}
 use Rattle.xk_types.specs.Logs.{schedule_of}
 use Rattle.xk_outcomes.specs.declared.listing.Outcome.{Outcome}
-use Rattle.xk_outcomes.specs.Outcomes.{IsOutcome}
+use Rattle.xk_outcomes.specs.Outcomes.{AreAll, AreDistinct, AreShown, IsOutcome}
 
 -- the same numbers, each as often, in whatever order
 abbrev pub HaveSameNumbers : List ℤ → List ℤ → Type 0
@@ -33,3 +33,20 @@ AreSetsDistinct list = (i j : ℕ) (x y : Outcome) → slice_get list i ≡ Some
 abbrev pub AreSetsAll : ModuleValue → List ℤ → List Outcome → Type 0
 AreSetsAll m args list = (schedule : List ℕ) (numbers : List ℤ) → IsOutcome m args schedule numbers
     → (k : ℕ) × (x : Outcome) × (slice_get list k ≡ Some x) × HaveSameNumbers numbers x.numbers.items
+
+-- ---- as lists of numbers, or without their order
+
+-- the numbers that are told are printed in a run to its end, which has the log beside them: in this order, or in some order
+abbrev pub AreShownAs : Bool → ModuleValue → List ℤ → List Outcome → Type 0
+AreShownAs false = AreShown
+AreShownAs true = AreSetsShown
+
+-- none are told twice, in this order, or in any order
+abbrev pub AreDistinctAs : Bool → List Outcome → Type 0
+AreDistinctAs false = AreDistinct
+AreDistinctAs true = AreSetsDistinct
+
+-- every run to its end prints some that are told, in this order, or in some order
+abbrev pub AreAllAs : Bool → ModuleValue → List ℤ → List Outcome → Type 0
+AreAllAs false = AreAll
+AreAllAs true = AreSetsAll

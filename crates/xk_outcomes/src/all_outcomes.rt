@@ -1,10 +1,10 @@
 //! All that a program can print.
 
-ghost use Rattle.std.specs.Prelude.{◌≡◌, ◌≤◌, ◌⊎◌, true, false, length, IfOk};
+ghost use Rattle.std.specs.Prelude.{◌≡◌, ◌≤◌, ◌⊎◌, true, false, length, IfOk, IfSome};
 ghost use Rattle.xk_types.specs.World.{AreArguments};
 ghost use Rattle.xk_outcomes.specs.Listing.{AreAllIn, AreShownIn};
 ghost use Rattle.xk_outcomes.specs.Outcomes.{AreAll, AreDistinct, AreShown, HasApart};
-ghost use Rattle.xk_outcomes.specs.Sets.{AreSetsAll, AreSetsDistinct, AreSetsShown};
+ghost use Rattle.xk_outcomes.specs.Sets.{AreAllAs, AreDistinctAs, AreSetsAll, AreSetsDistinct, AreSetsShown, AreShownAs};
 
 use crate::listing::{Outcomes, list_outcomes};
 use crate::order::Order;
@@ -20,6 +20,29 @@ pub struct Limit {
     pub entries: usize,
     /// As many lists of numbers were found.
     pub outcomes: usize,
+}
+
+/// How many worlds are kept at most, and how many outcomes are told, where nothing is said.
+const USUAL_LIMIT: u64 = 40_000;
+
+/// How many bytes these may take, and how many one takes for each activity and beside them, as far as can be said before.
+const USUAL_BYTES: u64 = 400_000_000;
+
+const BYTES_EACH: u64 = 1_000;
+
+impl Limit {
+    /// The limit that was given, for both; or else the usual one of a module with so many activities at most.
+    pub fn of(given: Option<u64>, activities: u32) -> Limit
+        ensures { IfSome given (λ n. (result.entries ≡ n) × (result.outcomes ≡ n)) }
+    {
+        let bytes = BYTES_EACH * (1 + u64::from(activities));
+        let usual = (USUAL_BYTES / bytes).min(USUAL_LIMIT);
+        let most = given.unwrap_or(usual) as usize;
+        Limit {
+            entries: most,
+            outcomes: most,
+        }
+    }
 }
 
 /// Lists what the runs of a module print by which all have ended, in whichever order its activities take their steps: each list of numbers
@@ -65,6 +88,27 @@ pub fn outcome_sets(
 {
     let found = told_in(alloc, Order::Rising, verified, arguments, limit)?;
     Ok(found)
+}
+
+/// The outcomes as lists of numbers, or without their order.
+pub fn outcomes_as(
+    alloc: Global,
+    sets: bool,
+    verified: &Verified,
+    arguments: &[i64],
+    limit: Limit,
+) -> Result<Outcomes, AllocError>
+    requires { AreArguments verified.now arguments.now }
+    ensures shown { IfOk result
+        (λ r. AreShownAs sets verified.now arguments.now r.list.items) }
+    ensures distinct { IfOk result (λ r. AreDistinctAs sets r.list.items) }
+    ensures all { IfOk result
+        (λ r. r.complete ≡ true → AreAllAs sets verified.now arguments.now r.list.items) }
+{
+    if sets {
+        return outcome_sets(alloc, verified, arguments, limit);
+    }
+    outcomes(alloc, verified, arguments, limit)
 }
 
 /// What is printed, told in this order: lists that are the same in it are one.

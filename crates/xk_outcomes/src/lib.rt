@@ -4,11 +4,15 @@
 mod all_outcomes;
 mod digest;
 mod found;
+mod holding;
 mod listing;
 mod order;
+mod reading;
 mod search;
 mod text;
 
-pub use all_outcomes::{Limit, outcome_sets, outcomes};
+pub use all_outcomes::{Limit, outcome_sets, outcomes, outcomes_as};
+pub use holding::{Held, expected_outcomes};
 pub use listing::{Outcome, Outcomes};
-pub use text::outcomes_text;
+pub use reading::ListFault;
+pub use text::{is_whole, outcomes_text};

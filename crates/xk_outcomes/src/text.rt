@@ -1,6 +1,6 @@
 //! How outcomes are told.
 
-ghost use Rattle.std.specs.Prelude.{◌≡◌, ◌++◌, codes, decimal, IfOk, OnOk, string_bytes};
+ghost use Rattle.std.specs.Prelude.{◌≡◌, ◌++◌, ◌&&◌, not, codes, decimal, IfOk, OnOk, string_bytes};
 ghost use Rattle.xk_outcomes.specs.Text.{completeness, number_text, numbers_text, outcome_line, outcomes_text};
 
 use crate::listing::Outcome;
@@ -21,8 +21,19 @@ pub fn outcomes_text(alloc: Global, list: &[Outcome], complete: bool) -> Result<
     Ok(text.into_bytes())
 }
 
+/// Whether an answer is whole: all is told, and the log is there if it is to be kept.
+pub fn is_whole(complete: bool, keeps_log: bool, is_kept: bool) -> bool
+    ensures { result ≡ (complete && not (keeps_log && not is_kept)) }
+{
+    complete && !(keeps_log && !is_kept)
+}
+
 /// The line of the outcome of this number.
-fn outcome_line(alloc: Global, number: usize, outcome: &Outcome) -> Result<String, AllocError>
+pub(crate) fn outcome_line(
+    alloc: Global,
+    number: usize,
+    outcome: &Outcome,
+) -> Result<String, AllocError>
     ensures { IfOk result
         (λ text. string_bytes text ≡ outcome_line number outcome.now.numbers.items) }
 {
@@ -31,7 +42,7 @@ fn outcome_line(alloc: Global, number: usize, outcome: &Outcome) -> Result<Strin
 }
 
 /// Numbers, each after a blank.
-fn numbers_text(alloc: Global, numbers: &[i64]) -> Result<String, AllocError>
+pub(crate) fn numbers_text(alloc: Global, numbers: &[i64]) -> Result<String, AllocError>
     ensures { IfOk result (λ text. string_bytes text ≡ numbers_text numbers.now) }
 {
     let mut text = String::new(alloc);
@@ -50,7 +61,7 @@ fn number_text(alloc: Global, number: i64) -> Result<String, AllocError>
 }
 
 /// The last line.
-fn last_line(alloc: Global, count: usize, complete: bool) -> Result<String, AllocError>
+pub(crate) fn last_line(alloc: Global, count: usize, complete: bool) -> Result<String, AllocError>
     ensures { IfOk result (λ text. string_bytes text
         ≡ codes "outcomes " ++ (decimal count ++ completeness complete)) }
 {

@@ -2,6 +2,8 @@
 use Rattle.std.proofs.Common.{◌≡◌, ◌≢◌, ◌<◌, ◌≤◌, ◌∙◌, ℕ, ℤ, Bool, true, false, List, [], ◌++◌, length, codes, None, Some, inl, inr, refl, sym, ap, subst, arith}
 use Rattle.std.specs.Prelude.{◌⊎◌, ⊤}
 use Rattle.std.proofs.lemmas.Bool.{false≢true}
+use Rattle.std.proofs.lemmas.Option.{none-some, same_Some}
+use Rattle.xk_outcomes.specs.Expected.{stray_line}
 use Rattle.serde_json.specs.Written.{compact_text}
 use Rattle.xk_types.specs.declared.world.Entry.{Entry}
 use Rattle.xk_types.specs.Acceptance.{IsAccepted}
@@ -27,13 +29,13 @@ use Rattle.xk_serve.specs.declared.job_result.Done.{Done}
 use Rattle.xk_serve.specs.declared.job_result.Done.TheVariants as done
 use Rattle.xk_serve.specs.declared.fault.Fault.{Fault}
 use Rattle.xk_serve.specs.declared.fault.Fault.TheVariants as fault
-use Rattle.xk_serve.specs.Answer.{Answers, Check, ComesTo, Compile, Doing, Draw, Explain, IsLogText, IsMisfit, IsNoRun, IsSaidBy, IsSaidOf, IsTelling, IsText, Listing, Outcomes, Races, Replay, Reply, Run, Tally, Task, Where, asks_verifier, done_reply, done_status, fault_reply, reads_log, runs, wants_whole, whole_status}
+use Rattle.xk_serve.specs.Answer.{Answers, Check, ComesTo, Compile, Doing, Draw, Expected, Explain, IsLogText, IsMisfit, IsNoRun, IsSaidBy, IsSaidOf, IsTelling, IsText, Listing, Outcomes, Races, Replay, Reply, Run, Tally, Task, Where, asks_verifier, done_reply, done_status, fault_reply, list_in, reads_list, reads_log, runs, wants_whole, whole_status}
 use Rattle.xk_serve.specs.Explanation.{Tale}
 use Rattle.xk_serve.specs.declared.picture.Picture.{Picture}
 use Rattle.xk_output.specs.Lines.{number_lines}
 use Rattle.xk_serve.specs.Lines.{done_log, done_text, fault_line, status_of}
 use Rattle.xk_diagnostics.specs.Lines.{accepted_line, ended_line, refusal_status}
-use Rattle.xk_diagnostics.specs.Lines.{arguments_line}
+use Rattle.xk_diagnostics.specs.Lines.{arguments_line, no_outcome_line}
 use Rattle.xk_serve.specs.OneAnswer.{ComesToOne, HasOneStatus, IsDetermined, IsLeftOpen, IsSameLine, IsSameReply, TellFaults}
 use Rattle.xk_serve.specs.OrderedRun.{IsLoggedRun, IsOrderedRun, IsReplay}
 use Rattle.xk_serve.specs.Programs.{Gives, IsCompiledTo, IsNoModule, IsNoSource, IsUnread, longest_module}
@@ -63,6 +65,7 @@ Prints Where m args logged out log = ⊥
 Prints Races m args logged out log = ⊥
 Prints (Tally seed runs) m args logged out log = ⊥
 Prints (Outcomes sets limit pick kept) m args logged out log = IsAccepted m × AreArguments m args
+Prints (Expected sets limit) m args logged out log = IsAccepted m × AreArguments m args × (stray_line (list_in logged) ≡ None)
 
 pub prints : (what : Doing) (m : ModuleValue) (args : List ℤ) (logged : List ℕ) (d : Done) → ComesTo what m args logged d → Prints what m args logged (done_text d) (done_log d)
 prints Compile m args logged (done.Compiled t) h = (ap (λ bytes. bytes ++ codes "\n") h, refl)
@@ -88,6 +91,8 @@ prints Races m args logged d h = absurd h
 prints (Tally seed runs) m args logged d h = absurd h
 prints (Outcomes sets limit pick kept) m args logged (done.Outcomes t whole log) h = (h.0, h.1.taken)
 prints (Outcomes sets limit pick kept) m args logged _ h = absurd h.1
+prints (Expected sets limit) m args logged (done.Outcomes t whole None) h = (h.0, h.1.0, h.1.1.may_stand)
+prints (Expected sets limit) m args logged _ h = absurd h.1
 
 -- what it comes to has the status of what is done, but where outcomes are looked for
 pub done_zero : (what : Doing) (m : ModuleValue) (args : List ℤ) (logged : List ℕ) (d : Done) → HasOneStatus what → ComesTo what m args logged d → done_status d ≡ 0
@@ -105,6 +110,7 @@ done_zero Where m args logged (done.Outcomes t whole log) one h = absurd h
 done_zero Races m args logged (done.Outcomes t whole log) one h = absurd h
 done_zero (Tally seed runs) m args logged (done.Outcomes t whole log) one h = absurd h
 done_zero (Outcomes sets limit pick kept) m args logged (done.Outcomes t whole log) one h = absurd one
+done_zero (Expected sets limit) m args logged (done.Outcomes t whole log) one h = absurd one
 done_zero what m args logged (done.Compiled t) one h = refl
 done_zero what m args logged (done.Accepted steps activities clocks) one h = refl
 done_zero Compile m args logged (done.Told t whole) one h = absurd h
@@ -121,6 +127,7 @@ done_zero Where m args logged (done.Told t whole) one h = absurd h
 done_zero Races m args logged (done.Told t whole) one h = absurd h
 done_zero (Tally seed runs) m args logged (done.Told t whole) one h = absurd h
 done_zero (Outcomes sets limit pick kept) m args logged (done.Told t whole) one h = absurd h.1
+done_zero (Expected sets limit) m args logged (done.Told t whole) one h = absurd h.1
 done_zero what m args logged (done.Ended numbers steps log) one h = refl
 
 -- what asks the verifier prints nothing of another module than one that is accepted
@@ -138,6 +145,7 @@ prints_accepted Where m args logged out log asks h = absurd h
 prints_accepted Races m args logged out log asks h = absurd h
 prints_accepted (Tally seed runs) m args logged out log asks h = absurd h
 prints_accepted (Outcomes sets limit pick kept) m args logged out log asks h = h.0
+prints_accepted (Expected sets limit) m args logged out log asks h = h.0
 
 -- main of a run takes as many numbers as it is given
 prints_taken : (what : Doing) (m : ModuleValue) (args : List ℤ) (logged out log : List ℕ) → runs what ≡ true → Prints what m args logged out log → AreArguments m args
@@ -154,6 +162,7 @@ prints_taken Where m args logged out log run h = absurd h
 prints_taken Races m args logged out log run h = absurd h
 prints_taken (Tally seed runs) m args logged out log run h = absurd h
 prints_taken (Outcomes sets limit pick kept) m args logged out log run h = h.1
+prints_taken (Expected sets limit) m args logged out log run h = h.1
 
 replay_whole : (m : ModuleValue) (args numbers : List ℤ) (steps : ℕ) (es : List Entry) → IsReplay m args es numbers steps → IsWhole m args es
 replay_whole m args numbers steps es r = record { last = r.last; leads = subst (λ l. Leads m l r.last) r.follows r.leads; given = r.given; over = r.over }
@@ -172,6 +181,7 @@ prints_whole Where m args logged out log reads h = absurd h
 prints_whole Races m args logged out log reads h = absurd h
 prints_whole (Tally seed runs) m args logged out log reads h = absurd h
 prints_whole (Outcomes sets limit pick kept) m args logged out log reads h = absurd (false≢true reads)
+prints_whole (Expected sets limit) m args logged out log reads h = absurd (false≢true reads)
 
 -- the lines of a run
 same_lines : (numbers others : List ℤ) (n k : ℕ) → numbers ≡ others → n ≡ k → number_lines numbers ++ ended_line n ≡ number_lines others ++ ended_line k
@@ -200,6 +210,7 @@ prints_once Where m args logged out log other kept none p q = absurd p
 prints_once Races m args logged out log other kept none p q = absurd p
 prints_once (Tally seed runs) m args logged out log other kept none p q = absurd p
 prints_once (Outcomes sets limit pick written) m args logged out log other kept none p q = absurd none
+prints_once (Expected sets limit) m args logged out log other kept none p q = absurd none
 
 pub done_once : (what : Doing) (m : ModuleValue) (args : List ℤ) (logged : List ℕ) (d e : Done) → ComesToOne what → ComesTo what m args logged d
     → ComesTo what m args logged e → (done_text d ≡ done_text e) × (done_log d ≡ done_log e)
@@ -225,6 +236,7 @@ said_determined Where kind file bytes said f h one = h
 said_determined Races kind file bytes said f h one = h
 said_determined (Tally seed runs) kind file bytes said f h one = h
 said_determined (Outcomes sets limit pick kept) kind file bytes said f h one = h
+said_determined (Expected sets limit) kind file bytes said f h one = h
 
 -- the reply of a task's fault
 abbrev IsReplyOf : Task → List ℕ → Fault → Reply → Type 0
@@ -252,6 +264,7 @@ text_stands : (m : ModuleValue) (args : List ℤ) (logged : List ℕ) (es : List
     → status_of f ≢ 4 → ⊥
 text_stands m args logged es (fault.NotEnabled i) text told_by may not4 = false≢true may
 text_stands m args logged es fault.NotEnded text told_by may not4 = false≢true may
+text_stands m args logged es (fault.NoOutcome line) text told_by may not4 = told_by
 text_stands m args logged es (fault.Grammar line) text told_by may not4 = text_not_wrong logged line es text told_by
 text_stands m args logged es fault.Truncated text told_by may not4 = text_not_cut logged es text told_by
 text_stands m args logged es fault.OutOfMemory text told_by may not4 = not4 refl
@@ -276,6 +289,7 @@ telling_stands Compile kind file bytes m args logged told f reads h told_by may 
 telling_stands (Run way kept) kind file bytes m args logged told f reads h told_by may not4 = h
 telling_stands Replay kind file bytes m args logged told f reads h told_by may not4 = h
 telling_stands (Outcomes sets limit pick kept) kind file bytes m args logged told f reads h told_by may not4 = h
+telling_stands (Expected sets limit) kind file bytes m args logged told f reads h told_by may not4 = h
 
 -- main of what is run takes as many numbers as it is given
 telling_taken : (what : Doing) (kind : Form) (file bytes : List ℕ) (m : ModuleValue) (args : List ℤ) (logged : List ℕ) (told : Tale) → runs what ≡ true
@@ -291,6 +305,7 @@ telling_taken Compile kind file bytes m args logged told run h = absurd h
 telling_taken (Run way kept) kind file bytes m args logged told run h = absurd h
 telling_taken Replay kind file bytes m args logged told run h = absurd h
 telling_taken (Outcomes sets limit pick kept) kind file bytes m args logged told run h = absurd h
+telling_taken (Expected sets limit) kind file bytes m args logged told run h = absurd h
 
 -- what is told isn't printed
 telling_unprinted : (what : Doing) (kind : Form) (file bytes : List ℕ) (m : ModuleValue) (args : List ℤ) (logged : List ℕ) (told : Tale) (out log : List ℕ)
@@ -306,6 +321,7 @@ telling_unprinted Compile kind file bytes m args logged told out log h p = h
 telling_unprinted (Run way kept) kind file bytes m args logged told out log h p = h
 telling_unprinted Replay kind file bytes m args logged told out log h p = h
 telling_unprinted (Outcomes sets limit pick kept) kind file bytes m args logged told out log h p = h
+telling_unprinted (Expected sets limit) kind file bytes m args logged told out log h p = h
 
 telling_accepted : (what : Doing) (kind : Form) (file bytes : List ℕ) (m : ModuleValue) (args : List ℤ) (logged : List ℕ) (told : Tale) → asks_verifier what ≡ true
     → IsTelling what kind file bytes m args logged told → IsAccepted m
@@ -320,6 +336,7 @@ telling_accepted Compile kind file bytes m args logged told asks h = absurd h
 telling_accepted (Run way kept) kind file bytes m args logged told asks h = absurd h
 telling_accepted Replay kind file bytes m args logged told asks h = absurd h
 telling_accepted (Outcomes sets limit pick kept) kind file bytes m args logged told asks h = absurd h
+telling_accepted (Expected sets limit) kind file bytes m args logged told asks h = absurd h
 
 -- it goes to standard output, and nothing to the log, and the status says whether it is whole
 text_told : (P : Tale → Type 0) (d : Done) → IsText P d → (whole : Bool) × P (done_text d, whole) × (done_status d ≡ whole_status whole) × (done_log d ≡ [])
@@ -339,14 +356,54 @@ told_once t bytes logged m d e given p q =
     let same = telling_once t.doing t.form t.file bytes m t.arguments logged (done_text d, a.0) (done_text e, b.0) given a.1 b.1 in
     (ap (λ (tale : Tale). tale.0) same, a.3 ∙ sym b.3)
 
+-- ---- lists
+
+-- what reads a list holds outcomes against it
+lists_alone : (what : Doing) → reads_list what ≡ true → (sets : Bool) × (limit : ℕ) × (what ≡ Expected sets limit)
+lists_alone (Expected sets limit) lists = (sets, limit, refl)
+lists_alone (Outcomes sets limit pick kept) lists = absurd (false≢true lists)
+lists_alone (Explain json) lists = absurd (false≢true lists)
+lists_alone Check lists = absurd (false≢true lists)
+lists_alone Compile lists = absurd (false≢true lists)
+lists_alone Listing lists = absurd (false≢true lists)
+lists_alone (Run way kept) lists = absurd (false≢true lists)
+lists_alone Replay lists = absurd (false≢true lists)
+lists_alone (Draw picture) lists = absurd (false≢true lists)
+lists_alone Where lists = absurd (false≢true lists)
+lists_alone Races lists = absurd (false≢true lists)
+lists_alone (Tally seed runs) lists = absurd (false≢true lists)
+
+-- and reads no log
+list_or_log : (what : Doing) → reads_list what ≡ true → reads_log what ≡ true → ⊥
+list_or_log what lists reads = let e = lists_alone what lists in false≢true (ap reads_log (sym e.2) ∙ reads)
+
+-- where outcomes are held against a list, each of its lines may stand there
+prints_listed : (what : Doing) (m : ModuleValue) (args : List ℤ) (logged out log : List ℕ) (line : ℕ) → reads_list what ≡ true → Prints what m args logged out log
+    → stray_line (list_in logged) ≡ Some line → ⊥
+prints_listed what m args logged out log line lists p stray =
+    let e = lists_alone what lists in
+    let held : Prints (Expected e.0 e.1) m args logged out log = subst (λ x. Prints x m args logged out log) e.2 p in
+    none-some line (sym held.2 ∙ stray)
+
+-- of what reads a list nothing is told
+telling_unlisted : (what : Doing) (kind : Form) (file bytes : List ℕ) (m : ModuleValue) (args : List ℤ) (logged : List ℕ) (told : Tale) → reads_list what ≡ true
+    → IsTelling what kind file bytes m args logged told → ⊥
+telling_unlisted what kind file bytes m args logged told lists h =
+    let e = lists_alone what lists in
+    let none : IsTelling (Expected e.0 e.1) kind file bytes m args logged told = subst (λ x. IsTelling x kind file bytes m args logged told) e.2 h in
+    none
+
 -- ---- what is said of a module
 
--- The reply is that of a refusal, of arguments that aren't as many as main takes, of a log of no run, of what the job comes to, or of what it tells.
+-- The reply is that of a refusal, of arguments that aren't as many as main takes, of a log of no run, of a line that may not stand in a list, of what the
+-- job comes to, or of what it tells.
 data Said (t : Task) (bytes : List ℕ) (m : ModuleValue) (logged : List ℕ) (r : Reply) : Type 0 where
   Refusing : (f : Refusal) → asks_verifier t.doing ≡ true → Refuses m f → refusal_status f ≢ 4 → IsFaultReply t.doing (fault.Refused f) r → Said t bytes m logged r
   Misfit : (wants has : ℕ) → runs t.doing ≡ true → IsAccepted m → IsMisfit m t.arguments wants has → IsFaultReply t.doing (fault.Arguments wants has) r → Said t bytes m logged r
   NoRun : (f : Fault) → reads_log t.doing ≡ true → IsAccepted m → AreArguments m t.arguments → IsNoRun m t.arguments logged f × MayStand t.doing f → status_of f ≢ 4
       → IsFaultReply t.doing f r → Said t bytes m logged r
+  Astray : (line : ℕ) → reads_list t.doing ≡ true → IsAccepted m → AreArguments m t.arguments → stray_line (list_in logged) ≡ Some line
+      → IsFaultReply t.doing (fault.NoOutcome line) r → Said t bytes m logged r
   Does : (HasOneStatus t.doing → r.status ≡ 0) → r.err ≡ [] → Prints t.doing m t.arguments logged r.out r.log → Said t bytes m logged r
   Telling : (whole : Bool) → r.status ≡ whole_status whole → r.err ≡ [] → IsTelling t.doing t.form t.file bytes m t.arguments logged (r.out, whole) → r.log ≡ []
       → Said t bytes m logged r
@@ -380,6 +437,7 @@ determined Where one = tt
 determined Races one = tt
 determined (Tally seed runs) one = tt
 determined (Outcomes sets limit pick kept) one = absurd one
+determined (Expected sets limit) one = absurd one
 
 module _ (t : Task) (bytes : List ℕ) (m : ModuleValue) (logged : List ℕ) (r s : Reply) (given : Gives t.form bytes m) where
   same_said : Said t bytes m logged r → Said t bytes m logged s → IsSameReply t.doing r s
@@ -387,12 +445,14 @@ module _ (t : Task) (bytes : List ℕ) (m : ModuleValue) (logged : List ℕ) (r 
       same_faults t.doing r s (fault.Refused f) (fault.Refused g) e d (refused_status f n ∙ sym (refused_status g k)) (refusal_once m f g p q n k)
   same_said (Refusing f asks p n e) (Misfit wants has run ok q d) = absurd (not_accepted m f ok p n)
   same_said (Refusing f asks p n e) (NoRun g reads ok taken q k d) = absurd (not_accepted m f ok p n)
+  same_said (Refusing f asks p n e) (Astray line lists ok taken q d) = absurd (not_accepted m f ok p n)
   same_said (Refusing f asks p n e) (Does zero quiet q) = absurd (not_accepted m f (prints_accepted t.doing m t.arguments logged s.out s.log asks q) p n)
   same_said (Refusing f asks p n e) (Telling whole zero quiet q none) = absurd (not_accepted m f (telling_accepted t.doing t.form t.file bytes m t.arguments logged (s.out, whole) asks q) p n)
   same_said (Misfit wants has run ok p e) (Refusing g again q k d) = absurd (not_accepted m g ok q k)
   same_said (Misfit wants has run ok p e) (Misfit other given again fine q d) =
       same_faults t.doing r s (fault.Arguments wants has) (fault.Arguments other given) e d refl (inl (same_misfits m t.arguments wants has other given p q))
   same_said (Misfit wants has run ok p e) (NoRun g reads fine taken q k d) = absurd (p.misfit taken)
+  same_said (Misfit wants has run ok p e) (Astray line lists fine taken q d) = absurd (p.misfit taken)
   same_said (Misfit wants has run ok p e) (Does zero quiet q) = absurd (p.misfit (prints_taken t.doing m t.arguments logged s.out s.log run q))
   same_said (Misfit wants has run ok p e) (Telling whole zero quiet q none) = absurd (p.misfit (telling_taken t.doing t.form t.file bytes m t.arguments logged (s.out, whole) run q))
   same_said (NoRun f reads ok taken p n e) (Refusing g again q k d) = absurd (not_accepted m g ok q k)
@@ -400,6 +460,7 @@ module _ (t : Task) (bytes : List ℕ) (m : ModuleValue) (logged : List ℕ) (r 
   same_said (NoRun f reads ok taken p n e) (NoRun g again fine fits q k d) =
       let same = no_run_once m t.arguments logged f g p.0 q.0 n k in
       same_faults t.doing r s f g e d (ap status_of same) (inl (ap fault_line same))
+  same_said (NoRun f reads ok taken p n e) (Astray line lists fine fits q d) = absurd (list_or_log t.doing lists reads)
   same_said (NoRun f reads ok taken p n e) (Does zero quiet q) =
       let whole = prints_whole t.doing m t.arguments logged s.out s.log reads q in absurd (whole_not_refused m t.arguments logged f whole.0 p.0 n whole.1 whole.2)
   same_said (NoRun f reads ok taken p n e) (Telling whole zero quiet q none) =
@@ -408,6 +469,15 @@ module _ (t : Task) (bytes : List ℕ) (m : ModuleValue) (logged : List ℕ) (r 
   same_said (Does zero quiet p) (Misfit wants has run ok q d) = absurd (q.misfit (prints_taken t.doing m t.arguments logged r.out r.log run p))
   same_said (Does zero quiet p) (NoRun g reads ok taken q k d) =
       let whole = prints_whole t.doing m t.arguments logged r.out r.log reads p in absurd (whole_not_refused m t.arguments logged g whole.0 q.0 k whole.1 whole.2)
+  same_said (Astray line lists ok taken p e) (Refusing g again q k d) = absurd (not_accepted m g ok q k)
+  same_said (Astray line lists ok taken p e) (Misfit wants has run fine q d) = absurd (q.misfit taken)
+  same_said (Astray line lists ok taken p e) (NoRun g reads fine fits q k d) = absurd (list_or_log t.doing lists reads)
+  same_said (Astray line lists ok taken p e) (Astray other again fine fits q d) =
+      let same : line ≡ other = same_Some line other (sym p ∙ q) in
+      same_faults t.doing r s (fault.NoOutcome line) (fault.NoOutcome other) e d refl (inl (ap no_outcome_line same))
+  same_said (Astray line lists ok taken p e) (Does zero quiet q) = absurd (prints_listed t.doing m t.arguments logged s.out s.log line lists q p)
+  same_said (Astray line lists ok taken p e) (Telling whole zero quiet q none) = absurd (telling_unlisted t.doing t.form t.file bytes m t.arguments logged (s.out, whole) lists q)
+  same_said (Does zero quiet p) (Astray line lists ok taken q d) = absurd (prints_listed t.doing m t.arguments logged r.out r.log line lists p q)
   same_said (Does zero quiet p) (Does none silent q) = record {
     status = λ one. zero one ∙ sym (none one);
     err = inl (quiet ∙ sym silent);
@@ -419,6 +489,7 @@ module _ (t : Task) (bytes : List ℕ) (m : ModuleValue) (logged : List ℕ) (r 
   same_said (Telling whole zero quiet p log) (Misfit wants has run ok q d) = absurd (q.misfit (telling_taken t.doing t.form t.file bytes m t.arguments logged (r.out, whole) run p))
   same_said (Telling whole zero quiet p log) (NoRun g reads ok taken q k d) =
       absurd (telling_stands t.doing t.form t.file bytes m t.arguments logged (r.out, whole) g reads p q.0 q.1 k)
+  same_said (Telling whole zero quiet p log) (Astray line lists ok taken q d) = absurd (telling_unlisted t.doing t.form t.file bytes m t.arguments logged (r.out, whole) lists p)
   same_said (Telling whole zero quiet p log) (Does none silent q) = absurd (telling_unprinted t.doing t.form t.file bytes m t.arguments logged (r.out, whole) s.out s.log p q)
   same_said (Telling whole zero quiet p log) (Telling all none silent q unlogged) =
       let same = telling_once t.doing t.form t.file bytes m t.arguments logged (r.out, whole) (s.out, all) given p q in
@@ -473,6 +544,8 @@ case_of t bytes logged r not4 (inr (fault.NotEnabled i, h, e)) =
     Read h.1.1.0 h.1.1.1 (NoRun (fault.NotEnabled i) h.1.0 h.1.1.2 h.1.1.3.0 (h.1.1.3.1, h.0) (status_not r (fault.NotEnabled i) e.0 e.2 not4) (reply_of t bytes r (fault.NotEnabled i) e))
 case_of t bytes logged r not4 (inr (fault.NotEnded, h, e)) =
     Read h.1.1.0 h.1.1.1 (NoRun fault.NotEnded h.1.0 h.1.1.2 h.1.1.3.0 (h.1.1.3.1, h.0) (status_not r fault.NotEnded e.0 e.2 not4) (reply_of t bytes r fault.NotEnded e))
+case_of t bytes logged r not4 (inr (fault.NoOutcome line, h, e)) =
+    Read h.1.0 h.1.1 (Astray line h.0 h.1.2 h.1.3.0 h.1.3.1 (reply_of t bytes r (fault.NoOutcome line) e))
 case_of t bytes logged r not4 (inr (fault.OutOfMemory, h, e)) = absurd (not4 (ap (λ (z : Reply). z.status) e.2))
 case_of t bytes logged r not4 (inr (fault.Device, h, e)) = absurd h
 
@@ -597,6 +670,7 @@ whole_does : (t : Task) (bytes : List ℕ) (m : ModuleValue) (logged : List ℕ)
 whole_does t bytes m logged es s is ok taken text whole (Refusing f asks p n e) = absurd (not_accepted m f ok p n)
 whole_does t bytes m logged es s is ok taken text whole (Misfit wants has run fine p e) = absurd (p.misfit taken)
 whole_does t bytes m logged es s is ok taken text whole (NoRun f reads fine fits p n e) = absurd (whole_not_refused m t.arguments logged f es p.0 n text whole)
+whole_does t bytes m logged es s is ok taken text whole (Astray line lists fine fits p e) = absurd (list_or_log t.doing lists is)
 whole_does t bytes m logged es s is ok taken text whole (Does zero quiet p) = (quiet, inl (zero, p))
 whole_does t bytes m logged es s is ok taken text whole (Telling all zero quiet p none) = (quiet, inr (all, zero, p, none))
 

@@ -8,7 +8,7 @@ use Rattle.xk_serve.specs.declared.fault.Fault.TheVariants as fault
 use Rattle.xk_origins.specs.UnitOrigins.{UnitOrigins}
 use Rattle.xk_explain.specs.Notes.{NoteValue}
 use Rattle.xk_sums.specs.Notes.{module_notes, refusal_notes}
-use Rattle.xk_serve.specs.Answer.{Check, Compile, Doing, Draw, Explain, IsSaidBy, IsSaidOf, Listing, Outcomes, Races, Replay, Run, Tally, Task, Where}
+use Rattle.xk_serve.specs.Answer.{Check, Compile, Doing, Draw, Expected, Explain, IsSaidBy, IsSaidOf, Listing, Outcomes, Races, Replay, Run, Tally, Task, Where}
 use Rattle.xk_serve.specs.Explanation.{IsExplanation, Program, plain_said, refusal_said, source_said}
 use Rattle.xk_serve.specs.Devices.{IsQuiet}
 
@@ -49,6 +49,7 @@ quiet_explanation json kind file bytes said (fault.Grammar line) h e = h
 quiet_explanation json kind file bytes said fault.Truncated h e = h
 quiet_explanation json kind file bytes said (fault.NotEnabled i) h e = h
 quiet_explanation json kind file bytes said fault.NotEnded h e = h
+quiet_explanation json kind file bytes said (fault.NoOutcome line) h e = h
 quiet_explanation json kind file bytes said fault.OutOfMemory h e = h
 quiet_explanation json kind file bytes said fault.Device h e = h
 
@@ -64,6 +65,7 @@ quiet_by Where kind file bytes said f h = λ e. h
 quiet_by Races kind file bytes said f h = λ e. h
 quiet_by (Tally seed runs) kind file bytes said f h = λ e. h
 quiet_by (Outcomes sets limit pick kept) kind file bytes said f h = λ e. h
+quiet_by (Expected sets limit) kind file bytes said f h = λ e. h
 
 -- the same of what a task says
 pub quiet_said : (t : Task) (bytes said : List ℕ) (f : Fault) → IsSaidOf t bytes f said → IsQuiet f said

@@ -91,6 +91,7 @@ told m args logged (fault.Grammar line) h not4 = (h, refl)
 told m args logged fault.Truncated h not4 = (h, refl)
 told m args logged (fault.NotEnabled i) h not4 = (h, refl)
 told m args logged fault.NotEnded h not4 = (h, refl)
+told m args logged (fault.NoOutcome line) h not4 = absurd h
 told m args logged fault.OutOfMemory h not4 = absurd (not4 refl)
 told m args logged fault.Device h not4 = absurd h
 

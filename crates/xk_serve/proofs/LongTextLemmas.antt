@@ -15,7 +15,7 @@ use Rattle.xk_serve.specs.declared.fault.Fault.TheVariants as fault
 use Rattle.xk_module.specs.declared.fault.ModuleFault.{ModuleFault}
 use Rattle.xk_serve.specs.Programs.{Gives, IsNoModule, IsNoSource, IsNoText, IsTooLong, longest_module, longest_source}
 use Rattle.xk_serve.specs.Bytes.{kept}
-use Rattle.xk_serve.specs.Answer.{Check, ComesTo, Compile, Doing, Draw, Explain, FailsBy, GivesAccepted, IsSaidBy, IsSaidOf, IsTelling, IsText, Listing, Outcomes, Races, Replay, Run, Succeeds, Tally, Task, Where}
+use Rattle.xk_serve.specs.Answer.{Check, ComesTo, Compile, Doing, Draw, Expected, Explain, FailsBy, GivesAccepted, IsSaidBy, IsSaidOf, IsTelling, IsText, Listing, Outcomes, Races, Replay, Run, Succeeds, Tally, Task, Where}
 use Rattle.xk_expected.specs.Notes.{expected_notes}
 use Rattle.xk_serve.specs.Explanation.{IsByProgram, IsByTree, IsExplanation, fault_said, front_said, refusal_said}
 use Rattle.xk_tree.specs.declared.fault.FrontRule.TheVariants as rule
@@ -71,6 +71,7 @@ kept_fails t bytes known logged (fault.Grammar line) e h = (h.0, kept_accepted t
 kept_fails t bytes known logged fault.Truncated e h = (h.0, kept_accepted t bytes known _ e h.1)
 kept_fails t bytes known logged (fault.NotEnabled i) e h = (h.0, (h.1.0, kept_accepted t bytes known _ e h.1.1))
 kept_fails t bytes known logged fault.NotEnded e h = (h.0, (h.1.0, kept_accepted t bytes known _ e h.1.1))
+kept_fails t bytes known logged (fault.NoOutcome line) e h = (h.0, kept_accepted t bytes known _ e h.1)
 kept_fails t bytes known logged fault.OutOfMemory e h = tt
 kept_fails t bytes known logged fault.Device e h = absurd h
 
@@ -155,6 +156,7 @@ explanation_kept json t bytes known logged said (fault.Grammar line) e h is = is
 explanation_kept json t bytes known logged said fault.Truncated e h is = is
 explanation_kept json t bytes known logged said (fault.NotEnabled i) e h is = is
 explanation_kept json t bytes known logged said fault.NotEnded e h is = is
+explanation_kept json t bytes known logged said (fault.NoOutcome line) e h is = is
 explanation_kept json t bytes known logged said fault.OutOfMemory e h is = is
 explanation_kept json t bytes known logged said fault.Device e h is = is
 
@@ -172,6 +174,7 @@ same_said Where kind file bytes known said f e h = h
 same_said Races kind file bytes known said f e h = h
 same_said (Tally seed runs) kind file bytes known said f e h = h
 same_said (Outcomes sets limit pick kept) kind file bytes known said f e h = h
+same_said (Expected sets limit) kind file bytes known said f e h = h
 
 said_kept : (t : Task) (bytes known logged said : List ℕ) (f : Fault) → bytes ≡ kept t.form known → FailsBy t bytes logged f → IsSaidOf t bytes f said → IsSaidOf t known f said
 said_kept t bytes known logged said f e h =
@@ -190,6 +193,7 @@ memory_unsaid Where kind file bytes = refl
 memory_unsaid Races kind file bytes = refl
 memory_unsaid (Tally seed runs) kind file bytes = refl
 memory_unsaid (Outcomes sets limit pick kept) kind file bytes = refl
+memory_unsaid (Expected sets limit) kind file bytes = refl
 
 -- of devices nothing is said
 device_unsaid : (what : Doing) (kind : Form) (file bytes said : List ℕ) → IsSaidBy what kind file bytes fault.Device said → said ≡ []
@@ -204,6 +208,7 @@ device_unsaid Where kind file bytes said h = h
 device_unsaid Races kind file bytes said h = h
 device_unsaid (Tally seed runs) kind file bytes said h = h
 device_unsaid (Outcomes sets limit pick kept) kind file bytes said h = h
+device_unsaid (Expected sets limit) kind file bytes said h = h
 
 -- the same of the faults that are no device's
 stands : (t : Task) (known logged : Option (List ℕ)) (bytes : List ℕ) (n : Reads) (f : Fault) (said : List ℕ) → n.program_new ≡ n.program_old → n.log_new ≡ n.log_old
@@ -224,6 +229,7 @@ told_stands t known logged bytes n (fault.Grammar line) said s e h is = stands t
 told_stands t known logged bytes n fault.Truncated said s e h is = stands t known logged bytes n fault.Truncated said s h.0 e h.1 is
 told_stands t known logged bytes n (fault.NotEnabled i) said s e h is = stands t known logged bytes n (fault.NotEnabled i) said s h.0 e h.1 is
 told_stands t known logged bytes n fault.NotEnded said s e h is = stands t known logged bytes n fault.NotEnded said s h.0 e h.1 is
+told_stands t known logged bytes n (fault.NoOutcome line) said s e h is = stands t known logged bytes n (fault.NoOutcome line) said s h.0 e h.1 is
 told_stands t known logged bytes n fault.OutOfMemory said s e h is = stands t known logged bytes n fault.OutOfMemory said s h.0 e h.1 is
 told_stands t known logged bytes n fault.Device said s e h is = (inr h, device_unsaid t.doing t.form t.file bytes said is)
 
@@ -237,6 +243,7 @@ log_read t bytes logged old new (fault.Grammar line) other h = h.0
 log_read t bytes logged old new fault.Truncated other h = h.0
 log_read t bytes logged old new (fault.NotEnabled i) other h = h.0
 log_read t bytes logged old new fault.NotEnded other h = h.0
+log_read t bytes logged old new (fault.NoOutcome line) other h = h.0
 log_read t bytes logged old new fault.OutOfMemory other h = h.0
 log_read t bytes logged old new fault.Device other h = absurd (other refl)
 

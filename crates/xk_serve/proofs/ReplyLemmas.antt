@@ -110,6 +110,7 @@ either t program known n (fault.Grammar line) said h = inr h.1
 either t program known n fault.Truncated said h = inr h.1
 either t program known n (fault.NotEnabled i) said h = inr h.1
 either t program known n fault.NotEnded said h = inr h.1
+either t program known n (fault.NoOutcome line) said h = inr h.1
 either t program known n fault.OutOfMemory said h = inr h.1
 either t program known n fault.Device said h = inl (refl, h.1)
 

@@ -87,6 +87,7 @@ never_done (fault.Grammar line) e = cc
 never_done fault.Truncated e = cc
 never_done (fault.NotEnabled i) e = cc
 never_done fault.NotEnded e = cc
+never_done (fault.NoOutcome line) e = cc
 never_done fault.OutOfMemory e = cc
 never_done fault.Device e = cc
 

@@ -1,5 +1,5 @@
 -- From what is said of a module to what is said of the task on the bytes that give it.
-use Rattle.std.proofs.Common.{◌≡◌, ◌≢◌, ◌∙◌, ℕ, ℤ, List, [], true, Option, Some, None, Result, Ok, Err, IfOk, IfErr, if◌then◌else◌, inl, inr, refl, ap, sym, subst}
+use Rattle.std.proofs.Common.{◌≡◌, ◌≢◌, ◌∙◌, ◌||◌, ℕ, ℤ, List, [], Bool, true, false, Option, Some, None, Result, Ok, Err, IfOk, IfErr, if◌then◌else◌, inl, inr, refl, ap, sym, subst}
 use Rattle.std.specs.Prelude.{IfSome}
 use Rattle.xk_types.specs.declared.world.Entry.{Entry}
 use Rattle.xk_types.specs.Acceptance.{IsAccepted}
@@ -17,13 +17,13 @@ use Rattle.xk_bounds.specs.declared.refusal.Refusal.TheVariants as refusal
 use Rattle.xk_serve.specs.declared.job_result.Done.{Done}
 use Rattle.xk_serve.specs.declared.fault.Fault.{Fault}
 use Rattle.xk_serve.specs.declared.fault.Fault.TheVariants as fault
-use Rattle.xk_serve.specs.Answer.{Check, ComesTo, Compile, Doing, Draw, Explain, FailsBy, IsLogText, IsNoRun, IsNotRun, IsRefusal, IsTelling, IsText, Listing, Outcomes, Races, Replay, Run, Succeeds, Tally, Task, Where, asks_verifier, reads_log, runs, wants_whole}
+use Rattle.xk_serve.specs.Answer.{Check, ComesTo, Compile, Doing, Draw, Expected, Explain, FailsBy, IsLogText, IsNoRun, IsNotRun, IsRefusal, IsTelling, IsText, Listing, Outcomes, Races, Replay, Run, Succeeds, Tally, Task, Where, asks_verifier, reads_list, reads_log, reads_more, runs, wants_whole}
 use Rattle.xk_serve.specs.Faults.{of_log, of_refusal, of_replay}
 use Rattle.xk_serve.specs.Lines.{status_of}
 use Rattle.std.proofs.lemmas.Result.{IfOk-weaker}
 use Rattle.std.proofs.lemmas.Bool.{false≢true}
 use Rattle.xk_serve.specs.Programs.{Gives}
-use Rattle.xk_serve.specs.Devices.{AgainstLog, AgainstModule, AgainstReading, AgainstRun, AgainstText, read_of}
+use Rattle.xk_serve.specs.Devices.{AgainstExpected, AgainstList, AgainstLog, AgainstModule, AgainstReading, AgainstRun, AgainstText, read_of}
 
 -- ---- logs that may be known
 
@@ -37,13 +37,28 @@ pub of_each : (P Q : List ℕ → Type 0) (known : Option (List ℕ)) → ((xs :
 of_each P Q None f h = tt
 of_each P Q (Some xs) f h = f xs h
 
--- a task that reads a log reads the one that is known
-read_known : (t : Task) (known : Option (List ℕ)) → reads_log t.doing ≡ true → read_of t known ≡ known
+-- a task that reads more than a program reads what is known
+read_known : (t : Task) (known : Option (List ℕ)) → reads_more t.doing ≡ true → read_of t known ≡ known
 read_known t known reads = ap (λ b. if b then known else Some []) reads
+
+-- a log, or a list
+log_more : (what : Doing) → reads_log what ≡ true → reads_more what ≡ true
+log_more what reads = ap (λ b. b || reads_list what) reads
+
+list_more : (what : Doing) → reads_list what ≡ true → reads_more what ≡ true
+list_more what lists = ap (λ b. reads_log what || b) lists ∙ or_true (reads_log what)
+  where
+    or_true : (b : Bool) → (b || true) ≡ true
+    or_true true = refl
+    or_true false = refl
+
+of_more : (t : Task) (P Q : List ℕ → Type 0) (known : Option (List ℕ)) → reads_more t.doing ≡ true → ((xs : List ℕ) → P xs → Q xs)
+    → IfSome known P → IfSome (read_of t known) Q
+of_more t P Q known reads f h = subst (λ o. IfSome o Q) (sym (read_known t known reads)) (of_each P Q known f h)
 
 of_read : (t : Task) (P Q : List ℕ → Type 0) (known : Option (List ℕ)) → reads_log t.doing ≡ true → ((xs : List ℕ) → P xs → Q xs)
     → IfSome known P → IfSome (read_of t known) Q
-of_read t P Q known reads f h = subst (λ o. IfSome o Q) (sym (read_known t known reads)) (of_each P Q known f h)
+of_read t P Q known reads f h = of_more t P Q known (log_more t.doing reads) f h
 
 -- ---- what a module comes to
 
@@ -73,6 +88,14 @@ pub done_of_log : (t : Task) (bytes : List ℕ) (known : Option (List ℕ)) (m :
 done_of_log t bytes known m what args (Ok d) is told reads given h =
     of_read t _ _ known (ap reads_log is ∙ reads) (λ logged done. succeeds t bytes logged m what args d is told given done) h
 done_of_log t bytes known m what args (Err f) is told reads given h = tt
+
+-- with the list that is read
+pub done_of_list : (t : Task) (bytes : List ℕ) (known : Option (List ℕ)) (m : ModuleValue) (what : Doing) (args : List ℤ) (r : Result Done Fault) → t.doing ≡ what
+    → args ≡ t.arguments → reads_list what ≡ true → Gives t.form bytes m → IfOk r (λ d. IfSome known (λ logged. ComesTo what m args logged d))
+    → IfOk r (λ d. IfSome (read_of t known) (λ logged. Succeeds t bytes logged d))
+done_of_list t bytes known m what args (Ok d) is told lists given h =
+    of_more t _ _ known (list_more t.doing (ap reads_list is ∙ lists)) (λ logged done. succeeds t bytes logged m what args d is told given done) h
+done_of_list t bytes known m what args (Err f) is told lists given h = tt
 
 tells : (t : Task) (bytes logged : List ℕ) (m : ModuleValue) (what : Doing) (args : List ℤ) (d : Done) → t.doing ≡ what → args ≡ t.arguments → Gives t.form bytes m
     → IsText (IsTelling what t.form t.file bytes m args logged) d → Succeeds t bytes logged d
@@ -119,6 +142,7 @@ against_any t bytes known old new (fault.Grammar line) e h = (e, of_any _ (read_
 against_any t bytes known old new fault.Truncated e h = (e, of_any _ (read_of t known) h)
 against_any t bytes known old new (fault.NotEnabled i) e h = (e, of_any _ (read_of t known) h)
 against_any t bytes known old new fault.NotEnded e h = (e, of_any _ (read_of t known) h)
+against_any t bytes known old new (fault.NoOutcome line) e h = (e, of_any _ (read_of t known) h)
 against_any t bytes known old new fault.OutOfMemory e h = (e, of_any _ (read_of t known) h)
 against_any t bytes known old new fault.Device e h = absurd (h [])
 
@@ -141,6 +165,7 @@ refusal_fails t bytes logged m (fault.Grammar line) asks given h = absurd h
 refusal_fails t bytes logged m fault.Truncated asks given h = absurd h
 refusal_fails t bytes logged m (fault.NotEnabled i) asks given h = absurd h
 refusal_fails t bytes logged m fault.NotEnded asks given h = absurd h
+refusal_fails t bytes logged m (fault.NoOutcome line) asks given h = absurd h
 refusal_fails t bytes logged m fault.OutOfMemory asks given h = tt
 refusal_fails t bytes logged m fault.Device asks given h = absurd h
 
@@ -162,6 +187,7 @@ not_run_fails t bytes logged m (fault.Grammar line) runs asks given h = absurd h
 not_run_fails t bytes logged m fault.Truncated runs asks given h = absurd h
 not_run_fails t bytes logged m (fault.NotEnabled i) runs asks given h = absurd h
 not_run_fails t bytes logged m fault.NotEnded runs asks given h = absurd h
+not_run_fails t bytes logged m (fault.NoOutcome line) runs asks given h = absurd h
 not_run_fails t bytes logged m fault.OutOfMemory runs asks given h = tt
 not_run_fails t bytes logged m fault.Device runs asks given h = absurd h
 
@@ -178,6 +204,7 @@ runs_asks Where h = refl
 runs_asks Races h = refl
 runs_asks (Tally seed runs) h = refl
 runs_asks (Outcomes sets limit pick kept) h = refl
+runs_asks (Expected sets limit) h = refl
 
 against_not_run : (t : Task) (bytes : List ℕ) (known : Option (List ℕ)) (old new : ℕ) (m : ModuleValue) (f : Fault) → new ≡ old → runs t.doing ≡ true
     → Gives t.form bytes m → IsNotRun m t.arguments f → AgainstLog t bytes known old new f
@@ -201,6 +228,7 @@ no_run_fails t bytes logged m (fault.Grammar line) reads wants given accepted ta
 no_run_fails t bytes logged m fault.Truncated reads wants given accepted taken h = (reads, (m, given, accepted, (taken, h)))
 no_run_fails t bytes logged m (fault.NotEnabled i) reads wants given accepted taken h = (wants, (reads, (m, given, accepted, (taken, h))))
 no_run_fails t bytes logged m fault.NotEnded reads wants given accepted taken h = (wants, (reads, (m, given, accepted, (taken, h))))
+no_run_fails t bytes logged m (fault.NoOutcome line) reads wants given accepted taken h = absurd h
 no_run_fails t bytes logged m fault.OutOfMemory reads wants given accepted taken h = tt
 no_run_fails t bytes logged m fault.Device reads wants given accepted taken h = absurd h
 
@@ -221,6 +249,7 @@ against_run t bytes known old new m (fault.Grammar line) reads wants given accep
 against_run t bytes known old new m fault.Truncated reads wants given accepted taken h = no_run_stands t bytes known old new m fault.Truncated reads wants given accepted taken h
 against_run t bytes known old new m (fault.NotEnabled i) reads wants given accepted taken h = no_run_stands t bytes known old new m (fault.NotEnabled i) reads wants given accepted taken h
 against_run t bytes known old new m fault.NotEnded reads wants given accepted taken h = no_run_stands t bytes known old new m fault.NotEnded reads wants given accepted taken h
+against_run t bytes known old new m (fault.NoOutcome line) reads wants given accepted taken h = no_run_stands t bytes known old new m (fault.NoOutcome line) reads wants given accepted taken h
 against_run t bytes known old new m fault.OutOfMemory reads wants given accepted taken h = no_run_stands t bytes known old new m fault.OutOfMemory reads wants given accepted taken h
 against_run t bytes known old new m fault.Device reads wants given accepted taken h = h
 
@@ -237,6 +266,7 @@ reads_runs Where h = refl
 reads_runs Races h = refl
 reads_runs (Tally seed runs) h = refl
 reads_runs (Outcomes sets limit pick kept) h = refl
+reads_runs (Expected sets limit) h = refl
 
 against_either : (t : Task) (bytes : List ℕ) (known : Option (List ℕ)) (old new : ℕ) (m : ModuleValue) (f : Fault) → reads_log t.doing ≡ true
     → wants_whole t.doing ≡ true → Gives t.form bytes m → AgainstModule m t.arguments known old new f → AgainstLog t bytes known old new f
@@ -264,6 +294,7 @@ against_read t bytes known old new m fault.Truncated reads given (inr h) =
     (h.2.0, of_read t _ _ known reads (λ logged cut. (reads, (m, given, h.0, (h.1, cut)))) h.2.1)
 against_read t bytes known old new m (fault.NotEnabled i) reads given (inr h) = absurd h.2
 against_read t bytes known old new m fault.NotEnded reads given (inr h) = absurd h.2
+against_read t bytes known old new m (fault.NoOutcome line) reads given (inr h) = absurd h.2
 against_read t bytes known old new m fault.OutOfMemory reads given (inr h) = (h.2, of_any _ (read_of t known) (λ logged. tt))
 against_read t bytes known old new m fault.Device reads given (inr h) = h.2
 
@@ -272,6 +303,44 @@ pub against_text : (t : Task) (bytes : List ℕ) (known : Option (List ℕ)) (ol
 against_text t bytes known old new m what args (Ok d) is told reads given h = tt
 against_text t bytes known old new m what args (Err f) is told reads given h =
     against_read t bytes known old new m f (ap reads_log is ∙ reads) given (subst (λ xs. AgainstText m xs known old new f) told h)
+
+-- what reads a list is run
+lists_runs : (what : Doing) → reads_list what ≡ true → runs what ≡ true
+lists_runs Check h = absurd (false≢true h)
+lists_runs (Explain json) h = absurd (false≢true h)
+lists_runs Compile h = absurd (false≢true h)
+lists_runs Listing h = absurd (false≢true h)
+lists_runs (Run way kept) h = refl
+lists_runs Replay h = refl
+lists_runs (Draw picture) h = refl
+lists_runs Where h = refl
+lists_runs Races h = refl
+lists_runs (Tally seed runs) h = refl
+lists_runs (Outcomes sets limit pick kept) h = refl
+lists_runs (Expected sets limit) h = refl
+
+-- a module that isn't run, or a line that may not stand in a list
+against_listed : (t : Task) (bytes : List ℕ) (known : Option (List ℕ)) (old new : ℕ) (m : ModuleValue) (f : Fault) → reads_list t.doing ≡ true → Gives t.form bytes m
+    → AgainstExpected m t.arguments known old new f → AgainstLog t bytes known old new f
+against_listed t bytes known old new m f lists given (inl h) = against_not_run t bytes known old new m f h.0 (lists_runs t.doing lists) given h.1
+against_listed t bytes known old new m (fault.Text f) lists given (inr h) = absurd h.2
+against_listed t bytes known old new m (fault.Front f) lists given (inr h) = absurd h.2
+against_listed t bytes known old new m (fault.Refused r) lists given (inr h) = absurd h.2
+against_listed t bytes known old new m (fault.Arguments wants has) lists given (inr h) = absurd h.2
+against_listed t bytes known old new m (fault.Grammar line) lists given (inr h) = absurd h.2
+against_listed t bytes known old new m fault.Truncated lists given (inr h) = absurd h.2
+against_listed t bytes known old new m (fault.NotEnabled i) lists given (inr h) = absurd h.2
+against_listed t bytes known old new m fault.NotEnded lists given (inr h) = absurd h.2
+against_listed t bytes known old new m (fault.NoOutcome line) lists given (inr h) =
+    (h.2.0, of_more t _ _ known (list_more t.doing lists) (λ logged stray. (lists, (m, given, h.0, (h.1, stray)))) h.2.1)
+against_listed t bytes known old new m fault.OutOfMemory lists given (inr h) = (h.2, of_any _ (read_of t known) (λ logged. tt))
+against_listed t bytes known old new m fault.Device lists given (inr h) = h.2
+
+pub against_list : (t : Task) (bytes : List ℕ) (known : Option (List ℕ)) (old new : ℕ) (m : ModuleValue) (what : Doing) (args : List ℤ) (r : Result Done Fault) → t.doing ≡ what
+    → args ≡ t.arguments → reads_list what ≡ true → Gives t.form bytes m → IfErr r (AgainstExpected m args known old new) → IfErr r (AgainstLog t bytes known old new)
+against_list t bytes known old new m what args (Ok d) is told lists given h = tt
+against_list t bytes known old new m what args (Err f) is told lists given h =
+    against_listed t bytes known old new m f (ap reads_list is ∙ lists) given (subst (λ xs. AgainstExpected m xs known old new f) told h)
 
 -- ---- the verifier
 
@@ -293,6 +362,12 @@ pub text_stands : (m : ModuleValue) (args : List ℤ) (known : Option (List ℕ)
     → IfErr r (AgainstReading known old new) → IfErr r (AgainstText m args known old new)
 text_stands m args known old new (Ok d) accepted taken h = tt
 text_stands m args known old new (Err f) accepted taken h = inr (accepted, taken, h)
+
+-- what stands against a list, where the module is run
+pub list_stands : (m : ModuleValue) (args : List ℤ) (known : Option (List ℕ)) (old new : ℕ) (r : Result Done Fault) → IsAccepted m → AreArguments m args
+    → IfErr r (AgainstList known old new) → IfErr r (AgainstExpected m args known old new)
+list_stands m args known old new (Ok d) accepted taken h = tt
+list_stands m args known old new (Err f) accepted taken h = inr (accepted, taken, h)
 
 -- want of memory where no read failed
 pub run_wants : (m : ModuleValue) (args : List ℤ) (known : Option (List ℕ)) (old new : ℕ) (r : Result Done Fault) → new ≡ old → IfErr r (λ f. f ≡ fault.OutOfMemory)
@@ -317,6 +392,7 @@ not_run m args (fault.Grammar line) h = h
 not_run m args fault.Truncated h = h
 not_run m args (fault.NotEnabled i) h = h
 not_run m args fault.NotEnded h = h
+not_run m args (fault.NoOutcome line) h = h
 not_run m args fault.OutOfMemory h = h
 not_run m args fault.Device h = h
 

@@ -13,7 +13,7 @@ use Rattle.xk_cli.specs.declared.job.Form.TheVariants as form
 use Rattle.xk_types.specs.declared.world.Entry.{Entry}
 use Rattle.xk_serve.specs.declared.picture.Picture.{Picture}
 use Rattle.xk_serve.specs.declared.picture.Picture.TheVariants as picture
-use Rattle.xk_serve.specs.Answer.{Check, Compile, Doing, Draw, Explain, IsPicture, IsTelling, Listing, Outcomes, Races, Replay, Run, Tally, Where}
+use Rattle.xk_serve.specs.Answer.{Check, Compile, Doing, Draw, Expected, Explain, IsPicture, IsTelling, Listing, Outcomes, Races, Replay, Run, Tally, Where}
 use Rattle.xk_serve.specs.Explanation.{HaveOrigins, IsByOrigins, IsListed, Tale, acceptance_told, events_told, image_told, lanes_told, races_told, where_told}
 use Rattle.xk_cli.specs.declared.job.Order.TheVariants as order
 use Rattle.xk_serve.specs.Programs.{Gives}
@@ -84,3 +84,4 @@ telling_once Compile kind file bytes m args logged a b given h k = absurd h
 telling_once (Run way kept) kind file bytes m args logged a b given h k = absurd h
 telling_once Replay kind file bytes m args logged a b given h k = absurd h
 telling_once (Outcomes sets limit pick kept) kind file bytes m args logged a b given h k = absurd h
+telling_once (Expected sets limit) kind file bytes m args logged a b given h k = absurd h

@@ -3,9 +3,10 @@ use Rattle.std.proofs.Common.{◌≡◌, ◌≤◌, ℕ, List, length, Result, O
 use Rattle.xk_types.specs.declared.unit.Module.{Module}
 use Rattle.xk_module.specs.declared.fault.ModuleFault.{ModuleFault}
 use Rattle.xk_module.specs.declared.fault.ModuleFault.TheVariants as text
+use Rattle.xk_cli.specs.declared.job.Form.{Form}
 use Rattle.xk_cli.specs.declared.job.Form.TheVariants as form
 use Rattle.xk_serve.specs.Answer.{FailsBy, Task}
-use Rattle.xk_serve.specs.Faults.{of_text}
+use Rattle.xk_serve.specs.Faults.{GivesNoModule, of_text}
 use Rattle.xk_serve.specs.Programs.{IsUnfitModule, IsUnread, longest_module}
 
 -- what the reader says of a text that isn't too long
@@ -23,3 +24,10 @@ unfit_fails t bytes text.NotJson is h logged = (is, h)
 unfit_fails t bytes text.NotAModule is h logged = (is, h)
 unfit_fails t bytes text.Limit is h logged = (is, h)
 unfit_fails t bytes text.OutOfMemory is h logged = tt
+
+-- nor gives it a module
+pub no_module : (kind : Form) (bytes : List ℕ) (f : ModuleFault) → kind ≡ form.Module → IsUnfitModule bytes f → GivesNoModule kind bytes (of_text f)
+no_module kind bytes text.NotJson is h = (is, h)
+no_module kind bytes text.NotAModule is h = (is, h)
+no_module kind bytes text.Limit is h = (is, h)
+no_module kind bytes text.OutOfMemory is h = tt

@@ -10,6 +10,9 @@ use Rattle.xk_tree.specs.declared.fault.FrontError.TheVariants as error
 use Rattle.xk_tree.specs.declared.tree.Tree.{Tree}
 use Rattle.xk_syntax.specs.Faults.{IsRefused, IsTextRule}
 use Rattle.xk_codegen.specs.Faults.{IsFaultOf}
+use Rattle.xk_cli.specs.declared.job.Form.{Form}
+use Rattle.xk_cli.specs.declared.job.Form.TheVariants as form
+use Rattle.xk_serve.specs.Faults.{GivesNoModule, of_front}
 use Rattle.xk_serve.specs.Programs.{IsNoSource, IsNoText, IsSource, IsUnfit, IsUnspelled, longest_source}
 
 -- what the parser refuses spells no tree
@@ -43,3 +46,8 @@ no_text bytes f (inr (inr h)) = inr (inr (inl h))
 pub unspelled : (bytes : List ℕ) (e : FrontError) → IsUnspelled bytes e → IsUnfit bytes e
 unspelled bytes (error.Fault f) h = no_text bytes f h
 unspelled bytes error.OutOfMemory h = tt
+
+-- what the compiler or the parser says stands against a source text
+pub no_source : (kind : Form) (bytes : List ℕ) (f : FrontError) → kind ≡ form.Source → IsUnfit bytes f → GivesNoModule kind bytes (of_front f)
+no_source kind bytes (error.Fault f) is h = (is, h)
+no_source kind bytes error.OutOfMemory is h = tt

@@ -1,5 +1,5 @@
 -- What the program answers: which status and texts a job and the bytes of its file may have. This project's own.
-use Rattle.std.specs.Prelude.{◌≡◌, ℕ, ⊤, ◌⊎◌, ℤ, ◌-◌, ◌&&◌, not, Bool, true, false, List, [], length, slice_get, Option, Some, None, is_some, option_map, unwrap_or, string_bytes, if◌then◌else◌}
+use Rattle.std.specs.Prelude.{◌≡◌, ℕ, ⊤, ◌⊎◌, ℤ, ◌-◌, ◌&&◌, ◌||◌, not, Bool, true, false, List, [], length, take, slice_get, Option, Some, None, is_some, option_map, unwrap_or, string_bytes, if◌then◌else◌}
 use Rattle.serde_json.specs.Written.{compact_text}
 use Rattle.xk_types.specs.Code.{ModuleValue, params_of}
 use Rattle.xk_types.specs.World.{World, AreArguments}
@@ -28,10 +28,10 @@ use Rattle.xk_serve.specs.declared.fault.Fault.TheVariants as fault
 use Rattle.xk_types.specs.declared.world.Entry.{Entry}
 use Rattle.xk_log.specs.Verdicts.{IsTruncated, IsWrongAt, Says, Whole}
 use Rattle.xk_replay.specs.Chart.{chart_text}
-use Rattle.xk_outcomes.specs.Outcomes.{AreAll, AreDistinct, AreShown}
-use Rattle.xk_outcomes.specs.Sets.{AreSetsAll, AreSetsDistinct, AreSetsShown}
+use Rattle.xk_outcomes.specs.Sets.{AreAllAs, AreDistinctAs, AreShownAs}
 use Rattle.xk_outcomes.specs.declared.listing.Outcome.{Outcome}
 use Rattle.xk_outcomes.specs.Text.{outcomes_text}
+use Rattle.xk_outcomes.specs.Expected.{AreExpected, stray_line}
 use Rattle.xk_tally.specs.Runs.{IsTallyText}
 use Rattle.xk_replay.specs.Replay.{IsStoppedAt, IsUnfinished}
 use Rattle.xk_serve.specs.OrderedRun.{IsLoggedRun, IsOrderedRun, IsReplay, IsSomeRun, IsWholeRun}
@@ -42,7 +42,7 @@ use Rattle.xk_serve.specs.Explanation.{IsByOrigins, IsExplanation, IsProgramList
 -- what is to be done with a module; what is explained is a JSON value or not; a run is in an order, or by workers, and has its log kept or not; some
 -- picture is drawn of one; it is told how things stand behind a log, which races the run in the order `first` has, or how often so many runs by chance,
 -- from this seed on, print what; of outcomes, as lists of numbers or without their order, so many are looked for, and of one, counted from 1, the log
--- is kept or not
+-- is kept or not, or they are held against a list
 pub data Doing : Type 0 where
   Check : Doing
   Explain : Bool → Doing
@@ -55,6 +55,7 @@ pub data Doing : Type 0 where
   Races : Doing
   Tally : ℕ → ℕ → Doing
   Outcomes : Bool → ℕ → ℕ → Bool → Doing
+  Expected : Bool → ℕ → Doing
 
 -- whether the module is run, and main given its arguments
 abbrev pub runs : Doing → Bool
@@ -76,6 +77,15 @@ reads_log Replay = true
 reads_log (Draw picture) = true
 reads_log Where = true
 reads_log _ = false
+
+-- whether a list of outcomes is read
+abbrev pub reads_list : Doing → Bool
+reads_list (Expected sets limit) = true
+reads_list _ = false
+
+-- whether one of these is, beside the program
+abbrev pub reads_more : Doing → Bool
+reads_more what = reads_log what || reads_list what
 
 -- whether the log that is read is to be that of a whole run
 abbrev pub wants_whole : Doing → Bool
@@ -118,6 +128,7 @@ doing_of (command.Where log) = Where
 doing_of (command.Races path) = races_by (is_some path)
 doing_of (command.Tally seed runs) = Tally seed runs
 doing_of (command.Outcomes limit pick path sets) = Outcomes sets (unwrap_or limit usual_limit) (unwrap_or pick 1) (is_some path)
+doing_of (command.Expected list limit sets) = Expected sets (unwrap_or limit usual_limit)
 
 -- what is to be done with a file, what it is called, what stands in it, and what main is given where it is run
 pub record Task : Type 0 where
@@ -154,21 +165,6 @@ kept_log false pick list = None
 abbrev pub lacks_log : Bool → ℕ → List Outcome → Bool
 lacks_log keeps pick list = keeps && not (is_some (kept_log keeps pick list))
 
--- the numbers that are told are printed in a run to its end, which has the log beside them: in this order, or in some order
-abbrev pub AreShownAs : Bool → ModuleValue → List ℤ → List Outcome → Type 0
-AreShownAs false = AreShown
-AreShownAs true = AreSetsShown
-
--- none are told twice, in this order, or in any order
-abbrev pub AreDistinctAs : Bool → List Outcome → Type 0
-AreDistinctAs false = AreDistinct
-AreDistinctAs true = AreSetsDistinct
-
--- every run to its end prints some that are told, in this order, or in some order
-abbrev pub AreAllAs : Bool → ModuleValue → List ℤ → List Outcome → Type 0
-AreAllAs false = AreAll
-AreAllAs true = AreSetsAll
-
 -- What a module can print that is given these arguments, as lists of numbers or without their order. The answer is whole where they are all, and the log
 -- that is to be kept is there. (That as many were looked for as the limit says, where they aren't all, no field says.)
 pub record AreOutcomes (m : ModuleValue) (args : List ℤ) (sets : Bool) (pick : ℕ) (keeps : Bool) (text : List ℕ) (whole : Bool) (log : Option (List Entry)) : Type 0 where
@@ -187,7 +183,21 @@ abbrev pub IsFoundOut : ModuleValue → List ℤ → Bool → ℕ → Bool → D
 IsFoundOut m args sets pick keeps (done.Outcomes text whole log) = AreOutcomes m args sets pick keeps text.items whole (option_map (λ es. es.items) log)
 IsFoundOut m args sets pick keeps _ = ⊥
 
--- What is to be done with a module, whose main is given these arguments where it is run, and with the bytes of a log where one is read, comes
+-- how many bytes of a list are read at most
+abbrev pub longest_list : ℕ
+longest_list = 100_000_000
+
+-- the list in the bytes of its file
+abbrev pub list_in : List ℕ → List ℕ
+list_in bytes = take longest_list bytes
+
+-- What a module can print that is given these arguments is held against the list in these bytes: the answer is whole where that is all, and each is
+-- in the list.
+abbrev pub IsHeldOut : ModuleValue → List ℤ → Bool → List ℕ → Done → Type 0
+IsHeldOut m args sets bytes (done.Outcomes text whole None) = AreArguments m args × AreExpected m args sets (list_in bytes) text.items whole
+IsHeldOut m args sets bytes _ = ⊥
+
+-- What is to be done with a module, whose main is given these arguments where it is run, and with the bytes of a log or a list where one is read, comes
 -- to this: for `compile` the text of the module; where the module is accepted, for `check` its bounds, for `run` its run in the order, or, by workers,
 -- some run of it, for `replay` the run that the log has, for `outcomes` what it can print.
 abbrev pub ComesTo : Doing → ModuleValue → List ℤ → List ℕ → Done → Type 0
@@ -200,6 +210,7 @@ ComesTo (Run (By n) false) m args logged (done.Ended numbers steps None) = IsAcc
 ComesTo (Run (By n) true) m args logged (done.Ended numbers steps (Some log)) = IsAccepted m × IsReplay m args log.items numbers.items steps
 ComesTo Replay m args logged (done.Ended numbers steps None) = IsAccepted m × Replays m args logged numbers.items steps
 ComesTo (Outcomes sets limit pick keeps) m args logged d = IsAccepted m × IsFoundOut m args sets pick keeps d
+ComesTo (Expected sets limit) m args logged d = IsAccepted m × IsHeldOut m args sets logged d
 ComesTo _ m args logged _ = ⊥
 
 -- What is told of a run of the module that the bytes give, by their lines where they are a source text: its chart, what others see of its steps, the
@@ -283,7 +294,12 @@ abbrev pub FailsByLog : Task → List ℕ → List ℕ → Fault → Type 0
 FailsByLog t bytes logged f =
     (reads_log t.doing ≡ true) × GivesAccepted t bytes (λ m. AreArguments m t.arguments × IsNoRun m t.arguments logged f)
 
--- The fault is one of the bytes, or of main's arguments where the module is run, or of the log's bytes where a log is read, or want of
+-- what stands against a list that is read: the module is accepted, main takes as many numbers as it is given, and this line may not stand in a list
+abbrev pub FailsByList : Task → List ℕ → List ℕ → ℕ → Type 0
+FailsByList t bytes logged line =
+    (reads_list t.doing ≡ true) × GivesAccepted t bytes (λ m. AreArguments m t.arguments × (stray_line (list_in logged) ≡ Some line))
+
+-- The fault is one of the bytes, or of main's arguments where the module is run, or of the bytes of a log or a list where one is read, or want of
 -- memory, of which nothing is claimed. `compile` and `listing` ask nothing of the verifier. The arguments are looked at only where the module is accepted,
 -- and a log only where they are as many as main takes; `where` takes one that is none of a whole run.
 abbrev pub FailsBy : Task → List ℕ → List ℕ → Fault → Type 0
@@ -296,6 +312,7 @@ FailsBy t bytes logged (fault.Grammar line) = FailsByLog t bytes logged (fault.G
 FailsBy t bytes logged fault.Truncated = FailsByLog t bytes logged fault.Truncated
 FailsBy t bytes logged (fault.NotEnabled i) = (wants_whole t.doing ≡ true) × FailsByLog t bytes logged (fault.NotEnabled i)
 FailsBy t bytes logged fault.NotEnded = (wants_whole t.doing ≡ true) × FailsByLog t bytes logged fault.NotEnded
+FailsBy t bytes logged (fault.NoOutcome line) = FailsByList t bytes logged line
 FailsBy t bytes logged fault.OutOfMemory = ⊤
 FailsBy t bytes logged fault.Device = ⊥
 

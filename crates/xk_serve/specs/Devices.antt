@@ -12,9 +12,10 @@ use Rattle.xk_serve.specs.declared.job_result.Done.{Done}
 use Rattle.xk_serve.specs.declared.fault.Fault.{Fault}
 use Rattle.xk_serve.specs.declared.fault.Fault.TheVariants as fault
 use Rattle.xk_log.specs.Verdicts.{IsTruncated, IsWrongAt}
+use Rattle.xk_outcomes.specs.Expected.{stray_line}
 use Rattle.xk_log.specs.Writing.{AppendsBeginning}
-use Rattle.xk_serve.specs.Answer.{Answers, FailsBy, IsNoRun, IsNotRun, Reply, Succeeds, Task, IsSaidOf, reads_log}
-use Rattle.xk_serve.specs.Lines.{device_line, done_log, done_text, excluded_line, fault_line, runs_line, seed_line, status_of}
+use Rattle.xk_serve.specs.Answer.{Answers, FailsBy, IsNoRun, IsNotRun, Reply, Succeeds, Task, IsSaidOf, list_in, reads_more}
+use Rattle.xk_serve.specs.Lines.{device_line, done_log, done_text, excluded_line, fault_line, list_line, runs_line, seed_line, status_of}
 use Rattle.xk_diagnostics.specs.Lines.{memory_line}
 
 -- all that is printed of it went to standard output, and its log to the log's device
@@ -26,11 +27,11 @@ abbrev pub IsBegun : Done → Option (List ℕ) → Option (List ℕ) → Option
 IsBegun d out_old out_new log_old log_new = (AppendsBeginning out_old out_new (done_text d) × Appends log_old log_new [])
     ⊎ (Appends out_old out_new (done_text d) × AppendsBeginning log_old log_new (done_log d))
 
--- the bytes of the log that a task reads, where they are known; none where it reads no log
+-- the bytes of the log or the list that a task reads, where they are known; none where it reads neither
 abbrev pub read_of : Task → Option (List ℕ) → Option (List ℕ)
-read_of t known = if reads_log t.doing then known else Some []
+read_of t known = if reads_more t.doing then known else Some []
 
--- the bytes of FILE and those of the log that is read are known, and this holds of them
+-- the bytes of FILE and those of the log or the list that is read are known, and this holds of them
 abbrev pub IfKnown : Task → Option (List ℕ) → Option (List ℕ) → (List ℕ → List ℕ → Type 0) → Type 0
 IfKnown t program logged P = IfSome program (λ bytes. IfSome (read_of t logged) (λ log. P bytes log))
 
@@ -84,6 +85,19 @@ AgainstReading known old new _ = ⊥
 abbrev pub AgainstText : ModuleValue → List ℤ → Option (List ℕ) → ℕ → ℕ → Fault → Type 0
 AgainstText m args known old new f =
     ((new ≡ old) × IsNotRun m args f) ⊎ (IsAccepted m × AreArguments m args × AgainstReading known old new f)
+
+-- a list of which a line may not stand there, or a read of it that failed; of want of memory nothing is claimed
+abbrev pub AgainstList : Option (List ℕ) → ℕ → ℕ → Fault → Type 0
+AgainstList known old new fault.Device = Rose old new
+AgainstList known old new fault.OutOfMemory = new ≡ old
+AgainstList known old new (fault.NoOutcome line) = (new ≡ old) × IfSome known (λ bytes. stray_line (list_in bytes) ≡ Some line)
+AgainstList known old new _ = ⊥
+
+-- What stands against outcomes that are held against a list: the module isn't run with these arguments, and no list was read; or it is accepted, main
+-- takes as many, and it is the list.
+abbrev pub AgainstExpected : ModuleValue → List ℤ → Option (List ℕ) → ℕ → ℕ → Fault → Type 0
+AgainstExpected m args known old new f =
+    ((new ≡ old) × IsNotRun m args f) ⊎ (IsAccepted m × AreArguments m args × AgainstList known old new f)
 
 -- The line was written, the sink didn't fail and the status is this one; or a beginning of the line was written, the sink
 -- failed and the status is that of a device.
@@ -150,4 +164,5 @@ TellsWords (words.NotUnderstood text) On_out On_err = On_err (string_bytes text)
 TellsWords words.OrderAndWorkers On_out On_err = On_err excluded_line status_words
 TellsWords words.SeedAlone On_out On_err = On_err seed_line status_words
 TellsWords words.MisplacedRuns On_out On_err = On_err runs_line status_words
+TellsWords words.MisplacedList On_out On_err = On_err list_line status_words
 TellsWords words.OutOfMemory On_out On_err = On_err memory_line status_memory

@@ -4,7 +4,7 @@ use Rattle.xk_types.specs.declared.rules.Rule.{Rule}
 use Rattle.xk_types.specs.declared.rules.Visit.{Visit}
 use Rattle.xk_types.specs.RuleNames.{rule_number, rule_name, kind_name}
 use Rattle.xk_log.specs.LogText.{log_text}
-use Rattle.xk_diagnostics.specs.Lines.{accepted_line, arguments_line, ended_line, front_text, grammar_line, label_line, label_status, line, memory_line, not_enabled_line, refusal_line, refusal_status}
+use Rattle.xk_diagnostics.specs.Lines.{accepted_line, arguments_line, ended_line, front_text, grammar_line, label_line, label_status, line, memory_line, no_outcome_line, not_enabled_line, refusal_line, refusal_status}
 use Rattle.xk_output.specs.Lines.{number_lines}
 use Rattle.xk_cli.specs.Status.{status_device, status_log, status_memory, status_program}
 use Rattle.xk_module.specs.Faults.{fault_label}
@@ -68,6 +68,10 @@ seed_line = codes "x10clock: --seed goes with --order random\n"
 abbrev pub runs_line : List ℕ
 runs_line = codes "x10clock: --runs goes with --order random, and not with --log\n"
 
+-- they have a list, and an outcome to pick, or a log
+abbrev pub list_line : List ℕ
+list_line = codes "x10clock: --expect goes without --log and --pick\n"
+
 abbrev pub fault_line : Fault → List ℕ
 fault_line (fault.Text f) = label_line (fault_label f)
 fault_line (fault.Front f) = line (front_text f)
@@ -77,6 +81,7 @@ fault_line (fault.Grammar n) = grammar_line n
 fault_line fault.Truncated = line (codes "L2 Truncated")
 fault_line (fault.NotEnabled n) = not_enabled_line n
 fault_line fault.NotEnded = line (codes "L5 NotEnded")
+fault_line (fault.NoOutcome n) = no_outcome_line n
 fault_line fault.OutOfMemory = memory_line
 fault_line fault.Device = device_line
 
@@ -91,5 +96,6 @@ status_of (fault.Grammar n) = status_log
 status_of fault.Truncated = status_log
 status_of (fault.NotEnabled n) = status_log
 status_of fault.NotEnded = status_log
+status_of (fault.NoOutcome n) = status_log
 status_of fault.OutOfMemory = status_memory
 status_of fault.Device = status_device

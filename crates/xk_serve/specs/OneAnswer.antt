@@ -14,7 +14,7 @@ use Rattle.xk_serve.specs.declared.job_result.Done.{Done}
 use Rattle.xk_serve.specs.declared.job_result.Done.TheVariants as done
 use Rattle.xk_serve.specs.declared.picture.Picture.TheVariants as picture
 use Rattle.xk_serve.specs.declared.fault.Fault.TheVariants as fault
-use Rattle.xk_serve.specs.Answer.{Answers, Doing, Draw, Explain, IsLogText, IsSaidOf, Outcomes, Reply, Replay, Run, Task, done_reply, fault_reply}
+use Rattle.xk_serve.specs.Answer.{Answers, Doing, Draw, Expected, Explain, IsLogText, IsSaidOf, Outcomes, Reply, Replay, Run, Task, done_reply, fault_reply}
 use Rattle.xk_diagnostics.specs.Lines.{kind_text, line}
 use Rattle.xk_serve.specs.Programs.{Gives, IsSource, SpellsNone}
 
@@ -43,18 +43,21 @@ IsSameLine a b = (a ≡ b) ⊎ TellWalks a b
 abbrev pub ComesToOne : Doing → Type 0
 ComesToOne (Run (By n) kept) = ⊥
 ComesToOne (Outcomes sets limit pick kept) = ⊥
+ComesToOne (Expected sets limit) = ⊥
 ComesToOne _ = ⊤
 
 -- what goes to standard output is one: what it comes to is, and no refusal is explained, to which there may be several walks
 abbrev pub IsDetermined : Doing → Type 0
 IsDetermined (Run (By n) kept) = ⊥
 IsDetermined (Outcomes sets limit pick kept) = ⊥
+IsDetermined (Expected sets limit) = ⊥
 IsDetermined (Explain json) = ⊥
 IsDetermined _ = ⊤
 
 -- the status is one: no outcomes are looked for, which may be all or not
 abbrev pub HasOneStatus : Doing → Type 0
 HasOneStatus (Outcomes sets limit pick kept) = ⊥
+HasOneStatus (Expected sets limit) = ⊥
 HasOneStatus _ = ⊤
 
 -- Two replies to a job are one, but for the walk to a refusal of kinds; where workers take the steps, but for the numbers and the log of the run; where

@@ -3,7 +3,7 @@
 ghost use Rattle.std.specs.Prelude.{◌≡◌, ◌≢◌, ℕ, ℤ, List, false, true, IfOk, IfErr, IfSome, OnOk};
 ghost use Rattle.xk_types.specs.Acceptance.{IsAccepted};
 ghost use Rattle.xk_types.specs.World.{AreArguments};
-ghost use Rattle.xk_serve.specs.Answer.{Check, ComesTo, Compile, Explain, IsLogText, IsNotRun, IsRefusal, IsTelling, IsText, Listing, Replay, Run, Succeeds, reads_log, task_of, way_given};
+ghost use Rattle.xk_serve.specs.Answer.{Check, ComesTo, Compile, Explain, IsLogText, IsNotRun, IsRefusal, IsTelling, IsText, Listing, Replay, Run, Succeeds, reads_more, task_of, way_given};
 ghost use Rattle.xk_cli.specs.CommandLine.{By, In};
 ghost use Rattle.xk_cli.specs.Status.{status_program};
 ghost use Rattle.xk_serve.specs.Lines.{status_of};
@@ -16,7 +16,7 @@ use crate::first_races::raced;
 use crate::job_result::Done;
 use crate::logged_run::{run_by_workers, run_with_log, steps_of};
 use crate::ordered_run::run_in_order;
-use crate::outcome_search::searched;
+use crate::outcome_search::{held, searched};
 use crate::picture::{Picture, drawn, lanes_given};
 use crate::program_loader::module_in;
 use crate::tally::tallied;
@@ -33,7 +33,7 @@ use xk_scheduler::Ended;
 use xk_types::{Module, Source};
 
 /// What the job on a file of these bytes comes to, or what stands against it: a fault of the text (F1 to F15, M1 to M3), of its module (V1 to
-/// V17), of main's arguments where it is run (A1), or of the log where one is read, want of memory, or a read of the log that failed.
+/// V17), of main's arguments where it is run (A1), or of the log or the list where one is read, want of memory, or a read of these that failed.
 pub(crate) fn answer<R: Threads + Wait + Sync, L: Source>(
     rt: &R,
     alloc: Global,
@@ -46,8 +46,8 @@ pub(crate) fn answer<R: Threads + Wait + Sync, L: Source>(
     ensures no_fault { OnOk result (L.fault_count log_in.new ≡ L.fault_count log_in.old) }
     ensures fault { IfErr result (λ f. AgainstLog (task_of job.now) bytes.now
         (L.remaining log_in.old) (L.fault_count log_in.old) (L.fault_count log_in.new) f) }
-    ensures unread { reads_log (task_of job.now).doing ≡ false → log_in.new ≡ log_in.old }
-    // Where the program is refused, no log was read.
+    ensures unread { reads_more (task_of job.now).doing ≡ false → log_in.new ≡ log_in.old }
+    // Where the program is refused, no log or list was read.
     ensures refused { IfErr result
         (λ f. status_of f ≡ status_program → log_in.new ≡ log_in.old) }
 {
@@ -90,6 +90,9 @@ pub(crate) fn answer<R: Threads + Wait + Sync, L: Source>(
             pick,
             log,
         } => searched(alloc, sets, limit, pick, log.is_some(), module, arguments),
+        Command::Expected { limit, sets, .. } => {
+            held(alloc, sets, limit, module, arguments, log_in)
+        }
     }
 }
 
@@ -187,7 +190,7 @@ fn replayed<L: Source>(
 }
 
 /// The module, if the verifier accepts it and its main takes as many numbers as it is given (A1).
-pub(crate) fn runnable(alloc: Global, m: Module, arguments: &[i64]) -> Result<Verified, Fault>
+pub fn runnable(alloc: Global, m: Module, arguments: &[i64]) -> Result<Verified, Fault>
     ensures accepted { IfOk result (λ v. (v ≡ m) × IsAccepted m) }
     ensures taken { OnOk result (AreArguments m arguments.now) }
     ensures refused { IfErr result (IsNotRun m arguments.now) }

@@ -5,7 +5,7 @@ ghost use Rattle.std.specs.Io.KnownBytes.{Appends};
 ghost use Rattle.xk_types.specs.Device.{Rose};
 ghost use Rattle.xk_log.specs.Writing.{AppendsBeginning};
 ghost use Rattle.xk_cli.specs.Status.{status_device, status_done, status_memory, status_partial, status_program};
-ghost use Rattle.xk_serve.specs.Answer.{Succeeds, done_status, reads_log, task_of};
+ghost use Rattle.xk_serve.specs.Answer.{Succeeds, done_status, reads_more, task_of};
 ghost use Rattle.xk_serve.specs.Bytes.{FailsRead, IsReadToLimit, kept};
 ghost use Rattle.xk_serve.specs.Lines.{device_line, done_ending, done_log, status_of};
 ghost use Rattle.xk_diagnostics.specs.Lines.{memory_line};
@@ -14,7 +14,7 @@ ghost use Rattle.xk_serve.specs.Devices.{AgainstLog, Answered, ErrBegins, Explai
 use crate::bounded_read::read_front;
 use crate::commands::answer;
 use crate::explanation::{Refused, refused_by, unsaid};
-use crate::fault::{DEVICE_LINE, EXCLUDED_LINE, Fault, RUNS_LINE, SEED_LINE};
+use crate::fault::{DEVICE_LINE, EXCLUDED_LINE, Fault, LIST_LINE, RUNS_LINE, SEED_LINE};
 use crate::job_result::Done;
 use crate::program_loader::{LONGEST_MODULE, LONGEST_SOURCE};
 use std::alloc::Global;
@@ -28,7 +28,7 @@ use xk_types::{Sink, Source};
 /// Reads the program, does the job, and writes what comes of it: its result to `out` and then the log of a run that is to have one
 /// to `log_out`, or one line to `err`. The answer is the exit status: 0 where the job is done, 6 where it is
 /// done but its answer isn't whole, 1 where the program is refused, or is to be run and its
-/// main takes another number of arguments than it is given, 3 where the log is refused, 4 where memory ran out, 5 where a device failed. A run by workers is some run of the program: a call with such a job may wait for them, and
+/// main takes another number of arguments than it is given, 3 where the log or the list of outcomes is refused, 4 where memory ran out, 5 where a device failed. A run by workers is some run of the program: a call with such a job may wait for them, and
 /// what is said here holds where it returns. Whatever the answer but 5, no read or write failed. The result is written piece by piece, once
 /// all is known and no more memory is wanted, so `out` and `log_out` stay empty but at 0, 6 and 5, and `err` never gets more than one line.
 pub fn serve<R: Threads + Wait + Sync, P: Source, L: Source, O: Sink, E: Sink, K: Sink>(
@@ -79,8 +79,8 @@ pub fn serve<R: Threads + Wait + Sync, P: Source, L: Source, O: Sink, E: Sink, K
         → Appends (E.contents err.old) (E.contents err.new) device_line
         ⊎ Rose (E.fault_count err.old) (E.fault_count err.new) }
 
-    // No log is read where the job is on none, nor where the program is refused; of a source text no more than one byte too many.
-    ensures log_in { reads_log (task_of job.now).doing ≡ false → log_in.new ≡ log_in.old }
+    // No log or list is read where the job is on none, nor where the program is refused; of a source text no more than one byte too many.
+    ensures log_in { reads_more (task_of job.now).doing ≡ false → log_in.new ≡ log_in.old }
     ensures log_unread { result ≡ status_program → log_in.new ≡ log_in.old }
     ensures no_further { IsReadToLimit (task_of job.now).form
         (P.remaining program.old) (P.remaining program.new) }
@@ -115,7 +115,7 @@ fn outcome<R: Threads + Wait + Sync, P: Source, L: Source>(
           log_new = L.fault_count log_in.new;
         }) r.fault r.said.items) }
     ensures quiet { IfErr result (λ r. IsQuiet r.fault r.said.items) }
-    ensures unread { reads_log (task_of job.now).doing ≡ false → log_in.new ≡ log_in.old }
+    ensures unread { reads_more (task_of job.now).doing ≡ false → log_in.new ≡ log_in.old }
     ensures refused { IfErr result
         (λ r. status_of r.fault ≡ status_program → log_in.new ≡ log_in.old) }
     ensures no_further { IsReadToLimit (task_of job.now).form
@@ -144,7 +144,7 @@ fn done_on<R: Threads + Wait + Sync, L: Source>(
     ensures no_fault { OnOk result (L.fault_count log_in.new ≡ L.fault_count log_in.old) }
     ensures fault { IfErr result (λ f. AgainstLog (task_of job.now) bytes.now
         (L.remaining log_in.old) (L.fault_count log_in.old) (L.fault_count log_in.new) f) }
-    ensures unread { reads_log (task_of job.now).doing ≡ false → log_in.new ≡ log_in.old }
+    ensures unread { reads_more (task_of job.now).doing ≡ false → log_in.new ≡ log_in.old }
     ensures refused { IfErr result
         (λ f. status_of f ≡ status_program → log_in.new ≡ log_in.old) }
 {
@@ -154,7 +154,7 @@ fn done_on<R: Threads + Wait + Sync, L: Source>(
 }
 
 /// All that counts of the bytes in FILE: one byte more than its text may have, at most, and no others are read then.
-fn read_program<P: Source>(alloc: Global, form: Form, program: &mut P) -> Result<Vec<u8>, Fault>
+pub fn read_program<P: Source>(alloc: Global, form: Form, program: &mut P) -> Result<Vec<u8>, Fault>
     ensures kept { IfOk result (λ bytes.
         IfSome (P.remaining program.old) (λ known. bytes.items ≡ kept form known)) }
     ensures no_further { IsReadToLimit form (P.remaining program.old) (P.remaining program.new) }
@@ -276,7 +276,8 @@ pub fn report<E: Sink>(alloc: Global, fault: &Fault, err: &mut E) -> u8
         | Fault::Grammar(_)
         | Fault::Truncated
         | Fault::NotEnabled(_)
-        | Fault::NotEnded => match fault.line(alloc) {
+        | Fault::NotEnded
+        | Fault::NoOutcome(_) => match fault.line(alloc) {
             Ok(line) => tell(line.as_str(), fault.status(), err),
             Err(_) => tell(MEMORY_LINE, status::MEMORY, err),
         },
@@ -311,6 +312,7 @@ pub fn tell_words<O: Sink, E: Sink>(fault: &WordsFault, out: &mut O, err: &mut E
         WordsFault::OrderAndWorkers => tell(EXCLUDED_LINE, status::WORDS, err),
         WordsFault::SeedAlone => tell(SEED_LINE, status::WORDS, err),
         WordsFault::MisplacedRuns => tell(RUNS_LINE, status::WORDS, err),
+        WordsFault::MisplacedList => tell(LIST_LINE, status::WORDS, err),
         WordsFault::OutOfMemory => tell(MEMORY_LINE, status::MEMORY, err),
     }
 }

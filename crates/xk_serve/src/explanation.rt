@@ -79,7 +79,8 @@ fn said_of(alloc: Global, job: &Job<'_>, bytes: &[u8], fault: &Fault) -> Result<
         | Command::Where { .. }
         | Command::Races { .. }
         | Command::Tally { .. }
-        | Command::Outcomes { .. } => Ok(Vec::new(alloc)),
+        | Command::Outcomes { .. }
+        | Command::Expected { .. } => Ok(Vec::new(alloc)),
     }
 }
 
@@ -108,6 +109,7 @@ fn explanation(
         | Fault::Truncated
         | Fault::NotEnabled(_)
         | Fault::NotEnded
+        | Fault::NoOutcome(_)
         | Fault::OutOfMemory
         | Fault::Device => Ok(Vec::new(alloc)),
     }

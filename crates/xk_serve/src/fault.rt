@@ -10,7 +10,7 @@ use xk_bounds::Refusal;
 use xk_cli::status;
 use xk_diagnostics::{
     MEMORY_LINE, arguments_line, front_text, grammar_line, label_line, label_status, line,
-    not_enabled_line, refusal_line, refusal_status,
+    no_outcome_line, not_enabled_line, refusal_line, refusal_status,
 };
 use xk_log::{Log, LogFault};
 use xk_module::ModuleFault;
@@ -45,6 +45,9 @@ pub enum Fault {
     /// The log stops before its run does.
     #[error("the log stops before its run does")]
     NotEnded,
+    /// This line of a list of outcomes, from 1 on, is the first that may not stand there.
+    #[error("line {0} of the list is no outcome's")]
+    NoOutcome(u64),
     /// Memory ran out.
     #[error("out of memory")]
     OutOfMemory,
@@ -66,6 +69,9 @@ pub(crate) const SEED_LINE: &str = "x10clock: --seed goes with --order random\n"
 pub(crate) const RUNS_LINE: &str =
     "x10clock: --runs goes with --order random, and not with --log\n";
 
+/// The words have a list of outcomes, and an outcome to pick, or a log.
+pub(crate) const LIST_LINE: &str = "x10clock: --expect goes without --log and --pick\n";
+
 impl Fault {
     /// The status that the program ends with.
     pub(crate) fn status(&self) -> u8
@@ -75,9 +81,11 @@ impl Fault {
             Fault::Text(fault) => label_status(*fault),
             Fault::Front(_) | Fault::Arguments { .. } => status::PROGRAM,
             Fault::Refused(refusal) => refusal_status(refusal),
-            Fault::Grammar(_) | Fault::Truncated | Fault::NotEnabled(_) | Fault::NotEnded => {
-                status::LOG
-            }
+            Fault::Grammar(_)
+            | Fault::Truncated
+            | Fault::NotEnabled(_)
+            | Fault::NotEnded
+            | Fault::NoOutcome(_) => status::LOG,
             Fault::OutOfMemory => status::MEMORY,
             Fault::Device => status::DEVICE,
         }
@@ -96,6 +104,7 @@ impl Fault {
             Fault::Truncated => line(alloc, "L2 Truncated"),
             Fault::NotEnabled(entry) => not_enabled_line(alloc, *entry),
             Fault::NotEnded => line(alloc, "L5 NotEnded"),
+            Fault::NoOutcome(number) => no_outcome_line(alloc, *number),
             Fault::OutOfMemory => String::from_str(alloc, MEMORY_LINE),
             Fault::Device => String::from_str(alloc, DEVICE_LINE),
         }

@@ -42,7 +42,7 @@ pub(crate) enum Done {
         /// Who took a step after whom, where that is to be kept.
         log: Option<Vec<Entry>>,
     },
-    /// `outcomes`: this is told of what the module can print.
+    /// `outcomes`: this is told of what the module can print, or of what isn't in a list.
     Outcomes {
         text: Vec<u8>,
         /// Whether that is all, and the log that is to be kept is there.

@@ -17,5 +17,7 @@ mod program_loader;
 mod tally;
 mod whereabouts;
 
-pub use devices::{report, serve, tell, tell_words};
+pub use commands::runnable;
+pub use devices::{read_program, report, serve, tell, tell_words};
 pub use fault::Fault;
+pub use program_loader::{module_by, origins_in};

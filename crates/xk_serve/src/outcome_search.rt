@@ -1,24 +1,25 @@
 //! What a module can print.
 
-ghost use Rattle.std.specs.Prelude.{◌≡◌, ◌&&◌, not, true, ℕ, List, IfOk, IfErr, option_map, unwrap_or};
+ghost use Rattle.std.specs.Prelude.{◌≡◌, ◌≢◌, ℕ, List, IfOk, IfErr, IfSome, None, OnOk, option_map, unwrap_or};
 ghost use Rattle.xk_types.specs.World.{AreArguments};
-ghost use Rattle.xk_serve.specs.Answer.{AreAllAs, AreDistinctAs, AreShownAs, ComesTo, IsFoundOut, IsNotRun, Outcomes, kept_log, usual_limit};
+ghost use Rattle.xk_serve.specs.Answer.{ComesTo, Expected, IsFoundOut, IsHeldOut, IsNotRun, Outcomes, kept_log, usual_limit};
+ghost use Rattle.xk_cli.specs.Status.{status_program};
+ghost use Rattle.xk_serve.specs.Devices.{AgainstExpected, AgainstList};
+ghost use Rattle.xk_serve.specs.Lines.{status_of};
 
+use crate::bounded_read::read_front;
 use crate::commands::runnable;
 use crate::fault::Fault;
 use crate::job_result::Done;
 use std::alloc::{AllocError, Global};
 use xk_bounds::Verified;
-use xk_outcomes::{Limit, Outcome, Outcomes as OutcomeList, outcome_sets, outcomes, outcomes_text};
-use xk_types::{Entry, Module};
+use xk_outcomes::{
+    Limit, ListFault, Outcome, expected_outcomes, is_whole, outcomes_as, outcomes_text,
+};
+use xk_types::{Entry, Module, Source};
 
-/// How many worlds are kept at most, and how many outcomes are told, where nothing is said.
-const USUAL_LIMIT: u64 = 40_000;
-
-/// How many bytes these may take, and how many one takes for each activity and beside them, as far as can be said before.
-const USUAL_BYTES: u64 = 400_000_000;
-
-const BYTES_EACH: u64 = 1_000;
+/// How many bytes of a list are read at most.
+const LONGEST_LIST: usize = 100_000_000;
 
 /// What a module can print that is given these arguments, if it is accepted and main takes as many, with the log of one outcome where that is to be
 /// kept.
@@ -37,18 +38,16 @@ pub(crate) fn searched(
     ensures fault { IfErr result (IsNotRun m arguments.now) }
 {
     let verified = runnable(alloc, m, arguments)?;
-    let bytes = BYTES_EACH * (1 + u64::from(verified.activities()));
-    let usual = (USUAL_BYTES / bytes).min(USUAL_LIMIT);
-    let most = limit.unwrap_or(usual) as usize;
+    let limit = Limit::of(limit, verified.activities());
     let pick = pick.unwrap_or(1) as usize;
-    Ok(found_out(alloc, sets, most, pick, keeps_log, &verified, arguments)?)
+    Ok(found_out(alloc, sets, limit, pick, keeps_log, &verified, arguments)?)
 }
 
 /// The same of an accepted module.
 fn found_out(
     alloc: Global,
     sets: bool,
-    most: usize,
+    limit: Limit,
     pick: usize,
     keeps_log: bool,
     verified: &Verified,
@@ -57,43 +56,65 @@ fn found_out(
     requires { AreArguments verified.now arguments.now }
     ensures { IfOk result (IsFoundOut verified.now arguments.now sets pick keeps_log) }
 {
-    let limit = Limit {
-        entries: most,
-        outcomes: most,
-    };
-    let found = found_as(alloc, sets, verified, arguments, limit)?;
+    let found = outcomes_as(alloc, sets, verified, arguments, limit)?;
     let text = outcomes_text(alloc, &found.list, found.complete)?;
     let log = kept_log(alloc, keeps_log, pick, &found.list)?;
     let whole = is_whole(found.complete, keeps_log, log.is_some());
     Ok(Done::Outcomes { text, whole, log })
 }
 
-/// The outcomes as lists of numbers, or without their order.
-fn found_as(
+/// What a module can print that is given these arguments is held against the list, if it is accepted and main takes as many. Where it isn't run, no
+/// list is read.
+pub(crate) fn held<L: Source>(
     alloc: Global,
     sets: bool,
-    verified: &Verified,
+    limit: Option<u64>,
+    m: Module,
     arguments: &[i64],
-    limit: Limit,
-) -> Result<OutcomeList, AllocError>
-    requires { AreArguments verified.now arguments.now }
-    ensures shown { IfOk result
-        (λ r. AreShownAs sets verified.now arguments.now r.list.items) }
-    ensures distinct { IfOk result (λ r. AreDistinctAs sets r.list.items) }
-    ensures all { IfOk result
-        (λ r. r.complete ≡ true → AreAllAs sets verified.now arguments.now r.list.items) }
+    source: &mut L,
+) -> Result<Done, Fault>
+    ensures done { IfOk result (λ d. IfSome (L.remaining source.old) (λ bytes.
+        ComesTo (Expected sets (unwrap_or limit usual_limit)) m arguments.now bytes d)) }
+    ensures no_fault { OnOk result (L.fault_count source.new ≡ L.fault_count source.old) }
+    ensures fault { IfErr result (AgainstExpected m arguments.now (L.remaining source.old)
+        (L.fault_count source.old) (L.fault_count source.new)) }
+    ensures refused { IfErr result
+        (λ f. status_of f ≡ status_program → source.new ≡ source.old) }
 {
-    if sets {
-        return outcome_sets(alloc, verified, arguments, limit);
-    }
-    outcomes(alloc, verified, arguments, limit)
+    let verified = runnable(alloc, m, arguments)?;
+    let limit = Limit::of(limit, verified.activities());
+    held_by(alloc, sets, limit, &verified, arguments, source)
 }
 
-/// Whether an answer is whole: all is told, and the log is there if it is to be kept.
-fn is_whole(complete: bool, keeps_log: bool, is_kept: bool) -> bool
-    ensures { result ≡ (complete && not (keeps_log && not is_kept)) }
+/// The same of an accepted module.
+fn held_by<L: Source>(
+    alloc: Global,
+    sets: bool,
+    limit: Limit,
+    verified: &Verified,
+    arguments: &[i64],
+    source: &mut L,
+) -> Result<Done, Fault>
+    requires { AreArguments verified.now arguments.now }
+    ensures done { IfOk result (λ d. IfSome (L.remaining source.old)
+        (λ bytes. IsHeldOut verified.now arguments.now sets bytes d)) }
+    ensures no_fault { OnOk result (L.fault_count source.new ≡ L.fault_count source.old) }
+    ensures fault { IfErr result (AgainstList (L.remaining source.old)
+        (L.fault_count source.old) (L.fault_count source.new)) }
+    ensures of_list { IfErr result (λ f. status_of f ≢ status_program) }
 {
-    complete && !(keeps_log && !is_kept)
+    let bytes = read_front(alloc, source, LONGEST_LIST)?;
+    match expected_outcomes(alloc, sets, verified, arguments, limit, &bytes) {
+        Ok(held) => Ok(Done::Outcomes {
+            text: held.text,
+            whole: held.whole,
+            log: None,
+        }),
+        Err(fault) => match fault {
+            ListFault::Stray(line) => Err(Fault::NoOutcome(line)),
+            ListFault::OutOfMemory => Err(Fault::OutOfMemory),
+        },
+    }
 }
 
 /// The log of the outcome of this number, counted from 1, where it is to be kept and there is such an outcome.

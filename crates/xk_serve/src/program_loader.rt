@@ -3,6 +3,7 @@
 ghost use Rattle.std.specs.Prelude.{◌≡◌, ◌≤◌, ℕ, List, Some, length, IfOk, OnOk, IfErr, IsUtf8};
 ghost use Rattle.xk_serve.specs.Explanation.{GiveProgram, HaveOrigins};
 ghost use Rattle.xk_serve.specs.Answer.{FailsBy, task_of};
+ghost use Rattle.xk_serve.specs.Faults.{GivesNoModule};
 ghost use Rattle.xk_serve.specs.Programs.{Gives, IsNoText, IsSource, IsUnfit, IsUnfitModule, IsUnspelled, longest_source};
 ghost use Rattle.xk_tree.specs.Program.{tree_value};
 ghost use Rattle.xk_cli.specs.declared.job.Form.TheVariants as form;
@@ -30,6 +31,17 @@ pub(crate) fn module_in(alloc: Global, job: &Job<'_>, bytes: &[u8]) -> Result<Mo
         → FailsBy (task_of job.now) bytes.now logged f) }
 {
     match job.form {
+        Form::Module => Ok(module_of(alloc, bytes)?),
+        Form::Source => Ok(compiled(alloc, bytes)?),
+    }
+}
+
+/// The same where what stands there is such a text.
+pub fn module_by(alloc: Global, form: Form, bytes: &[u8]) -> Result<Module, Fault>
+    ensures module { IfOk result (Gives form bytes.now) }
+    ensures fault { IfErr result (GivesNoModule form bytes.now) }
+{
+    match form {
         Form::Module => Ok(module_of(alloc, bytes)?),
         Form::Source => Ok(compiled(alloc, bytes)?),
     }
@@ -90,7 +102,7 @@ pub(crate) fn program_in(
 }
 
 /// Where the instructions come from of the module that these bytes give, which a module text doesn't say.
-pub(crate) fn origins_in(
+pub fn origins_in(
     alloc: Global,
     form: Form,
     bytes: &[u8],

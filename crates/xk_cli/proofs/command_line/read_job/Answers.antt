@@ -5,22 +5,23 @@ use Rattle.clap.specs.declared.error.kind.ErrorKind.{ErrorKind}
 use Rattle.clap.specs.declared.error.kind.ErrorKind.TheVariants as kind
 use Rattle.xk_cli.specs.declared.words_fault.WordsFault.{WordsFault}
 use Rattle.xk_cli.specs.declared.words_fault.WordsFault.TheVariants as fault
-use Rattle.xk_cli.specs.CommandLine.{Asked, FitsKind, IsRefused, Names, WithOrders, asked_in, command_line, excludes_by, excludes_in, faults_in, job_of, misplaces_by, misplaces_in, strays_by, strays_in, texts}
+use Rattle.xk_cli.specs.CommandLine.{Asked, FitsKind, IsRefused, Names, WithOrders, asked_in, command_line, crowds_by, crowds_in, excludes_by, excludes_in, faults_in, job_of, misplaces_by, misplaces_in, strays_by, strays_in, texts}
 use Rattle.xk_cli.proofs.command_line.read_job.Goals as goal
 
 -- a fault that fits the kind of an error fits what may be the kind
-refused_by : (kinds : Kinds) (asked : Option Asked) (both alone misplaced : Bool) (k : ErrorKind) (f : WordsFault)
-    → (k ≡ kind.OutOfMemory) ⊎ IsAmong k kinds → FitsKind k f → IsRefused kinds asked both alone misplaced f
-refused_by kinds asked both alone misplaced k (fault.Help text) (inl e) (inl h) = cc
-refused_by kinds asked both alone misplaced k (fault.Help text) (inl e) (inr h) = cc
-refused_by kinds asked both alone misplaced k (fault.Help text) (inr among) (inl h) = inl (rw h at among)
-refused_by kinds asked both alone misplaced k (fault.Help text) (inr among) (inr h) = inr (rw h at among)
-refused_by kinds asked both alone misplaced k (fault.NotUnderstood text) (inl e) fits = absurd (fits.2 e)
-refused_by kinds asked both alone misplaced k (fault.NotUnderstood text) (inr among) fits = inl (k, among, fits.0, fits.1)
-refused_by kinds asked both alone misplaced k fault.OrderAndWorkers has fits = absurd fits
-refused_by kinds asked both alone misplaced k fault.SeedAlone has fits = absurd fits
-refused_by kinds asked both alone misplaced k fault.MisplacedRuns has fits = absurd fits
-refused_by kinds asked both alone misplaced k fault.OutOfMemory has fits = tt
+refused_by : (kinds : Kinds) (asked : Option Asked) (both alone misplaced crowded : Bool) (k : ErrorKind) (f : WordsFault)
+    → (k ≡ kind.OutOfMemory) ⊎ IsAmong k kinds → FitsKind k f → IsRefused kinds asked both alone misplaced crowded f
+refused_by kinds asked both alone misplaced crowded k (fault.Help text) (inl e) (inl h) = cc
+refused_by kinds asked both alone misplaced crowded k (fault.Help text) (inl e) (inr h) = cc
+refused_by kinds asked both alone misplaced crowded k (fault.Help text) (inr among) (inl h) = inl (rw h at among)
+refused_by kinds asked both alone misplaced crowded k (fault.Help text) (inr among) (inr h) = inr (rw h at among)
+refused_by kinds asked both alone misplaced crowded k (fault.NotUnderstood text) (inl e) fits = absurd (fits.2 e)
+refused_by kinds asked both alone misplaced crowded k (fault.NotUnderstood text) (inr among) fits = inl (k, among, fits.0, fits.1)
+refused_by kinds asked both alone misplaced crowded k fault.OrderAndWorkers has fits = absurd fits
+refused_by kinds asked both alone misplaced crowded k fault.SeedAlone has fits = absurd fits
+refused_by kinds asked both alone misplaced crowded k fault.MisplacedRuns has fits = absurd fits
+refused_by kinds asked both alone misplaced crowded k fault.MisplacedList has fits = absurd fits
+refused_by kinds asked both alone misplaced crowded k fault.OutOfMemory has fits = tt
 
 simple : (names : Names) → is_simple (command_line names) ≡ true
 simple names = refl
@@ -56,9 +57,15 @@ misplaces_are : (names : Names) (a : App) (words : List Text) (found : Option (T
 unfolding misplaces_in
 misplaces_are names a words found e h = ap misplaces_by (h ∙ ap (λ b. subcommand_of b words) e)
 
+-- the same of a list that has no place there
+crowds_are : (names : Names) (a : App) (words : List Text) (found : Option (Text × List _))
+    → a ≡ command_line names → found ≡ subcommand_of a words → crowds_by found ≡ crowds_in names words
+unfolding crowds_in
+crowds_are names a words found e h = ap crowds_by (h ∙ ap (λ b. subcommand_of b words) e)
+
 -- want of memory says nothing of the names
 without_memory : WithOrders (λ names. Unit {0})
-without_memory = (record { ref_ptr = (0, 0); now = map (λ t. record { ref_ptr = (0, 0); now = t }) (codes "first" ∷ codes "last" ∷ codes "round" ∷ codes "random" ∷ []) }, refl, tt)
+without_memory = (record { ref_ptr = (0, 0); now = map (λ t. record { ref_ptr = (0, 0); now = t }) (codes "first" ∷ codes "last" ∷ codes "round" ∷ codes "random" ∷ codes "ask" ∷ []) }, refl, tt)
 
 pub returns-in-Ok-clause-job : goal.returns-in-Ok-clause-job
 returns-in-Ok-clause-job c =
@@ -95,7 +102,8 @@ returns-in-Ok-clause-refused c =
     let both = excludes_are line.0 (app_of c.in_ok-command_line.command_line) (texts c.args.words.now) (subcommand_rows_of c.in-Ok.matches) line.2 found in
     let alone = strays_are line.0 (app_of c.in_ok-command_line.command_line) (texts c.args.words.now) (subcommand_rows_of c.in-Ok.matches) line.2 found in
     let misplaced = misplaces_are line.0 (app_of c.in_ok-command_line.command_line) (texts c.args.words.now) (subcommand_rows_of c.in-Ok.matches) line.2 found in
-    IfErr-weaker c.asked.result _ _ (λ f h. (line.0, line.1, rw (no_fault, ← job, ← both, ← alone, ← misplaced) h)) c.asked.ensures.refused
+    let crowded = crowds_are line.0 (app_of c.in_ok-command_line.command_line) (texts c.args.words.now) (subcommand_rows_of c.in-Ok.matches) line.2 found in
+    IfErr-weaker c.asked.result _ _ (λ f h. (line.0, line.1, rw (no_fault, ← job, ← both, ← alone, ← misplaced, ← crowded) h)) c.asked.ensures.refused
 
 pub returns-in-Err-clause-refused : goal.returns-in-Err-clause-refused
 returns-in-Err-clause-refused c =
@@ -104,7 +112,7 @@ returns-in-Err-clause-refused c =
       line.0,
       line.1,
       refused_by (faults_in line.0 (texts c.args.words.now)) (job_of line.0 (texts c.args.words.now)) (excludes_in line.0 (texts c.args.words.now)) (strays_in line.0 (texts c.args.words.now))
-          (misplaces_in line.0 (texts c.args.words.now)) _ c.words_fault.result
+          (misplaces_in line.0 (texts c.args.words.now)) (crowds_in line.0 (texts c.args.words.now)) _ c.words_fault.result
           (rw e at (c.in-Err.ensures.kinds (ap is_simple_and_free line.2 ∙ free line.0))) c.words_fault.ensures,
     )
 

@@ -1,6 +1,6 @@
 use Rattle.std.proofs.Common.{◌≡◌, true, IfOk, subst, sym}
-use Rattle.xk_serve.specs.Answer.{AreAllAs}
-use Rattle.xk_serve.proofs.outcome_search.found_as.Goals as goal
+use Rattle.xk_outcomes.specs.Sets.{AreAllAs}
+use Rattle.xk_outcomes.proofs.all_outcomes.outcomes_as.Goals as goal
 
 pub returns-then-sets-clause-all : goal.returns-then-sets-clause-all
 returns-then-sets-clause-all c =

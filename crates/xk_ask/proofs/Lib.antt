@@ -1,0 +1,5 @@
+pub mod LineLemmas
+pub mod TurnLemmas
+pub mod QuestionLemmas
+pub mod PlayLemmas
+mod AskExamples

@@ -1,0 +1,42 @@
+use Rattle.std.proofs.Common.{subst}
+use Rattle.std.specs.Io.KnownBytes.{Appends}
+use Rattle.xk_log.specs.Writing.{AppendsBeginning}
+use Rattle.xk_core.specs.Core.{CoreValue}
+use Rattle.xk_ask.specs.Answers.{answers, most_bytes}
+use Rattle.xk_ask.specs.Asking.{to_come}
+use Rattle.xk_ask.specs.Play.{question, told}
+use Rattle.xk_ask.proofs.PlayLemmas.{begun_before, begun_early, failed, said_before, so_then}
+use Rattle.xk_ask.proofs.game.play.Goals as goal
+
+pub returns-in_err-ask-clause-played : goal.returns-in_err-ask-clause-played
+returns-in_err-ask-clause-played g c = failed _ _ c.from_residual.ensures.0
+
+pub returns-in_err-ask-clause-told : goal.returns-in_err-ask-clause-told
+returns-in_err-ask-clause-told g c = failed _ _ c.from_residual.ensures.0
+
+pub returns-in_err-ask-clause-begins : goal.returns-in_err-ask-clause-begins
+returns-in_err-ask-clause-begins g c =
+    let d = c.args.game.now.driver in
+    begun_early (g.E.Sink.contents c.args.err.now) (g.E.Sink.contents c.ask.new.err) (question c.args.places.now d.module_run d.world)
+    (to_come most_bytes (g.R.Source.remaining c.args.input.now)) (λ t. told c.args.places.now d.module_run (answers t) d.world)
+    (subst (λ (x : CoreValue). AppendsBeginning (g.E.Sink.contents c.args.err.now) (g.E.Sink.contents c.ask.new.err) (question c.args.places.now x.module_run x.world))
+    c.core.ensures c.ask.ensures.begins)
+
+pub returns-clause-told : goal.returns-clause-told
+returns-clause-told g c =
+    let d = c.args.game.now.driver in
+    so_then _ _ c.play_on.result
+    (said_before (g.E.Sink.contents c.args.err.now) (g.E.Sink.contents c.ask.new.err) (g.E.Sink.contents c.play_on.new.err) (question c.args.places.now d.module_run d.world)
+    (to_come most_bytes (g.R.Source.remaining c.args.input.now)) (λ t. told c.args.places.now d.module_run (answers t) d.world)
+    (subst (λ (x : CoreValue). Appends (g.E.Sink.contents c.args.err.now) (g.E.Sink.contents c.ask.new.err) (question c.args.places.now x.module_run x.world))
+    c.core.ensures c.in_ok-ask.ensures.asked))
+    c.play_on.ensures.told
+
+pub returns-clause-begins : goal.returns-clause-begins
+returns-clause-begins g c =
+    let d = c.args.game.now.driver in
+    begun_before (g.E.Sink.contents c.args.err.now) (g.E.Sink.contents c.ask.new.err) (g.E.Sink.contents c.play_on.new.err) (question c.args.places.now d.module_run d.world)
+    (to_come most_bytes (g.R.Source.remaining c.args.input.now)) (λ t. told c.args.places.now d.module_run (answers t) d.world)
+    (subst (λ (x : CoreValue). Appends (g.E.Sink.contents c.args.err.now) (g.E.Sink.contents c.ask.new.err) (question c.args.places.now x.module_run x.world))
+    c.core.ensures c.in_ok-ask.ensures.asked)
+    c.play_on.ensures.begins

@@ -1,0 +1,72 @@
+use Rattle.std.proofs.Common.{◌≡◌, ◌∙◌, refl, subst, false}
+use Rattle.std.specs.Prelude.{IfSome}
+use Rattle.xk_types.specs.Schedule.{all_ended}
+use Rattle.xk_ask.specs.Answers.{most_bytes}
+use Rattle.xk_ask.specs.Asking.{TakesAnswer, to_come}
+use Rattle.xk_ask.proofs.PlayLemmas.{playing_starts, playing_on, playing_breaks, playing_stops, playing_out, failed}
+use Rattle.xk_ask.proofs.game.play_on.Goals as goal
+
+pub loop-answer-init : goal.loop-answer-init
+loop-answer-init g c = record {
+  playing = playing_starts c.args.places.now c.args.game.now.driver c.args.game.now.log.items (g.E.Sink.contents c.args.err.now)
+      (to_come most_bytes (g.R.Source.remaining c.args.input.now));
+  no_read_fault = refl;
+  no_write_fault = refl;
+}
+
+pub returns-in_err-answer-clause-played : goal.returns-in_err-answer-clause-played
+returns-in_err-answer-clause-played g c = failed _ _ c.from_residual.ensures.0
+
+pub returns-in_err-answer-clause-told : goal.returns-in_err-answer-clause-told
+returns-in_err-answer-clause-told g c = failed _ _ c.from_residual.ensures.0
+
+pub returns-in_err-answer-clause-begins : goal.returns-in_err-answer-clause-begins
+returns-in_err-answer-clause-begins g c = playing_stops _ _ _ _ _ _ _ _ _ c.loop-answer.invariant.playing
+
+pub loop-answer-preserved : goal.loop-answer-preserved
+loop-answer-preserved g c =
+    let l = c.loop-answer in
+    let x = c.in-Some.answer in
+    let takes : TakesAnswer x (to_come l.left (g.R.Source.remaining l.input)) (to_come c.awaited.new.left (g.R.Source.remaining c.awaited.new.input)) =
+    subst (λ o. IfSome o (λ y. TakesAnswer y (to_come l.left (g.R.Source.remaining l.input)) (to_come c.awaited.new.left (g.R.Source.remaining c.awaited.new.input))))
+    c.in-Some.is c.in_ok-answer.ensures.some in
+    let goes : all_ended c.core.result.now.world ≡ false =
+    subst (λ o. IfSome o (λ y. all_ended c.core.result.now.world ≡ false)) c.in-Some.is c.in_ok-answer.ensures.goes_on in
+    record {
+      playing = playing_on _ _ _ _ _ x l.game.driver c.follow.new.game.driver l.game.log.items c.follow.new.game.log.items _ _ _ _ l.invariant.playing takes
+          (subst (λ d. all_ended d.world ≡ false) c.core.ensures goes)
+          c.follow.ensures.same_module c.in_ok-follow.ensures.arguments c.in_ok-follow.ensures.led c.in_ok-follow.ensures.logged c.in_ok-follow.ensures.told;
+      no_read_fault = c.in_ok-answer.ensures.no_fault ∙ l.invariant.no_read_fault;
+      no_write_fault = c.in_ok-follow.ensures.no_fault ∙ l.invariant.no_write_fault;
+    }
+
+pub returns-in_err-follow-clause-played : goal.returns-in_err-follow-clause-played
+returns-in_err-follow-clause-played g c = failed _ _ c.from_residual-in_err-follow.ensures.0
+
+pub returns-in_err-follow-clause-told : goal.returns-in_err-follow-clause-told
+returns-in_err-follow-clause-told g c = failed _ _ c.from_residual-in_err-follow.ensures.0
+
+pub returns-in_err-follow-clause-begins : goal.returns-in_err-follow-clause-begins
+returns-in_err-follow-clause-begins g c =
+    let l = c.loop-answer in
+    let x = c.in-Some.answer in
+    let takes : TakesAnswer x (to_come l.left (g.R.Source.remaining l.input)) (to_come c.awaited.new.left (g.R.Source.remaining c.awaited.new.input)) =
+    subst (λ o. IfSome o (λ y. TakesAnswer y (to_come l.left (g.R.Source.remaining l.input)) (to_come c.awaited.new.left (g.R.Source.remaining c.awaited.new.input))))
+    c.in-Some.is c.in_ok-answer.ensures.some in
+    let goes : all_ended c.core.result.now.world ≡ false =
+    subst (λ o. IfSome o (λ y. all_ended c.core.result.now.world ≡ false)) c.in-Some.is c.in_ok-answer.ensures.goes_on in
+    playing_breaks _ _ _ _ _ x l.game.driver l.game.log.items _ _ _ _ l.invariant.playing takes
+    (subst (λ d. all_ended d.world ≡ false) c.core.ensures goes) c.follow.ensures.begins
+
+pub returns-clause-played : goal.returns-clause-played
+returns-clause-played g c =
+    (playing_out _ _ _ _ _ c.loop-answer.game.driver c.core.result.now c.loop-answer.game.log.items _ _ c.in_ok-answer.field-0 c.loop-answer.invariant.playing
+    c.core.ensures c.in_default.not-Some c.in_ok-answer.ensures.none).0
+
+pub returns-clause-told : goal.returns-clause-told
+returns-clause-told g c =
+    (playing_out _ _ _ _ _ c.loop-answer.game.driver c.core.result.now c.loop-answer.game.log.items _ _ c.in_ok-answer.field-0 c.loop-answer.invariant.playing
+    c.core.ensures c.in_default.not-Some c.in_ok-answer.ensures.none).1
+
+pub returns-clause-begins : goal.returns-clause-begins
+returns-clause-begins g c = playing_stops _ _ _ _ _ _ _ _ _ c.loop-answer.invariant.playing

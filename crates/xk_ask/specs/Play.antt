@@ -1,0 +1,122 @@
+-- Runs in which a person names who takes the next steps, and what is asked. X10 Language Specification 2.4, chapter Activities, Spawning an activity, leaves
+-- the order of steps open; that somebody is asked for it, and how, is this project's own.
+use Rattle.std.specs.Prelude.{◌≡◌, ℕ, zero, suc, ℤ, ◌-◌, Bool, ◌&&◌, List, [], ◌∷◌, ◌++◌, map, flat_map, Option, Some, None, codes, decimal, if◌then◌else◌}
+use Rattle.xk_types.specs.declared.world.Entry.{Entry}
+use Rattle.xk_types.specs.declared.world.Event.{Event}
+use Rattle.xk_types.specs.Code.{ModuleValue}
+use Rattle.xk_types.specs.World.{World, opening}
+use Rattle.xk_types.specs.Step.{Outcome, Blocked, Wrong, Stepped, step}
+use Rattle.xk_types.specs.Bound.{steps_bound}
+use Rattle.xk_types.specs.Schedule.{Course, Through, Held, Wronged, Leads, run, is_enabled, is_local, all_ended, printed}
+use Rattle.xk_types.specs.Logs.{schedule_of, one_step_of}
+use Rattle.xk_activity.specs.Activities.{act_at}
+use Rattle.xk_scheduler.specs.Choosers.{enabled_in}
+use Rattle.xk_events.specs.Events.{PlacesValue, origin_of, place_words}
+use Rattle.xk_ask.specs.Answers.{answers_read}
+
+-- ---- a turn
+
+-- behind a step of activity a that was seen so and led to this world, its turn goes on: nobody else saw it, and the activity can take another
+abbrev pub goes_on : ModuleValue → ℕ → World → Event → Bool
+goes_on m a w e = is_local e && is_enabled m w a
+
+abbrev pub turn_by : ModuleValue → ℕ → Outcome → (World → List ℕ) → List ℕ
+turn_by m a Blocked go = []
+turn_by m a (Wrong c) go = []
+turn_by m a (Stepped v e) go = a ∷ (if goes_on m a v e then go v else [])
+
+-- the same where at most so many steps are left
+abbrev pub turn_within : ℕ → ModuleValue → ℕ → World → List ℕ
+turn_within zero m a w = []
+turn_within (suc left) m a w = turn_by m a (step m w a) (turn_within left m a)
+
+-- The steps of activity a up to the first that others see, and that one, as far as it can take them. No run has more steps than its bound.
+abbrev pub turn : ModuleValue → ℕ → World → List ℕ
+turn m a w = turn_within (steps_bound m - w.steps) m a w
+
+-- a step of activity a leads from w to v, and this is whether its turn goes on
+pub record IsTurnStep (m : ModuleValue) (a : ℕ) (w v : World) (more : Bool) : Type 0 where
+  pub event : Event
+  pub stepped : step m w a ≡ Stepped v event
+  pub more_is : more ≡ goes_on m a v event
+
+-- ---- a game
+
+-- who can step, if an answer names somebody who can
+abbrev pub picked : ModuleValue → World → Option ℕ → Option ℕ
+picked m w None = None
+picked m w (Some a) = if is_enabled m w a then Some a else None
+
+-- the steps that are taken then
+abbrev pub taken : ModuleValue → World → Option ℕ → List ℕ
+taken m w None = []
+taken m w (Some a) = turn m a w
+
+-- where a run comes to its end, or before the first step that can't be taken
+abbrev pub last_world : Course → World
+last_world (Through w) = w
+last_world (Held w) = w
+last_world (Wronged w c) = w
+
+-- the world behind these steps
+abbrev pub behind : ModuleValue → World → Option ℕ → World
+behind m w o = last_world (run m (taken m w o) w)
+
+-- the steps of a run from this world, by these answers
+abbrev pub played : ModuleValue → List (Option ℕ) → World → List ℕ
+played m [] w = []
+played m (x ∷ xs) w = taken m w (picked m w x) ++ played m xs (behind m w (picked m w x))
+
+-- ---- what is asked
+
+-- an activity, and where it is, as `where` tells it: `act 0 at 8:13`
+unfoldable pub act_line : PlacesValue → World → ℕ → List ℕ
+act_line p w a =
+    codes "act " ++ (decimal a ++ (codes " " ++ (place_words (act_at w.activities a).frame.unit (act_at w.activities a).frame.place
+    (origin_of p (act_at w.activities a).frame.unit (act_at w.activities a).frame.place) ++ codes "\n")))
+
+-- a line for each that can step, rising
+abbrev pub able_lines : PlacesValue → ModuleValue → World → List ℕ
+able_lines p m w = flat_map (act_line p w) (enabled_in m w)
+
+-- behind the lines of those who can step
+abbrev pub prompt_line : List ℕ
+prompt_line = codes "who steps?\n"
+
+-- where an answer names none of them
+abbrev pub again_line : List ℕ
+again_line = codes "none of these: who steps?\n"
+
+-- who can step, rising, and the question which of them does; where all have ended nothing is asked
+abbrev pub question : PlacesValue → ModuleValue → World → List ℕ
+question p m w = if all_ended w then [] else able_lines p m w ++ prompt_line
+
+-- what is said to an answer: the next question, or that it names none of these
+abbrev pub said : PlacesValue → ModuleValue → World → Option ℕ → List ℕ
+said p m w None = again_line
+said p m w (Some a) = question p m (behind m w (Some a))
+
+-- what is said to these answers, behind the question of this world; where all have ended no answer is looked at
+abbrev pub told : PlacesValue → ModuleValue → List (Option ℕ) → World → List ℕ
+told p m [] w = []
+told p m (x ∷ xs) w =
+    if all_ended w then [] else said p m w (picked m w x) ++ told p m xs (behind m w (picked m w x))
+
+-- ---- by the bytes of the input
+
+-- the log of the run by the answers in these bytes, where main is given these numbers: an entry for each step
+abbrev pub played_log : ModuleValue → List ℤ → List ℕ → List Entry
+played_log m args text = map one_step_of (played m (answers_read text) (opening m args))
+
+-- all that is asked and said
+abbrev pub told_text : PlacesValue → ModuleValue → List ℤ → List ℕ → List ℕ
+told_text p m args text = question p m (opening m args) ++ told p m (answers_read text) (opening m args)
+
+-- The entries stand for a legal schedule of the module with these arguments, which prints these numbers and takes so many steps. It is whole if all have ended.
+pub record IsPlayed (m : ModuleValue) (args : List ℤ) (log : List Entry) (numbers : List ℤ) (steps : ℕ) (whole : Bool) : Type 0 where
+  pub last : World
+  pub leads : Leads m (schedule_of log) last
+  pub given : last.arguments ≡ args
+  pub numbers_are : numbers ≡ printed m (schedule_of log) (opening m args)
+  pub steps_are : steps ≡ last.steps
+  pub whole_is : whole ≡ all_ended last

@@ -1,0 +1,12 @@
+//! Runs in which a person names who takes the next steps.
+#![tactic(auto)]
+
+mod answers;
+mod fault;
+mod game;
+mod line;
+mod question;
+mod turn;
+
+pub use fault::AskFault;
+pub use game::{Played, module_ask, source_ask};

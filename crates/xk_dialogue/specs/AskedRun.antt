@@ -1,0 +1,98 @@
+-- What the program answers to `run --order ask`: which status and texts the bytes of FILE and of standard input may have. This project's own.
+use Rattle.std.specs.Prelude.{◌≡◌, ℕ, ℤ, ◌⊎◌, ⊤, Bool, List, [], ◌++◌, codes, decimal, Option, IfSome, if◌then◌else◌}
+use Rattle.std.specs.Io.KnownBytes.{Appends}
+use Rattle.xk_types.specs.declared.world.Entry.{Entry}
+use Rattle.xk_types.specs.Acceptance.{IsAccepted}
+use Rattle.xk_types.specs.Code.{ModuleValue}
+use Rattle.xk_types.specs.Device.{Rose}
+use Rattle.xk_types.specs.World.{AreArguments}
+use Rattle.xk_cli.specs.declared.job.Form.{Form}
+use Rattle.xk_log.specs.LogText.{log_text}
+use Rattle.xk_output.specs.Lines.{number_lines}
+use Rattle.xk_diagnostics.specs.Lines.{ended_line}
+use Rattle.xk_ask.specs.Play.{IsPlayed, played_log, told_text}
+use Rattle.xk_ask.specs.declared.fault.AskFault.{AskFault}
+use Rattle.xk_ask.specs.declared.fault.AskFault.TheVariants as ask
+use Rattle.xk_serve.specs.declared.fault.Fault.{Fault}
+use Rattle.xk_serve.specs.declared.fault.Fault.TheVariants as fault
+use Rattle.xk_serve.specs.Answer.{IsNotRun, Reply, fault_reply, whole_status}
+use Rattle.xk_serve.specs.Explanation.{IsByOrigins, places_in}
+use Rattle.xk_serve.specs.Faults.{GivesNoModule}
+use Rattle.xk_serve.specs.Programs.{Gives}
+
+-- want of memory is one fault, whoever met it
+abbrev pub of_ask : AskFault → Fault
+of_ask ask.Device = fault.Device
+of_ask ask.OutOfMemory = fault.OutOfMemory
+
+-- where the input ends before the run does
+abbrev pub stopped_line : ℕ → List ℕ
+stopped_line steps = codes "stopped steps " ++ (decimal steps ++ codes "\n")
+
+-- the last line of standard output
+abbrev pub last_line : Bool → ℕ → List ℕ
+last_line whole steps = if whole then ended_line steps else stopped_line steps
+
+-- this is told of the run by these answers, by the lines of a source text
+abbrev pub IsAskedText : Form → List ℕ → ModuleValue → List ℤ → List ℕ → List ℕ → Type 0
+IsAskedText form bytes m args answers told = IsByOrigins form bytes (λ origins. told_text (places_in bytes origins) m args answers) told
+
+-- The bytes give a module that is accepted and whose main takes these numbers; by these answers its run has this log, prints these numbers and takes so
+-- many steps, and all have ended or not; and this is told meanwhile.
+pub record IsAskedRun (form : Form) (bytes : List ℕ) (args : List ℤ) (answers told : List ℕ) (log : List Entry) (numbers : List ℤ) (steps : ℕ) (whole : Bool) : Type 0 where
+  pub of : ModuleValue
+  pub given : Gives form bytes of
+  pub accepted : IsAccepted of
+  pub taken : AreArguments of args
+  pub played : IsPlayed of args log numbers steps whole
+  pub log_is : log ≡ played_log of args answers
+  pub told_is : IsAskedText form bytes of args answers told
+
+-- what goes to the devices then; the log is kept or not
+abbrev pub asked_reply : Bool → List ℕ → List Entry → List ℤ → ℕ → Bool → Reply
+asked_reply keeps told log numbers steps whole = record {
+  status = whole_status whole;
+  out = number_lines numbers ++ last_line whole steps;
+  err = told;
+  log = if keeps then log_text log else [];
+}
+
+-- the bytes give no module, or one that isn't run with these arguments
+abbrev pub IsUnfitFor : Form → List ℕ → List ℤ → Fault → Type 0
+IsUnfitFor form bytes args f = GivesNoModule form bytes f ⊎ ((m : ModuleValue) × Gives form bytes m × IsNotRun m args f)
+
+-- the program may answer so: by such a run, or by what stands against it
+abbrev pub AnswersAsked : Form → List ℕ → List ℤ → List ℕ → Bool → Reply → Type 0
+AnswersAsked form bytes args answers keeps r =
+    ((told : List ℕ) × (log : List Entry) × (numbers : List ℤ) × (steps : ℕ) × (whole : Bool) × IsAskedRun form bytes args answers told log numbers steps whole
+    × (r ≡ asked_reply keeps told log numbers steps whole))
+    ⊎ ((f : Fault) × IsUnfitFor form bytes args f × (r ≡ fault_reply [] f))
+
+-- some text of which this holds was written
+abbrev pub IsWrittenBy : (List ℕ → Type 0) → Option (List ℕ) → Option (List ℕ) → Type 0
+IsWrittenBy P old new = (text : List ℕ) × P text × Appends old new text
+
+-- A fault that came while it was asked: a device failed, or memory was wanting.
+abbrev pub FailsWhile : ℕ → ℕ → ℕ → ℕ → Fault → Type 0
+FailsWhile in_old in_new err_old err_new fault.Device = Rose in_old in_new ⊎ Rose err_old err_new
+FailsWhile in_old in_new err_old err_new fault.OutOfMemory = (in_new ≡ in_old) × (err_new ≡ err_old)
+FailsWhile in_old in_new err_old err_new _ = ⊥
+
+-- a fault of the bytes, before anything was asked and told; or one that came meanwhile
+abbrev pub StandsAgainstAsked : Form → List ℕ → List ℤ → ℕ → ℕ → ℕ → ℕ → Option (List ℕ) → Option (List ℕ) → Fault → Type 0
+StandsAgainstAsked form bytes args in_old in_new err_old err_new old new f =
+    FailsWhile in_old in_new err_old err_new f ⊎ (IsUnfitFor form bytes args f × (in_new ≡ in_old) × (err_new ≡ err_old) × Appends old new [])
+
+-- what an answer was written of is one to these bytes
+pub record AnsweredAsked (form : Form) (bytes : List ℕ) (args : List ℤ) (answers : List ℕ) (keeps : Bool) (status : ℕ)
+    (out_old out_new err_old err_new log_old log_new : Option (List ℕ)) : Type 0 where
+  pub reply : Reply
+  pub answered : AnswersAsked form bytes args answers keeps reply
+  pub status_is : status ≡ reply.status
+  pub out_is : Appends out_old out_new reply.out
+  pub err_is : Appends err_old err_new reply.err
+  pub log_is : Appends log_old log_new reply.log
+
+-- both are known, and this holds of them
+abbrev pub IfBoth : Option (List ℕ) → Option (List ℕ) → (List ℕ → List ℕ → Type 0) → Type 0
+IfBoth a b P = IfSome a (λ x. IfSome b (λ y. P x y))

@@ -1,0 +1,215 @@
+//! `run --order ask`: a run whose order is asked for.
+
+ghost use Rattle.std.specs.Prelude.{◌≡◌, ◌≢◌, ◌⊎◌, ◌++◌, [], IfErr, IfOk, IfSome, OnErr, OnOk, string_bytes, if◌then◌else◌};
+ghost use Rattle.std.specs.Io.KnownBytes.{Appends};
+ghost use Rattle.xk_types.specs.Acceptance.{IsAccepted};
+ghost use Rattle.xk_types.specs.Device.{Rose};
+ghost use Rattle.xk_types.specs.World.{AreArguments};
+ghost use Rattle.xk_log.specs.LogText.{log_text};
+ghost use Rattle.xk_output.specs.Lines.{number_lines};
+ghost use Rattle.xk_cli.specs.Status.{status_device, status_memory};
+ghost use Rattle.xk_ask.specs.Play.{IsPlayed, played_log};
+ghost use Rattle.xk_serve.specs.Answer.{whole_status};
+ghost use Rattle.xk_serve.specs.AskedRun.{AnsweredAsked, FailsWhile, IfBoth, IsAskedRun, IsAskedText, IsUnfitFor, IsWrittenBy, StandsAgainstAsked, last_line, stopped_line};
+ghost use Rattle.xk_serve.specs.Bytes.{IsReadToLimit, kept};
+
+use crate::commands::runnable;
+use crate::devices::{read_program, report};
+use crate::fault::Fault;
+use crate::program_loader::{module_by, origins_in};
+use std::alloc::{AllocError, Global};
+use xk_ask::{Played, module_ask, source_ask};
+use xk_bounds::Verified;
+use xk_cli::{Form, status};
+use xk_diagnostics::ended_line;
+use xk_log::{Device, write_all, write_entries};
+use xk_output::write_numbers;
+use xk_types::{Sink, Source};
+
+/// A run whose order was asked for, and what is printed behind its numbers.
+#[derive(Drop)]
+struct AskedRun {
+    played: Played,
+    ending: String,
+}
+
+/// The last line of standard output.
+fn last_line(alloc: Global, whole: bool, steps: u64) -> Result<String, AllocError>
+    ensures { IfOk result (λ text. string_bytes text ≡ last_line whole steps) }
+{
+    if whole {
+        return ended_line(alloc, steps);
+    }
+    format!(in alloc; "stopped steps {steps}\n")
+}
+
+/// Asks for the order of a run of an accepted module.
+fn played_by<L: Source, E: Sink>(
+    alloc: Global,
+    form: Form,
+    bytes: &[u8],
+    verified: &Verified,
+    arguments: &[i64],
+    input: &mut L,
+    err: &mut E,
+) -> Result<Played, Fault>
+    requires { AreArguments verified.now arguments.now }
+    ensures played { IfOk result (λ r. IsPlayed verified.now arguments.now
+        r.log.items r.printed.items r.steps r.whole) }
+    ensures log { IfOk result (λ r. IfSome (L.remaining input.old) (λ answers.
+        r.log.items ≡ played_log verified.now arguments.now answers)) }
+    ensures told { OnOk result (IfSome (L.remaining input.old) (λ answers. IsWrittenBy
+        (IsAskedText form bytes.now verified.now arguments.now answers)
+        (E.contents err.old) (E.contents err.new))) }
+    ensures no_fault { OnOk result ((L.fault_count input.new ≡ L.fault_count input.old)
+        × (E.fault_count err.new ≡ E.fault_count err.old)) }
+    ensures failed { IfErr result (FailsWhile (L.fault_count input.old) (L.fault_count input.new)
+        (E.fault_count err.old) (E.fault_count err.new)) }
+{
+    match origins_in(alloc, form, bytes)? {
+        Some(origins) => {
+            let units = origins.units();
+            Ok(source_ask(
+                alloc, bytes, units, verified, arguments, input, err,
+            )?)
+        }
+        None => Ok(module_ask(alloc, verified, arguments, input, err)?),
+    }
+}
+
+/// The run of the program in these bytes whose order is asked for, or what stands against it.
+fn asked_of<L: Source, E: Sink>(
+    alloc: Global,
+    form: Form,
+    bytes: &[u8],
+    arguments: &[i64],
+    input: &mut L,
+    err: &mut E,
+) -> Result<AskedRun, Fault>
+    ensures done { IfOk result (λ r. IfSome (L.remaining input.old) (λ answers. IsWrittenBy
+        (λ told. IsAskedRun form bytes.now arguments.now answers told r.played.log.items
+        r.played.printed.items r.played.steps r.played.whole)
+        (E.contents err.old) (E.contents err.new))) }
+    ensures ending { IfOk result
+        (λ r. string_bytes r.ending ≡ last_line r.played.whole r.played.steps) }
+    ensures no_fault { OnOk result ((L.fault_count input.new ≡ L.fault_count input.old)
+        × (E.fault_count err.new ≡ E.fault_count err.old)) }
+    ensures against { IfErr result (StandsAgainstAsked form bytes.now arguments.now
+        (L.fault_count input.old) (L.fault_count input.new)
+        (E.fault_count err.old) (E.fault_count err.new)
+        (E.contents err.old) (E.contents err.new)) }
+{
+    let module = module_by(alloc, form, bytes)?;
+    let verified = runnable(alloc, module, arguments)?;
+    let played = played_by(alloc, form, bytes, &verified, arguments, input, err)?;
+    let ending = last_line(alloc, played.whole, played.steps)?;
+    Ok(AskedRun { played, ending })
+}
+
+/// Writes the numbers and the last line to `out`, and then the log, where it is to be kept.
+fn write_run<O: Sink, K: Sink>(
+    run: &AskedRun,
+    keeps_log: bool,
+    out: &mut O,
+    log_out: &mut K,
+) -> Result<(), Device>
+    ensures all { OnOk result (Appends (O.contents out.old) (O.contents out.new)
+        (number_lines run.now.played.printed.items ++ string_bytes run.now.ending)) }
+    ensures log { OnOk result (Appends (K.contents log_out.old) (K.contents log_out.new)
+        (if keeps_log then log_text run.now.played.log.items else [])) }
+    ensures no_fault { OnOk result ((O.fault_count out.new ≡ O.fault_count out.old)
+        × (K.fault_count log_out.new ≡ K.fault_count log_out.old)) }
+    ensures failed { OnErr result (Rose (O.fault_count out.old) (O.fault_count out.new)
+        ⊎ Rose (K.fault_count log_out.old) (K.fault_count log_out.new)) }
+{
+    write_numbers(&run.played.printed, out)?;
+    write_all(out, run.ending.as_bytes())?;
+    if keeps_log {
+        return write_entries(&run.played.log, log_out);
+    }
+    Ok(())
+}
+
+/// The status of a run: whether all have ended.
+fn status_of(whole: bool) -> u8
+    ensures { result ≡ whole_status whole }
+{
+    if whole {
+        return status::DONE;
+    }
+    status::PARTIAL
+}
+
+/// Writes what comes of a run. Where that fails, says so.
+fn print<O: Sink, E: Sink, K: Sink>(
+    alloc: Global,
+    run: &AskedRun,
+    keeps_log: bool,
+    out: &mut O,
+    err: &mut E,
+    log_out: &mut K,
+) -> u8
+    ensures printed { ((result ≡ whole_status run.now.played.whole)
+        × Appends (O.contents out.old) (O.contents out.new)
+        (number_lines run.now.played.printed.items ++ string_bytes run.now.ending)
+        × Appends (K.contents log_out.old) (K.contents log_out.new)
+        (if keeps_log then log_text run.now.played.log.items else [])
+        × (err.new ≡ err.old)
+        × (O.fault_count out.new ≡ O.fault_count out.old)
+        × (K.fault_count log_out.new ≡ K.fault_count log_out.old))
+        ⊎ ((result ≡ status_device) × (Rose (O.fault_count out.old) (O.fault_count out.new)
+        ⊎ Rose (K.fault_count log_out.old) (K.fault_count log_out.new))) }
+{
+    match write_run(run, keeps_log, out, log_out) {
+        Ok(()) => status_of(run.played.whole),
+        Err(_) => report(alloc, &Fault::Device, err),
+    }
+}
+
+/// Reads the program, and runs it, if it is accepted and main takes as many numbers as it is given: it is told on `err` who can take a step, and where, and
+/// a line of the input names one of them, until all have ended or the input ends. Then the numbers that were printed and a last line are written to `out`,
+/// and the log of what was played to `log_out`, where that is to be kept. The answer is the exit status: 0 where all have ended, 6 where the input ended
+/// before, 1 where the program is refused or main takes another number of arguments, 4 where memory ran out, 5 where a device failed.
+pub fn serve_asked<P: Source, L: Source, O: Sink, E: Sink, K: Sink>(
+    alloc: Global,
+    form: Form,
+    arguments: &[i64],
+    keeps_log: bool,
+    program: &mut P,
+    input: &mut L,
+    out: &mut O,
+    err: &mut E,
+    log_out: &mut K,
+) -> u8
+    ensures answered { IfBoth (P.remaining program.old) (L.remaining input.old)
+        (λ bytes answers. result ≢ status_memory → result ≢ status_device
+        → AnsweredAsked form (kept form bytes) arguments.now answers keeps_log result
+        (O.contents out.old) (O.contents out.new) (E.contents err.old) (E.contents err.new)
+        (K.contents log_out.old) (K.contents log_out.new)) }
+    ensures memory_out { result ≡ status_memory
+        → Appends (O.contents out.old) (O.contents out.new) [] }
+    ensures memory_log { result ≡ status_memory
+        → Appends (K.contents log_out.old) (K.contents log_out.new) [] }
+    ensures faults { result ≢ status_device
+        → (P.fault_count program.new ≡ P.fault_count program.old)
+        × (L.fault_count input.new ≡ L.fault_count input.old)
+        × (O.fault_count out.new ≡ O.fault_count out.old)
+        × (E.fault_count err.new ≡ E.fault_count err.old)
+        × (K.fault_count log_out.new ≡ K.fault_count log_out.old) }
+    ensures device { result ≡ status_device
+        → Rose (P.fault_count program.old) (P.fault_count program.new)
+        ⊎ (Rose (L.fault_count input.old) (L.fault_count input.new)
+        ⊎ (Rose (O.fault_count out.old) (O.fault_count out.new)
+        ⊎ (Rose (E.fault_count err.old) (E.fault_count err.new)
+        ⊎ Rose (K.fault_count log_out.old) (K.fault_count log_out.new)))) }
+    ensures no_further { IsReadToLimit form (P.remaining program.old) (P.remaining program.new) }
+{
+    let bytes = match read_program(alloc, form, program) {
+        Ok(bytes) => bytes,
+        Err(fault) => return report(alloc, &fault, err),
+    };
+    match asked_of(alloc, form, &bytes, arguments, input, err) {
+        Ok(found) => print(alloc, &found, keeps_log, out, err, log_out),
+        Err(fault) => report(alloc, &fault, err),
+    }
+}

@@ -1,0 +1,143 @@
+//! Outcomes are held against a list.
+
+ghost use Rattle.std.specs.Prelude.{◌≡◌, ℕ, ◌<◌, ◌++◌, ◌+◌, length, false, true, map, slice_get, IfOk, IfSome, IfNone, Some, codes, decimal, string_bytes, List, None, IfErr};
+ghost use Rattle.xk_outcomes.specs.declared.listing.Outcome.{Outcome as AnOutcome};
+ghost use Rattle.xk_types.specs.World.{AreArguments};
+ghost use Rattle.xk_outcomes.specs.Expected.{AreExpected, AreHeld, AreTold, IsFirstUntold, IsStrayIn, IsTold, stray_line, told_by};
+ghost use Rattle.xk_outcomes.specs.Text.{numbers_text};
+
+use crate::all_outcomes::{Limit, outcomes_as};
+use crate::listing::Outcome;
+use crate::reading::{Expected, ListFault, read_expected};
+use crate::text::{last_line, numbers_text, outcome_line};
+use std::alloc::{AllocError, Global};
+use xk_bounds::Verified;
+
+/// What is said of outcomes that are held against a list.
+#[derive(Debug, Drop)]
+pub struct Held {
+    /// The line of the first that isn't in it, or the last line of outcomes.
+    pub text: Vec<u8>,
+    /// Whether they are all, and each is in the list.
+    pub whole: bool,
+}
+
+/// Whether a text is among these.
+fn has(told: &[&[u8]], text: &[u8]) -> bool
+    ensures yes { result ≡ true
+        → (k : ℕ) × (slice_get (map (λ t. t.now) told.now) k ≡ Some text.now) }
+    ensures no { result ≡ false → (k : ℕ)
+        → slice_get (map (λ t. t.now) told.now) k ≡ Some text.now → ⊥ }
+{
+    for t in told {
+        if is_same(t, text) {
+            return true;
+        }
+    }
+    false
+}
+
+/// Whether two texts are the same.
+fn is_same(a: &[u8], b: &[u8]) -> bool
+    ensures yes { result ≡ true → a.now ≡ b.now }
+    ensures no { result ≡ false → a.now ≡ b.now → ⊥ }
+{
+    a == b
+}
+
+/// Whether the numbers of an outcome are told.
+fn is_told(alloc: Global, expected: &Expected<'_>, x: &Outcome) -> Result<bool, AllocError>
+    ensures yes { IfOk result (λ told. told ≡ true → IsTold expected.now x.now.numbers.items) }
+    ensures no { IfOk result (λ told. told ≡ false
+        → IsTold expected.now x.now.numbers.items → ⊥) }
+{
+    let text = numbers_text(alloc, &x.numbers)?;
+    let found = has(expected.told(), text.as_str().as_bytes());
+    Ok(found)
+}
+
+/// The place of the first outcome whose numbers aren't told.
+fn first_untold(
+    alloc: Global,
+    expected: &Expected<'_>,
+    list: &[Outcome],
+) -> Result<Option<usize>, AllocError>
+    ensures found { IfOk result (λ o. IfSome o (λ place.
+        (x : AnOutcome) × IsFirstUntold expected.now list.now place x)) }
+    ensures none { IfOk result (λ o. IfNone o (AreTold expected.now list.now (length list.now))) }
+{
+    for (place, x) in list.iter().enumerate() {
+        let is_in = is_told(alloc, expected, x)?;
+        if !is_in {
+            return Ok(Some(place));
+        }
+    }
+    Ok(None)
+}
+
+/// Holds outcomes against a list: the line of the first that isn't in it, and else their last line.
+fn hold(
+    alloc: Global,
+    list: &[Outcome],
+    complete: bool,
+    expected: &Expected<'_>,
+) -> Result<Held, AllocError>
+    ensures { IfOk result (λ r. AreHeld expected.now list.now complete r.text.items r.whole) }
+{
+    match first_untold(alloc, expected, list)? {
+        Some(place) => {
+            let line = outcome_line(alloc, place + 1, &list[place])?;
+            Ok(Held {
+                text: line.into_bytes(),
+                whole: false,
+            })
+        }
+        None => {
+            let line = last_line(alloc, list.len(), complete)?;
+            Ok(Held {
+                text: line.into_bytes(),
+                whole: complete,
+            })
+        }
+    }
+}
+
+/// What a module can print that is given these arguments, as lists of numbers or without their order, is held against the list in these bytes.
+pub fn expected_outcomes(
+    alloc: Global,
+    sets: bool,
+    verified: &Verified,
+    arguments: &[i64],
+    limit: Limit,
+    list: &[u8],
+) -> Result<Held, ListFault>
+    requires { AreArguments verified.now arguments.now }
+    ensures held { IfOk result (λ r.
+        AreExpected verified.now arguments.now sets list.now r.text.items r.whole) }
+    ensures stray { IfErr result (IsStrayIn list.now) }
+{
+    let expected = read_expected(alloc, list)?;
+    match held_by(alloc, sets, verified, arguments, limit, &expected) {
+        Ok(held) => Ok(held),
+        Err(_) => Err(ListFault::OutOfMemory),
+    }
+}
+
+/// The same with what the list tells.
+fn held_by(
+    alloc: Global,
+    sets: bool,
+    verified: &Verified,
+    arguments: &[i64],
+    limit: Limit,
+    expected: &Expected<'_>,
+) -> Result<Held, AllocError>
+    requires { AreArguments verified.now arguments.now }
+    ensures { (bytes : List ℕ) → stray_line bytes ≡ None → expected.now ≡ told_by bytes
+        → IfOk result (λ r.
+        AreExpected verified.now arguments.now sets bytes r.text.items r.whole) }
+{
+    let found = outcomes_as(alloc, sets, verified, arguments, limit)?;
+    let held = hold(alloc, &found.list, found.complete, expected)?;
+    Ok(held)
+}
