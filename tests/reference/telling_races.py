@@ -16,6 +16,7 @@ AWAITED = (Standing.OPEN, Standing.AHEAD)
 ACCESSES = ("Got", "Put", "Added")
 # A pair of these is no race.
 PEACEFUL = ("Got", "Added")
+IN_ORDER = "prints in one order\n"
 
 
 @dataclass
@@ -119,7 +120,7 @@ def print_words(program: Program, played: Played, past: dict[int, int]) -> str:
     for first, second in zip(prints, prints[1:], strict=False):
         if not past[second.number] >> first.number & 1:
             return f"prints not in one order: {step_words(program, first)}, {step_words(program, second)}\n"
-    return "prints in one order\n"
+    return IN_ORDER
 
 
 def races(program: Program, played: Played) -> str:
@@ -128,5 +129,8 @@ def races(program: Program, played: Played) -> str:
         f"race shared {number}: {step_words(program, first)} {telling_events.words(first)}, {step_words(program, second)} {telling_events.words(second)}\n"
         for number, first, second in found(played, past)
     ]
-    prints = "" if lines else print_words(program, played, past)
-    return "".join(lines) + f"races {len(lines)}\n" + prints + "of this run alone\n"
+    if lines:
+        return "".join(lines) + f"races {len(lines)}\n" + "of this run alone\n"
+    prints = print_words(program, played, past)
+    order = " in this order" if prints == IN_ORDER else ""
+    return f"races 0\n{prints}every schedule prints these numbers{order}\n"

@@ -179,7 +179,7 @@ const STOOD: &str = "steps 12\nact 0 has ended\nact 1 has ended\nclock 0 phase 1
 
 /// The races of the run in the order `first`.
 const RACED: &str =
-    "races 0\nprints not in one order: step 7 act 0 at 1:129, step 11 act 1 at 1:83\nof this run alone\n";
+    "races 0\nprints not in one order: step 7 act 0 at 1:129, step 11 act 1 at 1:83\nevery schedule prints these numbers\n";
 
 const EXPLAIN: Command<'static> = Command::Explain { json: false };
 

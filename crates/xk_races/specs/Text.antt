@@ -32,8 +32,14 @@ print_line_if_free p (r ∷ rs) g = []
 unfoldable pub count_line : ℕ → List ℕ
 count_line n = codes "races " ++ (decimal n ++ codes "\n")
 
+-- Of which runs it holds: where there is no race, this one speaks for all (`one_speaks_for_all` of `xk_determinacy`).
+abbrev pub scope_line : List Race → Option Gap → List ℕ
+scope_line [] None = codes "every schedule prints these numbers in this order\n"
+scope_line [] (Some g) = codes "every schedule prints these numbers\n"
+scope_line (r ∷ rs) g = codes "of this run alone\n"
+
 abbrev pub text_by : PlacesValue → List Race → Option Gap → List ℕ
-text_by p rs g = ((flat_map (race_line p) rs ++ count_line (length rs)) ++ print_line_if_free p rs g) ++ codes "of this run alone\n"
+text_by p rs g = ((flat_map (race_line p) rs ++ count_line (length rs)) ++ print_line_if_free p rs g) ++ scope_line rs g
 
 -- what is told of the run that a log stands for
 abbrev pub races_text : PlacesValue → ModuleValue → List ℤ → List Entry → List ℕ

@@ -1,7 +1,7 @@
 //! What is told of the races of a run.
 
 ghost use Rattle.std.specs.Prelude.{◌≡◌, ◌++◌, flat_map, length, IfOk, OnOk, string_bytes};
-ghost use Rattle.xk_races.specs.Text.{access_words, count_line, print_line, print_line_if_free, race_line, step_words, text_by};
+ghost use Rattle.xk_races.specs.Text.{access_words, count_line, print_line, print_line_if_free, race_line, scope_line, step_words, text_by};
 
 use crate::pairs::{Gap, Race};
 use std::alloc::{AllocError, Global};
@@ -98,6 +98,19 @@ fn print_line_if_free(
     Ok(String::new(alloc))
 }
 
+/// Of which runs it holds.
+fn scope_line(races: &[Race], gap: Option<Gap>) -> &'static str
+    ensures { result.now ≡ scope_line races.now gap }
+{
+    if !races.is_empty() {
+        return "of this run alone\n";
+    }
+    match gap {
+        None => "every schedule prints these numbers in this order\n",
+        Some(_) => "every schedule prints these numbers\n",
+    }
+}
+
 /// What is told of a run with these races, and this gap among its prints.
 pub fn text_by(
     alloc: Global,
@@ -113,6 +126,6 @@ pub fn text_by(
         &mut out,
         print_line_if_free(alloc, places, races, gap)?.as_str(),
     )?;
-    put(&mut out, "of this run alone\n")?;
+    put(&mut out, scope_line(races, gap))?;
     Ok(out)
 }
