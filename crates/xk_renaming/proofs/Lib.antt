@@ -1,0 +1,2 @@
+pub mod ClockNameListLemmas
+pub mod ClockNameStepLaw
