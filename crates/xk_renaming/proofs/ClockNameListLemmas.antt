@@ -64,6 +64,16 @@ place-below zero c h = absurd (omega arith)
 place-below (suc k) zero h = refl
 place-below (suc k) (suc c) h = ap suc (place-below k c (omega arith))
 
+-- the two that are exchanged
+pub place-first : (k : ℕ) → place_swapped k k ≡ suc k
+place-first zero = refl
+place-first (suc k) = ap suc (place-first k)
+
+pub place-second : (k : ℕ) → place_swapped k (suc k) ≡ k
+place-second zero = refl
+place-second (suc k) = ap suc (place-second k)
+
+-- two places are one, as before
 pub place-same : (k c d : ℕ) → (place_swapped k c == place_swapped k d) ≡ (c == d)
 place-same zero zero zero = refl
 place-same zero zero (suc zero) = refl

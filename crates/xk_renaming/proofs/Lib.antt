@@ -1,2 +1,4 @@
 pub mod ClockNameListLemmas
 pub mod ClockNameStepLaw
+pub mod ClockNameRunLaw
+pub mod ClockNameSquareLaw

@@ -2,7 +2,7 @@
 use Rattle.std.specs.Prelude.{◌≡◌, ℕ, zero, suc, List, [], ◌∷◌, length, map}
 use Rattle.xk_types.specs.declared.world.Value.{Value}
 use Rattle.xk_types.specs.declared.world.Value.TheVariants as value
-use Rattle.xk_types.specs.declared.world.Event.TheVariants as event
+use Rattle.xk_types.specs.declared.world.Event.{Event}
 use Rattle.xk_types.specs.Code.{ModuleValue}
 use Rattle.xk_types.specs.World.{Frame, Activity, World}
 use Rattle.xk_types.specs.Step.{Outcome, Blocked, Wrong, Stepped, step}
@@ -57,8 +57,8 @@ pub record GoesSwapped (m : ModuleValue) (w : World) (k : ℕ) (s : List ℕ) : 
   pub events : events m s (clocks_swapped k w) ≡ events m s w
   pub prints : printed m s (clocks_swapped k w) ≡ printed m s w
 
--- Where activities a and b can each make a clock, each still can after the other, and the two orders lead to worlds that are alike once the two
--- new clocks have changed places.
+-- Where activities a and b can both take a step, each still can after the other's, with the same event, and the two orders lead to worlds that
+-- are alike once two clocks have changed places: those after the ones that there are, which are the two new ones.
 abbrev pub IsSquareOfMakes : ModuleValue → World → ℕ → ℕ → Type 0
-IsSquareOfMakes m w a b = (u v : World) → step m w a ≡ Stepped u event.Made → step m w b ≡ Stepped v event.Made
-    → (x : World) × (y : World) × (step m v a ≡ Stepped x event.Made) × (step m u b ≡ Stepped y event.Made) × AreAlike (clocks_swapped (length w.clocks) x) y
+IsSquareOfMakes m w a b = (u v : World) (e f : Event) → step m w a ≡ Stepped u e → step m w b ≡ Stepped v f
+    → (x : World) × (y : World) × (step m v a ≡ Stepped x e) × (step m u b ≡ Stepped y f) × AreAlike (clocks_swapped (length w.clocks) x) y

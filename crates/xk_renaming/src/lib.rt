@@ -1,8 +1,9 @@
 //! Nothing depends on the number of a clock.
 #![tactic(auto)]
 
-ghost use Rattle.std.specs.Prelude.{◌≡◌, ◌<◌, ℕ, suc, List, length};
+ghost use Rattle.std.specs.Prelude.{◌≡◌, ◌<◌, ℕ, suc, true, List, length};
 ghost use Rattle.xk_renaming.specs.ClockNames.{GoesSwapped, IsSquareOfMakes, clocks_swapped, outcome_swapped};
+ghost use Rattle.xk_squares.specs.Squares.{makes_next};
 ghost use Rattle.xk_types.specs.Acceptance.{IsAccepted};
 ghost use Rattle.xk_types.specs.Code.{IsWithinLimits, ModuleValue};
 ghost use Rattle.xk_types.specs.Schedule.{IsReached};
@@ -18,5 +19,6 @@ pub fn clock_names()
     ensures runs { (m : ModuleValue) (w : World) (k : ℕ) (s : List ℕ) → suc k < length w.clocks
         → GoesSwapped m w k s }
     ensures makes { (m : ModuleValue) (w : World) → IsWithinLimits m → IsAccepted m → IsReached m w
-        → (a b : ℕ) → (b ≡ a → ⊥) → IsSquareOfMakes m w a b }
+        → (a b : ℕ) → (b ≡ a → ⊥) → makes_next m w a ≡ true → makes_next m w b ≡ true
+        → IsSquareOfMakes m w a b }
 {}
