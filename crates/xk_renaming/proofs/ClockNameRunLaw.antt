@@ -1,14 +1,14 @@
 -- Where two neighbours among the clocks have changed places, a schedule goes as it goes without that: no step takes a clock away.
-use Rattle.std.proofs.Common.{◌≡◌, ℕ, suc, ◌≤◌, ◌<◌, ◌+◌, List, [], ◌∷◌, ◌++◌, length, map, refl, sym, ap, ◌∙◌, arith}
+use Rattle.std.proofs.Common.{◌≡◌, ℕ, suc, ◌≤◌, ◌<◌, ◌+◌, List, [], ◌∷◌, ◌++◌, length, map, refl, ap, ◌∙◌, arith}
 use Rattle.std.specs.Prelude.{filter, not}
 use Rattle.std.specs.List.{filter_map}
 use Rattle.std.proofs.lemmas.List.{length-map, length_push}
 use Rattle.xk_types.specs.declared.world.Event.{Event}
 use Rattle.xk_types.specs.declared.world.Standing.{Standing}
 use Rattle.xk_types.specs.Code.{ModuleValue}
-use Rattle.xk_types.specs.World.{Activity, Clock, World}
+use Rattle.xk_types.specs.World.{World}
 use Rattle.xk_types.specs.Step.{Outcome, Blocked, Wrong, Stepped, settled_clock, moved, joined, new_clock, is_given, none, all, dropped, resumed, step}
-use Rattle.xk_types.specs.Schedule.{Course, run, run_on, events, events_on, printed, is_local, number_printed}
+use Rattle.xk_types.specs.Schedule.{run, run_on, events, events_on, is_local, number_printed}
 use Rattle.xk_laws.proofs.StepFormLemmas.{step_kind}
 use Rattle.xk_laws.proofs.ClockLemmas.StandingLemmas.{length-moved, length-joined}
 use Rattle.xk_renaming.specs.ClockNames.{clocks_swapped, outcome_swapped, course_swapped, GoesSwapped}
@@ -28,9 +28,17 @@ step_keeps m w a = step_kind (Keeps (length w.clocks)) m w a tt (λ c. tt) (λ a
   over = λ at none. changed (all dropped);
   arrives = changed (all resumed);
   done = λ next change e on quiet rests. changed change;
-  made = λ next on. omega (arith, length-map (w.clocks ++ new_clock (length w.activities) a ∷ []) (settled_clock (w.steps + 1)), length_push w.clocks (new_clock (length w.activities) a));
+  made = λ next on. omega (
+    arith,
+    length-map (w.clocks ++ new_clock (length w.activities) a ∷ []) (settled_clock (w.steps + 1)),
+    length_push w.clocks (new_clock (length w.activities) a),
+  );
   stored = λ s n e on quiet. changed none;
-  spawned = λ t args values at on. omega (arith, length-map (joined a (is_given values) w.clocks) (settled_clock (w.steps + 1)), length-joined a (is_given values) w.clocks);
+  spawned = λ t args values at on. omega (
+    arith,
+    length-map (joined a (is_given values) w.clocks) (settled_clock (w.steps + 1)),
+    length-joined a (is_given values) w.clocks,
+  );
 })
   where
     changed : (change : ℕ → Standing → Standing) → length w.clocks ≤ length (map (settled_clock (w.steps + 1)) (moved a change w.clocks))
@@ -51,7 +59,8 @@ run_swapped m k (a ∷ s) w inside =
 
 pub events_swapped : (m : ModuleValue) (k : ℕ) (s : List ℕ) (w : World) → suc k < length w.clocks → events m s (clocks_swapped k w) ≡ events m s w
 events_swapped m k [] w inside = refl
-events_swapped m k (a ∷ s) w inside = ap (λ o. events_on a o (events m s)) (step_swapped m w k a inside) ∙ by (events_swapped m k s) (step m w a) (step_keeps m w a)
+events_swapped m k (a ∷ s) w inside =
+    ap (λ o. events_on a o (events m s)) (step_swapped m w k a inside) ∙ by (events_swapped m k s) (step m w a) (step_keeps m w a)
   where
     by : ((u : World) → suc k < length u.clocks → events m s (clocks_swapped k u) ≡ events m s u)
         → (o : Outcome) → Keeps (length w.clocks) o → events_on a (outcome_swapped k o) (events m s) ≡ events_on a o (events m s)

@@ -1,9 +1,9 @@
 -- Two activities that make a clock each, in either order: the new clocks have changed places, and all else is the same.
-use Rattle.std.proofs.Common.{◌≡◌, ℕ, suc, zero, ◌+◌, ◌<◌, Bool, true, false, true≢false, List, [], ◌∷◌, ◌++◌, map, length, set, Some, None, Option, refl, sym, ap, ◌∙◌, subst, arith, length-set}
+use Rattle.std.proofs.Common.{◌≡◌, ℕ, suc, ◌+◌, ◌<◌, true, false, true≢false, List, [], ◌∷◌, ◌++◌, map, length, set, Some, None, Option, refl, sym, ap, ◌∙◌, arith, length-set}
 use Rattle.std.specs.Prelude.{slice_get, option_and_then}
 use Rattle.std.specs.Option.{option_map_or}
 use Rattle.std.proofs.lemmas.List.{length-map, length_push, map-set}
-use Rattle.std.proofs.lemmas.Option.{none-some, same_Some, slice_get_within}
+use Rattle.std.proofs.lemmas.Option.{slice_get_within}
 use Rattle.xk_types.specs.declared.instr.Instr.{Instr}
 use Rattle.xk_types.specs.declared.instr.Instr.TheVariants as instr
 use Rattle.xk_types.specs.declared.world.Value.{Value}
@@ -16,14 +16,13 @@ use Rattle.xk_types.specs.declared.rules.Kind.{Kind}
 use Rattle.xk_types.specs.Acceptance.{IsAccepted}
 use Rattle.xk_types.specs.Code.{UnitValue, ModuleValue, IsWithinLimits}
 use Rattle.xk_types.specs.World.{Frame, Activity, Clock, World, instruction_at}
-use Rattle.xk_types.specs.Step.{Outcome, Stepped, settled_clock, slot_at, put_in, made, new_clock, onward, with_slots, run_at, step_by, step_of, step}
+use Rattle.xk_types.specs.Step.{Stepped, settled_clock, slot_at, put_in, made, new_clock, onward, with_slots, run_at, step_by, step_of, step}
 use Rattle.xk_types.specs.Schedule.{IsReached}
 use Rattle.xk_types.proofs.ListLemmas.{Each, get-set_other}
 use Rattle.xk_laws.proofs.Invariant.{Names, IsSound, AreWaiting}
 use Rattle.xk_laws.proofs.StepFormLemmas.{IsNext}
 use Rattle.xk_laws.proofs.ReachabilityLemmas.{reached_sound}
 use Rattle.xk_squares.specs.PlainWorlds.{plain_activity, plain_clock, plain}
-use Rattle.xk_squares.specs.Conflicts.{next_instruction}
 use Rattle.xk_squares.specs.Squares.{makes, makes_next}
 use Rattle.xk_squares.proofs.OneClockLemmas.{settle}
 use Rattle.xk_squares.proofs.ListLemmas.{set_other}
@@ -89,7 +88,8 @@ made_clocks n o new old (c ∷ cs) p q still =
 
 -- ---- a step that makes a clock
 
-made_step : (m : ModuleValue) (w : World) (a : ℕ) (act : Activity) (d : ℕ) (old : Value) → slice_get w.activities a ≡ Some act → IsNext m act (instr.Make d) → slot_at act d ≡ Some old
+made_step : (m : ModuleValue) (w : World) (a : ℕ) (act : Activity) (d : ℕ) (old : Value)
+    → slice_get w.activities a ≡ Some act → IsNext m act (instr.Make d) → slot_at act d ≡ Some old
     → step m w a ≡ Stepped (made_world w a (maker act d (length w.clocks))) event.Made
 made_step m w a act d old at next slot =
     ap (step_of m w a) at ∙ ap (step_by m w a act) next.runs ∙ ap (run_at m w a act) next.here
@@ -138,15 +138,17 @@ can_make m w sound a u e takes h = record { act = act; at = at; d = i.0; next = 
     slot : (old : Value) × (slot_at act i.0 ≡ Some old)
     slot = by (slot_at act i.0) refl (sym (ap (step_by m w a act) next.runs ∙ ap (run_at m w a act) next.here) ∙ taken)
       where
-        by : (o : Option Value) → slot_at act i.0 ≡ o → put_in o act i.0 (value.Clock (length w.clocks)) (λ z. made w a z) ≡ Stepped u e → (old : Value) × (slot_at act i.0 ≡ Some old)
+        by : (o : Option Value) → slot_at act i.0 ≡ o → put_in o act i.0 (value.Clock (length w.clocks)) (λ z. made w a z) ≡ Stepped u e
+            → (old : Value) × (slot_at act i.0 ≡ Some old)
         by None is g = absurd (grind arith)
         by (Some old) is g = (old, is)
 
 -- ---- both orders
 
 -- the worlds that they lead to
-both_worlds : (m : ModuleValue) (w : World) → IsSound m w → (a b : ℕ) → (b ≡ a → ⊥) → (x y : Activity) → slice_get w.activities a ≡ Some x → slice_get w.activities b ≡ Some y
-    → (d e : ℕ) → plain (clocks_swapped (length w.clocks) (made_world (made_world w b (maker y e (length w.clocks))) a (maker x d (suc (length w.clocks)))))
+both_worlds : (m : ModuleValue) (w : World) → IsSound m w → (a b : ℕ) → (b ≡ a → ⊥) → (x y : Activity)
+    → slice_get w.activities a ≡ Some x → slice_get w.activities b ≡ Some y → (d e : ℕ)
+    → plain (clocks_swapped (length w.clocks) (made_world (made_world w b (maker y e (length w.clocks))) a (maker x d (suc (length w.clocks)))))
     ≡ plain (made_world (made_world w a (maker x d (length w.clocks))) b (maker y e (suc (length w.clocks))))
 both_worlds m w sound a b differs x y at there d e =
     let n : ℕ = length w.clocks in
@@ -163,7 +165,8 @@ both_worlds m w sound a b differs x y at there d e =
     ∙ ap (set (set w.activities b y_last) a) (maker_renamed n x d (suc n) n (activities_stay m w sound a x at) (place-second n))
     ∙ set_other w.activities b a y_last x_first (λ h. differs (sym h)) in
     same_plain (clocks_swapped n (made_world (made_world w b y_first) a x_last)) (made_world (made_world w a x_first) b y_last) (ap (map plain_activity) activities)
-    (ap (λ k. map plain_clock (neighbours_swapped n (map (settled_clock (w.steps + 1 + 1)) (map (settled_clock (w.steps + 1)) (w.clocks ++ new_clock many b ∷ []) ++ new_clock k a ∷ []))))
+    (ap (λ k. map plain_clock (neighbours_swapped n
+    (map (settled_clock (w.steps + 1 + 1)) (map (settled_clock (w.steps + 1)) (w.clocks ++ new_clock many b ∷ []) ++ new_clock k a ∷ []))))
     (length-set w.activities b y_first)
     ∙ made_clocks (w.steps + 1 + 1) (w.steps + 1) (new_clock many a) (new_clock many b) w.clocks
     (new_still many a (slice_get_within w.activities a x at)) (new_still many b (slice_get_within w.activities b y there))
@@ -174,7 +177,11 @@ both_worlds m w sound a b differs x y at there d e =
 
 more_clocks : (w : World) (a : ℕ) (next : Activity) → length (made_world w a next).clocks ≡ suc (length w.clocks)
 more_clocks w a next =
-    omega (arith, length-map (w.clocks ++ new_clock (length w.activities) a ∷ []) (settled_clock (w.steps + 1)), length_push w.clocks (new_clock (length w.activities) a))
+    omega (
+      arith,
+      length-map (w.clocks ++ new_clock (length w.activities) a ∷ []) (settled_clock (w.steps + 1)),
+      length_push w.clocks (new_clock (length w.activities) a),
+    )
 
 pub makes_swapped : (m : ModuleValue) (w : World) → IsWithinLimits m → IsAccepted m → IsReached m w → (a b : ℕ) → (b ≡ a → ⊥)
     → makes_next m w a ≡ true → makes_next m w b ≡ true → IsSquareOfMakes m w a b

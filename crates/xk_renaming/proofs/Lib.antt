@@ -2,3 +2,4 @@ pub mod ClockNameListLemmas
 pub mod ClockNameStepLaw
 pub mod ClockNameRunLaw
 pub mod ClockNameSquareLaw
+pub mod ClockNameExamples
