@@ -50,6 +50,12 @@ push-swapped zero (x ∷ []) y h = absurd (omega arith)
 push-swapped zero (x ∷ z ∷ xs) y h = refl
 push-swapped (suc k) (x ∷ xs) y h = ap (λ zs. x ∷ zs) (push-swapped k xs y (omega arith))
 
+pub swapped-twice : {X : Type 0} (k : ℕ) (xs : List X) → neighbours_swapped k (neighbours_swapped k xs) ≡ xs
+swapped-twice k [] = refl
+swapped-twice zero (x ∷ []) = refl
+swapped-twice zero (x ∷ y ∷ xs) = refl
+swapped-twice (suc k) (x ∷ xs) = ap (λ zs. x ∷ zs) (swapped-twice k xs)
+
 -- ---- places
 
 pub place-beyond : (k c : ℕ) → suc k < c → place_swapped k c ≡ c
@@ -63,6 +69,13 @@ pub place-below : (k c : ℕ) → c < k → place_swapped k c ≡ c
 place-below zero c h = absurd (omega arith)
 place-below (suc k) zero h = refl
 place-below (suc k) (suc c) h = ap suc (place-below k c (omega arith))
+
+pub place-twice : (k c : ℕ) → place_swapped k (place_swapped k c) ≡ c
+place-twice zero zero = refl
+place-twice zero (suc zero) = refl
+place-twice zero (suc (suc c)) = refl
+place-twice (suc k) zero = refl
+place-twice (suc k) (suc c) = ap suc (place-twice k c)
 
 -- the two that are exchanged
 pub place-first : (k : ℕ) → place_swapped k k ≡ suc k

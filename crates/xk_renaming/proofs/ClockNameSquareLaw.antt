@@ -183,9 +183,12 @@ more_clocks w a next =
       length_push w.clocks (new_clock (length w.activities) a),
     )
 
-pub makes_swapped : (m : ModuleValue) (w : World) → IsWithinLimits m → IsAccepted m → IsReached m w → (a b : ℕ) → (b ≡ a → ⊥)
-    → makes_next m w a ≡ true → makes_next m w b ≡ true → IsSquareOfMakes m w a b
-makes_swapped m w limits ok reached a b differs first second u v e f hu hv = (
+-- each can follow the other, and then there are both clocks
+pub makes_after : (m : ModuleValue) (w : World) → IsWithinLimits m → IsAccepted m → IsReached m w → (a b : ℕ) → (b ≡ a → ⊥)
+    → makes_next m w a ≡ true → makes_next m w b ≡ true → (u v : World) (e f : Event) → step m w a ≡ Stepped u e → step m w b ≡ Stepped v f
+    → (x : World) × (y : World) × (step m v a ≡ Stepped x e) × (step m u b ≡ Stepped y f) × (plain (clocks_swapped (length w.clocks) x) ≡ plain y)
+    × (suc (length w.clocks) < length x.clocks)
+makes_after m w limits ok reached a b differs first second u v e f hu hv = (
   there v a p (length v.clocks),
   there u b q (length u.clocks),
   made_step m v a p.act p.d p.old (ap (λ (z : World). slice_get z.activities a) vs.0 ∙ get-set_other w.activities b a (maker q.act q.d n) turned ∙ p.at) p.next p.slot
@@ -197,6 +200,8 @@ makes_swapped m w limits ok reached a b differs first second u v e f hu hv = (
       ∙ both_worlds m w sound a b differs p.act q.act p.at q.at p.d q.d
       ∙ sym (ap (λ k. plain (there (made_world w a (maker p.act p.d n)) b q k)) (more_clocks w a (maker p.act p.d n)))
       ∙ sym (ap (λ (z : World). plain (there z b q (length z.clocks))) us.0),
+  (let one = more_clocks w b (maker q.act q.d n) in let two = more_clocks v a (maker p.act p.d (length v.clocks)) in
+      let same = ap (λ (z : World). length z.clocks) vs.0 in omega arith),
 )
   where
     n : ℕ
@@ -222,3 +227,9 @@ makes_swapped m w limits ok reached a b differs first second u v e f hu hv = (
 
     vs : (v ≡ made_world w b (maker q.act q.d n)) × (f ≡ event.Made)
     vs = same_step v (made_world w b (maker q.act q.d n)) f event.Made (sym hv ∙ made_step m w b q.act q.d q.old q.at q.next q.slot)
+
+pub makes_swapped : (m : ModuleValue) (w : World) → IsWithinLimits m → IsAccepted m → IsReached m w → (a b : ℕ) → (b ≡ a → ⊥)
+    → makes_next m w a ≡ true → makes_next m w b ≡ true → IsSquareOfMakes m w a b
+makes_swapped m w limits ok reached a b differs first second u v e f hu hv =
+    let r = makes_after m w limits ok reached a b differs first second u v e f hu hv in
+    (r.0, r.1, r.2, r.3, r.4)

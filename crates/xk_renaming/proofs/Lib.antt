@@ -3,3 +3,4 @@ pub mod ClockNameStepLaw
 pub mod ClockNameRunLaw
 pub mod ClockNameSquareLaw
 pub mod ClockNameExamples
+pub mod ClockNameSameLaw
