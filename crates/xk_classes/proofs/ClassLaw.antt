@@ -11,9 +11,9 @@ use Rattle.xk_types.specs.Schedule.{Through, run, IsReached, is_step, all_ended,
 use Rattle.xk_laws.proofs.ReachabilityLemmas.{same_through, first_step, reached_step}
 use Rattle.xk_squares.specs.Conflicts.{AreConflictFree}
 use Rattle.xk_squares.proofs.AwaitIndependenceLemmas.{same_or_not}
-use Rattle.xk_squares.proofs.QuietStepLaw.{alike_worlds_go_alike}
+use Rattle.xk_renaming.proofs.ClockNameSameLaw.{same_worlds_go_alike}
 use Rattle.xk_squares.proofs.ExplorationLaw.{nobody_steps}
-use Rattle.xk_classes.specs.Moments.{is_make, is_start, takers, IsFront, BeginsInOrder}
+use Rattle.xk_classes.specs.Moments.{is_start, takers, IsFront, BeginsInOrder}
 use Rattle.xk_classes.specs.Classes.{DoCommute, AreSwapped, AreOneClass, HasNoRace, HasNeverTwo}
 use Rattle.xk_classes.specs.OneRun.{GoesAsWell, IsBegun}
 use Rattle.xk_classes.proofs.SwapLemmas.{run_first, events_first, square_of}
@@ -24,7 +24,6 @@ use Rattle.xk_classes.proofs.ClassLemmas.{class_same, class_swap, class_on, clas
 -- a step of activity b, with event f, may be taken before this one of activity a, with event e
 record MayGoFirst (m : ModuleValue) (w : World) (a b : ℕ) (e f : Event) : Type 0 where
   apart : AreConflictFree m w a b
-  makes : is_make e ≡ true → is_make f ≡ true → ⊥
   starts : is_start e ≡ true → is_start f ≡ true → ⊥
 
 -- and before all of these, up to the first one that is b's own
@@ -64,32 +63,29 @@ still_first : (q : Bool) (a b : ℕ) (xs ys : List ℕ) → xs ≡ cond q (a ∷
 still_first true a b xs ys e differs h = absurd (differs (sym (first_of_two a b ys h.0 (sym e ∙ h.1))))
 still_first false a b xs ys e differs h = (h.0, sym e ∙ h.1)
 
--- by the order of makes and starts
+-- by the order of starts
 free_in_order : (m : ModuleValue) (s : List ℕ) (w : World) (b : ℕ) (f : Event) → HasNoRace m w s
-    → (is_make f ≡ true → IsHead b (takers is_make m s w)) → (is_start f ≡ true → IsHead b (takers is_start m s w)) → MayGoFirstOfAll m w b f s
-free_in_order m [] w b f free made started = tt
-free_in_order m (a ∷ s) w b f free made started = λ differs u v e hu hv. (
+    → (is_start f ≡ true → IsHead b (takers is_start m s w)) → MayGoFirstOfAll m w b f s
+free_in_order m [] w b f free started = tt
+free_in_order m (a ∷ s) w b f free started = λ differs u v e hu hv. (
   record {
     apart = free w (met_itself m w (a ∷ s)) a b differs (ap is_step hu) (ap is_step hv);
-    makes = λ p q. not_first (is_make e) a b (takers is_make m (a ∷ s) w) (takers is_make m s u) (made q).0 (takers_first is_make m s w u a e hu) differs p (made q).1;
     starts = λ p q. not_first (is_start e) a b (takers is_start m (a ∷ s) w) (takers is_start m s u) (started q).0 (takers_first is_start m s w u a e hu) differs p (started q).1;
   },
   free_in_order m s u b f (λ x g. free x (met_behind m w u x a e s hu g))
-      (λ q. still_first (is_make e) a b (takers is_make m (a ∷ s) w) (takers is_make m s u) (takers_first is_make m s w u a e hu) differs (made q))
       (λ q. still_first (is_start e) a b (takers is_start m (a ∷ s) w) (takers is_start m s u) (takers_first is_start m s w u a e hu) differs (started q)),
 )
 
--- where no two can be made or started at once
-free_alone : (m : ModuleValue) (s : List ℕ) (w : World) (b : ℕ) (f : Event) → HasNoRace m w s → HasNeverTwo is_make m w s → HasNeverTwo is_start m w s
+-- where no two can be started at once
+free_alone : (m : ModuleValue) (s : List ℕ) (w : World) (b : ℕ) (f : Event) → HasNoRace m w s → HasNeverTwo is_start m w s
     → MayGoFirstOfAll m w b f s
-free_alone m [] w b f free made started = tt
-free_alone m (a ∷ s) w b f free made started = λ differs u v e hu hv. (
+free_alone m [] w b f free started = tt
+free_alone m (a ∷ s) w b f free started = λ differs u v e hu hv. (
   record {
     apart = free w (met_itself m w (a ∷ s)) a b differs (ap is_step hu) (ap is_step hv);
-    makes = made w (met_itself m w (a ∷ s)) a b differs u v e f hu hv;
     starts = started w (met_itself m w (a ∷ s)) a b differs u v e f hu hv;
   },
-  free_alone m s u b f (λ x g. free x (met_behind m w u x a e s hu g)) (λ x g. made x (met_behind m w u x a e s hu g)) (λ x g. started x (met_behind m w u x a e s hu g)),
+  free_alone m s u b f (λ x g. free x (met_behind m w u x a e s hu g)) (λ x g. started x (met_behind m w u x a e s hu g)),
 )
 
 -- ---- to the front
@@ -121,7 +117,6 @@ module _ (m : ModuleValue) (limits : IsWithinLimits m) (ok : IsAccepted m) where
         second_event = f;
         second_steps = takes;
         apart = pass.0.apart;
-        makes = pass.0.makes;
         starts = pass.0.starts;
       } in
       let square = square_of m limits ok w a b reached c u v x.1 f x.2 takes in
@@ -148,7 +143,6 @@ module _ (m : ModuleValue) (limits : IsWithinLimits m) (ok : IsAccepted m) where
     last : World
     legal : run m rest v ≡ Through last
     ended : all_ended last ≡ true
-    made : takers is_make m s w ≡ takers is_make m (b ∷ rest) w
     started : takers is_start m s w ≡ takers is_start m (b ∷ rest) w
 
   rest_of : (s : List ℕ) (w v z : World) (b : ℕ) (f : Event) → IsReached m w → step m w b ≡ Stepped v f → MayGoFirstOfAll m w b f s
@@ -161,8 +155,7 @@ module _ (m : ModuleValue) (limits : IsWithinLimits m) (ok : IsAccepted m) where
         member = r.1;
         last = g.last;
         legal = sym (run_first m r.0 w v b f takes) ∙ g.legal;
-        ended = sym ((alike_worlds_go_alike m).ends z g.last g.alike) ∙ ended;
-        made = g.same.made;
+        ended = sym ((same_worlds_go_alike m).ends z g.last g.alike) ∙ ended;
         started = g.same.started;
       }
 
@@ -200,34 +193,27 @@ module _ (m : ModuleValue) (limits : IsWithinLimits m) (ok : IsAccepted m) where
       let x = first_step w y (step m w b) (run m t) goes in
       let v : World = x.0 in
       let f : Event = x.1 in
-      let madet = takers_first is_make m t w v b f x.2 in
       let startedt = takers_first is_start m t w v b f x.2 in
       let r : Rest w v z b s =
       rest_of s w v z b f reached x.2
       (free_in_order m s w b f free
-      (heads (is_make f) b (takers is_make m (b ∷ t) w) (takers is_make m s w) (takers is_make m t v) madet order.made)
-      (heads (is_start f) b (takers is_start m (b ∷ t) w) (takers is_start m s w) (takers is_start m t v) startedt order.started))
+      (heads (is_start f) b (takers is_start m (b ∷ t) w) (takers is_start m s w) (takers is_start m t v) startedt order))
       legal ended in
       begun s t w v b f r.rest x.2 r.member
       (in_order t r.rest v y r.last (reached_step m w v b f reached x.2) r.legal r.ended
       (λ p g. free p (met_by m w p s (b ∷ r.rest) r.member (met_behind m w v p b f r.rest x.2 g))) x.3
-      (record {
-        made = fronts (is_make f) b (takers is_make m (b ∷ t) w) (takers is_make m (b ∷ r.rest) w) (takers is_make m t v) (takers is_make m r.rest v) madet
-            (takers_first is_make m r.rest w v b f x.2) (front_by (takers is_make m (b ∷ t) w) (takers is_make m s w) (takers is_make m (b ∷ r.rest) w) order.made r.made);
-        started = fronts (is_start f) b (takers is_start m (b ∷ t) w) (takers is_start m (b ∷ r.rest) w) (takers is_start m t v) (takers is_start m r.rest v) startedt
-            (takers_first is_start m r.rest w v b f x.2) (front_by (takers is_start m (b ∷ t) w) (takers is_start m s w) (takers is_start m (b ∷ r.rest) w) order.started r.started);
-      }))
+      (fronts (is_start f) b (takers is_start m (b ∷ t) w) (takers is_start m (b ∷ r.rest) w) (takers is_start m t v) (takers is_start m r.rest v) startedt
+      (takers_first is_start m r.rest w v b f x.2) (front_by (takers is_start m (b ∷ t) w) (takers is_start m s w) (takers is_start m (b ∷ r.rest) w) order r.started)))
 
   pub every : (t s : List ℕ) (w y z : World) → IsReached m w → run m s w ≡ Through z → all_ended z ≡ true → HasNoRace m w s
-      → HasNeverTwo is_make m w s → HasNeverTwo is_start m w s → run m t w ≡ Through y → IsBegun m w s t
-  every [] s w y z reached legal ended free made started goes = none_begun s w
-  every (b ∷ t) s w y z reached legal ended free made started goes =
+      → HasNeverTwo is_start m w s → run m t w ≡ Through y → IsBegun m w s t
+  every [] s w y z reached legal ended free started goes = none_begun s w
+  every (b ∷ t) s w y z reached legal ended free started goes =
       let x = first_step w y (step m w b) (run m t) goes in
       let v : World = x.0 in
       let f : Event = x.1 in
-      let r : Rest w v z b s = rest_of s w v z b f reached x.2 (free_alone m s w b f free made started) legal ended in
+      let r : Rest w v z b s = rest_of s w v z b f reached x.2 (free_alone m s w b f free started) legal ended in
       begun s t w v b f r.rest x.2 r.member
       (every t r.rest v y r.last (reached_step m w v b f reached x.2) r.legal r.ended
       (λ p g. free p (met_by m w p s (b ∷ r.rest) r.member (met_behind m w v p b f r.rest x.2 g)))
-      (λ p g. made p (met_by m w p s (b ∷ r.rest) r.member (met_behind m w v p b f r.rest x.2 g)))
       (λ p g. started p (met_by m w p s (b ∷ r.rest) r.member (met_behind m w v p b f r.rest x.2 g))) x.3)

@@ -10,8 +10,9 @@ use Rattle.xk_types.specs.Code.{ModuleValue, IsWithinLimits}
 use Rattle.xk_types.specs.World.{Activity, World}
 use Rattle.xk_types.specs.Step.{Stepped, step}
 use Rattle.xk_types.specs.Schedule.{Through, run, IsReached, is_local, events, number_printed, printed}
-use Rattle.xk_squares.specs.PlainWorlds.{AreAlike}
-use Rattle.xk_classes.specs.Moments.{is_print, is_make, is_start}
+use Rattle.xk_renaming.specs.ClockNames.{AreSameButNames}
+use Rattle.xk_renaming.proofs.ClockNameSameLaw.{same_itself, same_joined}
+use Rattle.xk_classes.specs.Moments.{is_print, is_start}
 use Rattle.xk_classes.specs.Classes.{DoCommute, AreSwapped, AreJoined, AreOneClass, IsMet, HasNeverTwo}
 use Rattle.xk_classes.specs.OneRun.{GoesAsWell}
 use Rattle.xk_classes.proofs.SwapLemmas.{Entry, entries, event_in, events_filtered, first_entry, second_entry, run_first, IsExchange, exchange}
@@ -89,11 +90,11 @@ crossed p front back x y h =
 abbrev pub NeverCrosses : (Entry → Bool) → ModuleValue → World → List ℕ → Type 0
 NeverCrosses p m w s = (v : World) → IsMet m w s v → (a b : ℕ) (c : DoCommute m v a b) → p (first_entry m v a b c) ≡ true → p (second_entry m v a b c) ≡ true → ⊥
 
--- the other schedule is legal, leads to a world that is alike, and has the same entries that pass
+-- the other schedule is legal, leads to the same world but for names, and has the same entries that pass
 pub record GoesOn (p : Entry → Bool) (m : ModuleValue) (w z : World) (s t : List ℕ) : Type 0 where
   pub last : World
   pub legal : run m t w ≡ Through last
-  pub alike : AreAlike z last
+  pub alike : AreSameButNames z last
   pub same : filter p (entries m s w) ≡ filter p (entries m t w)
 
 module _ (m : ModuleValue) (limits : IsWithinLimits m) (ok : IsAccepted m) (p : Entry → Bool) (w : World) (reached : IsReached m w) where
@@ -101,7 +102,7 @@ module _ (m : ModuleValue) (limits : IsWithinLimits m) (ok : IsAccepted m) (p : 
   joined_goes [] s t z h legal never = record {
     last = z;
     legal = ap (λ l. run m l w) (sym h) ∙ legal;
-    alike = refl;
+    alike = same_itself z;
     same = ap (λ l. filter p (entries m l w)) h;
   }
   joined_goes (x ∷ us) s t z h legal never =
@@ -115,7 +116,7 @@ module _ (m : ModuleValue) (limits : IsWithinLimits m) (ok : IsAccepted m) (p : 
       record {
         last = rest.last;
         legal = rest.legal;
-        alike = r.alike ∙ rest.alike;
+        alike = same_joined z r.last rest.last r.alike rest.alike;
         same = ap (λ l. filter p (entries m l w)) k.this ∙ ap (filter p) r.this
             ∙ crossed p r.front r.back (first_entry m k.here k.first k.second k.commute) (second_entry m k.here k.first k.second k.commute)
             (never k.here met k.first k.second k.commute)
@@ -125,7 +126,7 @@ module _ (m : ModuleValue) (limits : IsWithinLimits m) (ok : IsAccepted m) (p : 
   pub class_goes : (s t : List ℕ) (z : World) → AreOneClass m w s t → run m s w ≡ Through z → NeverCrosses p m w s → GoesOn p m w z s t
   class_goes s t z h legal never = joined_goes h.between s t z h.joined legal never
 
--- ---- of each activity, of clocks that are made, of activities that are started, of prints
+-- ---- of each activity, of activities that are started, of prints
 
 abbrev pub by_event : (Event → Bool) → Entry → Bool
 by_event test x = test x.1
@@ -141,9 +142,6 @@ states_by m list w a = map state_in (filter (by_taker a) (entries m list w))
 
 pub never_one : (m : ModuleValue) (w : World) (s : List ℕ) (d : ℕ) → NeverCrosses (by_taker d) m w s
 never_one m w s d v met a b c h g = c.differ (eqb-true b d g ∙ sym (eqb-true a d h))
-
-pub never_makes : (m : ModuleValue) (w : World) (s : List ℕ) → NeverCrosses (by_event is_make) m w s
-never_makes m w s v met a b c = c.makes
 
 pub never_starts : (m : ModuleValue) (w : World) (s : List ℕ) → NeverCrosses (by_event is_start) m w s
 never_starts m w s v met a b c = c.starts
@@ -179,14 +177,13 @@ module _ (m : ModuleValue) (limits : IsWithinLimits m) (ok : IsAccepted m) (w z 
 
   pub class_as_well : GoesAsWell m w s t z
   class_as_well =
-      let g : GoesOn (by_event is_make) m w z s t = class_goes m limits ok (by_event is_make) w reached s t z h legal (never_makes m w s) in
+      let g : GoesOn (by_event is_start) m w z s t = class_goes m limits ok (by_event is_start) w reached s t z h legal (never_starts m w s) in
       record {
         last = g.last;
         legal = g.legal;
         alike = g.alike;
         same = record {
           each = λ a. ap (map (λ (x : ℕ × Event). x.1)) (same_events (λ x. x.0 == a) (never_one m w s a));
-          made = ap (map (λ (x : ℕ × Event). x.0)) (same_events (λ x. is_make x.1) (never_makes m w s));
           started = ap (map (λ (x : ℕ × Event). x.0)) (same_events (λ x. is_start x.1) (never_starts m w s));
         };
       }

@@ -15,10 +15,11 @@ use Rattle.xk_types.specs.Step.{Stepped, step}
 use Rattle.xk_types.specs.Schedule.{Through, run, IsReached, is_step, is_enabled, all_ended}
 use Rattle.xk_laws.proofs.ReachabilityLemmas.{same_through, first_step, reached_step}
 use Rattle.xk_squares.specs.Conflicts.{next_instruction, AreConflictFree}
-use Rattle.xk_squares.specs.PlainWorlds.{plain_activity}
 use Rattle.xk_squares.proofs.ChangeSquareLemmas.{found_of}
 use Rattle.xk_squares.proofs.StartSquareLemmas.{alive_of}
-use Rattle.xk_squares.proofs.QuietStepLaw.{enabled_step, alike_worlds_go_alike}
+use Rattle.xk_squares.proofs.QuietStepLaw.{enabled_step}
+use Rattle.xk_renaming.proofs.ClockNamelessLemmas.{nameless_activity}
+use Rattle.xk_renaming.proofs.ClockNameSameLaw.{same_worlds_go_alike}
 use Rattle.xk_classes.specs.Classes.{AreOneClass, IsMet, HasNoRace, HasNeverTwo}
 use Rattle.xk_classes.specs.Edges.{StepName, turns_of, IsTaken, carried_by, instruction_of, AreApart, IsLink, IsWay, IsBefore, AreSound, AreOrdered, AreOneByOne}
 use Rattle.xk_classes.specs.OneRun.{GoesAsWell}
@@ -156,7 +157,7 @@ stands_next m (d ∷ after) v z a act at alive h ended =
     by true g u e takes shorter = ap (λ c. Some (state_of v c)) (eqb-true d a g)
     by false g u e takes shorter =
         let there : slice_get u.activities a ≡ Some act = others_stay m v u d a e act takes (λ q. eqb-false d a g (sym q)) at in
-        shorter there ∙ ap (λ o. Some (option_map plain_activity o)) (there ∙ sym at)
+        shorter there ∙ ap (λ o. Some (option_map nameless_activity o)) (there ∙ sym at)
 
 -- what an activity carries out is what it does as it stands
 carried_is : (m : ModuleValue) (list : List ℕ) (w : World) (a : ℕ) → carried_by m list w a ≡ map (instruction_by m) (states_by m list w a)
@@ -202,7 +203,7 @@ module _ (m : ModuleValue) (limits : IsWithinLimits m) (ok : IsAccepted m) (w z 
   stands before after v member leads a enabled =
       let g : GoesAsWell m w s (before ++ after) z = class_as_well m limits ok w z reached s (before ++ after) member legal in
       let rest : run m after v ≡ Through g.last = sym (run_behind m before after w v leads) ∙ g.legal in
-      let over : all_ended g.last ≡ true = sym ((alike_worlds_go_alike m).ends z g.last g.alike) ∙ ended in
+      let over : all_ended g.last ≡ true = sym ((same_worlds_go_alike m).ends z g.last g.alike) ∙ ended in
       let u = enabled_step (step m v a) enabled in
       let x = found_of m v a u.0 u.1 u.2 in
       ap (λ l. slice_get l (turns_of a before)) (same_states m limits ok w z reached s (before ++ after) member legal a)

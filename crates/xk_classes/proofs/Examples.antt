@@ -15,9 +15,10 @@ use Rattle.xk_types.specs.Schedule.{Course, Through, Held, Wronged, run, is_enab
 use Rattle.xk_types.proofs.Examples.Notation.{fresh, main_with, body_with}
 use Rattle.xk_laws.proofs.Examples.AcceptanceTest.{HasFewArguments, accepted_by}
 use Rattle.xk_squares.specs.Conflicts.{reads_next, stores_next}
+use Rattle.xk_squares.specs.Squares.{starts}
 use Rattle.xk_classes.specs.Moments.{takers, is_start, printed_by}
 use Rattle.xk_classes.specs.Edges.{StepName, IsStart, IsUnderFinish, IsBefore}
-use Rattle.xk_classes.specs.OneRun.{ComeToOne, gets_or_puts, AddsInUnit, AddsAtMost, begins, OnlyMainBegins}
+use Rattle.xk_classes.specs.OneRun.{ComeToOne, gets_or_puts, AddsInUnit, AddsAtMost, OnlyMainStarts}
 use Rattle.xk_classes.proofs.OneRunLaw.{adders_free, one_in_order}
 
 -- the world that a run comes to, if it comes through
@@ -80,14 +81,14 @@ main_last = 0 ∷ 1 ∷ 1 ∷ 1 ∷ 1 ∷ 0 ∷ 0 ∷ 0 ∷ []
 sum_same : ComeToOne sum [] main_first main_last (last sum main_first) (last sum main_last)
 sum_same = one_in_order sum [] sum_limits sum_accepted refl main_first main_last (last sum main_first) (last sum main_last)
     (record { legal = refl; ended = refl }) (adders_free sum (fresh sum) main_first sum_adds) (record { legal = refl; ended = refl })
-    (record { made = record { rest = []; whole = refl }; started = record { rest = []; whole = refl } })
+    (record { rest = []; whole = refl })
 
 -- main alone starts somebody: so it says that of any two schedules by which all have ended
-sum_main : OnlyMainBegins sum
-sum_main zero u at = subst AreQuiet (same_Some helper u at) (All-from_recursion (λ i. begins i ≡ false) helper.code (refl, (refl, (refl, (refl, tt)))))
+sum_main : OnlyMainStarts sum
+sum_main zero u at = subst AreQuiet (same_Some helper u at) (All-from_recursion (λ i. starts i ≡ false) helper.code (refl, (refl, (refl, (refl, tt)))))
   where
     AreQuiet : UnitValue → Type 0
-    AreQuiet v = All (λ i. begins i ≡ false) v.code
+    AreQuiet v = All (λ i. starts i ≡ false) v.code
 sum_main (suc k) u at = absurd (none-some u at)
 
 -- ---- a writes a number and ends; b starts c, which reads it

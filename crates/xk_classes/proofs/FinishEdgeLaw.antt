@@ -21,7 +21,7 @@ use Rattle.xk_types.proofs.ListLemmas.{get-set_same, get-set_other, get-append_l
 use Rattle.xk_laws.proofs.ReachabilityLemmas.{same_through, first_step, reached_sound, reached_scoped, opening_reached}
 use Rattle.xk_laws.proofs.StepFormLemmas.{step_kind}
 use Rattle.xk_laws.proofs.ScopeLemmas.FinishOwnerLemmas.{AreOwned, under_governed, under_owner, under_cases, under_above}
-use Rattle.xk_squares.specs.PlainWorlds.{plain_activity}
+use Rattle.xk_renaming.proofs.ClockNamelessLemmas.{nameless_activity, nameless_same}
 use Rattle.xk_squares.proofs.AwaitIndependenceLemmas.{same_or_not, awaits_given}
 use Rattle.xk_squares.proofs.ChangeSquareLemmas.{found_of}
 use Rattle.xk_squares.proofs.StartSquareLemmas.{alive_of}
@@ -278,14 +278,14 @@ module _ (m : ModuleValue) (args : List ℤ) (limits : IsWithinLimits m) (ok : I
     same_governed n p q hp hq =
         let a = governed_stays m (y.0 ∷ f.after) f.here z n p end hp in
         let b = governed_stays m after v g.last n q rest hq in
-        let both : plain_activity a.0 ≡ plain_activity b.0 =
-        same_Some (plain_activity a.0) (plain_activity b.0)
-        (sym (get_map plain_activity z.activities n ∙ ap (option_map plain_activity) a.1) ∙ ap (λ (u : World). slice_get u.activities n) g.alike
-        ∙ get_map plain_activity g.last.activities n ∙ ap (option_map plain_activity) b.1) in
+        let both : nameless_activity a.0 ≡ nameless_activity b.0 =
+        same_Some (nameless_activity a.0) (nameless_activity b.0)
+        (sym (get_map nameless_activity z.activities n ∙ ap (option_map nameless_activity) a.1) ∙ ap (λ xs. slice_get xs n) (nameless_same z g.last g.alike)
+        ∙ get_map nameless_activity g.last.activities n ∙ ap (option_map nameless_activity) b.1) in
         sym a.2 ∙ ap (λ (u : Activity). u.governed) both ∙ b.2
 
     -- who closes the finish has as many open there
-    closer : (act : Activity) × (slice_get v.activities y.0 ≡ Some act) × (plain_activity f.closer ≡ plain_activity act)
+    closer : (act : Activity) × (slice_get v.activities y.0 ≡ Some act) × (nameless_activity f.closer ≡ nameless_activity act)
     closer =
         let u = enabled_step (step m v y.0) enabled in
         let a = found_of m v y.0 u.0 u.1 u.2 in
@@ -295,8 +295,8 @@ module _ (m : ModuleValue) (args : List ℤ) (limits : IsWithinLimits m) (ok : I
         same_Some (state_of f.here y.0) (state_of v y.0) (sym one ∙ ap (slice_get (states_by m s w y.0)) (f.turn ∙ sym turn) ∙ other) in (
           a.0,
           a.1,
-          same_Some (plain_activity f.closer) (plain_activity a.0)
-              (sym (ap (option_map plain_activity) f.found) ∙ states ∙ ap (option_map plain_activity) a.1),
+          same_Some (nameless_activity f.closer) (nameless_activity a.0)
+              (sym (ap (option_map nameless_activity) f.found) ∙ states ∙ ap (option_map nameless_activity) a.1),
         )
 
     free : awaits v.activities finish ≡ false

@@ -16,7 +16,8 @@ use Rattle.xk_types.specs.Schedule.{Through, run, all_ended, number_printed, pri
 use Rattle.xk_laws.proofs.ReachabilityLemmas.{same_through, first_step, opening_reached}
 use Rattle.xk_squares.specs.Conflicts.{reads, puts, next_instruction, AreConflictFree}
 use Rattle.xk_squares.proofs.ExplorationLaw.{nobody_steps}
-use Rattle.xk_classes.specs.Moments.{is_make, is_start, is_print, BeginsInOrder}
+use Rattle.xk_renaming.proofs.ClockNameSameLaw.{same_worlds_go_alike}
+use Rattle.xk_classes.specs.Moments.{is_start, is_print, BeginsInOrder}
 use Rattle.xk_classes.specs.Classes.{AreOneClass, HasNoRace, HasNeverTwo}
 use Rattle.xk_classes.specs.OneRun.{GoesAsWell, IsBegun, IsWholeRun, ComeToOne, gets_or_puts, AddsInUnit, AddsAtMost}
 use Rattle.xk_classes.proofs.SwapLemmas.{run_first}
@@ -52,9 +53,9 @@ module _ (m : ModuleValue) (args : List ℤ) (limits : IsWithinLimits m) (ok : I
       → BeginsInOrder m (opening m args) t s → IsBegun m (opening m args) s t
   begun_in_order s t z y one free goes order = in_order m limits ok t s (opening m args) y z (opening_reached m args taken) one.legal one.ended free goes order
 
-  pub begun_every : (s t : List ℕ) (z y : World) → IsWholeRun m args s z → HasNoRace m (opening m args) s → HasNeverTwo is_make m (opening m args) s
+  pub begun_every : (s t : List ℕ) (z y : World) → IsWholeRun m args s z → HasNoRace m (opening m args) s
       → HasNeverTwo is_start m (opening m args) s → run m t (opening m args) ≡ Through y → IsBegun m (opening m args) s t
-  begun_every s t z y one free made started goes = every m limits ok t s (opening m args) y z (opening_reached m args taken) one.legal one.ended free made started goes
+  begun_every s t z y one free started goes = every m limits ok t s (opening m args) y z (opening_reached m args taken) one.legal one.ended free started goes
 
   pub ordered_run : (s : List ℕ) (z : World) (edges : List (StepName × StepName)) → IsWholeRun m args s z → AreSound m (opening m args) s edges
       → AreOrdered m (opening m args) s edges → HasNoRace m (opening m args) s
@@ -71,7 +72,7 @@ module _ (m : ModuleValue) (args : List ℤ) (limits : IsWithinLimits m) (ok : I
   come_to_one s t z y one other member =
       let g : GoesAsWell m (opening m args) s t z = same s t z one.legal member in
       record {
-        cells = ap (λ (x : World). x.cells) g.alike ∙ ap (λ (x : World). x.cells) (same_through g.last y (sym g.legal ∙ other.legal));
+        cells = (same_worlds_go_alike m).cells z g.last g.alike ∙ ap (λ (x : World). x.cells) (same_through g.last y (sym g.legal ∙ other.legal));
         prints = λ a. ap (filter_map number_printed) (g.same.each a);
       }
 
@@ -80,10 +81,10 @@ module _ (m : ModuleValue) (args : List ℤ) (limits : IsWithinLimits m) (ok : I
   one_in_order s t z y one free other order =
       come_to_one s t z y one other (whole_member s t z y one other (begun_in_order s t z y one free other.legal order))
 
-  pub one_every : (s t : List ℕ) (z y : World) → IsWholeRun m args s z → HasNoRace m (opening m args) s → HasNeverTwo is_make m (opening m args) s
+  pub one_every : (s t : List ℕ) (z y : World) → IsWholeRun m args s z → HasNoRace m (opening m args) s
       → HasNeverTwo is_start m (opening m args) s → IsWholeRun m args t y → ComeToOne m args s t z y
-  one_every s t z y one free made started other =
-      come_to_one s t z y one other (whole_member s t z y one other (begun_every s t z y one free made started other.legal))
+  one_every s t z y one free started other =
+      come_to_one s t z y one other (whole_member s t z y one other (begun_every s t z y one free started other.legal))
 
   pub one_prints : (s t : List ℕ) (z y : World) → IsWholeRun m args s z → HasNoRace m (opening m args) s → HasNeverTwo is_print m (opening m args) s
       → IsWholeRun m args t y → BeginsInOrder m (opening m args) t s → printed m s (opening m args) ≡ printed m t (opening m args)

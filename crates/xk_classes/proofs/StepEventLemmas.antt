@@ -1,12 +1,9 @@
--- A step at an instruction that makes a clock has that event, and so has one at an instruction that starts an activity. A step leaves all other
--- activities as they are.
+-- A step at an instruction that starts an activity has that event. A step leaves all other activities as they are.
 use Rattle.std.proofs.Common.{◌≡◌, ℕ, [], ◌∷◌, set, Bool, true, false, true≢false, Some, None, Option, length, refl, sym, ap, ◌∙◌, subst}
 use Rattle.std.specs.Prelude.{slice_get, option_and_then}
 use Rattle.std.specs.Option.{option_map_or}
 use Rattle.xk_types.specs.declared.instr.Instr.{Instr}
 use Rattle.xk_types.specs.declared.instr.Instr.TheVariants as instr
-use Rattle.xk_types.specs.declared.world.Value.{Value}
-use Rattle.xk_types.specs.declared.world.Value.TheVariants as value
 use Rattle.xk_types.specs.declared.world.Status.{Status}
 use Rattle.xk_types.specs.declared.world.Status.TheVariants as status
 use Rattle.xk_types.specs.declared.world.Event.{Event}
@@ -14,19 +11,19 @@ use Rattle.xk_types.specs.declared.world.Event.TheVariants as event
 use Rattle.xk_types.specs.Acceptance.{IsAccepted}
 use Rattle.xk_types.specs.Code.{UnitValue, ModuleValue, IsWithinLimits}
 use Rattle.xk_types.specs.World.{Activity, World, instruction_at}
-use Rattle.xk_types.specs.Step.{child, onward, Outcome, Blocked, Wrong, Stepped, slot_at, put_in, made, run_at, step_by, step_of, step}
+use Rattle.xk_types.specs.Step.{child, onward, Outcome, Blocked, Wrong, Stepped, run_at, step_by, step_of, step}
 use Rattle.xk_types.specs.Schedule.{IsReached}
 use Rattle.xk_types.proofs.ListLemmas.{get-set_other, get-append_left}
 use Rattle.xk_laws.proofs.Invariant.{IsSound}
 use Rattle.xk_laws.proofs.ReachabilityLemmas.{reached_sound}
 use Rattle.xk_laws.proofs.StepFormLemmas.{finishes_of, spawning_form}
 use Rattle.xk_squares.specs.Conflicts.{next_instruction}
-use Rattle.xk_squares.specs.Squares.{makes, starts, makes_next, starts_next}
+use Rattle.xk_squares.specs.Squares.{starts, starts_next}
 use Rattle.xk_squares.proofs.StepEffect.{enacted}
 use Rattle.xk_squares.proofs.ChangeSquareLemmas.{same_step, not_none, found_of}
 use Rattle.xk_squares.proofs.StartSquareLemmas.{made_world, started_world, maker}
 use Rattle.xk_squares.proofs.ViewLemmas.{Goes, IsNone, DoesAct, DoesMake, DoesStart, goes, sees_itself}
-use Rattle.xk_classes.specs.Moments.{is_make, is_start}
+use Rattle.xk_classes.specs.Moments.{is_start}
 
 -- it isn't a step, or its event passes
 abbrev Has : (Event → Bool) → Outcome → Type 0
@@ -35,15 +32,6 @@ Has test (Wrong c) = Unit {0}
 Has test (Stepped u e) = test e ≡ true
 
 -- ---- by the next instruction, if there is one
-
-made_has : (m : ModuleValue) (w : World) (a : ℕ) (act : Activity) (o : Option Instr) → option_map_or makes o false ≡ true → Has is_make (run_at m w a act o)
-made_has m w a act (Some (instr.Make k)) h = by (slot_at act k)
-  where
-    by : (old : Option Value) → Has is_make (put_in old act k (value.Clock (length w.clocks)) (λ next. made w a next))
-    by None = tt
-    by (Some old) = refl
-made_has m w a act None h = absurd (true≢false (sym h))
-made_has m w a act (Some _) h = absurd (true≢false (sym h))
 
 started_has : (m : ModuleValue) (w : World) (a : ℕ) (act : Activity) (o : Option Instr) → option_map_or starts o false ≡ true → Has is_start (run_at m w a act o)
 started_has m w a act (Some (instr.Spawn t args)) h =
@@ -83,9 +71,6 @@ module _ (m : ModuleValue) (limits : IsWithinLimits m) (ok : IsAccepted m) (w u 
           let s = sound.activities a act there in
           absurd (true≢false (sym here ∙ ap (λ o. option_map_or kind o false) (at_advance m act s.u s.unit (s.advance is)) ∙ differs))
       by status.Ended is = tt
-
-  pub event_made : makes_next m w a ≡ true → is_make e ≡ true
-  event_made = has_by makes is_make refl (made_has m w a act)
 
   pub event_started : starts_next m w a ≡ true → is_start e ≡ true
   event_started = has_by starts is_start refl (started_has m w a act)

@@ -1,5 +1,5 @@
--- Two neighbours whose steps commute, in either order: both schedules are legal or neither, they lead to worlds that are alike, and have the same
--- entries but for these two.
+-- Two neighbours whose steps commute, in either order: both schedules are legal or neither, they lead to worlds that are the same but for the names
+-- of clocks, and have the same entries but for these two.
 use Rattle.std.proofs.Common.{◌≡◌, ℕ, suc, zero, Bool, true, false, cond, List, [], ◌∷◌, ◌++◌, map, Option, Some, None, refl, sym, ap, ◌∙◌, subst}
 use Rattle.std.specs.Prelude.{filter, slice_get, option_and_then, option_map}
 use Rattle.xk_types.specs.declared.instr.Instr.{Instr}
@@ -11,23 +11,22 @@ use Rattle.xk_types.specs.Step.{Outcome, Blocked, Wrong, Stepped, step}
 use Rattle.xk_types.specs.Schedule.{Through, run, run_on, IsReached, events, events_on}
 use Rattle.xk_laws.proofs.ReachabilityLemmas.{same_through, first_step, reached_step}
 use Rattle.xk_squares.specs.Conflicts.{next_instruction}
-use Rattle.xk_squares.specs.PlainWorlds.{plain_activity, AreAlike}
-use Rattle.xk_squares.specs.Squares.{IsSquare}
 use Rattle.xk_squares.proofs.ChangeSquareLemmas.{found_of}
-use Rattle.xk_squares.proofs.QuietStepLaw.{alike_worlds_go_alike}
-use Rattle.xk_squares.proofs.SquareLaw.{all_squares}
+use Rattle.xk_renaming.specs.ClockNames.{AreSameButNames, IsSquareButNames}
+use Rattle.xk_renaming.proofs.ClockNamelessLemmas.{nameless_activity, nameless_same}
+use Rattle.xk_renaming.proofs.ClockNameSameLaw.{same_turned, same_worlds_go_alike, squares_but_names}
 use Rattle.xk_classes.specs.Classes.{DoCommute}
 use Rattle.xk_classes.specs.Edges.{carried, carried_on}
-use Rattle.xk_classes.proofs.StepEventLemmas.{event_made, event_started, others_stay}
+use Rattle.xk_classes.proofs.StepEventLemmas.{event_started, others_stay}
 
 -- ---- entries: who takes each step of a run, with what event, carrying out what
 
 abbrev pub Entry : Type 0
 Entry = ℕ × Event × Option Activity
 
--- how an activity stands, if it's there, but for when it passed last
+-- how an activity stands, if it's there, but for the names of clocks and for when it passed last
 abbrev pub state_of : World → ℕ → Option Activity
-state_of w a = option_map plain_activity (slice_get w.activities a)
+state_of w a = option_map nameless_activity (slice_get w.activities a)
 
 -- what an activity that stands so carries out
 abbrev pub instruction_by : ModuleValue → Option Activity → Option Instr
@@ -62,7 +61,7 @@ instruction_in m x = (x.0, instruction_by m x.2)
 pub next_by_state : (m : ModuleValue) (w : World) (a : ℕ) → next_instruction m w a ≡ instruction_by m (state_of w a)
 next_by_state m w a = by (slice_get w.activities a)
   where
-    by : (o : Option Activity) → option_and_then (λ (x : Activity). instruction_at m x.frame) o ≡ instruction_by m (option_map plain_activity o)
+    by : (o : Option Activity) → option_and_then (λ (x : Activity). instruction_at m x.frame) o ≡ instruction_by m (option_map nameless_activity o)
     by None = refl
     by (Some x) = refl
 
@@ -104,17 +103,17 @@ get_map g [] k = refl
 get_map g (x ∷ xs) zero = refl
 get_map g (x ∷ xs) (suc k) = get_map g xs k
 
--- in worlds that are alike one stands alike
-state_alike : (w v : World) (a : ℕ) → AreAlike w v → state_of w a ≡ state_of v a
+-- in worlds that are the same but for names one stands the same
+state_alike : (w v : World) (a : ℕ) → AreSameButNames w v → state_of w a ≡ state_of v a
 state_alike w v a alike =
-    sym (get_map plain_activity w.activities a) ∙ ap (λ (z : World). slice_get z.activities a) alike ∙ get_map plain_activity v.activities a
+    sym (get_map nameless_activity w.activities a) ∙ ap (λ xs. slice_get xs a) (nameless_same w v alike) ∙ get_map nameless_activity v.activities a
 
 -- another's step leaves that as it is
 pub state_stays : (m : ModuleValue) (w u v : World) (a b : ℕ) (e f : Event) → step m w a ≡ Stepped u e → step m w b ≡ Stepped v f → (b ≡ a → ⊥)
     → state_of u b ≡ state_of w b
 state_stays m w u v a b e f hu hv differs =
     let y = found_of m w b v f hv in
-    ap (option_map plain_activity) (others_stay m w u a b e y.0 hu differs y.1 ∙ sym y.1)
+    ap (option_map nameless_activity) (others_stay m w u a b e y.0 hu differs y.1 ∙ sym y.1)
 
 -- ---- the first step of a run
 
@@ -128,19 +127,19 @@ events_first m list w u a e h = ap (λ o. events_on a o (events m list)) h
 pub run_first : (m : ModuleValue) (list : List ℕ) (w u : World) (a : ℕ) (e : Event) → step m w a ≡ Stepped u e → run m (a ∷ list) w ≡ run m list u
 run_first m list w u a e h = ap (λ o. run_on w o (run m list)) h
 
--- ---- worlds that are alike
+-- ---- worlds that are the same but for names
 
 pub record RunsAlike (m : ModuleValue) (list : List ℕ) (w v z : World) : Type 0 where
   pub last : World
   pub legal : run m list v ≡ Through last
-  pub alike : AreAlike z last
+  pub alike : AreSameButNames z last
   pub same : entries m list w ≡ entries m list v
 
-pub runs_alike : (m : ModuleValue) (list : List ℕ) (w v z : World) → AreAlike w v → run m list w ≡ Through z → RunsAlike m list w v z
-runs_alike m [] w v z alike h = record { last = v; legal = refl; alike = subst (λ x. AreAlike x v) (same_through w z h) alike; same = refl }
+pub runs_alike : (m : ModuleValue) (list : List ℕ) (w v z : World) → AreSameButNames w v → run m list w ≡ Through z → RunsAlike m list w v z
+runs_alike m [] w v z alike h = record { last = v; legal = refl; alike = subst (λ x. AreSameButNames x v) (same_through w z h) alike; same = refl }
 runs_alike m (a ∷ list) w v z alike h =
     let f = first_step w z (step m w a) (run m list) h in
-    let next = (alike_worlds_go_alike m).steps w v f.0 a f.1 alike f.2 in
+    let next = (same_worlds_go_alike m).steps w v f.0 a f.1 alike f.2 in
     let rest : RunsAlike m list f.0 next.0 z = runs_alike m list f.0 next.0 z next.2 f.3 in
     record {
       last = rest.last;
@@ -156,7 +155,7 @@ runs_alike m (a ∷ list) w v z alike h =
 pub record IsExchange (m : ModuleValue) (w z : World) (before after : List ℕ) (x y : Entry) : Type 0 where
   pub last : World
   pub legal : run m (before ++ y.0 ∷ x.0 ∷ after) w ≡ Through last
-  pub alike : AreAlike z last
+  pub alike : AreSameButNames z last
   pub front : List Entry
   pub back : List Entry
   pub this : entries m (before ++ x.0 ∷ y.0 ∷ after) w ≡ front ++ x ∷ y ∷ back
@@ -170,9 +169,8 @@ abbrev pub second_entry : (m : ModuleValue) (w : World) (a b : ℕ) → DoCommut
 second_entry m w a b c = (b, c.second_event, state_of w b)
 
 module _ (m : ModuleValue) (limits : IsWithinLimits m) (ok : IsAccepted m) where
-  pub square_of : (w : World) (a b : ℕ) → IsReached m w → DoCommute m w a b → IsSquare m w a b
-  square_of w a b reached c = all_squares m w limits ok reached a b c.differ c.apart
-      (λ p q. c.makes (event_made m limits ok w c.first_world a c.first_event reached c.first_steps p) (event_made m limits ok w c.second_world b c.second_event reached c.second_steps q))
+  pub square_of : (w : World) (a b : ℕ) → IsReached m w → DoCommute m w a b → IsSquareButNames m w a b
+  square_of w a b reached c = squares_but_names m w limits ok reached a b c.differ c.apart
       (λ p q. c.starts (event_started m limits ok w c.first_world a c.first_event reached c.first_steps p) (event_started m limits ok w c.second_world b c.second_event reached c.second_steps q))
 
   -- at the front
@@ -187,7 +185,7 @@ module _ (m : ModuleValue) (limits : IsWithinLimits m) (ok : IsAccepted m) where
       let x : World = s.0 in
       let y : World = s.1 in
       let r : RunsAlike m after y x z =
-      runs_alike m after y x z (sym s.4) (sym (run_first m (b ∷ after) w u a e c.first_steps ∙ run_first m after u y b f s.3) ∙ h) in
+      runs_alike m after y x z (same_turned x y s.4) (sym (run_first m (b ∷ after) w u a e c.first_steps ∙ run_first m after u y b f s.3) ∙ h) in
       record {
         last = r.last;
         legal = run_first m (a ∷ after) w v b f c.second_steps ∙ run_first m after v x a e s.2 ∙ r.legal;

@@ -1,5 +1,5 @@
 -- Schedules that differ in the order of steps that commute alone, which are one run as far as anybody can see. In the field these are the
--- traces of Mazurkiewicz.
+-- traces of Mazurkiewicz. Steps commute here up to the names of clocks: two may make a clock each, in either order.
 use Rattle.std.specs.Prelude.{◌≡◌, ℕ, Bool, true, List, [], ◌∷◌, ◌++◌}
 use Rattle.xk_types.specs.declared.world.Event.{Event}
 use Rattle.xk_types.specs.Code.{ModuleValue}
@@ -7,10 +7,9 @@ use Rattle.xk_types.specs.World.{World}
 use Rattle.xk_types.specs.Step.{Stepped, step}
 use Rattle.xk_types.specs.Schedule.{Through, run, is_enabled}
 use Rattle.xk_squares.specs.Conflicts.{AreConflictFree}
-use Rattle.xk_classes.specs.Moments.{is_make, is_start}
+use Rattle.xk_classes.specs.Moments.{is_start}
 
--- Here activities a and b can both take a step, and the two don't conflict on a shared number, nor both make a clock, nor both start an
--- activity: so they commute.
+-- Here activities a and b can both take a step, and the two don't conflict on a shared number, nor both start an activity: so they commute.
 pub record DoCommute (m : ModuleValue) (w : World) (a b : ℕ) : Type 0 where
   pub differ : b ≡ a → ⊥
   pub first_world : World
@@ -20,7 +19,6 @@ pub record DoCommute (m : ModuleValue) (w : World) (a b : ℕ) : Type 0 where
   pub second_event : Event
   pub second_steps : step m w b ≡ Stepped second_world second_event
   pub apart : AreConflictFree m w a b
-  pub makes : is_make first_event ≡ true → is_make second_event ≡ true → ⊥
   pub starts : is_start first_event ≡ true → is_start second_event ≡ true → ⊥
 
 -- Of two schedules from world w, the second has two neighbours of the first in the other order, whose steps commute where the first comes to them.

@@ -15,11 +15,7 @@ moments m list w a = map (λ p. p.1) (filter (λ p. p.0 == a) (events m list w))
 abbrev pub printed_by : ModuleValue → List ℕ → World → ℕ → List ℤ
 printed_by m list w a = filter_map number_printed (moments m list w a)
 
--- a clock is made; an activity is started; a number is printed
-abbrev pub is_make : Event → Bool
-is_make event.Made = true
-is_make _ = false
-
+-- an activity is started; a number is printed
 abbrev pub is_start : Event → Bool
 is_start event.Spawned = true
 is_start _ = false
@@ -37,8 +33,7 @@ pub record IsFront (first second : List ℕ) : Type 0 where
   pub rest : List ℕ
   pub whole : second ≡ first ++ rest
 
--- As far as it goes, schedule t makes clocks and starts activities in the order of schedule s: the same activities do, one after the other. So
--- each clock and each activity has the same number in both.
-pub record BeginsInOrder (m : ModuleValue) (w : World) (t s : List ℕ) : Type 0 where
-  pub made : IsFront (takers is_make m t w) (takers is_make m s w)
-  pub started : IsFront (takers is_start m t w) (takers is_start m s w)
+-- As far as it goes, schedule t starts activities in the order of schedule s: the same activities do, one after the other. So each activity has
+-- the same number in both.
+abbrev pub BeginsInOrder : ModuleValue → World → List ℕ → List ℕ → Type 0
+BeginsInOrder m w t s = IsFront (takers is_start m t w) (takers is_start m s w)

@@ -5,22 +5,22 @@ use Rattle.xk_types.specs.declared.instr.Instr.TheVariants as instr
 use Rattle.xk_types.specs.Code.{UnitValue, ModuleValue}
 use Rattle.xk_types.specs.World.{World, opening}
 use Rattle.xk_types.specs.Schedule.{Through, run, all_ended}
-use Rattle.xk_squares.specs.PlainWorlds.{AreAlike}
-use Rattle.xk_classes.specs.Moments.{moments, takers, is_make, is_start, printed_by}
+use Rattle.xk_squares.specs.Squares.{starts}
+use Rattle.xk_renaming.specs.ClockNames.{AreSameButNames}
+use Rattle.xk_classes.specs.Moments.{moments, takers, is_start, printed_by}
 use Rattle.xk_classes.specs.Classes.{AreOneClass}
 
--- Each activity has the same events in both schedules, in the same order; and clocks are made, and activities started, in the same order.
+-- Each activity has the same events in both schedules, in the same order; and activities are started in the same order.
 pub record AreSameToEach (m : ModuleValue) (w : World) (s t : List ℕ) : Type 0 where
   pub each : (a : ℕ) → moments m s w a ≡ moments m t w a
-  pub made : takers is_make m s w ≡ takers is_make m t w
   pub started : takers is_start m s w ≡ takers is_start m t w
 
--- Schedule t, which is of the class of s, is legal; it leads to a world that is like the one to which s leads; and to each activity the two are
--- the same.
+-- Schedule t, which is of the class of s, is legal; it leads to the world to which s leads, but for the names of clocks; and to each
+-- activity the two are the same.
 pub record GoesAsWell (m : ModuleValue) (w : World) (s t : List ℕ) (z : World) : Type 0 where
   pub last : World
   pub legal : run m t w ≡ Through last
-  pub alike : AreAlike z last
+  pub alike : AreSameButNames z last
   pub same : AreSameToEach m w s t
 
 -- a schedule of the class of s begins with t
@@ -51,12 +51,6 @@ AddsInUnit u = All (λ i. gets_or_puts i ≡ false) u.code
 abbrev pub AddsAtMost : ModuleValue → Type 0
 AddsAtMost m = All AddsInUnit m.units
 
--- it makes a clock, or starts an activity
-abbrev pub begins : Instr → Bool
-begins (instr.Make d) = true
-begins (instr.Spawn t args) = true
-begins _ = false
-
--- No unit but main's, which is the first, makes clocks or starts activities: no method does, and no body.
-abbrev pub OnlyMainBegins : ModuleValue → Type 0
-OnlyMainBegins m = (k : ℕ) (u : UnitValue) → slice_get m.units (suc k) ≡ Some u → All (λ i. begins i ≡ false) u.code
+-- No unit but main's, which is the first, starts activities: no method does, and no body.
+abbrev pub OnlyMainStarts : ModuleValue → Type 0
+OnlyMainStarts m = (k : ℕ) (u : UnitValue) → slice_get m.units (suc k) ≡ Some u → All (λ i. starts i ≡ false) u.code

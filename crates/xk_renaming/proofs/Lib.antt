@@ -4,3 +4,4 @@ pub mod ClockNameRunLaw
 pub mod ClockNameSquareLaw
 pub mod ClockNameExamples
 pub mod ClockNameSameLaw
+pub mod ClockNamelessLemmas
