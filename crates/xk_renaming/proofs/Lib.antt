@@ -1,0 +1,3 @@
+pub mod ActivityNameListLemmas
+pub mod ActivityNameWorldLemmas
+pub mod ActivityNameStepLaw
