@@ -1,3 +1,4 @@
 pub mod ActivityNameListLemmas
 pub mod ActivityNameWorldLemmas
 pub mod ActivityNameStepLaw
+pub mod ActivityNameRunLaw

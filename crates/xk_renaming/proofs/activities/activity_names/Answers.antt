@@ -1,6 +1,13 @@
 -- The laws, from the lemmas.
 use Rattle.xk_renaming.proofs.ActivityNameStepLaw.{step-swapped}
+use Rattle.xk_renaming.proofs.ActivityNameRunLaw.{goes_renamed, reached_full}
 use Rattle.xk_renaming.proofs.activities.activity_names.Goals as goal
 
-pub returns : goal.returns
-returns c = record { steps = step-swapped }
+pub returns-clause-steps : goal.returns-clause-steps
+returns-clause-steps c = step-swapped
+
+pub returns-clause-runs : goal.returns-clause-runs
+returns-clause-runs c = goes_renamed
+
+pub returns-clause-reached : goal.returns-clause-reached
+returns-clause-reached c = reached_full
