@@ -2,3 +2,4 @@ pub mod ActivityNameListLemmas
 pub mod ActivityNameWorldLemmas
 pub mod ActivityNameStepLaw
 pub mod ActivityNameRunLaw
+pub mod ActivityNameStartLaw

@@ -1,6 +1,7 @@
 -- Worlds in which two activities have each other's number.
 use Rattle.std.specs.Prelude.{◌≡◌, ℕ, zero, suc, ◌+◌, ◌<◌, List, [], ◌∷◌, map, length, Option, Some, option_map, slice_get}
 use Rattle.xk_types.specs.declared.world.Event.{Event}
+use Rattle.xk_types.specs.declared.world.Event.TheVariants as event
 use Rattle.xk_types.specs.Code.{ModuleValue}
 use Rattle.xk_types.specs.World.{Finish, ActivityOf, Clock, WorldOf, World}
 use Rattle.xk_types.specs.Step.{OutcomeOf, Blocked, Wrong, Stepped, step}
@@ -73,8 +74,8 @@ pub record GoesByOtherNumbers (m : ModuleValue) (k : ℕ) (list : List ℕ) (w :
   pub events : events m (map (renamed k) list) (activities_swapped k w) ≡ map (entry_renamed k) (events m list w)
   pub prints : printed m (map (renamed k) list) (activities_swapped k w) ≡ printed m list w
 
--- Where activities a and b can both take a step, each still can after the other's, with the same event, and both orders lead to worlds that are alike
--- but for the numbers of the two activities that were started.
+-- Where activities a and b can both start one, each still can after the other has, and both orders lead to worlds that are alike but that the two
+-- activities that were started have each other's number.
 abbrev pub IsSquareOfStarts : ModuleValue → World → ℕ → ℕ → Type 0
-IsSquareOfStarts m w a b = (u v : World) (e f : Event) → step m w a ≡ Stepped u e → step m w b ≡ Stepped v f
-    → (x : World) × (y : World) × (step m v a ≡ Stepped x e) × (step m u b ≡ Stepped y f) × AreAlike x (activities_swapped (length w.activities) y)
+IsSquareOfStarts m w a b = (u v : World) → step m w a ≡ Stepped u event.Spawned → step m w b ≡ Stepped v event.Spawned
+    → (x : World) × (y : World) × (step m v a ≡ Stepped x event.Spawned) × (step m u b ≡ Stepped y event.Spawned) × AreAlike x (activities_swapped (length w.activities) y)

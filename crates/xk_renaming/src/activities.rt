@@ -2,7 +2,7 @@
 
 ghost use Rattle.std.specs.Prelude.{◌≡◌, ◌+◌, ◌<◌, ℕ, List, length};
 ghost use Rattle.xk_renaming.specs.ActivityNames.{
-    GoesByOtherNumbers, HasAllStandings, activities_swapped, outcome_swapped, renamed,
+    GoesByOtherNumbers, HasAllStandings, IsSquareOfStarts, activities_swapped, outcome_swapped, renamed,
 };
 ghost use Rattle.xk_types.specs.Acceptance.{IsAccepted};
 ghost use Rattle.xk_types.specs.Code.{IsWithinLimits, ModuleValue};
@@ -19,4 +19,7 @@ pub fn activity_names()
         → k + 1 < length w.activities → HasAllStandings w → GoesByOtherNumbers m k list w }
     ensures reached { (m : ModuleValue) (w : World)
         → IsWithinLimits m → IsAccepted m → IsReached m w → HasAllStandings w }
+    ensures starts { (m : ModuleValue) (w : World)
+        → IsWithinLimits m → IsAccepted m → IsReached m w
+        → (a b : ℕ) → (b ≡ a → ⊥) → IsSquareOfStarts m w a b }
 {}

@@ -1,6 +1,7 @@
 -- The laws, from the lemmas.
 use Rattle.xk_renaming.proofs.ActivityNameStepLaw.{step-swapped}
 use Rattle.xk_renaming.proofs.ActivityNameRunLaw.{goes_renamed, reached_full}
+use Rattle.xk_renaming.proofs.ActivityNameStartLaw.{starts_square}
 use Rattle.xk_renaming.proofs.activities.activity_names.Goals as goal
 
 pub returns-clause-steps : goal.returns-clause-steps
@@ -11,3 +12,6 @@ returns-clause-runs c = goes_renamed
 
 pub returns-clause-reached : goal.returns-clause-reached
 returns-clause-reached c = reached_full
+
+pub returns-clause-starts : goal.returns-clause-starts
+returns-clause-starts c = starts_square
