@@ -18,7 +18,7 @@ use Rattle.xk_laws.proofs.ClockLemmas.AdvanceLemmas.{settled_cases}
 use Rattle.xk_laws.proofs.ClockLemmas.StandingLemmas.{each_moved, each_joined, new_width}
 use Rattle.xk_laws.proofs.ReachabilityLemmas.{reached_sound}
 use Rattle.xk_laws.proofs.StepFormLemmas.{step_kind}
-use Rattle.xk_renaming.specs.ActivityNames.{renamed, activities_swapped, outcome_swapped, course_swapped, entry_renamed, HasAllStandings, GoesByOtherNumbers}
+use Rattle.xk_renaming.specs.ActivityNames.{renamed, activities_swapped, outcome_renamed, course_renamed, entry_renamed, HasAllStandings, GoesRenamed}
 use Rattle.xk_renaming.proofs.ActivityNameStepLaw.{step-swapped}
 
 -- ---- each clock has a standing of each activity
@@ -88,26 +88,26 @@ prints_renamed k (p ∷ es) = by (not (is_local p.1)) (prints_renamed k es)
     by false h = h
 
 -- where it goes, and with what events
-abbrev Goes : ModuleValue → ℕ → List ℕ → World → Type 0
-Goes m k list w = (run m (map (renamed k) list) (activities_swapped k w) ≡ course_swapped k (run m list w))
+abbrev Goes : ModuleValue → World → ℕ → List ℕ → Type 0
+Goes m w k list = (run m (map (renamed k) list) (activities_swapped k w) ≡ course_renamed k (run m list w))
     × (events m (map (renamed k) list) (activities_swapped k w) ≡ map (entry_renamed k) (events m list w))
 
-goes : (m : ModuleValue) (k : ℕ) (list : List ℕ) (w : World) → k + 1 < length w.activities → HasAllStandings w → Goes m k list w
-goes m k [] w inside full = (refl, refl)
-goes m k (a ∷ list) w inside full = rw (step-swapped m k a w inside full) (by (step m w a) (step_keeps m w a full) (goes m k list))
+goes : (m : ModuleValue) (w : World) (k : ℕ) (list : List ℕ) → suc k < length w.activities → HasAllStandings w → Goes m w k list
+goes m w k [] inside full = (refl, refl)
+goes m w k (a ∷ list) inside full = rw (step-swapped m w k a inside full) (by (step m w a) (step_keeps m w a full) (λ u. goes m u k list))
   where
-    by : (o : Outcome) → Keeps (length w.activities) o → ((u : World) → k + 1 < length u.activities → HasAllStandings u → Goes m k list u)
-        → (run_on (activities_swapped k w) (outcome_swapped k o) (run m (map (renamed k) list)) ≡ course_swapped k (run_on w o (run m list)))
-        × (events_on (renamed k a) (outcome_swapped k o) (events m (map (renamed k) list)) ≡ map (entry_renamed k) (events_on a o (events m list)))
+    by : (o : Outcome) → Keeps (length w.activities) o → ((u : World) → suc k < length u.activities → HasAllStandings u → Goes m u k list)
+        → (run_on (activities_swapped k w) (outcome_renamed k o) (run m (map (renamed k) list)) ≡ course_renamed k (run_on w o (run m list)))
+        × (events_on (renamed k a) (outcome_renamed k o) (events m (map (renamed k) list)) ≡ map (entry_renamed k) (events_on a o (events m list)))
     by Blocked keeps later = (refl, refl)
     by (Wrong c) keeps later = (refl, refl)
     by (Stepped u e) keeps later =
-        let rest : Goes m k list u = later u (omega (arith, inside, keeps.0)) keeps.1 in
+        let rest : Goes m u k list = later u (omega (arith, inside, keeps.0)) keeps.1 in
         (rest.0, ap (λ es. (renamed k a, e) ∷ es) rest.1)
 
-pub goes_renamed : (m : ModuleValue) (k : ℕ) (list : List ℕ) (w : World) → k + 1 < length w.activities → HasAllStandings w → GoesByOtherNumbers m k list w
-goes_renamed m k list w inside full =
-    let both : Goes m k list w = goes m k list w inside full in
+pub goes_renamed : (m : ModuleValue) (w : World) (k : ℕ) (list : List ℕ) → suc k < length w.activities → HasAllStandings w → GoesRenamed m w k list
+goes_renamed m w k list inside full =
+    let both : Goes m w k list = goes m w k list inside full in
     record {
       course = both.0;
       events = both.1;

@@ -32,7 +32,7 @@ use Rattle.xk_squares.proofs.PlainStepLaw.{same_plain}
 use Rattle.xk_squares.proofs.ViewLemmas.{Starts, Goes, IsNone, DoesAct, DoesMake, DoesStart, goes}
 use Rattle.xk_squares.proofs.ChangeSquareLemmas.{same_step, not_none, next_is}
 use Rattle.xk_squares.proofs.StartSquareLemmas.{made_world, started_world, maker, reached_sees}
-use Rattle.xk_renaming.specs.ActivityNames.{swapped, renamed, finish_renamed, activity_renamed, clock_swapped, activities_swapped, IsSquareOfStarts}
+use Rattle.xk_renaming.specs.ActivityNames.{neighbours_swapped, renamed, finish_renamed, governed_renamed, clock_swapped, activities_swapped, IsSquareOfStarts}
 use Rattle.xk_renaming.proofs.ActivityNameListLemmas.{renamed_below, pushed-swapped}
 use Rattle.xk_renaming.proofs.ActivityNameWorldLemmas.{acts_swapped}
 
@@ -105,14 +105,14 @@ only_starts m w v a act t o q s (DoesStart S) = S
 abbrev IsBelow : ℕ → Finish → Type 0
 IsBelow n f = (o : ℕ) → f.owner ≡ Some o → o < n
 
-kept_one : (n : ℕ) (act : Activity) → IsBelow n act.governed → activity_renamed n act ≡ act
+kept_one : (n : ℕ) (act : Activity) → IsBelow n act.governed → governed_renamed n act ≡ act
 kept_one n act below = ap (λ o. record act { governed = record { owner = o; depth = act.governed.depth } }) (by act.governed.owner refl)
   where
     by : (o : Option ℕ) → act.governed.owner ≡ o → option_map (renamed n) o ≡ o
     by None e = refl
     by (Some c) e = ap (λ k. Some k) (renamed_below n c (below c e))
 
-kept_all : (n : ℕ) (acts : List Activity) → Each (λ j (x : Activity). IsBelow n x.governed) acts → map (activity_renamed n) acts ≡ acts
+kept_all : (n : ℕ) (acts : List Activity) → Each (λ j (x : Activity). IsBelow n x.governed) acts → map (governed_renamed n) acts ≡ acts
 kept_all n [] below = refl
 kept_all n (x ∷ acts) below = rw (kept_one n x (below 0 x refl), kept_all n acts (λ j y at. below (suc j) y at))
 
@@ -136,8 +136,8 @@ clock_both : (k o p q n a b : ℕ) (one two : Bool) (c : Clock) → a < n → b 
 clock_both k o p q n a b one two c inside within width still =
     plainly (settled_clock k (joined_on a one (settled_clock o (joined_on b two c)))) (clock_swapped n (settled_clock p (joined_on b two (settled_clock q (joined_on a one c)))))
     (twice k o a b one two inside
-    ∙ sym (ap (λ d. swapped d ((c.standings ++ given_on c one a ∷ []) ++ given_on c two b ∷ [])) (sym width) ∙ pushed-swapped c.standings (given_on c one a) (given_on c two b))
-    ∙ sym (ap (swapped n) (twice p q b a two one within)))
+    ∙ sym (ap (λ d. neighbours_swapped d ((c.standings ++ given_on c one a ∷ []) ++ given_on c two b ∷ [])) (sym width) ∙ pushed-swapped c.standings (given_on c one a) (given_on c two b))
+    ∙ sym (ap (neighbours_swapped n) (twice p q b a two one within)))
   where
     twice : (k o a b : ℕ) (one two : Bool) → a < n → (settled_clock k (joined_on a one (settled_clock o (joined_on b two c)))).standings ≡ (c.standings ++ given_on c two b ∷ []) ++ given_on c one a ∷ []
     twice k o a b one two inside =
@@ -202,8 +202,8 @@ module _ (m : ModuleValue) (w : World) (a b : ℕ) (x y : Activity) (found : sli
     there =
         ap (λ zs. acts_swapped n (zs ++ child m b (aged y t) two those ∷ []))
         (set_push (set w.activities a (onward x)) b (onward (aged y t)) ours (omega (arith, within, length-set w.activities a (onward x))))
-        ∙ ap (λ k. map (activity_renamed n) (swapped k ((a_first ++ ours ∷ []) ++ child m b (aged y t) two those ∷ []))) (sym many)
-        ∙ ap (map (activity_renamed n)) (pushed-swapped a_first ours (child m b (aged y t) two those))
+        ∙ ap (λ k. map (governed_renamed n) (neighbours_swapped k ((a_first ++ ours ∷ []) ++ child m b (aged y t) two those ∷ []))) (sym many)
+        ∙ ap (map (governed_renamed n)) (pushed-swapped a_first ours (child m b (aged y t) two those))
         ∙ kept_all n ((a_first ++ child m b (aged y t) two those ∷ []) ++ ours ∷ [])
         (each_push (λ j (z : Activity). IsBelow n z.governed) (a_first ++ child m b (aged y t) two those ∷ []) ours
         (each_push (λ j (z : Activity). IsBelow n z.governed) a_first (child m b (aged y t) two those)
@@ -246,8 +246,9 @@ starts_square m w limits ok reached a b differs u v hu hv = (
   q,
   S.there,
   T.there,
-  ap (λ z. plain (started_world m z a (aged x x.since) S.unit S.values)) vs ∙ worlds_both m w a b x y A.found B.found differs still width owned x.since y.since S.unit T.unit S.values T.values
-      ∙ sym (ap (λ z. plain (activities_swapped (length w.activities) (started_world m z b (aged y y.since) T.unit T.values))) us),
+  ap (λ z. plain (activities_swapped (length w.activities) (started_world m z a (aged x x.since) S.unit S.values))) vs
+      ∙ sym (ap (λ z. plain (started_world m z b (aged y y.since) T.unit T.values)) us
+      ∙ worlds_both m w b a y x B.found A.found (λ e. differs (sym e)) still width owned y.since x.since T.unit S.unit T.values S.values),
 )
   where
     A : IsStarting m w a (step m w a)

@@ -19,11 +19,11 @@ use Rattle.xk_types.specs.Code.{UnitValue, ModuleValue, compares, is_method, is_
 use Rattle.xk_types.specs.World.{Frame, Activity, Clock, World, standing_of, instruction_at}
 use Rattle.xk_types.specs.Step.{Outcome, Blocked, Wrong, Stepped, ClockUse, OutOfRange, is_registered, number_in, clock_in, registered_on, put_in, slot_at, arguments_in, computing, no_further, beginning, turning, again, spawned, spawning, carried_out, run_at, made, moved, joined, new_clock, is_given, child, waits, passing, passed, past, step_by, step_of, step, called, calling, back_in, returning, onward, going, with_slots, entered, left, ended, arrived, awaits, innermost, closing, cell_in, stored, done, none, only, all, resumed, dropped, settled}
 use Rattle.xk_squares.proofs.ListLemmas.{map_push}
-use Rattle.xk_renaming.specs.ActivityNames.{swapped, renamed, finish_renamed, activity_renamed, clock_swapped, activities_swapped, outcome_swapped, HasAllStandings}
+use Rattle.xk_renaming.specs.ActivityNames.{neighbours_swapped, renamed, finish_renamed, governed_renamed, clock_swapped, activities_swapped, outcome_renamed, HasAllStandings}
 use Rattle.xk_renaming.proofs.ActivityNameWorldLemmas.{standing-swapped, settled-swapped, AreWide, moved-swapped, joined-swapped, new-swapped, waits-swapped, acts_swapped, length-acts, act-swapped, set_act-swapped, push_act-swapped, child-renamed, awaits-swapped}
 
 -- the end of a step, where the worlds before it are one but for the numbers
-ended_so : (k : ℕ) (u v : World) (e : Event) → v ≡ activities_swapped k u → Stepped (settled v) e ≡ outcome_swapped k (Stepped (settled u) e)
+ended_so : (k : ℕ) (u v : World) (e : Event) → v ≡ activities_swapped k u → Stepped (settled v) e ≡ outcome_renamed k (Stepped (settled u) e)
 ended_so k u v e h = ap (λ z. Stepped z e) (ap settled h ∙ settled-swapped k u)
 
 -- worlds by their parts
@@ -40,11 +40,11 @@ module _ (m : ModuleValue) (k : ℕ) (w : World) (inside : suc k < length w.acti
   b = renamed k a
 
   abbrev there : Activity
-  there = activity_renamed k act
+  there = governed_renamed k act
 
   -- the second is what the first comes to there
   abbrev AreSame : Outcome → Outcome → Type 0
-  AreSame o q = q ≡ outcome_swapped k o
+  AreSame o q = q ≡ outcome_renamed k o
 
   -- ---- operands
 
@@ -73,7 +73,7 @@ module _ (m : ModuleValue) (k : ℕ) (w : World) (inside : suc k < length w.acti
   cell_same None go later h = refl
   cell_same (Some n) go later h = h n
 
-  put_same : (o : Option Value) (d : ℕ) (x : Value) (go later : Activity → Outcome) → ((next : Activity) → AreSame (go next) (later (activity_renamed k next)))
+  put_same : (o : Option Value) (d : ℕ) (x : Value) (go later : Activity → Outcome) → ((next : Activity) → AreSame (go next) (later (governed_renamed k next)))
       → AreSame (put_in o act d x go) (put_in o there d x later)
   put_same None d x go later h = refl
   put_same (Some old) d x go later h = h (onward (with_slots act (set act.frame.slots d x)))
@@ -90,21 +90,21 @@ module _ (m : ModuleValue) (k : ℕ) (w : World) (inside : suc k < length w.acti
 
   -- with these shared numbers
   stored_same : (cells : List ℤ) (next : Activity) (change : ℕ → Standing → Standing) (e : Event)
-      → AreSame (done (record w { cells = cells }) a next change e) (done (record v { cells = cells }) b (activity_renamed k next) change e)
+      → AreSame (done (record w { cells = cells }) a next change e) (done (record v { cells = cells }) b (governed_renamed k next) change e)
   stored_same cells next change e = ended_so k (record w { activities = set w.activities a next; clocks = moved a change w.clocks; cells = cells })
-      (record v { activities = set v.activities b (activity_renamed k next); clocks = moved b change v.clocks; cells = cells }) e
+      (record v { activities = set v.activities b (governed_renamed k next); clocks = moved b change v.clocks; cells = cells }) e
       (world_by k (record w { activities = set w.activities a next; clocks = moved a change w.clocks; cells = cells })
-      (record v { activities = set v.activities b (activity_renamed k next); clocks = moved b change v.clocks; cells = cells })
+      (record v { activities = set v.activities b (governed_renamed k next); clocks = moved b change v.clocks; cells = cells })
       (set_act-swapped k w.activities a next inside) (moved-swapped k a change w.clocks wide) refl refl refl)
 
-  done_same : (next : Activity) (change : ℕ → Standing → Standing) (e : Event) → AreSame (done w a next change e) (done v b (activity_renamed k next) change e)
+  done_same : (next : Activity) (change : ℕ → Standing → Standing) (e : Event) → AreSame (done w a next change e) (done v b (governed_renamed k next) change e)
   done_same next change e = stored_same w.cells next change e
 
-  made_same : (next : Activity) → AreSame (made w a next) (made v b (activity_renamed k next))
+  made_same : (next : Activity) → AreSame (made w a next) (made v b (governed_renamed k next))
   made_same next = ended_so k (record w { activities = set w.activities a next; clocks = w.clocks ++ new_clock (length w.activities) a ∷ [] })
-      (record v { activities = set v.activities b (activity_renamed k next); clocks = v.clocks ++ new_clock (length v.activities) b ∷ [] }) event.Made
+      (record v { activities = set v.activities b (governed_renamed k next); clocks = v.clocks ++ new_clock (length v.activities) b ∷ [] }) event.Made
       (world_by k (record w { activities = set w.activities a next; clocks = w.clocks ++ new_clock (length w.activities) a ∷ [] })
-      (record v { activities = set v.activities b (activity_renamed k next); clocks = v.clocks ++ new_clock (length v.activities) b ∷ [] })
+      (record v { activities = set v.activities b (governed_renamed k next); clocks = v.clocks ++ new_clock (length v.activities) b ∷ [] })
       (set_act-swapped k w.activities a next inside)
       (ap (λ c. map (clock_swapped k) w.clocks ++ c ∷ []) (ap (λ n. new_clock n b) (length-acts k w.activities) ∙ new-swapped k (length w.activities) a inside)
       ∙ sym (map_push (clock_swapped k) w.clocks (new_clock (length w.activities) a)))
@@ -130,7 +130,7 @@ module _ (m : ModuleValue) (k : ℕ) (w : World) (inside : suc k < length w.acti
   computing_same g d x y = number_same (slot_at act x) _ _ (λ p. number_same (slot_at act y) _ _ (λ q. write_same d (value.Number (g p q)) event.Local))
 
   -- one way or the other
-  either_same : (p : Bool) (one other : Activity) → AreSame (done w a (cond p one other) none event.Local) (done v b (cond p (activity_renamed k one) (activity_renamed k other)) none event.Local)
+  either_same : (p : Bool) (one other : Activity) → AreSame (done w a (cond p one other) none event.Local) (done v b (cond p (governed_renamed k one) (governed_renamed k other)) none event.Local)
   either_same true one other = done_same one none event.Local
   either_same false one other = done_same other none event.Local
 
@@ -232,13 +232,10 @@ module _ (m : ModuleValue) (k : ℕ) (w : World) (inside : suc k < length w.acti
 pub wide_of : (k : ℕ) (w : World) → suc k < length w.activities → HasAllStandings w → AreWide k w.clocks
 wide_of k w inside full j c at = omega (arith, inside, full j c at)
 
-pub step-swapped : (m : ModuleValue) (k a : ℕ) (w : World) → k + 1 < length w.activities → HasAllStandings w
-    → step m (activities_swapped k w) (renamed k a) ≡ outcome_swapped k (step m w a)
-step-swapped m k a w less full = rw (act-swapped k w.activities a inside) (by (slice_get w.activities a))
+pub step-swapped : (m : ModuleValue) (w : World) (k a : ℕ) → suc k < length w.activities → HasAllStandings w
+    → step m (activities_swapped k w) (renamed k a) ≡ outcome_renamed k (step m w a)
+step-swapped m w k a inside full = rw (act-swapped k w.activities a inside) (by (slice_get w.activities a))
   where
-    inside : suc k < length w.activities
-    inside = omega (arith, less)
-
-    by : (o : Option Activity) → step_of m (activities_swapped k w) (renamed k a) (option_map (activity_renamed k) o) ≡ outcome_swapped k (step_of m w a o)
+    by : (o : Option Activity) → step_of m (activities_swapped k w) (renamed k a) (option_map (governed_renamed k) o) ≡ outcome_renamed k (step_of m w a o)
     by None = refl
     by (Some act) = step_by_same m k w inside (wide_of k w inside full) a act act.status

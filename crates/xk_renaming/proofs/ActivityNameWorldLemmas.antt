@@ -16,7 +16,7 @@ use Rattle.xk_types.proofs.MembershipLemmas.{same_test}
 use Rattle.xk_laws.proofs.ScopeLemmas.FinishOwnerLemmas.{IsAwaited, awaited}
 use Rattle.xk_squares.proofs.AwaitIndependenceLemmas.{awaits_given}
 use Rattle.xk_squares.proofs.ListLemmas.{map_push}
-use Rattle.xk_renaming.specs.ActivityNames.{swapped, renamed, finish_renamed, activity_renamed, clock_swapped, activities_swapped}
+use Rattle.xk_renaming.specs.ActivityNames.{neighbours_swapped, renamed, finish_renamed, governed_renamed, clock_swapped, activities_swapped}
 use Rattle.xk_renaming.proofs.ActivityNameListLemmas.{renamed_twice, renamed_same, length-swapped, map-swapped, replicate-swapped, get-swapped, get_or-swapped, set-swapped, append-swapped, any-swapped}
 
 -- ---- clocks
@@ -29,7 +29,7 @@ standing-swapped k a c wide = get_or-swapped k c.standings a standing.Apart wide
 settled_clock-swapped : (k now : ℕ) (c : Clock) → settled_clock now (clock_swapped k c) ≡ clock_swapped k (settled_clock now c)
 settled_clock-swapped k now c = rw (any-swapped is_signalled k c.standings, any-swapped is_pending k c.standings) (by (is_ready c))
   where
-    by : (b : Bool) → cond b (record { phase = c.phase + 1; last = now; standings = map advanced (swapped k c.standings) }) (clock_swapped k c)
+    by : (b : Bool) → cond b (record { phase = c.phase + 1; last = now; standings = map advanced (neighbours_swapped k c.standings) }) (clock_swapped k c)
         ≡ clock_swapped k (cond b (record { phase = c.phase + 1; last = now; standings = map advanced c.standings }) c)
     by true = ap (λ zs. record { phase = c.phase + 1; last = now; standings = zs }) (map-swapped advanced k c.standings)
     by false = refl
@@ -39,7 +39,7 @@ settled_clocks-swapped k now [] = refl
 settled_clocks-swapped k now (c ∷ cs) = rw (settled_clock-swapped k now c, settled_clocks-swapped k now cs)
 
 pub settled-swapped : (k : ℕ) (w : World) → settled (activities_swapped k w) ≡ activities_swapped k (settled w)
-settled-swapped k w = ap (λ cs. record { activities = map (activity_renamed k) (swapped k w.activities); clocks = cs; cells = w.cells; steps = w.steps + 1; arguments = w.arguments })
+settled-swapped k w = ap (λ cs. record { activities = map (governed_renamed k) (neighbours_swapped k w.activities); clocks = cs; cells = w.cells; steps = w.steps + 1; arguments = w.arguments })
     (settled_clocks-swapped k (w.steps + 1) w.clocks)
 
 -- each clock has a standing of both
@@ -49,7 +49,7 @@ AreWide k cs = Each (λ j (c : Clock). suc k < length c.standings) cs
 moved_on-swapped : (k a : ℕ) (change : Standing → Standing) (c : Clock) → suc k < length c.standings
     → moved_on (renamed k a) change (clock_swapped k c) ≡ clock_swapped k (moved_on a change c)
 moved_on-swapped k a change c wide = ap (λ zs. record { phase = c.phase; last = c.last; standings = zs })
-    (ap (λ s. set (swapped k c.standings) (renamed k a) (change s)) (standing-swapped k a c wide) ∙ set-swapped k c.standings a (change (standing_of c a)) wide)
+    (ap (λ s. set (neighbours_swapped k c.standings) (renamed k a) (change s)) (standing-swapped k a c wide) ∙ set-swapped k c.standings a (change (standing_of c a)) wide)
 
 pub moved-swapped : (k a : ℕ) (change : ℕ → Standing → Standing) (cs : List Clock) → AreWide k cs
     → moved (renamed k a) change (map (clock_swapped k) cs) ≡ map (clock_swapped k) (moved a change cs)
@@ -59,7 +59,7 @@ moved-swapped k a change (c ∷ cs) wide =
 
 joined_on-swapped : (k a : ℕ) (given : Bool) (c : Clock) → suc k < length c.standings → joined_on (renamed k a) given (clock_swapped k c) ≡ clock_swapped k (joined_on a given c)
 joined_on-swapped k a given c wide = ap (λ zs. record { phase = c.phase; last = c.last; standings = zs })
-    (ap (λ s. swapped k c.standings ++ cond given s standing.Apart ∷ []) (standing-swapped k a c wide)
+    (ap (λ s. neighbours_swapped k c.standings ++ cond given s standing.Apart ∷ []) (standing-swapped k a c wide)
     ∙ sym (append-swapped k c.standings (cond given (standing_of c a) standing.Apart ∷ []) wide))
 
 pub joined-swapped : (k a : ℕ) (given : ℕ → Bool) (cs : List Clock) → AreWide k cs
@@ -84,23 +84,23 @@ waits-swapped k a w wide = signalled-swapped k a w.clocks wide
 -- ---- activities
 
 abbrev pub acts_swapped : ℕ → List Activity → List Activity
-acts_swapped k acts = map (activity_renamed k) (swapped k acts)
+acts_swapped k acts = map (governed_renamed k) (neighbours_swapped k acts)
 
 pub length-acts : (k : ℕ) (acts : List Activity) → length (acts_swapped k acts) ≡ length acts
-length-acts k acts = length-map (swapped k acts) (activity_renamed k) ∙ length-swapped k acts
+length-acts k acts = length-map (neighbours_swapped k acts) (governed_renamed k) ∙ length-swapped k acts
 
-pub act-swapped : (k : ℕ) (acts : List Activity) (a : ℕ) → suc k < length acts → slice_get (acts_swapped k acts) (renamed k a) ≡ option_map (activity_renamed k) (slice_get acts a)
-act-swapped k acts a inside = slice_get-map (activity_renamed k) (swapped k acts) (renamed k a) ∙ ap (option_map (activity_renamed k)) (get-swapped k acts a inside)
+pub act-swapped : (k : ℕ) (acts : List Activity) (a : ℕ) → suc k < length acts → slice_get (acts_swapped k acts) (renamed k a) ≡ option_map (governed_renamed k) (slice_get acts a)
+act-swapped k acts a inside = slice_get-map (governed_renamed k) (neighbours_swapped k acts) (renamed k a) ∙ ap (option_map (governed_renamed k)) (get-swapped k acts a inside)
 
 pub set_act-swapped : (k : ℕ) (acts : List Activity) (a : ℕ) (next : Activity) → suc k < length acts
-    → set (acts_swapped k acts) (renamed k a) (activity_renamed k next) ≡ acts_swapped k (set acts a next)
-set_act-swapped k acts a next inside = sym (map-set (activity_renamed k) (swapped k acts) (renamed k a) next) ∙ ap (map (activity_renamed k)) (set-swapped k acts a next inside)
+    → set (acts_swapped k acts) (renamed k a) (governed_renamed k next) ≡ acts_swapped k (set acts a next)
+set_act-swapped k acts a next inside = sym (map-set (governed_renamed k) (neighbours_swapped k acts) (renamed k a) next) ∙ ap (map (governed_renamed k)) (set-swapped k acts a next inside)
 
-pub push_act-swapped : (k : ℕ) (acts : List Activity) (x : Activity) → suc k < length acts → acts_swapped k (acts ++ x ∷ []) ≡ acts_swapped k acts ++ activity_renamed k x ∷ []
-push_act-swapped k acts x inside = ap (map (activity_renamed k)) (append-swapped k acts (x ∷ []) inside) ∙ map_push (activity_renamed k) (swapped k acts) x
+pub push_act-swapped : (k : ℕ) (acts : List Activity) (x : Activity) → suc k < length acts → acts_swapped k (acts ++ x ∷ []) ≡ acts_swapped k acts ++ governed_renamed k x ∷ []
+push_act-swapped k acts x inside = ap (map (governed_renamed k)) (append-swapped k acts (x ∷ []) inside) ∙ map_push (governed_renamed k) (neighbours_swapped k acts) x
 
 pub child-renamed : (m : ModuleValue) (k a : ℕ) (act : Activity) (unit : ℕ) (values : List Value)
-    → child m (renamed k a) (activity_renamed k act) unit values ≡ activity_renamed k (child m a act unit values)
+    → child m (renamed k a) (governed_renamed k act) unit values ≡ governed_renamed k (child m a act unit values)
 child-renamed m k a act unit values = ap (λ g. record (child m a act unit values) { governed = g }) (by (act.opened == 0))
   where
     by : (b : Bool) → cond b (finish_renamed k act.governed) (finish_renamed k (innermost a act)) ≡ finish_renamed k (cond b act.governed (innermost a act))
@@ -131,7 +131,7 @@ module _ (k : ℕ) (acts : List Activity) (inside : suc k < length acts) (f : Fi
 
       by : ((b : ℕ) → under_within (acts_swapped k acts) (finish_renamed k f) n (renamed k b) ≡ under_within acts f n b) → (o : Option Activity)
           → option_map_or (λ (x : Activity). same_finish x.governed (finish_renamed k f) || option_map_or (under_within (acts_swapped k acts) (finish_renamed k f) n) x.governed.owner false)
-          (option_map (activity_renamed k) o) false
+          (option_map (governed_renamed k) o) false
           ≡ option_map_or (λ (x : Activity). same_finish x.governed f || option_map_or (under_within acts f n) x.governed.owner false) o false
       by less None = refl
       by less (Some x) = rw (same_renamed k x.governed f, owner less x.governed.owner)
@@ -143,8 +143,8 @@ module _ (k : ℕ) (acts : List Activity) (inside : suc k < length acts) (f : Fi
   awaited_there : IsAwaited acts f → IsAwaited (acts_swapped k acts) (finish_renamed k f)
   awaited_there i = record {
     b = renamed k i.b;
-    act = activity_renamed k i.act;
-    found = act-swapped k acts i.b inside ∙ ap (option_map (activity_renamed k)) i.found;
+    act = governed_renamed k i.act;
+    found = act-swapped k acts i.b inside ∙ ap (option_map (governed_renamed k)) i.found;
     under = under-swapped i.b ∙ i.under;
     alive = i.alive;
   }
@@ -153,17 +153,17 @@ module _ (k : ℕ) (acts : List Activity) (inside : suc k < length acts) (f : Fi
   awaited_here i = by (slice_get acts (renamed k i.b)) refl
     where
       -- there it has the number that this one's other number is
-      there : slice_get (acts_swapped k acts) i.b ≡ option_map (activity_renamed k) (slice_get acts (renamed k i.b))
+      there : slice_get (acts_swapped k acts) i.b ≡ option_map (governed_renamed k) (slice_get acts (renamed k i.b))
       there = ap (slice_get (acts_swapped k acts)) (sym (renamed_twice k i.b)) ∙ act-swapped k acts (renamed k i.b) inside
 
       by : (o : Option Activity) → slice_get acts (renamed k i.b) ≡ o → IsAwaited acts f
-      by None e = absurd (none-some i.act (sym (there ∙ ap (option_map (activity_renamed k)) e) ∙ i.found))
+      by None e = absurd (none-some i.act (sym (there ∙ ap (option_map (governed_renamed k)) e) ∙ i.found))
       by (Some x) e = record {
         b = renamed k i.b;
         act = x;
         found = e;
         under = sym (under-swapped (renamed k i.b)) ∙ ap (is_under (acts_swapped k acts) (finish_renamed k f)) (renamed_twice k i.b) ∙ i.under;
-        alive = ap (λ (z : Activity). is_ended z.status) (same_Some (activity_renamed k x) i.act (sym (there ∙ ap (option_map (activity_renamed k)) e) ∙ i.found)) ∙ i.alive;
+        alive = ap (λ (z : Activity). is_ended z.status) (same_Some (governed_renamed k x) i.act (sym (there ∙ ap (option_map (governed_renamed k)) e) ∙ i.found)) ∙ i.alive;
       }
 
   pub awaits-swapped : awaits (acts_swapped k acts) (finish_renamed k f) ≡ awaits acts f

@@ -1,8 +1,8 @@
-//! Two activities may have each other's number.
+//! Nothing depends on the number of an activity.
 
-ghost use Rattle.std.specs.Prelude.{◌≡◌, ◌+◌, ◌<◌, ℕ, List, length};
+ghost use Rattle.std.specs.Prelude.{◌≡◌, ◌<◌, ℕ, suc, List, length};
 ghost use Rattle.xk_renaming.specs.ActivityNames.{
-    GoesByOtherNumbers, HasAllStandings, IsSquareOfStarts, activities_swapped, outcome_swapped, renamed,
+    GoesRenamed, HasAllStandings, IsSquareOfStarts, activities_swapped, outcome_renamed, renamed,
 };
 ghost use Rattle.xk_types.specs.Acceptance.{IsAccepted};
 ghost use Rattle.xk_types.specs.Code.{IsWithinLimits, ModuleValue};
@@ -10,16 +10,19 @@ ghost use Rattle.xk_types.specs.Schedule.{IsReached};
 ghost use Rattle.xk_types.specs.Step.{step};
 ghost use Rattle.xk_types.specs.World.{World};
 
-/// Steps.
+/// Nothing but an activity's name depends on its number. Where two neighbours among the activities have each other's number, each
+/// takes by that number the steps that it took by its own, with the same events: so does each schedule, and it prints the same. It
+/// is asked that both are there, and that each clock has a standing of each activity, as in all worlds that are reached; main may
+/// be one of the two. And where two activities can each start one, both orders lead to the same world, but for numbers of steps and
+/// phases, once the two new ones have each other's number.
 pub fn activity_names()
-    ensures steps { (m : ModuleValue) (k a : ℕ) (w : World)
-        → k + 1 < length w.activities → HasAllStandings w
-        → step m (activities_swapped k w) (renamed k a) ≡ outcome_swapped k (step m w a) }
-    ensures runs { (m : ModuleValue) (k : ℕ) (list : List ℕ) (w : World)
-        → k + 1 < length w.activities → HasAllStandings w → GoesByOtherNumbers m k list w }
-    ensures reached { (m : ModuleValue) (w : World)
-        → IsWithinLimits m → IsAccepted m → IsReached m w → HasAllStandings w }
-    ensures starts { (m : ModuleValue) (w : World)
-        → IsWithinLimits m → IsAccepted m → IsReached m w
+    ensures steps { (m : ModuleValue) (w : World) (k a : ℕ)
+        → suc k < length w.activities → HasAllStandings w
+        → step m (activities_swapped k w) (renamed k a) ≡ outcome_renamed k (step m w a) }
+    ensures runs { (m : ModuleValue) (w : World) (k : ℕ) (s : List ℕ)
+        → suc k < length w.activities → HasAllStandings w → GoesRenamed m w k s }
+    ensures reached { (m : ModuleValue) (w : World) → IsWithinLimits m → IsAccepted m → IsReached m w
+        → HasAllStandings w }
+    ensures starts { (m : ModuleValue) (w : World) → IsWithinLimits m → IsAccepted m → IsReached m w
         → (a b : ℕ) → (b ≡ a → ⊥) → IsSquareOfStarts m w a b }
 {}
