@@ -3,3 +3,4 @@ pub mod ActivityNameWorldLemmas
 pub mod ActivityNameStepLaw
 pub mod ActivityNameRunLaw
 pub mod ActivityNameStartLaw
+pub mod ActivityNameExamples
