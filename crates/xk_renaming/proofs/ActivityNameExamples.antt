@@ -1,6 +1,5 @@
 -- Activities with each other's number, and why both have to be there, and a clock to have a standing of each: by evaluation.
-use Rattle.std.proofs.Common.{◌≡◌, ℕ, suc, true, List, [], ◌∷◌, map, Option, Some, refl}
-use Rattle.xk_types.specs.declared.instr.Instr.{Instr}
+use Rattle.std.proofs.Common.{◌≡◌, ℕ, true, List, [], ◌∷◌, map, Some, refl}
 use Rattle.xk_types.specs.declared.instr.Instr.TheVariants as instr
 use Rattle.xk_types.specs.declared.unit.ParamKind.TheVariants as param
 use Rattle.xk_types.specs.declared.world.Value.TheVariants as value

@@ -1,7 +1,7 @@
 -- Lists in which two neighbours have changed places, and the numbers of elements there.
-use Rattle.std.proofs.Common.{◌≡◌, ℕ, zero, suc, ◌+◌, ◌<◌, ◌==◌, Bool, true, false, ◌||◌, List, [], ◌∷◌, ◌++◌, map, length, replicate, set, get_or, refl, sym, ap, ◌∙◌, arith, eqb-true, eq-eqb}
+use Rattle.std.proofs.Common.{◌≡◌, ℕ, zero, suc, ◌<◌, ◌==◌, Bool, true, false, ◌||◌, ◌&&◌, List, [], ◌∷◌, ◌++◌, map, length, replicate, set, get_or, refl, sym, ap, ◌∙◌, arith, eqb-true, eq-eqb}
 use Rattle.std.specs.Prelude.{slice_get}
-use Rattle.std.specs.List.{list_any}
+use Rattle.std.specs.List.{list_any, list_all}
 use Rattle.xk_types.proofs.MembershipLemmas.{same_test}
 use Rattle.xk_renaming.specs.ActivityNames.{neighbours_swapped, renamed}
 
@@ -93,9 +93,19 @@ any-swapped test zero (x ∷ y ∷ xs) = turned (test x) (test y) (list_any test
     turned : (p q r : Bool) → (q || (p || r)) ≡ (p || (q || r))
     turned true true r = refl
     turned true false r = refl
+    turned false q r = refl
+any-swapped test (suc k) (x ∷ xs) = ap (λ p. test x || p) (any-swapped test k xs)
+
+pub all-swapped : {X : Type 0} (test : X → Bool) (k : ℕ) (xs : List X) → list_all test (neighbours_swapped k xs) ≡ list_all test xs
+all-swapped test k [] = refl
+all-swapped test zero (x ∷ []) = refl
+all-swapped test zero (x ∷ y ∷ xs) = turned (test x) (test y) (list_all test xs)
+  where
+    turned : (p q r : Bool) → (q && (p && r)) ≡ (p && (q && r))
+    turned true q r = refl
     turned false true r = refl
     turned false false r = refl
-any-swapped test (suc k) (x ∷ xs) = ap (λ p. test x || p) (any-swapped test k xs)
+all-swapped test (suc k) (x ∷ xs) = ap (λ p. test x && p) (all-swapped test k xs)
 
 pub swapped_twice : {X : Type 0} (k : ℕ) (xs : List X) → neighbours_swapped k (neighbours_swapped k xs) ≡ xs
 swapped_twice k [] = refl

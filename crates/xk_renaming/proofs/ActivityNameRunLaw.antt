@@ -1,19 +1,18 @@
 -- Runs by the other numbers.
-use Rattle.std.proofs.Common.{◌≡◌, ℕ, suc, ◌+◌, ◌<◌, ◌≤◌, ℤ, not, Bool, true, false, cond, List, [], ◌∷◌, ◌++◌, map, length, set, refl, sym, ap, ◌∙◌, subst, arith, length-set}
-use Rattle.std.specs.Prelude.{slice_get, filter}
+use Rattle.std.proofs.Common.{◌≡◌, ℕ, suc, ◌+◌, ◌<◌, ◌≤◌, ℤ, not, Bool, true, false, cond, List, [], ◌∷◌, ◌++◌, map, length, set, refl, sym, ap, ◌∙◌, arith, length-set}
+use Rattle.std.specs.Prelude.{filter}
 use Rattle.std.specs.List.{filter_map, cons_option}
 use Rattle.std.proofs.lemmas.List.{length-map, length_push}
 use Rattle.xk_types.specs.declared.world.Standing.{Standing}
 use Rattle.xk_types.specs.declared.world.Standing.TheVariants as standing
-use Rattle.xk_types.specs.declared.world.Value.{Value}
 use Rattle.xk_types.specs.declared.world.Event.{Event}
 use Rattle.xk_types.specs.declared.world.Event.TheVariants as event
 use Rattle.xk_types.specs.Acceptance.{IsAccepted}
 use Rattle.xk_types.specs.Code.{ModuleValue, IsWithinLimits}
 use Rattle.xk_types.specs.World.{Activity, Clock, World, standing_of}
-use Rattle.xk_types.specs.Step.{Outcome, Blocked, Wrong, Stepped, advanced, settled, settled_clock, moved, moved_on, joined, joined_on, is_given, new_clock, child, onward, left, arrived, ended, none, all, dropped, resumed, step}
+use Rattle.xk_types.specs.Step.{Outcome, Blocked, Wrong, Stepped, advanced, settled, settled_clock, moved, joined, is_given, new_clock, child, onward, left, arrived, ended, none, all, dropped, resumed, step}
 use Rattle.xk_types.specs.Schedule.{run, run_on, events, events_on, is_local, number_printed, IsReached}
-use Rattle.xk_types.proofs.ListLemmas.{Each, each_map, each_push}
+use Rattle.xk_types.proofs.ListLemmas.{each_map, each_push}
 use Rattle.xk_laws.proofs.ClockLemmas.AdvanceLemmas.{settled_cases}
 use Rattle.xk_laws.proofs.ClockLemmas.StandingLemmas.{each_moved, each_joined, new_width}
 use Rattle.xk_laws.proofs.ReachabilityLemmas.{reached_sound}

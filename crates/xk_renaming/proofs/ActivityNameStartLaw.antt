@@ -1,10 +1,9 @@
 -- Two activities that start one each, in either order: the two that are started have each other's number.
-use Rattle.std.proofs.Common.{◌≡◌, ℕ, suc, zero, ◌+◌, ◌<◌, ◌==◌, Bool, true, false, true≢false, cond, List, [], ◌∷◌, ◌++◌, map, length, set, Some, None, Option, refl, sym, ap, ◌∙◌, subst, arith, length-set}
+use Rattle.std.proofs.Common.{◌≡◌, ℕ, suc, ◌+◌, ◌<◌, ◌==◌, Bool, true, false, true≢false, cond, List, [], ◌∷◌, ◌++◌, map, length, set, Some, None, Option, refl, sym, ap, ◌∙◌, subst, arith, length-set}
 use Rattle.std.specs.Prelude.{slice_get, option_map}
 use Rattle.std.specs.Option.{option_map_or}
-use Rattle.std.proofs.lemmas.Bool.{false≢true}
 use Rattle.std.proofs.lemmas.List.{map-set, length_push}
-use Rattle.std.proofs.lemmas.Option.{slice_get_within, same_Some, none-some}
+use Rattle.std.proofs.lemmas.Option.{slice_get_within, same_Some}
 use Rattle.xk_types.specs.declared.instr.Instr.{Instr}
 use Rattle.xk_types.specs.declared.instr.Instr.TheVariants as instr
 use Rattle.xk_types.specs.declared.world.Value.{Value}
@@ -15,7 +14,7 @@ use Rattle.xk_types.specs.declared.world.Event.TheVariants as event
 use Rattle.xk_types.specs.Acceptance.{IsAccepted}
 use Rattle.xk_types.specs.Code.{ModuleValue, IsWithinLimits}
 use Rattle.xk_types.specs.World.{Finish, Activity, Clock, World, standing_of}
-use Rattle.xk_types.specs.Step.{Outcome, Blocked, Wrong, Stepped, settled_clock, joined, joined_on, is_given, child, onward, innermost, governing, spawned, step}
+use Rattle.xk_types.specs.Step.{Outcome, Stepped, settled_clock, joined, joined_on, is_given, child, onward, innermost, governing, spawned, step}
 use Rattle.xk_types.specs.Schedule.{IsReached}
 use Rattle.xk_types.proofs.ListLemmas.{Each, each_set, each_push, get-set_other}
 use Rattle.xk_laws.proofs.Invariant.{IsSound}
@@ -32,7 +31,7 @@ use Rattle.xk_squares.proofs.PlainStepLaw.{same_plain}
 use Rattle.xk_squares.proofs.ViewLemmas.{Starts, Goes, IsNone, DoesAct, DoesMake, DoesStart, goes}
 use Rattle.xk_squares.proofs.ChangeSquareLemmas.{same_step, not_none, next_is}
 use Rattle.xk_squares.proofs.StartSquareLemmas.{made_world, started_world, maker, reached_sees}
-use Rattle.xk_renaming.specs.ActivityNames.{neighbours_swapped, renamed, finish_renamed, governed_renamed, clock_swapped, activities_swapped, IsSquareOfStarts}
+use Rattle.xk_renaming.specs.ActivityNames.{neighbours_swapped, renamed, governed_renamed, clock_swapped, activities_swapped, IsSquareOfStarts}
 use Rattle.xk_renaming.proofs.ActivityNameListLemmas.{renamed_below, pushed-swapped}
 use Rattle.xk_renaming.proofs.ActivityNameWorldLemmas.{acts_swapped}
 

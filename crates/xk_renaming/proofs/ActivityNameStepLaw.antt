@@ -19,7 +19,7 @@ use Rattle.xk_types.specs.Code.{UnitValue, ModuleValue, compares, is_method, is_
 use Rattle.xk_types.specs.World.{Frame, Activity, Clock, World, standing_of, instruction_at}
 use Rattle.xk_types.specs.Step.{Outcome, Blocked, Wrong, Stepped, ClockUse, OutOfRange, is_registered, number_in, clock_in, registered_on, put_in, slot_at, arguments_in, computing, no_further, beginning, turning, again, spawned, spawning, carried_out, run_at, made, moved, joined, new_clock, is_given, child, waits, passing, passed, past, step_by, step_of, step, called, calling, back_in, returning, onward, going, with_slots, entered, left, ended, arrived, awaits, innermost, closing, cell_in, stored, done, none, only, all, resumed, dropped, settled}
 use Rattle.xk_squares.proofs.ListLemmas.{map_push}
-use Rattle.xk_renaming.specs.ActivityNames.{neighbours_swapped, renamed, finish_renamed, governed_renamed, clock_swapped, activities_swapped, outcome_renamed, HasAllStandings}
+use Rattle.xk_renaming.specs.ActivityNames.{renamed, governed_renamed, clock_swapped, activities_swapped, outcome_renamed, HasAllStandings}
 use Rattle.xk_renaming.proofs.ActivityNameWorldLemmas.{standing-swapped, settled-swapped, AreWide, moved-swapped, joined-swapped, new-swapped, waits-swapped, acts_swapped, length-acts, act-swapped, set_act-swapped, push_act-swapped, child-renamed, awaits-swapped}
 
 -- the end of a step, where the worlds before it are one but for the numbers

@@ -1,5 +1,5 @@
 -- Worlds in which two activities have each other's number: what is looked at there, and what changes.
-use Rattle.std.proofs.Common.{◌≡◌, ℕ, zero, suc, ◌+◌, ◌<◌, ◌==◌, ◌&&◌, ◌||◌, not, Bool, true, false, cond, List, [], ◌∷◌, ◌++◌, map, length, replicate, set, Option, Some, None, option_map, refl, sym, ap, ◌∙◌, subst, arith}
+use Rattle.std.proofs.Common.{◌≡◌, ℕ, zero, suc, ◌+◌, ◌<◌, ◌==◌, ◌&&◌, ◌||◌, Bool, true, false, cond, List, [], ◌∷◌, ◌++◌, map, length, replicate, set, Option, Some, None, option_map, refl, sym, ap, ◌∙◌, arith}
 use Rattle.std.specs.Prelude.{slice_get}
 use Rattle.std.specs.List.{list_any}
 use Rattle.std.specs.Option.{option_map_or}
@@ -10,7 +10,7 @@ use Rattle.xk_types.specs.declared.world.Standing.TheVariants as standing
 use Rattle.xk_types.specs.Code.{ModuleValue}
 use Rattle.xk_types.specs.declared.world.Value.{Value}
 use Rattle.xk_types.specs.World.{Finish, Activity, Clock, World, is_ended, standing_of}
-use Rattle.xk_types.specs.Step.{is_signalled, is_pending, is_ready, advanced, settled, settled_clock, moved, moved_on, joined, joined_on, new_clock, innermost, governing, child, waits, same_owner, same_finish, under_within, is_under, awaits}
+use Rattle.xk_types.specs.Step.{is_signalled, is_pending, is_ready, advanced, settled, settled_clock, moved, moved_on, joined, joined_on, new_clock, innermost, child, waits, same_owner, same_finish, under_within, is_under, awaits}
 use Rattle.xk_types.proofs.ListLemmas.{Each}
 use Rattle.xk_types.proofs.MembershipLemmas.{same_test}
 use Rattle.xk_laws.proofs.ScopeLemmas.FinishOwnerLemmas.{IsAwaited, awaited}

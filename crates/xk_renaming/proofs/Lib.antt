@@ -3,4 +3,5 @@ pub mod ActivityNameWorldLemmas
 pub mod ActivityNameStepLaw
 pub mod ActivityNameRunLaw
 pub mod ActivityNameStartLaw
+pub mod ActivityNameExchangeLaw
 pub mod ActivityNameExamples

@@ -2,11 +2,17 @@
 
 ghost use Rattle.std.specs.Prelude.{◌≡◌, ◌<◌, ℕ, suc, List, length};
 ghost use Rattle.xk_renaming.specs.ActivityNames.{
-    GoesRenamed, HasAllStandings, IsSquareOfStarts, activities_swapped, outcome_renamed, renamed,
+  GoesRenamed,
+  HasAllStandings,
+  IsSquareOfStarts,
+  activities_swapped,
+  outcome_renamed,
+  renamed,
 };
+ghost use Rattle.xk_squares.specs.PlainWorlds.{AreAlike};
 ghost use Rattle.xk_types.specs.Acceptance.{IsAccepted};
 ghost use Rattle.xk_types.specs.Code.{IsWithinLimits, ModuleValue};
-ghost use Rattle.xk_types.specs.Schedule.{IsReached};
+ghost use Rattle.xk_types.specs.Schedule.{IsReached, all_ended};
 ghost use Rattle.xk_types.specs.Step.{step};
 ghost use Rattle.xk_types.specs.World.{World};
 
@@ -25,4 +31,16 @@ pub fn activity_names()
         → HasAllStandings w }
     ensures starts { (m : ModuleValue) (w : World) → IsWithinLimits m → IsAccepted m → IsReached m w
         → (a b : ℕ) → (b ≡ a → ⊥) → IsSquareOfStarts m w a b }
+{}
+
+/// The exchange of two activities' numbers is undone by another. It leaves worlds alike that differ in numbers of steps and phases
+/// alone, shared numbers as they are, nobody ended who wasn't, and a standing of each activity on each clock.
+pub fn exchanged_activities()
+    ensures undone { (k : ℕ) (w : World) → activities_swapped k (activities_swapped k w) ≡ w }
+    ensures alike { (k : ℕ) (w v : World) → AreAlike w v
+        → AreAlike (activities_swapped k w) (activities_swapped k v) }
+    ensures cells { (k : ℕ) (w : World) → (activities_swapped k w).cells ≡ w.cells }
+    ensures ended { (k : ℕ) (w : World) → all_ended (activities_swapped k w) ≡ all_ended w }
+    ensures standings { (k : ℕ) (w : World) → HasAllStandings w
+        → HasAllStandings (activities_swapped k w) }
 {}
