@@ -39,16 +39,22 @@ abbrev finish_of : ℕ → Finish
 finish_of a = record { owner = Some a; depth = 1 }
 
 abbrev three : World
-three = world (runs 0 [] 1 root ∷ runs 1 [] 1 (finish_of 0) ∷ runs 2 (value.Clock 0 ∷ []) 0 (finish_of 1) ∷ []) (standing.Apart ∷ standing.Signalled ∷ standing.Open ∷ [])
+three = world
+    (runs 0 [] 1 root ∷ runs 1 [] 1 (finish_of 0) ∷ runs 2 (value.Clock 0 ∷ []) 0 (finish_of 1) ∷ [])
+    (standing.Apart ∷ standing.Signalled ∷ standing.Open ∷ [])
 
 -- activities 1 and 2 have each other's number
 exchanged : activities_swapped 1 three
-    ≡ world (runs 0 [] 1 root ∷ runs 2 (value.Clock 0 ∷ []) 0 (finish_of 2) ∷ runs 1 [] 1 (finish_of 0) ∷ []) (standing.Apart ∷ standing.Open ∷ standing.Signalled ∷ [])
+    ≡ world
+    (runs 0 [] 1 root ∷ runs 2 (value.Clock 0 ∷ []) 0 (finish_of 2) ∷ runs 1 [] 1 (finish_of 0) ∷ [])
+    (standing.Apart ∷ standing.Open ∷ standing.Signalled ∷ [])
 exchanged = refl
 
 -- and main and 1
 main_too : activities_swapped 0 three
-    ≡ world (runs 1 [] 1 (finish_of 1) ∷ runs 0 [] 1 root ∷ runs 2 (value.Clock 0 ∷ []) 0 (finish_of 0) ∷ []) (standing.Signalled ∷ standing.Apart ∷ standing.Open ∷ [])
+    ≡ world
+    (runs 1 [] 1 (finish_of 1) ∷ runs 0 [] 1 root ∷ runs 2 (value.Clock 0 ∷ []) 0 (finish_of 0) ∷ [])
+    (standing.Signalled ∷ standing.Apart ∷ standing.Open ∷ [])
 main_too = refl
 
 -- the one resumes, by its number there
@@ -64,7 +70,12 @@ unfolding under_within
 waits = refl
 
 -- and wouldn't, if the finish that governs it were still that of the number 1
-wouldn't_wait : is_enabled code (world (runs 0 [] 1 root ∷ runs 2 (value.Clock 0 ∷ []) 0 (finish_of 1) ∷ runs 1 [] 1 (finish_of 0) ∷ []) (standing.Apart ∷ standing.Open ∷ standing.Signalled ∷ [])) 2 ≡ true
+abbrev same_owners : World
+same_owners = world
+    (runs 0 [] 1 root ∷ runs 2 (value.Clock 0 ∷ []) 0 (finish_of 1) ∷ runs 1 [] 1 (finish_of 0) ∷ [])
+    (standing.Apart ∷ standing.Open ∷ standing.Signalled ∷ [])
+
+wouldn't_wait : is_enabled code same_owners 2 ≡ true
 unfolding under_within
 wouldn't_wait = refl
 
@@ -87,7 +98,8 @@ lost = refl
 -- ---- main and activity 1 start one each: of unit 2, and of unit 3
 
 abbrev starters : ModuleValue
-starters = module_with (main_with 0 (instr.Spawn 1 [] ∷ instr.Spawn 2 [] ∷ []) ∷ body_with [] 0 (instr.Spawn 3 [] ∷ []) ∷ body_with [] 0 [] ∷ body_with [] 0 [] ∷ [])
+starters = module_with
+    (main_with 0 (instr.Spawn 1 [] ∷ instr.Spawn 2 [] ∷ []) ∷ body_with [] 0 (instr.Spawn 3 [] ∷ []) ∷ body_with [] 0 [] ∷ body_with [] 0 [] ∷ [])
 
 -- the world that a run comes to, or stops in
 abbrev last : Course → World

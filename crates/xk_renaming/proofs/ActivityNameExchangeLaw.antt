@@ -42,7 +42,8 @@ plain_clocks k (c ∷ cs) = ap (λ zs. plain_clock (clock_swapped k c) ∷ zs) (
 
 plain_exchanged : (k : ℕ) (w : World) → plain (activities_swapped k w) ≡ activities_swapped k (plain w)
 plain_exchanged k w =
-    let acts : map plain_activity (map (governed_renamed k) (neighbours_swapped k w.activities)) ≡ map (governed_renamed k) (neighbours_swapped k (map plain_activity w.activities)) =
+    let acts : map plain_activity (map (governed_renamed k) (neighbours_swapped k w.activities))
+    ≡ map (governed_renamed k) (neighbours_swapped k (map plain_activity w.activities)) =
     plain_governed k (neighbours_swapped k w.activities) ∙ ap (map (governed_renamed k)) (map-swapped plain_activity k w.activities) in
     λ i. record { activities = acts i; clocks = plain_clocks k w.clocks i; cells = w.cells; steps = 0; arguments = w.arguments }
 
@@ -51,7 +52,8 @@ alike_exchanged k w v alike = plain_exchanged k w ∙ ap (activities_swapped k) 
 
 -- ---- what stays
 
-ended_governed : (k : ℕ) (xs : List Activity) → list_all (λ (act : Activity). is_ended act.status) (map (governed_renamed k) xs) ≡ list_all (λ (act : Activity). is_ended act.status) xs
+ended_governed : (k : ℕ) (xs : List Activity)
+    → list_all (λ (act : Activity). is_ended act.status) (map (governed_renamed k) xs) ≡ list_all (λ (act : Activity). is_ended act.status) xs
 ended_governed k [] = refl
 ended_governed k (x ∷ xs) = ap (λ p. is_ended x.status && p) (ended_governed k xs)
 

@@ -64,7 +64,8 @@ get_or-swapped zero (x ∷ y ∷ xs) (suc (suc a)) d h = refl
 get_or-swapped (suc k) (x ∷ xs) zero d h = refl
 get_or-swapped (suc k) (x ∷ xs) (suc a) d h = get_or-swapped k xs a d (omega arith)
 
-pub set-swapped : {X : Type 0} (k : ℕ) (xs : List X) (a : ℕ) (y : X) → suc k < length xs → set (neighbours_swapped k xs) (renamed k a) y ≡ neighbours_swapped k (set xs a y)
+pub set-swapped : {X : Type 0} (k : ℕ) (xs : List X) (a : ℕ) (y : X) → suc k < length xs
+    → set (neighbours_swapped k xs) (renamed k a) y ≡ neighbours_swapped k (set xs a y)
 set-swapped k [] a z h = absurd (omega arith)
 set-swapped zero (x ∷ []) a z h = absurd (omega arith)
 set-swapped zero (x ∷ y ∷ xs) zero z h = refl

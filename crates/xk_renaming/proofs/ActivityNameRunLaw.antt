@@ -5,14 +5,15 @@ use Rattle.std.specs.List.{filter_map, cons_option}
 use Rattle.std.proofs.lemmas.List.{length-map, length_push}
 use Rattle.xk_types.specs.declared.world.Standing.{Standing}
 use Rattle.xk_types.specs.declared.world.Standing.TheVariants as standing
+use Rattle.xk_types.specs.declared.world.Value.{Value}
 use Rattle.xk_types.specs.declared.world.Event.{Event}
 use Rattle.xk_types.specs.declared.world.Event.TheVariants as event
 use Rattle.xk_types.specs.Acceptance.{IsAccepted}
 use Rattle.xk_types.specs.Code.{ModuleValue, IsWithinLimits}
 use Rattle.xk_types.specs.World.{Activity, Clock, World, standing_of}
-use Rattle.xk_types.specs.Step.{Outcome, Blocked, Wrong, Stepped, advanced, settled, settled_clock, moved, joined, is_given, new_clock, child, onward, left, arrived, ended, none, all, dropped, resumed, step}
+use Rattle.xk_types.specs.Step.{Outcome, Blocked, Wrong, Stepped, advanced, settled, settled_clock, moved, joined, is_given, new_clock, child, made, spawned, onward, left, arrived, ended, none, all, dropped, resumed, step}
 use Rattle.xk_types.specs.Schedule.{run, run_on, events, events_on, is_local, number_printed, IsReached}
-use Rattle.xk_types.proofs.ListLemmas.{each_map, each_push}
+use Rattle.xk_types.proofs.ListLemmas.{Each, each_map, each_push}
 use Rattle.xk_laws.proofs.ClockLemmas.AdvanceLemmas.{settled_cases}
 use Rattle.xk_laws.proofs.ClockLemmas.StandingLemmas.{each_moved, each_joined, new_width}
 use Rattle.xk_laws.proofs.ReachabilityLemmas.{reached_sound}
@@ -28,61 +29,73 @@ Keeps n Blocked = Unit {0}
 Keeps n (Wrong c) = Unit {0}
 Keeps n (Stepped u e) = (n ≤ length u.activities) × HasAllStandings u
 
-settled_keeps : (n : ℕ) (u : World) (e : Event) → n ≤ length u.activities → HasAllStandings u → Keeps n (Stepped (settled u) e)
-settled_keeps n u e more full = (
-  more,
-  each_map (settled_clock (u.steps + 1)) (λ j (c : Clock). length c.standings ≡ length u.activities) u.clocks
-      (λ j c at. settled_cases (u.steps + 1) c (λ (x : Clock). length x.standings ≡ length u.activities) (λ h. length-map c.standings advanced ∙ full j c at) (λ h. full j c at)),
-)
+module _ (w : World) (a : ℕ) (full : HasAllStandings w) where
+  -- at the end of a step, by the activities, clocks and shared numbers before it
+  settled_keeps : (acts : List Activity) (cs : List Clock) (cells : List ℤ) (e : Event) → length w.activities ≤ length acts
+      → Each (λ j (c : Clock). length c.standings ≡ length acts) cs
+      → Keeps (length w.activities) (Stepped (settled (record w { activities = acts; clocks = cs; cells = cells })) e)
+  settled_keeps acts cs cells e more each = (
+    more,
+    each_map (settled_clock (w.steps + 1)) (λ j (c : Clock). length c.standings ≡ length acts) cs
+        (λ j c at. settled_cases (w.steps + 1) c (λ (x : Clock). length x.standings ≡ length acts) (λ h. length-map c.standings advanced ∙ each j c at)
+        (λ h. each j c at)),
+  )
 
-pub step_keeps : (m : ModuleValue) (w : World) (a : ℕ) → HasAllStandings w → Keeps (length w.activities) (step m w a)
-step_keeps m w a full = step_kind (Keeps (length w.activities)) m w a tt (λ c. tt) (λ act found alive. record {
-  closed = λ n some nobody runs. done_keeps (left act n) none event.Closed w.cells;
-  over = λ here alone. done_keeps (ended act) (all dropped) event.Ended w.cells;
-  arrives = done_keeps (arrived act) (all resumed) event.Arrived w.cells;
-  done = λ next change e on quiet rests. done_keeps next change e w.cells;
-  made = λ next on. made_keeps next;
-  stored = λ s n e on quiet. done_keeps (onward act) none e (set w.cells s n);
-  spawned = λ t args values at on. spawned_keeps (onward act) (child m a act t values) (is_given values);
-})
-  where
-    done_keeps : (next : Activity) (change : ℕ → Standing → Standing) (e : Event) (cells : List ℤ)
-        → Keeps (length w.activities) (Stepped (settled (record w { activities = set w.activities a next; clocks = moved a change w.clocks; cells = cells })) e)
-    done_keeps next change e cells =
-        let many : length (set w.activities a next) ≡ length w.activities = length-set w.activities a next in
-        settled_keeps (length w.activities) (record w { activities = set w.activities a next; clocks = moved a change w.clocks; cells = cells }) e (omega (arith, many))
-        (each_moved a change (λ j (c : Clock). length c.standings ≡ length (set w.activities a next)) w.clocks
-        (λ j c at. length-set c.standings a (change j (standing_of c a)) ∙ full j c at ∙ sym many))
+  done_keeps : (next : Activity) (change : ℕ → Standing → Standing) (e : Event) (cells : List ℤ)
+      → Keeps (length w.activities) (Stepped (settled (record w { activities = set w.activities a next; clocks = moved a change w.clocks; cells = cells })) e)
+  done_keeps next change e cells =
+      let many : length (set w.activities a next) ≡ length w.activities = length-set w.activities a next in
+      settled_keeps (set w.activities a next) (moved a change w.clocks) cells e (omega (arith, many))
+      (each_moved a change (λ j (c : Clock). length c.standings ≡ length (set w.activities a next)) w.clocks
+      (λ j c at. length-set c.standings a (change j (standing_of c a)) ∙ full j c at ∙ sym many))
 
-    made_keeps : (next : Activity)
-        → Keeps (length w.activities) (Stepped (settled (record w { activities = set w.activities a next; clocks = w.clocks ++ new_clock (length w.activities) a ∷ [] })) event.Made)
-    made_keeps next =
-        let many : length (set w.activities a next) ≡ length w.activities = length-set w.activities a next in
-        settled_keeps (length w.activities) (record w { activities = set w.activities a next; clocks = w.clocks ++ new_clock (length w.activities) a ∷ [] }) event.Made (omega (arith, many))
-        (each_push (λ j (c : Clock). length c.standings ≡ length (set w.activities a next)) w.clocks (new_clock (length w.activities) a) (λ j c at. full j c at ∙ sym many)
-        (new_width (length w.activities) a ∙ sym many))
+  made_keeps : (next : Activity) → Keeps (length w.activities) (made w a next)
+  made_keeps next =
+      let many : length (set w.activities a next) ≡ length w.activities = length-set w.activities a next in
+      let new : Clock = new_clock (length w.activities) a in
+      settled_keeps (set w.activities a next) (w.clocks ++ new ∷ []) w.cells event.Made (omega (arith, many))
+      (each_push (λ j (c : Clock). length c.standings ≡ length (set w.activities a next)) w.clocks new (λ j c at. full j c at ∙ sym many)
+      (new_width (length w.activities) a ∙ sym many))
 
-    spawned_keeps : (next new : Activity) (given : ℕ → Bool)
-        → Keeps (length w.activities) (Stepped (settled (record w { activities = set w.activities a next ++ new ∷ []; clocks = joined a given w.clocks })) event.Spawned)
-    spawned_keeps next new given =
-        let many : length (set w.activities a next ++ new ∷ []) ≡ suc (length w.activities) = omega (arith, length_push (set w.activities a next) new, length-set w.activities a next) in
-        settled_keeps (length w.activities) (record w { activities = set w.activities a next ++ new ∷ []; clocks = joined a given w.clocks }) event.Spawned (omega (arith, many))
-        (each_joined a given (λ j (c : Clock). length c.standings ≡ length (set w.activities a next ++ new ∷ [])) w.clocks
-        (λ j c at. omega (arith, length_push c.standings (cond (given j) (standing_of c a) standing.Apart), full j c at, many)))
+  spawned_keeps : (m : ModuleValue) (act : Activity) (unit : ℕ) (values : List Value) → Keeps (length w.activities) (spawned m w a act unit values)
+  spawned_keeps m act unit values =
+      let acts : List Activity = set w.activities a (onward act) ++ child m a act unit values ∷ [] in
+      let many : length acts ≡ suc (length w.activities) =
+      omega (arith, length_push (set w.activities a (onward act)) (child m a act unit values), length-set w.activities a (onward act)) in
+      settled_keeps acts (joined a (is_given values) w.clocks) w.cells event.Spawned (omega (arith, many))
+      (each_joined a (is_given values) (λ j (c : Clock). length c.standings ≡ length acts) w.clocks
+      (λ j c at. omega (arith, length_push c.standings (cond (is_given values j) (standing_of c a) standing.Apart), full j c at, many)))
+
+  pub step_keeps : (m : ModuleValue) → Keeps (length w.activities) (step m w a)
+  step_keeps m = step_kind (Keeps (length w.activities)) m w a tt (λ c. tt) (λ act found alive. record {
+    closed = λ n some nobody runs. done_keeps (left act n) none event.Closed w.cells;
+    over = λ here alone. done_keeps (ended act) (all dropped) event.Ended w.cells;
+    arrives = done_keeps (arrived act) (all resumed) event.Arrived w.cells;
+    done = λ next change e on quiet rests. done_keeps next change e w.cells;
+    made = λ next on. made_keeps next;
+    stored = λ s n e on quiet. done_keeps (onward act) none e (set w.cells s n);
+    spawned = λ t args values at on. spawned_keeps m act t values;
+  })
 
 pub reached_full : (m : ModuleValue) (w : World) → IsWithinLimits m → IsAccepted m → IsReached m w → HasAllStandings w
 reached_full m w limits ok reached j c at = ((reached_sound m limits ok w reached).clocks j c at).width
 
 -- ---- runs
 
-prints_renamed : (k : ℕ) (es : List (ℕ × Event)) → filter_map (λ p. number_printed p.1) (filter (λ p. not (is_local p.1)) (map (entry_renamed k) es))
-    ≡ filter_map (λ p. number_printed p.1) (filter (λ p. not (is_local p.1)) es)
+-- the entries that aren't local, and the numbers that they print
+abbrev seen_of : List (ℕ × Event) → List (ℕ × Event)
+seen_of es = filter (λ p. not (is_local p.1)) es
+
+abbrev pub prints_of : List (ℕ × Event) → List ℤ
+prints_of es = filter_map (λ p. number_printed p.1) (seen_of es)
+
+pub prints_renamed : (k : ℕ) (es : List (ℕ × Event)) → prints_of (map (entry_renamed k) es) ≡ prints_of es
 prints_renamed k [] = refl
 prints_renamed k (p ∷ es) = by (not (is_local p.1)) (prints_renamed k es)
   where
-    by : (b : Bool) → filter_map (λ p. number_printed p.1) (filter (λ p. not (is_local p.1)) (map (entry_renamed k) es)) ≡ filter_map (λ p. number_printed p.1) (filter (λ p. not (is_local p.1)) es)
-        → filter_map (λ p. number_printed p.1) (cond b (entry_renamed k p ∷ filter (λ p. not (is_local p.1)) (map (entry_renamed k) es)) (filter (λ p. not (is_local p.1)) (map (entry_renamed k) es)))
-        ≡ filter_map (λ p. number_printed p.1) (cond b (p ∷ filter (λ p. not (is_local p.1)) es) (filter (λ p. not (is_local p.1)) es))
+    by : (b : Bool) → prints_of (map (entry_renamed k) es) ≡ prints_of es
+        → filter_map (λ p. number_printed p.1) (cond b (entry_renamed k p ∷ seen_of (map (entry_renamed k) es)) (seen_of (map (entry_renamed k) es)))
+        ≡ filter_map (λ p. number_printed p.1) (cond b (p ∷ seen_of es) (seen_of es))
     by true h = ap (cons_option (number_printed p.1)) h
     by false h = h
 
@@ -93,7 +106,7 @@ Goes m w k list = (run m (map (renamed k) list) (activities_swapped k w) ≡ cou
 
 goes : (m : ModuleValue) (w : World) (k : ℕ) (list : List ℕ) → suc k < length w.activities → HasAllStandings w → Goes m w k list
 goes m w k [] inside full = (refl, refl)
-goes m w k (a ∷ list) inside full = rw (step-swapped m w k a inside full) (by (step m w a) (step_keeps m w a full) (λ u. goes m u k list))
+goes m w k (a ∷ list) inside full = rw (step-swapped m w k a inside full) (by (step m w a) (step_keeps w a full m) (λ u. goes m u k list))
   where
     by : (o : Outcome) → Keeps (length w.activities) o → ((u : World) → suc k < length u.activities → HasAllStandings u → Goes m u k list)
         → (run_on (activities_swapped k w) (outcome_renamed k o) (run m (map (renamed k) list)) ≡ course_renamed k (run_on w o (run m list)))
@@ -110,5 +123,5 @@ goes_renamed m w k list inside full =
     record {
       course = both.0;
       events = both.1;
-      prints = ap (λ es. filter_map (λ (p : ℕ × Event). number_printed p.1) (filter (λ (p : ℕ × Event). not (is_local p.1)) es)) both.1 ∙ prints_renamed k (events m list w);
+      prints = ap prints_of both.1 ∙ prints_renamed k (events m list w);
     }

@@ -18,18 +18,10 @@ use Rattle.xk_types.specs.declared.unit.ParamKind.TheVariants as param
 use Rattle.xk_types.specs.Code.{UnitValue, ModuleValue, compares, is_method, is_body, Loop, loop_head}
 use Rattle.xk_types.specs.World.{Frame, Activity, Clock, World, standing_of, instruction_at}
 use Rattle.xk_types.specs.Step.{Outcome, Blocked, Wrong, Stepped, ClockUse, OutOfRange, is_registered, number_in, clock_in, registered_on, put_in, slot_at, arguments_in, computing, no_further, beginning, turning, again, spawned, spawning, carried_out, run_at, made, moved, joined, new_clock, is_given, child, waits, passing, passed, past, step_by, step_of, step, called, calling, back_in, returning, onward, going, with_slots, entered, left, ended, arrived, awaits, innermost, closing, cell_in, stored, done, none, only, all, resumed, dropped, settled}
+use Rattle.xk_squares.specs.Conflicts.{next_instruction}
 use Rattle.xk_squares.proofs.ListLemmas.{map_push}
 use Rattle.xk_renaming.specs.ActivityNames.{renamed, governed_renamed, clock_swapped, activities_swapped, outcome_renamed, HasAllStandings}
 use Rattle.xk_renaming.proofs.ActivityNameWorldLemmas.{standing-swapped, settled-swapped, AreWide, moved-swapped, joined-swapped, new-swapped, waits-swapped, acts_swapped, length-acts, act-swapped, set_act-swapped, push_act-swapped, child-renamed, awaits-swapped}
-
--- the end of a step, where the worlds before it are one but for the numbers
-ended_so : (k : ℕ) (u v : World) (e : Event) → v ≡ activities_swapped k u → Stepped (settled v) e ≡ outcome_renamed k (Stepped (settled u) e)
-ended_so k u v e h = ap (λ z. Stepped z e) (ap settled h ∙ settled-swapped k u)
-
--- worlds by their parts
-world_by : (k : ℕ) (u v : World) → v.activities ≡ acts_swapped k u.activities → v.clocks ≡ map (clock_swapped k) u.clocks → v.cells ≡ u.cells → v.steps ≡ u.steps
-    → v.arguments ≡ u.arguments → v ≡ activities_swapped k u
-world_by k u v p q r s t = λ i. record { activities = p i; clocks = q i; cells = r i; steps = s i; arguments = t i }
 
 module _ (m : ModuleValue) (k : ℕ) (w : World) (inside : suc k < length w.activities) (wide : AreWide k w.clocks) (a : ℕ) (act : Activity) where
   -- the world with the numbers changed, the activity's other number, and the activity there
@@ -67,7 +59,8 @@ module _ (m : ModuleValue) (k : ℕ) (w : World) (inside : suc k < length w.acti
   clock_same None go later h = refl
   clock_same (Some value.Unset) go later h = refl
   clock_same (Some (value.Number n)) go later h = refl
-  clock_same (Some (value.Clock c)) go later h = rw (slice_get-map (clock_swapped k) w.clocks c) (registered_same (slice_get w.clocks c) (wide c) (go c) (later c) (h c))
+  clock_same (Some (value.Clock c)) go later h =
+      rw (slice_get-map (clock_swapped k) w.clocks c) (registered_same (slice_get w.clocks c) (wide c) (go c) (later c) (h c))
 
   cell_same : (o : Option ℤ) (go later : ℤ → Outcome) → ((n : ℤ) → AreSame (go n) (later n)) → AreSame (cell_in o go) (cell_in o later)
   cell_same None go later h = refl
@@ -88,53 +81,60 @@ module _ (m : ModuleValue) (k : ℕ) (w : World) (inside : suc k < length w.acti
 
   -- ---- what changes
 
+  -- the end of a step, by the activities, clocks and shared numbers before it
+  settled_same : (acts others : List Activity) (cs ds : List Clock) (cells : List ℤ) (e : Event) → others ≡ acts_swapped k acts → ds ≡ map (clock_swapped k) cs
+      → AreSame (Stepped (settled (record w { activities = acts; clocks = cs; cells = cells })) e)
+      (Stepped (settled (record w { activities = others; clocks = ds; cells = cells })) e)
+  settled_same acts others cs ds cells e p q =
+      ap (λ z. Stepped z e)
+      (ap settled (λ i. record w { activities = p i; clocks = q i; cells = cells }) ∙ settled-swapped k (record w { activities = acts; clocks = cs; cells = cells }))
+
   -- with these shared numbers
   stored_same : (cells : List ℤ) (next : Activity) (change : ℕ → Standing → Standing) (e : Event)
       → AreSame (done (record w { cells = cells }) a next change e) (done (record v { cells = cells }) b (governed_renamed k next) change e)
-  stored_same cells next change e = ended_so k (record w { activities = set w.activities a next; clocks = moved a change w.clocks; cells = cells })
-      (record v { activities = set v.activities b (governed_renamed k next); clocks = moved b change v.clocks; cells = cells }) e
-      (world_by k (record w { activities = set w.activities a next; clocks = moved a change w.clocks; cells = cells })
-      (record v { activities = set v.activities b (governed_renamed k next); clocks = moved b change v.clocks; cells = cells })
-      (set_act-swapped k w.activities a next inside) (moved-swapped k a change w.clocks wide) refl refl refl)
+  stored_same cells next change e = settled_same (set w.activities a next) (set v.activities b (governed_renamed k next)) (moved a change w.clocks) (moved b change v.clocks)
+      cells e (set_act-swapped k w.activities a next inside) (moved-swapped k a change w.clocks wide)
 
   done_same : (next : Activity) (change : ℕ → Standing → Standing) (e : Event) → AreSame (done w a next change e) (done v b (governed_renamed k next) change e)
   done_same next change e = stored_same w.cells next change e
 
   made_same : (next : Activity) → AreSame (made w a next) (made v b (governed_renamed k next))
-  made_same next = ended_so k (record w { activities = set w.activities a next; clocks = w.clocks ++ new_clock (length w.activities) a ∷ [] })
-      (record v { activities = set v.activities b (governed_renamed k next); clocks = v.clocks ++ new_clock (length v.activities) b ∷ [] }) event.Made
-      (world_by k (record w { activities = set w.activities a next; clocks = w.clocks ++ new_clock (length w.activities) a ∷ [] })
-      (record v { activities = set v.activities b (governed_renamed k next); clocks = v.clocks ++ new_clock (length v.activities) b ∷ [] })
-      (set_act-swapped k w.activities a next inside)
+  made_same next =
+      let new : Clock = new_clock (length w.activities) a in
+      let there : Clock = new_clock (length v.activities) b in
+      settled_same (set w.activities a next) (set v.activities b (governed_renamed k next)) (w.clocks ++ new ∷ []) (v.clocks ++ there ∷ [])
+      w.cells event.Made (set_act-swapped k w.activities a next inside)
       (ap (λ c. map (clock_swapped k) w.clocks ++ c ∷ []) (ap (λ n. new_clock n b) (length-acts k w.activities) ∙ new-swapped k (length w.activities) a inside)
-      ∙ sym (map_push (clock_swapped k) w.clocks (new_clock (length w.activities) a)))
-      refl refl refl)
+      ∙ sym (map_push (clock_swapped k) w.clocks new))
 
   spawned_same : (t : ℕ) (values : List Value) → AreSame (spawned m w a act t values) (spawned m v b there t values)
-  spawned_same t values = ended_so k
-      (record w { activities = set w.activities a (onward act) ++ child m a act t values ∷ []; clocks = joined a (is_given values) w.clocks })
-      (record v { activities = set v.activities b (onward there) ++ child m b there t values ∷ []; clocks = joined b (is_given values) v.clocks }) event.Spawned
-      (world_by k (record w { activities = set w.activities a (onward act) ++ child m a act t values ∷ []; clocks = joined a (is_given values) w.clocks })
-      (record v { activities = set v.activities b (onward there) ++ child m b there t values ∷ []; clocks = joined b (is_given values) v.clocks })
-      (ap (λ zs. zs ++ child m b there t values ∷ []) (set_act-swapped k w.activities a (onward act) inside)
+  spawned_same t values =
+      let new : Activity = child m a act t values in
+      let other : Activity = child m b there t values in
+      settled_same (set w.activities a (onward act) ++ new ∷ []) (set v.activities b (onward there) ++ other ∷ [])
+      (joined a (is_given values) w.clocks) (joined b (is_given values) v.clocks) w.cells event.Spawned
+      (ap (λ zs. zs ++ other ∷ []) (set_act-swapped k w.activities a (onward act) inside)
       ∙ ap (λ x. acts_swapped k (set w.activities a (onward act)) ++ x ∷ []) (child-renamed m k a act t values)
-      ∙ sym (push_act-swapped k (set w.activities a (onward act)) (child m a act t values) (omega (arith, inside, length-set w.activities a (onward act)))))
-      (joined-swapped k a (is_given values) w.clocks wide) refl refl refl)
+      ∙ sym (push_act-swapped k (set w.activities a (onward act)) new (omega (arith, inside, length-set w.activities a (onward act)))))
+      (joined-swapped k a (is_given values) w.clocks wide)
 
   -- ---- instructions
 
-  write_same : (d : ℕ) (x : Value) (e : Event) → AreSame (put_in (slot_at act d) act d x (λ next. done w a next none e)) (put_in (slot_at act d) there d x (λ next. done v b next none e))
+  write_same : (d : ℕ) (x : Value) (e : Event)
+      → AreSame (put_in (slot_at act d) act d x (λ next. done w a next none e)) (put_in (slot_at act d) there d x (λ next. done v b next none e))
   write_same d x e = put_same (slot_at act d) d x _ _ (λ next. done_same next none e)
 
   computing_same : (g : ℤ → ℤ → ℤ) (d x y : ℕ) → AreSame (computing w a act g d x y) (computing v b there g d x y)
   computing_same g d x y = number_same (slot_at act x) _ _ (λ p. number_same (slot_at act y) _ _ (λ q. write_same d (value.Number (g p q)) event.Local))
 
   -- one way or the other
-  either_same : (p : Bool) (one other : Activity) → AreSame (done w a (cond p one other) none event.Local) (done v b (cond p (governed_renamed k one) (governed_renamed k other)) none event.Local)
+  either_same : (p : Bool) (one other : Activity)
+      → AreSame (done w a (cond p one other) none event.Local) (done v b (cond p (governed_renamed k one) (governed_renamed k other)) none event.Local)
   either_same true one other = done_same one none event.Local
   either_same false one other = done_same other none event.Local
 
-  limit_same : (x : Option ℕ) (hi : ℤ) (go later : ℤ → Outcome) → ((top : ℤ) → AreSame (go top) (later top)) → AreSame (no_further act x hi go) (no_further there x hi later)
+  limit_same : (x : Option ℕ) (hi : ℤ) (go later : ℤ → Outcome) → ((top : ℤ) → AreSame (go top) (later top))
+      → AreSame (no_further act x hi go) (no_further there x hi later)
   limit_same None hi go later h = h hi
   limit_same (Some x) hi go later h = number_same (slot_at act x) _ _ (λ n. h (int_min n hi))
 
@@ -148,7 +148,8 @@ module _ (m : ModuleValue) (k : ℕ) (w : World) (inside : suc k < length w.acti
 
   turning_same : (t : ℕ) (o : Option Loop) → AreSame (turning w a act t o) (turning v b there t o)
   turning_same t None = refl
-  turning_same t (Some l) = number_same (slot_at act l.slot) _ _ (λ n. limit_same l.limit l.hi _ _ (λ top. either_same (int_lt n top) (again act t l.slot n) (onward act)))
+  turning_same t (Some l) = number_same (slot_at act l.slot) _ _
+      (λ n. limit_same l.limit l.hi _ _ (λ top. either_same (int_lt n top) (again act t l.slot n) (onward act)))
 
   calling_same : (t : ℕ) (args : List ℕ) (o : Option UnitValue) → AreSame (calling m w a act t args o) (calling m v b there t args o)
   calling_same t args None = refl
@@ -183,7 +184,8 @@ module _ (m : ModuleValue) (k : ℕ) (w : World) (inside : suc k < length w.acti
   passing_same : AreSame (passing w a act) (passing v b there)
   passing_same = rw (waits-swapped k a w wide) (by (waits w a))
     where
-      by : (p : Bool) → AreSame (cond p Blocked (done w a (past act (w.steps + 1)) (all passed) event.Passed)) (cond p Blocked (done v b (past there (w.steps + 1)) (all passed) event.Passed))
+      by : (p : Bool) → AreSame (cond p Blocked (done w a (past act (w.steps + 1)) (all passed) event.Passed))
+          (cond p Blocked (done v b (past there (w.steps + 1)) (all passed) event.Passed))
       by true = refl
       by false = done_same (past act (w.steps + 1)) (all passed) event.Passed
 
@@ -198,7 +200,8 @@ module _ (m : ModuleValue) (k : ℕ) (w : World) (inside : suc k < length w.acti
   instruction_same (instr.Add d x y) = computing_same (int_wrapping_add w64) d x y
   instruction_same (instr.Sub d x y) = computing_same (int_wrapping_sub w64) d x y
   instruction_same (instr.Mul d x y) = computing_same (int_wrapping_mul w64) d x y
-  instruction_same (instr.Unless op x y t) = number_same (slot_at act x) _ _ (λ p. number_same (slot_at act y) _ _ (λ q. either_same (compares op p q) (onward act) (going act t)))
+  instruction_same (instr.Unless op x y t) = number_same (slot_at act x) _ _
+      (λ p. number_same (slot_at act y) _ _ (λ q. either_same (compares op p q) (onward act) (going act t)))
   instruction_same (instr.Jump t) = done_same (going act t) none event.Local
   instruction_same (instr.For d lo hi e) = write_same d (value.Number lo) event.Local
   instruction_same (instr.ForTo d lo x hi e) = limit_same (Some x) hi _ _ (beginning_same d lo (e + 1))
@@ -239,3 +242,13 @@ step-swapped m w k a inside full = rw (act-swapped k w.activities a inside) (by 
     by : (o : Option Activity) → step_of m (activities_swapped k w) (renamed k a) (option_map (governed_renamed k) o) ≡ outcome_renamed k (step_of m w a o)
     by None = refl
     by (Some act) = step_by_same m k w inside (wide_of k w inside full) a act act.status
+
+-- and it stands at the same instruction
+pub next-swapped : (m : ModuleValue) (w : World) (k a : ℕ) → suc k < length w.activities
+    → next_instruction m (activities_swapped k w) (renamed k a) ≡ next_instruction m w a
+next-swapped m w k a inside = ap (option_and_then (λ act. instruction_at m act.frame)) (act-swapped k w.activities a inside) ∙ by (slice_get w.activities a)
+  where
+    by : (o : Option Activity) → option_and_then (λ (x : Activity). instruction_at m x.frame) (option_map (governed_renamed k) o)
+        ≡ option_and_then (λ (x : Activity). instruction_at m x.frame) o
+    by None = refl
+    by (Some act) = refl

@@ -39,7 +39,7 @@ settled_clocks-swapped k now [] = refl
 settled_clocks-swapped k now (c ∷ cs) = rw (settled_clock-swapped k now c, settled_clocks-swapped k now cs)
 
 pub settled-swapped : (k : ℕ) (w : World) → settled (activities_swapped k w) ≡ activities_swapped k (settled w)
-settled-swapped k w = ap (λ cs. record { activities = map (governed_renamed k) (neighbours_swapped k w.activities); clocks = cs; cells = w.cells; steps = w.steps + 1; arguments = w.arguments })
+settled-swapped k w = ap (λ cs. record (activities_swapped k w) { clocks = cs; steps = w.steps + 1 })
     (settled_clocks-swapped k (w.steps + 1) w.clocks)
 
 -- each clock has a standing of both
@@ -49,7 +49,8 @@ AreWide k cs = Each (λ j (c : Clock). suc k < length c.standings) cs
 moved_on-swapped : (k a : ℕ) (change : Standing → Standing) (c : Clock) → suc k < length c.standings
     → moved_on (renamed k a) change (clock_swapped k c) ≡ clock_swapped k (moved_on a change c)
 moved_on-swapped k a change c wide = ap (λ zs. record { phase = c.phase; last = c.last; standings = zs })
-    (ap (λ s. set (neighbours_swapped k c.standings) (renamed k a) (change s)) (standing-swapped k a c wide) ∙ set-swapped k c.standings a (change (standing_of c a)) wide)
+    (ap (λ s. set (neighbours_swapped k c.standings) (renamed k a) (change s)) (standing-swapped k a c wide)
+    ∙ set-swapped k c.standings a (change (standing_of c a)) wide)
 
 pub moved-swapped : (k a : ℕ) (change : ℕ → Standing → Standing) (cs : List Clock) → AreWide k cs
     → moved (renamed k a) change (map (clock_swapped k) cs) ≡ map (clock_swapped k) (moved a change cs)
@@ -57,7 +58,8 @@ moved-swapped k a change [] wide = refl
 moved-swapped k a change (c ∷ cs) wide =
     rw (moved_on-swapped k a (change 0) c (wide 0 c refl), moved-swapped k a (λ j. change (suc j)) cs (λ j x at. wide (suc j) x at))
 
-joined_on-swapped : (k a : ℕ) (given : Bool) (c : Clock) → suc k < length c.standings → joined_on (renamed k a) given (clock_swapped k c) ≡ clock_swapped k (joined_on a given c)
+joined_on-swapped : (k a : ℕ) (given : Bool) (c : Clock) → suc k < length c.standings
+    → joined_on (renamed k a) given (clock_swapped k c) ≡ clock_swapped k (joined_on a given c)
 joined_on-swapped k a given c wide = ap (λ zs. record { phase = c.phase; last = c.last; standings = zs })
     (ap (λ s. neighbours_swapped k c.standings ++ cond given s standing.Apart ∷ []) (standing-swapped k a c wide)
     ∙ sym (append-swapped k c.standings (cond given (standing_of c a) standing.Apart ∷ []) wide))
@@ -74,7 +76,8 @@ new-swapped k n a inside = ap (λ zs. record { phase = 0; last = 0; standings = 
     ∙ set-swapped k (replicate n standing.Apart) a standing.Open (omega (arith, inside, length-replicate n standing.Apart)))
 
 signalled-swapped : (k a : ℕ) (cs : List Clock) → AreWide k cs
-    → list_any (λ (c : Clock). is_signalled (standing_of c (renamed k a))) (map (clock_swapped k) cs) ≡ list_any (λ (c : Clock). is_signalled (standing_of c a)) cs
+    → list_any (λ (c : Clock). is_signalled (standing_of c (renamed k a))) (map (clock_swapped k) cs)
+    ≡ list_any (λ (c : Clock). is_signalled (standing_of c a)) cs
 signalled-swapped k a [] wide = refl
 signalled-swapped k a (c ∷ cs) wide = rw (standing-swapped k a c (wide 0 c refl), signalled-swapped k a cs (λ j x at. wide (suc j) x at))
 
@@ -89,15 +92,20 @@ acts_swapped k acts = map (governed_renamed k) (neighbours_swapped k acts)
 pub length-acts : (k : ℕ) (acts : List Activity) → length (acts_swapped k acts) ≡ length acts
 length-acts k acts = length-map (neighbours_swapped k acts) (governed_renamed k) ∙ length-swapped k acts
 
-pub act-swapped : (k : ℕ) (acts : List Activity) (a : ℕ) → suc k < length acts → slice_get (acts_swapped k acts) (renamed k a) ≡ option_map (governed_renamed k) (slice_get acts a)
-act-swapped k acts a inside = slice_get-map (governed_renamed k) (neighbours_swapped k acts) (renamed k a) ∙ ap (option_map (governed_renamed k)) (get-swapped k acts a inside)
+pub act-swapped : (k : ℕ) (acts : List Activity) (a : ℕ) → suc k < length acts
+    → slice_get (acts_swapped k acts) (renamed k a) ≡ option_map (governed_renamed k) (slice_get acts a)
+act-swapped k acts a inside =
+    slice_get-map (governed_renamed k) (neighbours_swapped k acts) (renamed k a) ∙ ap (option_map (governed_renamed k)) (get-swapped k acts a inside)
 
 pub set_act-swapped : (k : ℕ) (acts : List Activity) (a : ℕ) (next : Activity) → suc k < length acts
     → set (acts_swapped k acts) (renamed k a) (governed_renamed k next) ≡ acts_swapped k (set acts a next)
-set_act-swapped k acts a next inside = sym (map-set (governed_renamed k) (neighbours_swapped k acts) (renamed k a) next) ∙ ap (map (governed_renamed k)) (set-swapped k acts a next inside)
+set_act-swapped k acts a next inside =
+    sym (map-set (governed_renamed k) (neighbours_swapped k acts) (renamed k a) next) ∙ ap (map (governed_renamed k)) (set-swapped k acts a next inside)
 
-pub push_act-swapped : (k : ℕ) (acts : List Activity) (x : Activity) → suc k < length acts → acts_swapped k (acts ++ x ∷ []) ≡ acts_swapped k acts ++ governed_renamed k x ∷ []
-push_act-swapped k acts x inside = ap (map (governed_renamed k)) (append-swapped k acts (x ∷ []) inside) ∙ map_push (governed_renamed k) (neighbours_swapped k acts) x
+pub push_act-swapped : (k : ℕ) (acts : List Activity) (x : Activity) → suc k < length acts
+    → acts_swapped k (acts ++ x ∷ []) ≡ acts_swapped k acts ++ governed_renamed k x ∷ []
+push_act-swapped k acts x inside =
+    ap (map (governed_renamed k)) (append-swapped k acts (x ∷ []) inside) ∙ map_push (governed_renamed k) (neighbours_swapped k acts) x
 
 pub child-renamed : (m : ModuleValue) (k a : ℕ) (act : Activity) (unit : ℕ) (values : List Value)
     → child m (renamed k a) (governed_renamed k act) unit values ≡ governed_renamed k (child m a act unit values)
@@ -119,19 +127,23 @@ same_renamed : (k : ℕ) (f g : Finish) → same_finish (finish_renamed k f) (fi
 same_renamed k f g = ap (λ p. p && (f.depth == g.depth)) (owner_renamed k f.owner g.owner)
 
 module _ (k : ℕ) (acts : List Activity) (inside : suc k < length acts) (f : Finish) where
-  within-swapped : (n b : ℕ) → under_within (acts_swapped k acts) (finish_renamed k f) n (renamed k b) ≡ under_within acts f n b
+  -- no more than n activities being looked at
+  abbrev GoesSo : ℕ → Type 0
+  GoesSo n = (b : ℕ) → under_within (acts_swapped k acts) (finish_renamed k f) n (renamed k b) ≡ under_within acts f n b
+
+  within-swapped : (n : ℕ) → GoesSo n
   unfolding under_within
   within-swapped zero b = refl
   within-swapped (suc n) b = rw (act-swapped k acts b inside) (by (within-swapped n) (slice_get acts b))
     where
-      owner : ((b : ℕ) → under_within (acts_swapped k acts) (finish_renamed k f) n (renamed k b) ≡ under_within acts f n b) → (o : Option ℕ)
+      owner : GoesSo n → (o : Option ℕ)
           → option_map_or (under_within (acts_swapped k acts) (finish_renamed k f) n) (option_map (renamed k) o) false ≡ option_map_or (under_within acts f n) o false
       owner less None = refl
       owner less (Some c) = less c
 
-      by : ((b : ℕ) → under_within (acts_swapped k acts) (finish_renamed k f) n (renamed k b) ≡ under_within acts f n b) → (o : Option Activity)
-          → option_map_or (λ (x : Activity). same_finish x.governed (finish_renamed k f) || option_map_or (under_within (acts_swapped k acts) (finish_renamed k f) n) x.governed.owner false)
-          (option_map (governed_renamed k) o) false
+      by : GoesSo n → (o : Option Activity)
+          → option_map_or (λ (x : Activity). same_finish x.governed (finish_renamed k f)
+          || option_map_or (under_within (acts_swapped k acts) (finish_renamed k f) n) x.governed.owner false) (option_map (governed_renamed k) o) false
           ≡ option_map_or (λ (x : Activity). same_finish x.governed f || option_map_or (under_within acts f n) x.governed.owner false) o false
       by less None = refl
       by less (Some x) = rw (same_renamed k x.governed f, owner less x.governed.owner)
@@ -163,7 +175,8 @@ module _ (k : ℕ) (acts : List Activity) (inside : suc k < length acts) (f : Fi
         act = x;
         found = e;
         under = sym (under-swapped (renamed k i.b)) ∙ ap (is_under (acts_swapped k acts) (finish_renamed k f)) (renamed_twice k i.b) ∙ i.under;
-        alive = ap (λ (z : Activity). is_ended z.status) (same_Some (governed_renamed k x) i.act (sym (there ∙ ap (option_map (governed_renamed k)) e) ∙ i.found)) ∙ i.alive;
+        alive = ap (λ (z : Activity). is_ended z.status)
+            (same_Some (governed_renamed k x) i.act (sym (there ∙ ap (option_map (governed_renamed k)) e) ∙ i.found)) ∙ i.alive;
       }
 
   pub awaits-swapped : awaits (acts_swapped k acts) (finish_renamed k f) ≡ awaits acts f

@@ -4,4 +4,5 @@ pub mod ActivityNameStepLaw
 pub mod ActivityNameRunLaw
 pub mod ActivityNameStartLaw
 pub mod ActivityNameExchangeLaw
+pub mod ActivityNameOrderLaw
 pub mod ActivityNameExamples

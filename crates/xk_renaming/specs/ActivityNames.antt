@@ -67,4 +67,17 @@ pub record GoesRenamed (m : ModuleValue) (w : World) (k : ℕ) (s : List ℕ) : 
 -- activities have each other's number: those after the ones that there are, which are the two new ones.
 abbrev pub IsSquareOfStarts : ModuleValue → World → ℕ → ℕ → Type 0
 IsSquareOfStarts m w a b = (u v : World) → step m w a ≡ Stepped u event.Spawned → step m w b ≡ Stepped v event.Spawned
-    → (x : World) × (y : World) × (step m v a ≡ Stepped x event.Spawned) × (step m u b ≡ Stepped y event.Spawned) × AreAlike (activities_swapped (length w.activities) x) y
+    → (x : World) × (y : World) × (step m v a ≡ Stepped x event.Spawned) × (step m u b ≡ Stepped y event.Spawned)
+    × AreAlike (activities_swapped (length w.activities) x) y
+
+-- Activities a and b each start one, and then schedule s leads to world z. It may as well be b first: then s goes on by the numbers that the two new
+-- ones have so, to a world that is alike once they have each other's number; each activity has the same events, and the same list is printed.
+pub record GoesInEitherOrder (m : ModuleValue) (w : World) (a b : ℕ) (s : List ℕ) (z : World) : Type 0 where
+  pub last : World
+  pub legal : run m (b ∷ a ∷ map (renamed (length w.activities)) s) w ≡ Through last
+  pub alike : AreAlike (activities_swapped (length w.activities) last) z
+  pub rest : List (ℕ × Event)
+  pub this : events m (a ∷ b ∷ s) w ≡ (a, event.Spawned) ∷ (b, event.Spawned) ∷ rest
+  pub other : events m (b ∷ a ∷ map (renamed (length w.activities)) s) w
+      ≡ (b, event.Spawned) ∷ (a, event.Spawned) ∷ map (entry_renamed (length w.activities)) rest
+  pub prints : printed m (b ∷ a ∷ map (renamed (length w.activities)) s) w ≡ printed m (a ∷ b ∷ s) w
