@@ -1,5 +1,5 @@
 -- Two neighbours of a list that have changed places: what is found there, and what goes with it.
-use Rattle.std.proofs.Common.{◌≡◌, ℕ, zero, suc, ◌<◌, ◌==◌, Bool, true, false, cond, ◌||◌, List, [], ◌∷◌, ◌++◌, map, length, refl, ap, arith}
+use Rattle.std.proofs.Common.{◌≡◌, ℕ, zero, suc, ◌<◌, ◌==◌, Bool, true, false, cond, ◌||◌, List, [], ◌∷◌, ◌++◌, map, length, refl, ap, arith, Some}
 use Rattle.std.specs.Prelude.{slice_get}
 use Rattle.std.specs.List.{list_any}
 use Rattle.xk_types.specs.declared.world.Value.{Value}
@@ -49,6 +49,16 @@ push-swapped k [] y h = absurd (omega arith)
 push-swapped zero (x ∷ []) y h = absurd (omega arith)
 push-swapped zero (x ∷ z ∷ xs) y h = refl
 push-swapped (suc k) (x ∷ xs) y h = ap (λ zs. x ∷ zs) (push-swapped k xs y (omega arith))
+
+pub each-swapped : {X : Type 0} (P : X → Type 0) (k : ℕ) (xs : List X) → ((j : ℕ) (x : X) → slice_get xs j ≡ Some x → P x)
+    → (j : ℕ) (x : X) → slice_get (neighbours_swapped k xs) j ≡ Some x → P x
+each-swapped P k [] h j x at = h j x at
+each-swapped P zero (y ∷ []) h j x at = h j x at
+each-swapped P zero (y ∷ z ∷ xs) h zero x at = h 1 x at
+each-swapped P zero (y ∷ z ∷ xs) h (suc zero) x at = h 0 x at
+each-swapped P zero (y ∷ z ∷ xs) h (suc (suc j)) x at = h (suc (suc j)) x at
+each-swapped P (suc k) (y ∷ xs) h zero x at = h 0 x at
+each-swapped P (suc k) (y ∷ xs) h (suc j) x at = each-swapped P k xs (λ i z g. h (suc i) z g) j x at
 
 pub swapped-twice : {X : Type 0} (k : ℕ) (xs : List X) → neighbours_swapped k (neighbours_swapped k xs) ≡ xs
 swapped-twice k [] = refl

@@ -1,12 +1,12 @@
 -- Worlds in which two neighbours among the clocks have changed places: a clock's number is its name, and no more.
-use Rattle.std.specs.Prelude.{◌≡◌, ℕ, zero, suc, ◌<◌, List, [], ◌∷◌, length, map}
+use Rattle.std.specs.Prelude.{◌≡◌, ℕ, zero, suc, List, [], ◌∷◌, length, map}
 use Rattle.xk_types.specs.declared.world.Value.{Value}
 use Rattle.xk_types.specs.declared.world.Value.TheVariants as value
 use Rattle.xk_types.specs.declared.world.Event.{Event}
 use Rattle.xk_types.specs.Code.{ModuleValue}
 use Rattle.xk_types.specs.World.{Frame, Activity, World}
 use Rattle.xk_types.specs.Step.{Outcome, Blocked, Wrong, Stepped, step}
-use Rattle.xk_types.specs.Schedule.{Course, Through, Held, Wronged, run, events, printed, all_ended}
+use Rattle.xk_types.specs.Schedule.{Course, Through, Held, Wronged, run, events, printed}
 use Rattle.xk_squares.specs.PlainWorlds.{AreAlike}
 
 -- the list, the elements at places k and k + 1 exchanged
@@ -62,35 +62,3 @@ pub record GoesSwapped (m : ModuleValue) (w : World) (k : ℕ) (s : List ℕ) : 
 abbrev pub IsSquareOfMakes : ModuleValue → World → ℕ → ℕ → Type 0
 IsSquareOfMakes m w a b = (u v : World) (e f : Event) → step m w a ≡ Stepped u e → step m w b ≡ Stepped v f
     → (x : World) × (y : World) × (step m v a ≡ Stepped x e) × (step m u b ≡ Stepped y f) × AreAlike (clocks_swapped (length w.clocks) x) y
-
--- ---- worlds that are the same but for the names of clocks
-
--- one pair of neighbours after the other has changed places
-abbrev pub all_swapped : List ℕ → World → World
-all_swapped [] w = w
-all_swapped (k ∷ ks) w = all_swapped ks (clocks_swapped k w)
-
--- among so many clocks there are clocks k and k + 1, for each of these
-abbrev pub ArePairs : List ℕ → ℕ → Type 0
-ArePairs [] n = Unit {0}
-ArePairs (k ∷ ks) n = (suc k < n) × ArePairs ks n
-
--- Where some pairs have changed places, one world is like the other. (All orders come of exchanges of neighbours.)
-pub record AreSameButNames (w v : World) : Type 0 where
-  pub pairs : List ℕ
-  pub there : ArePairs pairs (length w.clocks)
-  pub alike : AreAlike (all_swapped pairs w) v
-
--- Where activities a and b can both take a step, each still can after the other's, with the same event, and both orders lead to worlds that are
--- the same but for names.
-abbrev pub IsSquareButNames : ModuleValue → World → ℕ → ℕ → Type 0
-IsSquareButNames m w a b = (u v : World) (e f : Event) → step m w a ≡ Stepped u e → step m w b ≡ Stepped v f
-    → (x : World) × (y : World) × (step m v a ≡ Stepped x e) × (step m u b ≡ Stepped y f) × AreSameButNames x y
-
--- Of worlds that are the same but for names the same activities can take a step, with the same event, to worlds that are so; in both or in
--- neither all have ended; and the shared numbers are the same.
-pub record SameWorldsGoAlike (m : ModuleValue) : Type 0 where
-  pub steps : (w v u : World) (a : ℕ) (e : Event) → AreSameButNames w v → step m w a ≡ Stepped u e
-      → (z : World) × (step m v a ≡ Stepped z e) × AreSameButNames u z
-  pub ends : (w v : World) → AreSameButNames w v → all_ended w ≡ all_ended v
-  pub cells : (w v : World) → AreSameButNames w v → w.cells ≡ v.cells

@@ -2,7 +2,7 @@
 use Rattle.xk_renaming.proofs.ClockNameStepLaw.{step_swapped}
 use Rattle.xk_renaming.proofs.ClockNameRunLaw.{goes_swapped}
 use Rattle.xk_renaming.proofs.ClockNameSquareLaw.{makes_swapped}
-use Rattle.xk_renaming.proofs.clock_names.Goals as goal
+use Rattle.xk_renaming.proofs.clocks.clock_names.Goals as goal
 
 pub returns-clause-steps : goal.returns-clause-steps
 returns-clause-steps c = step_swapped
