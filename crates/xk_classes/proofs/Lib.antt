@@ -2,9 +2,4 @@ pub mod StepEventLemmas
 pub mod SwapLemmas
 pub mod ClassLemmas
 pub mod ClassLaw
-pub mod EdgeLaw
-pub mod StartEdgeLaw
-pub mod FinishEdgeLaw
 pub mod OneRunLaw
-pub mod BeginningLaw
-pub mod Examples

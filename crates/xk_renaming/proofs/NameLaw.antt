@@ -91,6 +91,9 @@ same_clocks xs w v h = sym (clocks_all xs w) ∙ clocks_alike (all_exchanged xs 
 pub same_activities : (xs : List Exchange) (w v : World) → AreSameBy xs w v → length w.activities ≡ length v.activities
 same_activities xs w v h = sym (activities_all xs w) ∙ activities_alike (all_exchanged xs w) v h.alike
 
+pub same_itself : (w : World) → AreSameBy [] w w
+same_itself w = record { there = tt; alike = refl }
+
 pub same_joined : (xs ys : List Exchange) (w v u : World) → AreSameBy xs w v → AreSameBy ys v u → AreSameBy (xs ++ ys) w u
 same_joined xs ys w v u h g = record {
   there = pairs_append xs ys w h.there (pairs_more ys v w (omega (arith, same_clocks xs w v h)) (omega (arith, same_activities xs w v h)) g.there);
