@@ -23,6 +23,8 @@ use Rattle.xk_classes.specs.OneRun.{GoesAsWell, IsBegun, IsWholeRun, ComeToOne, 
 use Rattle.xk_classes.proofs.SwapLemmas.{run_first}
 use Rattle.xk_classes.proofs.ClassLemmas.{class_as_well, class_prints}
 use Rattle.xk_classes.proofs.ClassLaw.{every}
+use Rattle.xk_classes.proofs.EdgeLaw.{ordered_free}
+use Rattle.xk_classes.specs.Edges.{StepName, AreSound, AreOrdered}
 
 pub one_of : {X : Type 0} (P : X → Type 0) (xs : List X) (k : ℕ) (x : X) → slice_get xs k ≡ Some x → All P xs → P x
 one_of P xs k x h all = subst P (get_or_from_slice_get xs k x x h) (All-get_or P xs k x (slice_get_within xs k x h) all)
@@ -51,6 +53,9 @@ module _ (m : ModuleValue) (args : List ℤ) (limits : IsWithinLimits m) (ok : I
 
   pub begun : (s t : List ℕ) (z y : World) → IsWholeRun m args s z → HasNoRace m w s → run m t w ≡ Through y → IsBegun m w s t
   begun s t z y one free goes = every m limits ok t s w y z (opening_reached m args taken) one.legal one.ended free goes
+
+  pub ordered_run : (s : List ℕ) (z : World) (edges : List (StepName × StepName)) → IsWholeRun m args s z → AreSound m w s edges → AreOrdered m w s edges → HasNoRace m w s
+  ordered_run s z edges one sound ordered = ordered_free m limits ok w z (opening_reached m args taken) s one.legal one.ended edges sound ordered
 
   -- a whole run with which a schedule of a class begins is one of the class
   whole_member : (s t : List ℕ) (z y : World) → IsWholeRun m args s z → IsWholeRun m args t y → IsBegun m w s t → AreOneClass m w s t
