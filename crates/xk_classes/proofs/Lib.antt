@@ -5,3 +5,4 @@ pub mod ClassLaw
 pub mod EdgeLaw
 pub mod OneRunLaw
 pub mod StartEdgeLaw
+pub mod FinishEdgeLaw

@@ -6,7 +6,6 @@ use Rattle.xk_classes.specs.Edges.{prints}
 use Rattle.xk_classes.proofs.StepEventLemmas.{print_says}
 use Rattle.xk_classes.proofs.EdgeLaw.{never_two_ordered}
 use Rattle.xk_classes.proofs.OneRunLaw.{ordered_run, one_every, one_prints}
-use Rattle.xk_classes.proofs.StartEdgeLaw.{start_taken}
 use Rattle.xk_classes.proofs.ordered_run.Goals as goal
 
 pub returns-clause-no_race : goal.returns-clause-no_race
