@@ -1,6 +1,6 @@
 -- The class law. The first step of a schedule t is enabled at once; it comes in each schedule s by which all have ended, and until then it stays
 -- enabled, with the same event. So it is moved to the front of s, one place after the other, and what is left goes on so from behind it.
-use Rattle.std.proofs.Common.{◌≡◌, ℕ, ◌⊎◌, inl, inr, Bool, true, List, [], ◌∷◌, ◌++◌, map, refl, sym, ap, ◌∙◌}
+use Rattle.std.proofs.Common.{◌≡◌, ℕ, ◌⊎◌, inl, inr, true, List, [], ◌∷◌, ◌++◌, map, refl, sym, ap, ◌∙◌}
 use Rattle.xk_types.specs.declared.world.Event.{Event}
 use Rattle.xk_types.specs.Acceptance.{IsAccepted}
 use Rattle.xk_types.specs.Code.{ModuleValue, IsWithinLimits}
@@ -8,7 +8,6 @@ use Rattle.xk_types.specs.World.{World}
 use Rattle.xk_types.specs.Step.{Stepped, step}
 use Rattle.xk_types.specs.Schedule.{Through, run, IsReached, is_step, all_ended}
 use Rattle.xk_laws.proofs.ReachabilityLemmas.{same_through, first_step, reached_step}
-use Rattle.xk_squares.specs.Conflicts.{AreConflictFree}
 use Rattle.xk_squares.proofs.AwaitIndependenceLemmas.{same_or_not}
 use Rattle.xk_squares.proofs.ExplorationLaw.{nobody_steps}
 use Rattle.xk_renaming.specs.Names.{all_named, exchange_of}

@@ -1,8 +1,9 @@
 -- Classes: a step put in front, one class after another, and what all schedules of a class have in common.
-use Rattle.std.proofs.Common.{◌≡◌, ℕ, ℤ, ◌==◌, Bool, true, false, true≢false, cond, List, [], ◌∷◌, ◌++◌, map, Option, Some, None, option_map, refl, sym, ap, ◌∙◌, subst, eqb-true}
+use Rattle.std.proofs.Common.{◌≡◌, ℕ, ℤ, ◌==◌, Bool, true, false, true≢false, cond, List, [], ◌∷◌, ◌++◌, map, Option, Some, None, option_map, refl, sym, ap, ◌∙◌, subst, eqb-true, ◌<◌, length, arith}
 use Rattle.std.specs.Prelude.{filter, not}
 use Rattle.std.specs.List.{filter_map, cons_option}
 use Rattle.std.proofs.lemmas.List.Elements.{filter-append}
+use Rattle.std.proofs.lemmas.Option.{slice_get_within}
 use Rattle.xk_types.specs.declared.world.Event.{Event}
 use Rattle.xk_types.specs.declared.world.Event.TheVariants as event
 use Rattle.xk_types.specs.Acceptance.{IsAccepted}
@@ -10,12 +11,13 @@ use Rattle.xk_types.specs.Code.{ModuleValue, IsWithinLimits}
 use Rattle.xk_types.specs.World.{World}
 use Rattle.xk_types.specs.Step.{Stepped, step}
 use Rattle.xk_types.specs.Schedule.{Through, run, IsReached, is_local, events, number_printed, printed}
+use Rattle.xk_squares.proofs.ChangeSquareLemmas.{found_of}
 use Rattle.xk_renaming.specs.Names.{Exchange, all_named, AreSameBy, exchange_of}
 use Rattle.xk_renaming.proofs.NameLaw.{same_itself, same_joined, named_same, named_append}
 use Rattle.xk_classes.specs.Moments.{is_print, moments}
 use Rattle.xk_classes.specs.Classes.{DoCommute, AreSwapped, Turn, AreJoined, AreOneClass, names_along, name_in, IsMet, HasNeverTwo}
 use Rattle.xk_classes.specs.OneRun.{GoesAsWell}
-use Rattle.xk_classes.proofs.SwapLemmas.{Deed, Entry, deed_named, entry_named, entry_of, entries, event_in, events_filtered, run_first, IsExchange, exchange}
+use Rattle.xk_classes.proofs.SwapLemmas.{Deed, Entry, deed_named, entry_named, entry_of, entries, event_in, events_filtered, run_first, reached_run, stays_named, IsExchange, exchange}
 
 -- ---- one class after another
 
@@ -233,6 +235,25 @@ module _ (m : ModuleValue) (limits : IsWithinLimits m) (ok : IsAccepted m) (w : 
 
   pub class_goes : (s t : List ℕ) (z : World) (member : AreOneClass m w s t) → run m s w ≡ Through z → GoesOn m w z s t (names_along member.between)
   class_goes s t z member legal = joined_goes member.between s t z member.joined legal
+
+-- ---- main
+
+module _ (m : ModuleValue) (limits : IsWithinLimits m) (ok : IsAccepted m) (w : World) (reached : IsReached m w) where
+  main_joined : (us : List Turn) (s t : List ℕ) (z : World) → AreJoined m w s us t → run m s w ≡ Through z → all_named (names_along us) 0 ≡ 0
+  main_joined [] s t z h legal = refl
+  main_joined (x ∷ us) s t z h legal =
+      let k : AreSwapped m w s x.0 x.1 = h.0 in
+      let there : IsReached m k.here = reached_run m k.before w k.here reached k.leads in
+      let a = found_of m k.here k.first k.commute.first_world k.commute.first_event k.commute.first_steps in
+      let inside : k.first < length k.here.activities = slice_get_within k.here.activities k.first a.0 a.1 in
+      let r : GoesOn m w z s x.1 x.0 = swapped_goes m limits ok w reached s x.0 x.1 z k legal in
+      named_append x.0 (names_along us) 0
+      ∙ ap (all_named (names_along us)) (ap (λ ys. all_named ys 0) k.exchanges ∙ stays_named m limits ok k.here k.first k.second k.commute there 0 (omega arith))
+      ∙ main_joined us x.1 t r.last h.1 r.legal
+
+  -- main keeps its number
+  pub main_stays : (s t : List ℕ) (z : World) (member : AreOneClass m w s t) → run m s w ≡ Through z → name_in member 0 ≡ 0
+  main_stays s t z member legal = main_joined member.between s t z member.joined legal
 
 -- ---- by events alone
 

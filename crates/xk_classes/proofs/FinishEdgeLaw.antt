@@ -1,6 +1,6 @@
 -- What is under a finish comes before its end: in each schedule of a class all under it are there when it ends, by their numbers there, and have taken all
 -- their steps.
-use Rattle.std.proofs.Common.{◌≡◌, ℕ, ℤ, suc, zero, ◌+◌, ◌<◌, ◌≤◌, ◌==◌, ◌⊎◌, inl, inr, Bool, true, false, true≢false, cond, List, [], ◌∷◌, ◌++◌, map, length, set, Some, Option, option_map, refl, sym, ap, ◌∙◌, subst, append_assoc, length-set, eq-eqb, arith}
+use Rattle.std.proofs.Common.{◌≡◌, ℕ, ℤ, suc, zero, ◌+◌, ◌<◌, ◌≤◌, ◌==◌, ◌⊎◌, inl, inr, Bool, true, false, true≢false, cond, List, [], ◌∷◌, ◌++◌, length, set, Some, option_map, refl, sym, ap, ◌∙◌, subst, append_assoc, length-set, eq-eqb, arith}
 use Rattle.std.specs.Prelude.{slice_get}
 use Rattle.std.proofs.lemmas.Bool.{eqb-false, cases_lt}
 use Rattle.std.proofs.lemmas.List.{length-map}
@@ -25,7 +25,7 @@ use Rattle.xk_squares.proofs.ChangeSquareLemmas.{found_of}
 use Rattle.xk_squares.proofs.StartSquareLemmas.{alive_of}
 use Rattle.xk_squares.proofs.QuietStepLaw.{enabled_step}
 use Rattle.xk_renaming.specs.Names.{Exchange, all_named}
-use Rattle.xk_renaming.proofs.NamelessLemmas.{nameless_activity, state_of, governed_of, finish_named, governed_same}
+use Rattle.xk_renaming.proofs.NamelessLemmas.{nameless_activity, state_of, finish_named, governed_same}
 use Rattle.xk_renaming.proofs.StartEventLemmas.{at_advance}
 use Rattle.xk_classes.specs.Classes.{AreOneClass, names_along, name_in}
 use Rattle.xk_classes.specs.Edges.{StepName, turns_of, IsTaken, IsEdge, AreSound, IsUnderFinish, IsCause}
@@ -33,7 +33,7 @@ use Rattle.xk_classes.specs.OneRun.{GoesAsWell}
 use Rattle.xk_classes.proofs.StepEventLemmas.{is_start, not_start, grown, others_stay}
 use Rattle.xk_classes.proofs.SwapLemmas.{deed_named, run_first, reached_run}
 use Rattle.xk_classes.proofs.ClassLemmas.{deeds, same_deeds, class_as_well}
-use Rattle.xk_classes.proofs.EdgeLaw.{turns_on, turns_same, turns_other, WasTaken, was_taken, run_behind, turns_done, state_in, rest_of, stands}
+use Rattle.xk_classes.proofs.EdgeLaw.{turns_on, turns_same, turns_other, WasTaken, was_taken, run_behind, turns_done, state_in, stands}
 use Rattle.xk_classes.proofs.StartEdgeLaw.{child_in, start_deed, child_done, start_taken}
 
 -- ---- who stays as it is, and what governs it

@@ -6,3 +6,4 @@ pub mod EdgeLaw
 pub mod OneRunLaw
 pub mod StartEdgeLaw
 pub mod FinishEdgeLaw
+pub mod Examples

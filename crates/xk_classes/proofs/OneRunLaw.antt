@@ -21,7 +21,7 @@ use Rattle.xk_classes.specs.Moments.{is_print}
 use Rattle.xk_classes.specs.Classes.{AreOneClass, names_along, HasNoRace, HasNeverTwo}
 use Rattle.xk_classes.specs.OneRun.{GoesAsWell, IsBegun, IsWholeRun, ComeToOne, gets_or_puts, AddsInUnit, AddsAtMost}
 use Rattle.xk_classes.proofs.SwapLemmas.{run_first}
-use Rattle.xk_classes.proofs.ClassLemmas.{class_as_well, class_prints}
+use Rattle.xk_classes.proofs.ClassLemmas.{main_stays, class_as_well, class_prints}
 use Rattle.xk_classes.proofs.ClassLaw.{every}
 use Rattle.xk_classes.proofs.EdgeLaw.{ordered_free}
 use Rattle.xk_classes.specs.Edges.{StepName, AreSound, AreOrdered}
@@ -69,6 +69,7 @@ module _ (m : ModuleValue) (args : List ℤ) (limits : IsWithinLimits m) (ok : I
       let g : GoesAsWell m w s t member z = same s t z one.legal member in
       record {
         names = names_along member.between;
+        main = main_stays m limits ok w (opening_reached m args taken) s t z member one.legal;
         cells = same_cells (names_along member.between) z g.last g.alike ∙ ap (λ (x : World). x.cells) (same_through g.last y (sym g.legal ∙ other.legal));
         prints = λ a. ap (filter_map number_printed) (g.same a);
       }

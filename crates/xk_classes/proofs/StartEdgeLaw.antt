@@ -1,7 +1,7 @@
 -- The start of an activity comes before its first step: in each schedule of a class who takes that step starts, by their numbers there, the same
 -- activity with it; and who is there was started before.
-use Rattle.std.proofs.Common.{◌≡◌, ℕ, zero, suc, ◌+◌, ◌-◌, ◌<◌, ◌≤◌, ◌==◌, ◌⊎◌, inl, inr, Bool, true, false, true≢false, cond, List, [], ◌∷◌, ◌++◌, map, length, Option, Some, None, option_map, refl, sym, ap, ◌∙◌, subst, arith, eq-eqb}
-use Rattle.std.specs.Prelude.{filter, slice_get}
+use Rattle.std.proofs.Common.{◌≡◌, ℕ, zero, suc, ◌+◌, ◌-◌, ◌<◌, ◌≤◌, ◌==◌, ◌⊎◌, inl, inr, Bool, true, false, cond, List, [], ◌∷◌, ◌++◌, length, Option, Some, None, option_map, refl, sym, ap, ◌∙◌, arith, eq-eqb}
+use Rattle.std.specs.Prelude.{slice_get}
 use Rattle.std.proofs.lemmas.Bool.{cases_lt}
 use Rattle.std.proofs.lemmas.Option.{none-some, same_Some, slice_get_within}
 use Rattle.xk_types.specs.declared.world.Event.{Event}
@@ -11,7 +11,7 @@ use Rattle.xk_types.specs.Code.{ModuleValue, IsWithinLimits}
 use Rattle.xk_types.specs.World.{World}
 use Rattle.xk_types.specs.Step.{Stepped, step}
 use Rattle.xk_types.specs.Schedule.{Through, run, IsReached, is_enabled}
-use Rattle.xk_laws.proofs.ReachabilityLemmas.{same_through, first_step}
+use Rattle.xk_laws.proofs.ReachabilityLemmas.{first_step}
 use Rattle.xk_squares.proofs.ChangeSquareLemmas.{found_of}
 use Rattle.xk_squares.proofs.QuietStepLaw.{enabled_step}
 use Rattle.xk_renaming.specs.Names.{all_named}
@@ -20,7 +20,7 @@ use Rattle.xk_classes.specs.Classes.{AreOneClass, names_along, name_in}
 use Rattle.xk_classes.specs.Edges.{StepName, turns_of, IsTaken, IsStart}
 use Rattle.xk_classes.specs.OneRun.{GoesAsWell}
 use Rattle.xk_classes.proofs.StepEventLemmas.{is_start, grown, wider, run_wider}
-use Rattle.xk_classes.proofs.SwapLemmas.{Deed, deed_named, deed_of, child_of, get_map}
+use Rattle.xk_classes.proofs.SwapLemmas.{Deed, deed_named, deed_of, get_map}
 use Rattle.xk_classes.proofs.ClassLemmas.{deeds, same_deeds, class_as_well}
 use Rattle.xk_classes.proofs.EdgeLaw.{by_first, turns_done, done_on, get_front, get_back, at_turn, run_behind}
 

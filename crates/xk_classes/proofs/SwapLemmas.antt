@@ -227,13 +227,14 @@ module _ (m : ModuleValue) (limits : IsWithinLimits m) (ok : IsAccepted m) where
         by false true hx hy =
             let p = and_parts (starts_next m w a) (starts_next m w b) hy in
             inl (
-            ap is_start (event_started m limits ok w c.first_world a c.first_event reached c.first_steps p.0),
-            ap is_start (event_started m limits ok w c.second_world b c.second_event reached c.second_steps p.1),
-            refl)
+              ap is_start (event_started m limits ok w c.first_world a c.first_event reached c.first_steps p.0),
+              ap is_start (event_started m limits ok w c.second_world b c.second_event reached c.second_steps p.1),
+              refl,
+            )
         by false false hx hy = inr ((λ p q. none (starts_next m w a) (starts_next m w b) hy (says_first p) (says_second q)), (λ j. refl))
 
     -- who is there already keeps his number
-    stays_named : (j : ℕ) → j < length w.activities → all_named xs j ≡ j
+    pub stays_named : (j : ℕ) → j < length w.activities → all_named xs j ≡ j
     stays_named j h = by xs exchanges
       where
         by : (ys : List Exchange) → Exchanges ys → all_named ys j ≡ j

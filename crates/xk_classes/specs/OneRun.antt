@@ -28,9 +28,10 @@ pub record IsWholeRun (m : ModuleValue) (args : List ℤ) (s : List ℕ) (z : Wo
   pub ended : all_ended z ≡ true
 
 -- Two whole runs of a module with these arguments have the same shared numbers at the end, and each activity, by its number there, prints the
--- same in both. Numbers are exchanged between neighbours, so that no two become one.
+-- same in both. Numbers are exchanged between neighbours, so that no two become one, and main keeps its own.
 pub record ComeToOne (m : ModuleValue) (args : List ℤ) (s t : List ℕ) (y z : World) : Type 0 where
   pub names : List Exchange
+  pub main : all_named names 0 ≡ 0
   pub cells : y.cells ≡ z.cells
   pub prints : (a : ℕ) → printed_by m s (opening m args) a ≡ printed_by m t (opening m args) (all_named names a)
 
