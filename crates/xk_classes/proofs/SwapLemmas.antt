@@ -22,6 +22,7 @@ use Rattle.xk_renaming.specs.Names.{Exchange, OfClocks, OfActivities, all_named,
 use Rattle.xk_renaming.proofs.NameLaw.{same_activities, named_beyond, go_as_one, squares_but_names}
 use Rattle.xk_renaming.proofs.NamelessLemmas.{nameless_activity, state_of, state_same}
 use Rattle.xk_renaming.proofs.ActivityNameListLemmas.{renamed_below}
+use Rattle.xk_renaming.proofs.ClockNameListLemmas.{renamed_first, renamed_second}
 use Rattle.xk_renaming.proofs.ActivityNameRunLaw.{reached_full}
 use Rattle.xk_renaming.proofs.StartEventLemmas.{event_started, start_says}
 use Rattle.xk_classes.specs.Classes.{DoCommute}
@@ -136,15 +137,6 @@ reached_run m [] w v reached h = subst (IsReached m) (same_through w v h) reache
 reached_run m (d ∷ list) w v reached h =
     let x = first_step w v (step m w d) (run m list) h in
     reached_run m list x.0 v (reached_step m w x.0 d x.1 reached x.2) x.3
-
--- two that are exchanged
-renamed_first : (k : ℕ) → renamed k k ≡ suc k
-renamed_first zero = refl
-renamed_first (suc k) = ap suc (renamed_first k)
-
-renamed_second : (k : ℕ) → renamed k (suc k) ≡ k
-renamed_second zero = refl
-renamed_second (suc k) = ap suc (renamed_second k)
 
 -- ---- the first step of a run
 

@@ -5,7 +5,7 @@ use Rattle.xk_types.specs.World.{Activity, World, is_ended}
 use Rattle.xk_types.specs.Schedule.{all_ended}
 use Rattle.xk_squares.specs.PlainWorlds.{plain_activity, plain_clock, plain, AreAlike}
 use Rattle.xk_renaming.specs.ClockNames.{activity_renamed, clocks_swapped}
-use Rattle.xk_renaming.proofs.ClockNameListLemmas.{map-swapped}
+use Rattle.xk_renaming.proofs.ActivityNameListLemmas.{map-swapped}
 
 plain_renamed : (k : ℕ) (xs : List Activity) → map plain_activity (map (activity_renamed k) xs) ≡ map (activity_renamed k) (map plain_activity xs)
 plain_renamed k [] = refl

@@ -30,8 +30,10 @@ use Rattle.xk_squares.proofs.PlainStepLaw.{same_plain}
 use Rattle.xk_squares.proofs.ClockLemmas.{plainly, settled_standings, unready_still}
 use Rattle.xk_squares.proofs.ChangeSquareLemmas.{same_step, found_of}
 use Rattle.xk_squares.proofs.StartSquareLemmas.{made_world, maker, new_still}
-use Rattle.xk_renaming.specs.ClockNames.{neighbours_swapped, place_swapped, value_renamed, frame_renamed, activity_renamed, clocks_swapped, IsSquareOfMakes}
-use Rattle.xk_renaming.proofs.ClockNameListLemmas.{place-first, place-second, place-below}
+use Rattle.xk_renaming.specs.ClockNames.{value_renamed, frame_renamed, activity_renamed, clocks_swapped, IsSquareOfMakes}
+use Rattle.xk_renaming.specs.ActivityNames.{neighbours_swapped, renamed}
+use Rattle.xk_renaming.proofs.ClockNameListLemmas.{renamed_first, renamed_second}
+use Rattle.xk_renaming.proofs.ActivityNameListLemmas.{renamed_below}
 
 -- ---- names below the two that are exchanged stay
 
@@ -42,7 +44,7 @@ slots_stay k (v ∷ slots) h = λ i. by v (λ c e. h 0 c (ap Some e)) i ∷ slot
     by : (z : Value) → ((c : ℕ) → z ≡ value.Clock c → c < k) → value_renamed k z ≡ z
     by value.Unset g = refl
     by (value.Number n) g = refl
-    by (value.Clock c) g = ap value.Clock (place-below k c (g c refl))
+    by (value.Clock c) g = ap value.Clock (renamed_below k c (g c refl))
 
 frame_stays : (k : ℕ) (f : Frame) → ((s c : ℕ) → Names f.slots s c → c < k) → frame_renamed k f ≡ f
 frame_stays k f h = λ i. record f { slots = slots_stay k f.slots h i }
@@ -63,10 +65,10 @@ activities_stay m w sound a act at =
     λ i. record act { frame = frame i; callers = callers i }
 
 -- one that has made a clock
-maker_renamed : (k : ℕ) (y : Activity) (d c e : ℕ) → activity_renamed k y ≡ y → place_swapped k c ≡ e → activity_renamed k (maker y d c) ≡ maker y d e
+maker_renamed : (k : ℕ) (y : Activity) (d c e : ℕ) → activity_renamed k y ≡ y → renamed k c ≡ e → activity_renamed k (maker y d c) ≡ maker y d e
 maker_renamed k y d c e stays place =
     ap (λ slots. onward (with_slots (activity_renamed k y) slots)) (map-set (value_renamed k) y.frame.slots d (value.Clock c))
-    ∙ ap (λ (z : Activity). maker z d (place_swapped k c)) stays ∙ ap (maker y d) place
+    ∙ ap (λ (z : Activity). maker z d (renamed k c)) stays ∙ ap (maker y d) place
 
 -- ---- clocks
 
@@ -161,8 +163,8 @@ both_worlds m w sound a b differs x y at there d e =
     map-set (activity_renamed n) (set w.activities b y_first) a x_last
     ∙ ap (λ zs. set zs a (activity_renamed n x_last)) (map-set (activity_renamed n) w.activities b y_first
     ∙ ap (λ zs. set zs b (activity_renamed n y_first)) (all_stay n w.activities (activities_stay m w sound))
-    ∙ ap (set w.activities b) (maker_renamed n y e n (suc n) (activities_stay m w sound b y there) (place-first n)))
-    ∙ ap (set (set w.activities b y_last) a) (maker_renamed n x d (suc n) n (activities_stay m w sound a x at) (place-second n))
+    ∙ ap (set w.activities b) (maker_renamed n y e n (suc n) (activities_stay m w sound b y there) (renamed_first n)))
+    ∙ ap (set (set w.activities b y_last) a) (maker_renamed n x d (suc n) n (activities_stay m w sound a x at) (renamed_second n))
     ∙ set_other w.activities b a y_last x_first (λ h. differs (sym h)) in
     same_plain (clocks_swapped n (made_world (made_world w b y_first) a x_last)) (made_world (made_world w a x_first) b y_last) (ap (map plain_activity) activities)
     (ap (λ k. map plain_clock (neighbours_swapped n

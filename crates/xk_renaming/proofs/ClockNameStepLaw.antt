@@ -21,8 +21,10 @@ use Rattle.xk_types.specs.World.{Frame, Finish, Activity, Clock, World, standing
 use Rattle.xk_types.specs.Step.{Outcome, Blocked, Wrong, Stepped, ClockUse, OutOfRange, is_registered, is_signalled, settled, settled_clock, number_in, clock_in, registered_on, put_in, slot_at, arguments_in, computing, no_further, beginning, turning, again, moved, joined, is_given, new_clock, child, spawned, spawning, carried_out, run_at, done, made, waits, passing, past, passed, step_by, step_of, step, called, calling, back_in, returning, none, only, all, resumed, dropped, awaits, awaits_from, is_under, under_within, same_finish, innermost, onward, going, with_slots, entered, left, ended, arrived, closing, cell_in, stored}
 use Rattle.xk_types.proofs.ListLemmas.{fun_ext}
 use Rattle.xk_squares.proofs.ListLemmas.{map_push}
-use Rattle.xk_renaming.specs.ClockNames.{neighbours_swapped, place_swapped, value_renamed, frame_renamed, activity_renamed, clocks_swapped, outcome_swapped}
-use Rattle.xk_renaming.proofs.ClockNameListLemmas.{length-swapped, get-swapped, map-swapped, any-swapped, push-swapped, place-beyond, moved-swapped, joined-swapped, only-swapped, given-swapped}
+use Rattle.xk_renaming.specs.ClockNames.{value_renamed, frame_renamed, activity_renamed, clocks_swapped, outcome_swapped}
+use Rattle.xk_renaming.specs.ActivityNames.{neighbours_swapped, renamed}
+use Rattle.xk_renaming.proofs.ClockNameListLemmas.{renamed_beyond, moved-swapped, joined-swapped, only-swapped, given-swapped}
+use Rattle.xk_renaming.proofs.ActivityNameListLemmas.{length-swapped, get-swapped, map-swapped, any-swapped, append-swapped}
 
 -- ---- what is looked at
 
@@ -85,7 +87,7 @@ module _ (k a : ℕ) (w : World) (inside : suc k < length w.clocks) where
   v = clocks_swapped k w
 
   -- activity a becomes another, and its standings change
-  done_swapped : (next : Activity) (f g : ℕ → Standing → Standing) (e : Event) → ((c : ℕ) → g (place_swapped k c) ≡ f c)
+  done_swapped : (next : Activity) (f g : ℕ → Standing → Standing) (e : Event) → ((c : ℕ) → g (renamed k c) ≡ f c)
       → done v a (activity_renamed k next) g e ≡ outcome_swapped k (done w a next f e)
   done_swapped next f g e same =
       ends_swapped k (record w { activities = set w.activities a next; clocks = moved a f w.clocks })
@@ -102,7 +104,7 @@ module _ (k a : ℕ) (w : World) (inside : suc k < length w.clocks) where
       (neighbours_swapped k w.clocks ++ new_clock (length (map (activity_renamed k) w.activities)) a ∷ []) event.Made
       (sym (map-set (activity_renamed k) w.activities a next))
       (ap (λ n. neighbours_swapped k w.clocks ++ new_clock n a ∷ []) (length-map w.activities (activity_renamed k))
-      ∙ push-swapped k w.clocks (new_clock (length w.activities) a) inside)
+      ∙ sym (append-swapped k w.clocks (new_clock (length w.activities) a ∷ []) inside))
 
   module _ (m : ModuleValue) (act : Activity) where
     -- the activity there
@@ -146,7 +148,7 @@ module _ (k a : ℕ) (w : World) (inside : suc k < length w.clocks) where
         by true = h
         by false = refl
 
-    clock_swapped : (x : ℕ) (go later : ℕ → Outcome) → ((c : ℕ) → later (place_swapped k c) ≡ outcome_swapped k (go c))
+    clock_swapped : (x : ℕ) (go later : ℕ → Outcome) → ((c : ℕ) → later (renamed k c) ≡ outcome_swapped k (go c))
         → clock_in v a (slot_at other x) later ≡ outcome_swapped k (clock_in w a (slot_at act x) go)
     clock_swapped x go later h = ap (λ o. clock_in v a o later) (slice_get-map (value_renamed k) act.frame.slots x) ∙ by (slot_at act x)
       where
@@ -154,8 +156,8 @@ module _ (k a : ℕ) (w : World) (inside : suc k < length w.clocks) where
         by None = refl
         by (Some value.Unset) = refl
         by (Some (value.Number n)) = refl
-        by (Some (value.Clock c)) = ap (λ o. registered_on o a (later (place_swapped k c))) (get-swapped k w.clocks c inside)
-            ∙ registered_swapped (slice_get w.clocks c) (go c) (later (place_swapped k c)) (h c)
+        by (Some (value.Clock c)) = ap (λ o. registered_on o a (later (renamed k c))) (get-swapped k w.clocks c inside)
+            ∙ registered_swapped (slice_get w.clocks c) (go c) (later (renamed k c)) (h c)
 
     cell_swapped : (o : Option ℤ) (go later : ℤ → Outcome) → ((n : ℤ) → later n ≡ outcome_swapped k (go n)) → cell_in o later ≡ outcome_swapped k (cell_in o go)
     cell_swapped None go later h = refl
@@ -272,7 +274,7 @@ module _ (k a : ℕ) (w : World) (inside : suc k < length w.clocks) where
     using_swapped : (x : ℕ) (f : Standing → Standing) (e : Event)
         → clock_in v a (slot_at other x) (λ c. done v a (onward other) (only c f) e)
         ≡ outcome_swapped k (clock_in w a (slot_at act x) (λ c. done w a (onward act) (only c f) e))
-    using_swapped x f e = clock_swapped x _ _ (λ c. done_swapped (onward act) (only c f) (only (place_swapped k c) f) e (only-swapped k c f))
+    using_swapped x f e = clock_swapped x _ _ (λ c. done_swapped (onward act) (only c f) (only (renamed k c) f) e (only-swapped k c f))
 
     instruction_swapped : (i : Instr) → carried_out m v a other i ≡ outcome_swapped k (carried_out m w a act i)
     instruction_swapped (instr.Lit d n) = write_swapped d n event.Local
@@ -294,7 +296,7 @@ module _ (k a : ℕ) (w : World) (inside : suc k < length w.clocks) where
     instruction_swapped (instr.Print x) = number_swapped x _ _ (λ n. rests_swapped (onward act) (event.Printed n))
     instruction_swapped (instr.Make d) =
         ap (λ c. put_in (slot_at other d) other d (value.Clock c) (λ next. made v a next))
-        (length-swapped k w.clocks ∙ sym (place-beyond k (length w.clocks) inside))
+        (length-swapped k w.clocks ∙ sym (renamed_beyond k (length w.clocks) inside))
         ∙ put_swapped d (value.Clock (length w.clocks)) _ _ made_swapped
     instruction_swapped (instr.Resume x) = using_swapped x resumed event.Resumed
     instruction_swapped (instr.Drop x) = using_swapped x dropped event.Dropped

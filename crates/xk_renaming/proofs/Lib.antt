@@ -1,9 +1,3 @@
-pub mod ClockNameListLemmas
-pub mod ClockNameStepLaw
-pub mod ClockNameRunLaw
-pub mod ClockNameSquareLaw
-pub mod ClockNameExchangeLaw
-pub mod ClockNameExamples
 pub mod ActivityNameListLemmas
 pub mod ActivityNameWorldLemmas
 pub mod ActivityNameStepLaw
@@ -12,6 +6,12 @@ pub mod ActivityNameStartLaw
 pub mod ActivityNameExchangeLaw
 pub mod ActivityNameOrderLaw
 pub mod ActivityNameExamples
+pub mod ClockNameListLemmas
+pub mod ClockNameStepLaw
+pub mod ClockNameRunLaw
+pub mod ClockNameSquareLaw
+pub mod ClockNameExchangeLaw
+pub mod ClockNameExamples
 pub mod StartEventLemmas
 pub mod NameLaw
 pub mod NamelessLemmas

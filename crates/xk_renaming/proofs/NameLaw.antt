@@ -1,5 +1,5 @@
 -- Worlds that are the same but for names go on as one, and steps commute up to names.
-use Rattle.std.proofs.Common.{◌≡◌, ℕ, suc, ◌<◌, ◌≤◌, ◌==◌, ◌&&◌, Bool, true, false, true≢false, cond, List, [], ◌∷◌, ◌++◌, length, refl, sym, ap, ◌∙◌, subst, arith, zero}
+use Rattle.std.proofs.Common.{◌≡◌, ℕ, ◌≤◌, ◌==◌, ◌&&◌, Bool, true, false, true≢false, cond, List, [], ◌∷◌, ◌++◌, length, refl, sym, ap, ◌∙◌, subst, arith}
 use Rattle.std.proofs.lemmas.List.{length-map}
 use Rattle.std.proofs.lemmas.Bool.{and_parts}
 use Rattle.xk_types.specs.declared.world.Event.{Event}
@@ -17,12 +17,12 @@ use Rattle.xk_squares.proofs.SquareLaw.{all_squares}
 use Rattle.xk_renaming.specs.ClockNames.{activity_renamed, outcome_swapped}
 use Rattle.xk_renaming.specs.ActivityNames.{renamed, outcome_renamed, HasAllStandings}
 use Rattle.xk_renaming.specs.Names.{Exchange, OfClocks, OfActivities, exchanged, IsPair, named, all_exchanged, ArePairs, all_named, AreSameBy, GoAsOne, IsSquareButNames}
-use Rattle.xk_renaming.proofs.ClockNameListLemmas.{length-swapped, each-swapped}
+use Rattle.xk_renaming.proofs.ClockNameListLemmas.{each-swapped, renamed_beyond}
+use Rattle.xk_renaming.proofs.ActivityNameListLemmas.{length-swapped, renamed_twice, renamed_same}
 use Rattle.xk_renaming.proofs.ClockNameStepLaw.{step_swapped}
 use Rattle.xk_renaming.proofs.ClockNameRunLaw as clocks
 use Rattle.xk_renaming.proofs.ClockNameSquareLaw.{makes_after}
 use Rattle.xk_renaming.proofs.ClockNameExchangeLaw.{alike_swapped, ended_swapped}
-use Rattle.xk_renaming.proofs.ActivityNameListLemmas.{renamed_twice, renamed_same}
 use Rattle.xk_renaming.proofs.ActivityNameWorldLemmas.{length-acts}
 use Rattle.xk_renaming.proofs.ActivityNameStepLaw.{step-swapped}
 use Rattle.xk_renaming.proofs.ActivityNameRunLaw as activities
@@ -115,10 +115,6 @@ pub named_unnamed : (xs : List Exchange) (a : ℕ) → all_named xs (all_unnamed
 named_unnamed [] a = refl
 named_unnamed (x ∷ xs) a = ap (all_named xs) (named_twice x (all_unnamed xs a)) ∙ named_unnamed xs a
 
-pub unnamed_named : (xs : List Exchange) (a : ℕ) → all_unnamed xs (all_named xs a) ≡ a
-unnamed_named [] a = refl
-unnamed_named (x ∷ xs) a = ap (named x) (unnamed_named xs (named x a)) ∙ named_twice x a
-
 pub named_append : (xs ys : List Exchange) (a : ℕ) → all_named (xs ++ ys) a ≡ all_named ys (all_named xs a)
 named_append [] ys a = refl
 named_append (x ∷ xs) ys a = named_append xs ys (named x a)
@@ -130,13 +126,6 @@ named_same (OfClocks k ∷ xs) a b = named_same xs a b
 named_same (OfActivities k ∷ xs) a b = named_same xs (renamed k a) (renamed k b) ∙ renamed_same k a b
 
 -- a number past all of them stays
-renamed_beyond : (k a : ℕ) → suc k < a → renamed k a ≡ a
-renamed_beyond zero zero h = absurd (omega arith)
-renamed_beyond zero (suc zero) h = absurd (omega arith)
-renamed_beyond zero (suc (suc a)) h = refl
-renamed_beyond (suc k) zero h = refl
-renamed_beyond (suc k) (suc a) h = ap suc (renamed_beyond k a (omega arith))
-
 pub named_beyond : (xs : List Exchange) (w : World) (n : ℕ) → ArePairs xs w → length w.activities ≤ n → all_named xs n ≡ n
 named_beyond [] w n h g = refl
 named_beyond (OfClocks k ∷ xs) w n h g = named_beyond xs w n h.1 g

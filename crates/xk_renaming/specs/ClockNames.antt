@@ -1,5 +1,5 @@
 -- Worlds in which two neighbours among the clocks have changed places: a clock's number is its name, and no more.
-use Rattle.std.specs.Prelude.{◌≡◌, ℕ, zero, suc, List, [], ◌∷◌, length, map}
+use Rattle.std.specs.Prelude.{◌≡◌, ℕ, List, length, map}
 use Rattle.xk_types.specs.declared.world.Value.{Value}
 use Rattle.xk_types.specs.declared.world.Value.TheVariants as value
 use Rattle.xk_types.specs.declared.world.Event.{Event}
@@ -8,27 +8,13 @@ use Rattle.xk_types.specs.World.{Frame, Activity, World}
 use Rattle.xk_types.specs.Step.{Outcome, Blocked, Wrong, Stepped, step}
 use Rattle.xk_types.specs.Schedule.{Course, Through, Held, Wronged, run, events, printed}
 use Rattle.xk_squares.specs.PlainWorlds.{AreAlike}
-
--- the list, the elements at places k and k + 1 exchanged
-abbrev pub neighbours_swapped : {X : Type 0} → ℕ → List X → List X
-neighbours_swapped k [] = []
-neighbours_swapped zero (x ∷ []) = x ∷ []
-neighbours_swapped zero (x ∷ y ∷ xs) = y ∷ x ∷ xs
-neighbours_swapped (suc k) (x ∷ xs) = x ∷ neighbours_swapped k xs
-
--- where the element then is that was at place c: k goes to k + 1, and k + 1 to k
-abbrev pub place_swapped : ℕ → ℕ → ℕ
-place_swapped zero zero = 1
-place_swapped zero (suc zero) = 0
-place_swapped zero (suc (suc c)) = suc (suc c)
-place_swapped (suc k) zero = 0
-place_swapped (suc k) (suc c) = suc (place_swapped k c)
+use Rattle.xk_renaming.specs.ActivityNames.{neighbours_swapped, renamed}
 
 -- a value, a frame and an activity in which clocks k and k + 1 have each other's names
 abbrev pub value_renamed : ℕ → Value → Value
 value_renamed k value.Unset = value.Unset
 value_renamed k (value.Number n) = value.Number n
-value_renamed k (value.Clock c) = value.Clock (place_swapped k c)
+value_renamed k (value.Clock c) = value.Clock (renamed k c)
 
 abbrev pub frame_renamed : ℕ → Frame → Frame
 frame_renamed k f = record f { slots = map (value_renamed k) f.slots }

@@ -1,3 +1,3 @@
-pub mod ClockNames
 pub mod ActivityNames
+pub mod ClockNames
 pub mod Names
