@@ -95,15 +95,21 @@ only_event x = x.1.0
 abbrev pub deeds : ModuleValue → List ℕ → World → ℕ → List Deed
 deeds m list w a = map deed_in (filter (by_taker a) (entries m list w))
 
+-- entries by other numbers that pass
+abbrev named_entries : (Entry → Bool) → List Exchange → List Entry → List Entry
+named_entries test xs es = filter test (map (entry_named (all_named xs)) es)
+
 -- by other numbers the deeds are the same, but for the numbers of activities that are started; and so are events
 named_deeds : (xs : List Exchange) (a : ℕ) (es : List Entry)
-    → map deed_in (filter (by_taker (all_named xs a)) (map (entry_named (all_named xs)) es)) ≡ map (deed_named (all_named xs)) (map deed_in (filter (by_taker a) es))
+    → map deed_in (named_entries (by_taker (all_named xs a)) xs es) ≡ map (deed_named (all_named xs)) (map deed_in (filter (by_taker a) es))
 named_deeds xs a [] = refl
 named_deeds xs a (x ∷ es) = by (all_named xs x.0 == all_named xs a) (x.0 == a) (named_same xs x.0 a) (named_deeds xs a es)
   where
-    by : (p q : Bool) → p ≡ q
-        → map deed_in (filter (by_taker (all_named xs a)) (map (entry_named (all_named xs)) es)) ≡ map (deed_named (all_named xs)) (map deed_in (filter (by_taker a) es))
-        → map deed_in (cond p (entry_named (all_named xs) x ∷ filter (by_taker (all_named xs a)) (map (entry_named (all_named xs)) es)) (filter (by_taker (all_named xs a)) (map (entry_named (all_named xs)) es)))
+    named : List Entry
+    named = named_entries (by_taker (all_named xs a)) xs es
+
+    by : (p q : Bool) → p ≡ q → map deed_in named ≡ map (deed_named (all_named xs)) (map deed_in (filter (by_taker a) es))
+        → map deed_in (cond p (entry_named (all_named xs) x ∷ named) named)
         ≡ map (deed_named (all_named xs)) (map deed_in (cond q (x ∷ filter (by_taker a) es) (filter (by_taker a) es)))
     by true true e h = ap (λ ds. deed_named (all_named xs) x.1 ∷ ds) h
     by false false e h = h
@@ -111,13 +117,15 @@ named_deeds xs a (x ∷ es) = by (all_named xs x.0 == all_named xs a) (x.0 == a)
     by false true e h = absurd (true≢false (sym e))
 
 named_events : (test : Event → Bool) (xs : List Exchange) (es : List Entry)
-    → map only_event (filter (by_event test) (map (entry_named (all_named xs)) es)) ≡ map only_event (filter (by_event test) es)
+    → map only_event (named_entries (by_event test) xs es) ≡ map only_event (filter (by_event test) es)
 named_events test xs [] = refl
 named_events test xs (x ∷ es) = by (test x.1.0) (named_events test xs es)
   where
-    by : (q : Bool) → map only_event (filter (by_event test) (map (entry_named (all_named xs)) es)) ≡ map only_event (filter (by_event test) es)
-        → map only_event (cond q (entry_named (all_named xs) x ∷ filter (by_event test) (map (entry_named (all_named xs)) es)) (filter (by_event test) (map (entry_named (all_named xs)) es)))
-        ≡ map only_event (cond q (x ∷ filter (by_event test) es) (filter (by_event test) es))
+    named : List Entry
+    named = named_entries (by_event test) xs es
+
+    by : (q : Bool) → map only_event named ≡ map only_event (filter (by_event test) es)
+        → map only_event (cond q (entry_named (all_named xs) x ∷ named) named) ≡ map only_event (cond q (x ∷ filter (by_event test) es) (filter (by_event test) es))
     by true h = ap (λ ds. x.1.0 ∷ ds) h
     by false h = h
 
@@ -294,7 +302,8 @@ printed_are : (m : ModuleValue) (list : List ℕ) (w : World) → printed m list
 printed_are m list w =
     prints_alone (events m list w) ∙ ap numbers_of (events_filtered (λ x. is_print x.1) m list w) ∙ numbers_are (filter (by_event is_print) (entries m list w))
 
-module _ (m : ModuleValue) (limits : IsWithinLimits m) (ok : IsAccepted m) (w z : World) (reached : IsReached m w) (s t : List ℕ) (member : AreOneClass m w s t) (legal : run m s w ≡ Through z) where
+module _ (m : ModuleValue) (limits : IsWithinLimits m) (ok : IsAccepted m) (w z : World) (reached : IsReached m w)
+    (s t : List ℕ) (member : AreOneClass m w s t) (legal : run m s w ≡ Through z) where
   goes : GoesOn m w z s t (names_along member.between)
   goes = class_goes m limits ok w reached s t z member legal
 

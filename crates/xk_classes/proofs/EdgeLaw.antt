@@ -159,7 +159,8 @@ get_back (x ∷ xs) ys (suc n) k h = ap (slice_get (x ∷ (xs ++ ys))) (let e : 
 pub at_turn : (m : ModuleValue) (before after : List ℕ) (w v : World) (a : ℕ) → run m before w ≡ Through v
     → slice_get (deeds m (before ++ after) w a) (turns_of a before) ≡ slice_get (deeds m after v a) 0
 at_turn m before after w v a h =
-    ap (λ l. slice_get l (turns_of a before)) (done_on m before after w v a h) ∙ ap (slice_get (deeds m before w a ++ deeds m after v a)) (let e : turns_of a before ≡ turns_of a before + 0 = omega arith in e)
+    ap (λ l. slice_get l (turns_of a before)) (done_on m before after w v a h)
+    ∙ ap (slice_get (deeds m before w a ++ deeds m after v a)) (let e : turns_of a before ≡ turns_of a before + 0 = omega arith in e)
     ∙ get_back (deeds m before w a) (deeds m after v a) (turns_of a before) 0 (turns_done m before w v a h)
 
 -- where all have ended, one has
@@ -224,13 +225,15 @@ module _ (m : ModuleValue) (w : World) (s : List ℕ) (edges : List (StepName ×
       subst (λ l. IsTaken l (name_in member x.0, x.1)) (sym r.whole) (taken_on r.front (name_in member y.0 ∷ r.back) (name_in member x.0, x.1) first)
 
   -- a way to a step that could be taken
-  way_taken : (zs : List StepName) (x y : StepName) → IsWay edges x zs y → (before after : List ℕ) (v : World) (member : AreOneClass m w s (before ++ after)) → run m before w ≡ Through v
+  way_taken : (zs : List StepName) (x y : StepName) → IsWay edges x zs y → (before after : List ℕ) (v : World)
+      → (member : AreOneClass m w s (before ++ after)) → run m before w ≡ Through v
       → turns_of (name_in member y.0) before ≡ y.1 → is_enabled m v (name_in member y.0) ≡ true → IsTaken before (name_in member x.0, x.1)
   way_taken [] x y way before after v member leads turn enabled = link_taken x y way before after v member leads turn enabled
   way_taken (z ∷ zs) x y way before after v member leads turn enabled =
       link_back x z way.0 before after v member leads (way_taken zs z y way.1 before after v member leads turn enabled)
 
-module _ (m : ModuleValue) (limits : IsWithinLimits m) (ok : IsAccepted m) (w z : World) (reached : IsReached m w) (s : List ℕ) (legal : run m s w ≡ Through z) (ended : all_ended z ≡ true) where
+module _ (m : ModuleValue) (limits : IsWithinLimits m) (ok : IsAccepted m) (w z : World) (reached : IsReached m w)
+    (s : List ℕ) (legal : run m s w ≡ Through z) (ended : all_ended z ≡ true) where
   module _ (before after : List ℕ) (v : World) (member : AreOneClass m w s (before ++ after)) (leads : run m before w ≡ Through v) where
     -- the rest of that schedule
     pub rest_of : (g : GoesAsWell m w s (before ++ after) member z) → run m after v ≡ Through g.last
@@ -245,7 +248,8 @@ module _ (m : ModuleValue) (limits : IsWithinLimits m) (ok : IsAccepted m) (w z 
         let over : all_ended g.last ≡ true = sym (same_ends m (names_along member.between) z g.last g.alike) ∙ ended in
         let u = enabled_step (step m v b) enabled in
         let x = found_of m v b u.0 u.1 u.2 in
-        sym (named (slice_get (deeds m s w a) (turns_of b before))) ∙ sym (ap state_in (get_map (deed_named (all_named (names_along member.between))) (deeds m s w a) (turns_of b before)))
+        sym (named (slice_get (deeds m s w a) (turns_of b before)))
+        ∙ sym (ap state_in (get_map (deed_named (all_named (names_along member.between))) (deeds m s w a) (turns_of b before)))
         ∙ ap (λ l. state_in (slice_get l (turns_of b before))) (sym (same_deeds m limits ok w z reached s (before ++ after) member legal a))
         ∙ ap state_in (at_turn m before after w v b leads) ∙ stands_next m after v g.last b x.0 x.1 (alive_of m v b x.0 u.0 u.1 x.1 u.2) (rest_of g) over
       where
@@ -308,7 +312,8 @@ module _ (m : ModuleValue) (limits : IsWithinLimits m) (ok : IsAccepted m) (w z 
       let p : name_in met.member (all_unnamed xs a) ≡ a = named_unnamed xs a in
       let q : name_in met.member (all_unnamed xs b) ≡ b = named_unnamed xs b in
       subst (λ d. AreConflictFree m v d b) p (subst (λ d. AreConflictFree m v (name_in met.member (all_unnamed xs a)) d) q
-      (free_named edges sound ordered v met (all_unnamed xs a) (all_unnamed xs b) (λ e. differs (sym q ∙ ap (all_named xs) e ∙ p)) (ap (is_enabled m v) p ∙ first) (ap (is_enabled m v) q ∙ second)))
+      (free_named edges sound ordered v met (all_unnamed xs a) (all_unnamed xs b) (λ e. differs (sym q ∙ ap (all_named xs) e ∙ p))
+      (ap (is_enabled m v) p ∙ first) (ap (is_enabled m v) q ∙ second)))
 
   -- nor could two both be taken that are one by one
   pub never_two_ordered : (test : Event → Bool) (kind : Instr → Bool)

@@ -145,7 +145,8 @@ late_along : (conflicts_along late 4 a_first (fresh late) ≡ false) × (conflic
 late_along = (refl, refl)
 
 -- in both all end; what c prints is another number
-late_prints : (all_ended (last late a_first) ≡ true) × (all_ended (last late c_first) ≡ true) × (printed_by late a_first (fresh late) 3 ≡ pos 5 ∷ []) × (printed_by late c_first (fresh late) 3 ≡ pos 0 ∷ [])
+late_prints : (all_ended (last late a_first) ≡ true) × (all_ended (last late c_first) ≡ true)
+    × (printed_by late a_first (fresh late) 3 ≡ pos 5 ∷ []) × (printed_by late c_first (fresh late) 3 ≡ pos 0 ∷ [])
 late_prints = (refl, refl, refl, refl)
 
 -- ---- what main starts under a finish puts a number, which main gets behind it

@@ -140,7 +140,8 @@ record StartsAt (m : ModuleValue) (list : List ℕ) (w : World) (c : ℕ) : Type
 
 starts_at : (m : ModuleValue) (list : List ℕ) (w v : World) (c : ℕ) → run m list w ≡ Through v → length w.activities ≤ c → c < length v.activities → StartsAt m list w c
 starts_at m [] w v c legal above below = let e = ap (λ (z : World). length z.activities) (same_through w v legal) in absurd (omega arith)
-starts_at m (d ∷ list) w v c legal above below = by (is_start x.1) refl (grown m w x.0 d x.1 x.2) (cases_lt c (length x.0.activities)) (λ wide. starts_at m list x.0 v c x.3 wide below)
+starts_at m (d ∷ list) w v c legal above below =
+    by (is_start x.1) refl (grown m w x.0 d x.1 x.2) (cases_lt c (length x.0.activities)) (λ wide. starts_at m list x.0 v c x.3 wide below)
   where
     x : (u : World) × (e : Event) × (step m w d ≡ Stepped u e) × (run m list u ≡ Through v)
     x = first_step w v (step m w d) (run m list) legal
@@ -180,7 +181,8 @@ starts_at m (d ∷ list) w v c legal above below = by (is_start x.1) refl (grown
 -- ---- a finish that could be closed
 
 -- where it could be, nobody is awaited
-closing_free : (m : ModuleValue) (limits : IsWithinLimits m) (ok : IsAccepted m) (v : World) (b : ℕ) (act : Activity) (first : ℕ) → IsReached m v → slice_get v.activities b ≡ Some act
+closing_free : (m : ModuleValue) (limits : IsWithinLimits m) (ok : IsAccepted m) (v : World) (b : ℕ) (act : Activity) (first : ℕ)
+    → IsReached m v → slice_get v.activities b ≡ Some act
     → instruction_at m act.frame ≡ Some (instr.EndFinish first) → is_enabled m v b ≡ true → awaits v.activities (innermost b act) ≡ false
 closing_free m limits ok v b act first reached at here enabled = by_status act.status refl (sym (ap is_step (ap (step_of m v b) at)) ∙ enabled)
   where
@@ -296,7 +298,8 @@ module _ (m : ModuleValue) (args : List ℤ) (limits : IsWithinLimits m) (ok : I
     under_there (suc n) c less inside p at under =
         by (get_inside v.activities (named c) inside) (under_cases f.here.activities owned_here finish c p at under) (under_there n)
       where
-        by : (q : Activity) × (slice_get v.activities (named c) ≡ Some q) → (p.governed ≡ finish) ⊎ ((o : ℕ) × (p.governed.owner ≡ Some o) × (is_under f.here.activities finish o ≡ true))
+        by : (q : Activity) × (slice_get v.activities (named c) ≡ Some q)
+            → (p.governed ≡ finish) ⊎ ((o : ℕ) × (p.governed.owner ≡ Some o) × (is_under f.here.activities finish o ≡ true))
             → ((o : ℕ) → o < n → named o < length v.activities → (p : Activity) → slice_get f.here.activities o ≡ Some p → is_under f.here.activities finish o ≡ true
             → is_under v.activities other (named o) ≡ true)
             → is_under v.activities other (named c) ≡ true

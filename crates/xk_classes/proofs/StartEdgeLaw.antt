@@ -32,7 +32,8 @@ child_in (Some d) = d.2
 -- ---- who is started when
 
 -- what is started from here on isn't there yet
-late_child : (m : ModuleValue) (list : List ℕ) (v z : World) (a j c : ℕ) → run m list v ≡ Through z → child_in (slice_get (deeds m list v a) j) ≡ Some c → length v.activities ≤ c
+late_child : (m : ModuleValue) (list : List ℕ) (v z : World) (a j c : ℕ) → run m list v ≡ Through z
+    → child_in (slice_get (deeds m list v a) j) ≡ Some c → length v.activities ≤ c
 late_child m [] v z a j c h is = absurd (none-some c is)
 late_child m (d ∷ list) v z a j c h is =
     let x = first_step v z (step m v d) (run m list) h in
@@ -51,7 +52,8 @@ late_child m (d ∷ list) v z a j c h is =
     by u e wide false r j g later = let n = later j g in omega arith
 
 -- what was started before is there
-early_child : (m : ModuleValue) (list : List ℕ) (v z : World) (a j c : ℕ) → run m list v ≡ Through z → child_in (slice_get (deeds m list v a) j) ≡ Some c → c < length z.activities
+early_child : (m : ModuleValue) (list : List ℕ) (v z : World) (a j c : ℕ) → run m list v ≡ Through z
+    → child_in (slice_get (deeds m list v a) j) ≡ Some c → c < length z.activities
 early_child m [] v z a j c h is = absurd (none-some c is)
 early_child m (d ∷ list) v z a j c h is =
     let x = first_step v z (step m v d) (run m list) h in
@@ -72,7 +74,8 @@ early_child m (d ∷ list) v z a j c h is =
 -- ---- in a schedule of the class
 
 -- a start is a deed with this child
-pub start_deed : (m : ModuleValue) (before after : List ℕ) (w here there : World) (a : ℕ) (e : Event) → run m before w ≡ Through here → step m here a ≡ Stepped there e → is_start e ≡ true
+pub start_deed : (m : ModuleValue) (before after : List ℕ) (w here there : World) (a : ℕ) (e : Event) → run m before w ≡ Through here
+    → step m here a ≡ Stepped there e → is_start e ≡ true
     → child_in (slice_get (deeds m (before ++ a ∷ after) w a) (turns_of a before)) ≡ Some (length here.activities)
 start_deed m before after w here there a e leads takes starts =
     ap child_in (at_turn m before (a ∷ after) w here a leads) ∙ ap (λ l. child_in (slice_get l 0)) (by_first m after here there a e a takes)
@@ -97,7 +100,8 @@ module _ (m : ModuleValue) (limits : IsWithinLimits m) (ok : IsAccepted m) (w z 
   child_done a k c is less =
       early_child m before w v (name_in member a) k (name_in member c) leads
       (sym (ap (λ l. child_in (slice_get l k)) (done_on m before after w v (name_in member a) leads)
-      ∙ ap child_in (get_front (deeds m before w (name_in member a)) (deeds m after v (name_in member a)) k (let n = turns_done m before w v (name_in member a) leads in omega arith)))
+      ∙ ap child_in (get_front (deeds m before w (name_in member a)) (deeds m after v (name_in member a)) k
+      (let n = turns_done m before w v (name_in member a) leads in omega arith)))
       ∙ child_there a k c is)
 
   -- and if the child is there, that deed is done

@@ -328,7 +328,8 @@ module _ (m : ModuleValue) (limits : IsWithinLimits m) (ok : IsAccepted m) where
       }
 
   -- an entry of before stays
-  entry_stays : (w u here : World) (d : ℕ) (e : Event) (a b : ℕ) (c : DoCommute m here a b) → IsReached m here → step m w d ≡ Stepped u e → length u.activities ≤ length here.activities
+  entry_stays : (w u here : World) (d : ℕ) (e : Event) (a b : ℕ) (c : DoCommute m here a b) → IsReached m here
+      → step m w d ≡ Stepped u e → length u.activities ≤ length here.activities
       → entry_of w d e ≡ entry_named (all_named (exchange_of m here a b)) (entry_of w d e)
   entry_stays w u here d e a b c reached takes wide =
       let x = found_of m w d u e takes in
