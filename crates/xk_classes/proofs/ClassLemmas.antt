@@ -13,11 +13,12 @@ use Rattle.xk_types.specs.Step.{Stepped, step}
 use Rattle.xk_types.specs.Schedule.{Through, run, IsReached, is_local, events, number_printed, printed}
 use Rattle.xk_squares.proofs.ChangeSquareLemmas.{found_of}
 use Rattle.xk_renaming.specs.Names.{Exchange, all_named, AreSameBy, exchange_of}
-use Rattle.xk_renaming.proofs.NameLaw.{same_itself, same_joined, named_same, named_append}
+use Rattle.xk_renaming.proofs.NameLaw.{same_itself, same_joined, named_same, named_append, clocks_unnamed, clock_append}
 use Rattle.xk_classes.specs.Moments.{is_print, moments}
 use Rattle.xk_classes.specs.Classes.{DoCommute, AreSwapped, Turn, AreJoined, AreOneClass, names_along, name_in, IsMet, HasNeverTwo}
 use Rattle.xk_classes.specs.OneRun.{GoesAsWell}
-use Rattle.xk_classes.proofs.SwapLemmas.{Deed, Entry, deed_named, entry_named, entry_of, entries, event_in, events_filtered, run_first, reached_run, stays_named, IsExchange, exchange}
+use Rattle.xk_classes.proofs.SwapLemmas.{Deed, Entry, deed_named, entry_named, entry_of, entries, event_in, events_filtered, run_first, reached_run, IsExchange, exchange}
+use Rattle.xk_classes.proofs.ExchangeLemmas.{stays_named}
 
 -- ---- one class after another
 
@@ -97,21 +98,21 @@ deeds m list w a = map deed_in (filter (by_taker a) (entries m list w))
 
 -- entries by other numbers that pass
 abbrev named_entries : (Entry → Bool) → List Exchange → List Entry → List Entry
-named_entries test xs es = filter test (map (entry_named (all_named xs)) es)
+named_entries test xs es = filter test (map (entry_named xs) es)
 
 -- by other numbers the deeds are the same, but for the numbers of activities that are started; and so are events
 named_deeds : (xs : List Exchange) (a : ℕ) (es : List Entry)
-    → map deed_in (named_entries (by_taker (all_named xs a)) xs es) ≡ map (deed_named (all_named xs)) (map deed_in (filter (by_taker a) es))
+    → map deed_in (named_entries (by_taker (all_named xs a)) xs es) ≡ map (deed_named xs) (map deed_in (filter (by_taker a) es))
 named_deeds xs a [] = refl
 named_deeds xs a (x ∷ es) = by (all_named xs x.0 == all_named xs a) (x.0 == a) (named_same xs x.0 a) (named_deeds xs a es)
   where
     named : List Entry
     named = named_entries (by_taker (all_named xs a)) xs es
 
-    by : (p q : Bool) → p ≡ q → map deed_in named ≡ map (deed_named (all_named xs)) (map deed_in (filter (by_taker a) es))
-        → map deed_in (cond p (entry_named (all_named xs) x ∷ named) named)
-        ≡ map (deed_named (all_named xs)) (map deed_in (cond q (x ∷ filter (by_taker a) es) (filter (by_taker a) es)))
-    by true true e h = ap (λ ds. deed_named (all_named xs) x.1 ∷ ds) h
+    by : (p q : Bool) → p ≡ q → map deed_in named ≡ map (deed_named xs) (map deed_in (filter (by_taker a) es))
+        → map deed_in (cond p (entry_named xs x ∷ named) named)
+        ≡ map (deed_named xs) (map deed_in (cond q (x ∷ filter (by_taker a) es) (filter (by_taker a) es)))
+    by true true e h = ap (λ ds. deed_named xs x.1 ∷ ds) h
     by false false e h = h
     by true false e h = absurd (true≢false e)
     by false true e h = absurd (true≢false (sym e))
@@ -125,7 +126,7 @@ named_events test xs (x ∷ es) = by (test x.1.0) (named_events test xs es)
     named = named_entries (by_event test) xs es
 
     by : (q : Bool) → map only_event named ≡ map only_event (filter (by_event test) es)
-        → map only_event (cond q (entry_named (all_named xs) x ∷ named) named) ≡ map only_event (cond q (x ∷ filter (by_event test) es) (filter (by_event test) es))
+        → map only_event (cond q (entry_named xs x ∷ named) named) ≡ map only_event (cond q (x ∷ filter (by_event test) es) (filter (by_event test) es))
     by true h = ap (λ ds. x.1.0 ∷ ds) h
     by false h = h
 
@@ -134,11 +135,13 @@ child_on : (xs ys : List Exchange) (o : Option ℕ) → option_map (all_named ys
 child_on xs ys None = refl
 child_on xs ys (Some n) = ap (λ k. Some k) (sym (named_append xs ys n))
 
-deeds_on : (xs ys : List Exchange) (ds : List Deed) → map (deed_named (all_named ys)) (map (deed_named (all_named xs)) ds) ≡ map (deed_named (all_named (xs ++ ys))) ds
+deeds_on : (xs ys : List Exchange) (ds : List Deed) → map (deed_named ys) (map (deed_named xs) ds) ≡ map (deed_named (xs ++ ys)) ds
 deeds_on xs ys [] = refl
-deeds_on xs ys (d ∷ ds) = λ i. (d.0, d.1, child_on xs ys d.2 i) ∷ deeds_on xs ys ds i
+deeds_on xs ys (d ∷ ds) =
+    let stage : (k : ℕ) → d.1.1 (clocks_unnamed xs (clocks_unnamed ys k)) ≡ d.1.1 (clocks_unnamed (xs ++ ys) k) = λ k. ap d.1.1 (sym (clock_append xs ys k)) in
+    λ i. (d.0, (d.1.0, λ k. stage k i), child_on xs ys d.2 i) ∷ deeds_on xs ys ds i
 
-deeds_same : (ds : List Deed) → map (deed_named (all_named [])) ds ≡ ds
+deeds_same : (ds : List Deed) → map (deed_named []) ds ≡ ds
 deeds_same [] = refl
 deeds_same (d ∷ ds) = λ i. (d.0, d.1, by d.2 i) ∷ deeds_same ds i
   where
@@ -167,7 +170,7 @@ pub record GoesOn (m : ModuleValue) (w z : World) (s t : List ℕ) (xs : List Ex
   pub last : World
   pub legal : run m t w ≡ Through last
   pub alike : AreSameBy xs z last
-  pub does : (a : ℕ) → deeds m t w (all_named xs a) ≡ map (deed_named (all_named xs)) (deeds m s w a)
+  pub does : (a : ℕ) → deeds m t w (all_named xs a) ≡ map (deed_named xs) (deeds m s w a)
   pub tells : (test : Event → Bool) → HasNeverTwo test m w s
       → map only_event (filter (by_event test) (entries m s w)) ≡ map only_event (filter (by_event test) (entries m t w))
 
@@ -181,8 +184,8 @@ module _ (m : ModuleValue) (limits : IsWithinLimits m) (ok : IsAccepted m) (w : 
     does = λ a.
         ap (λ l. deeds m l w (f a)) other ∙ ap (λ es. map deed_in (filter (by_taker (f a)) es)) r.other
         ∙ named_deeds names a (r.front ++ y ∷ x ∷ r.back)
-        ∙ ap (λ es. map (deed_named f) (map deed_in es)) (crossed (by_taker a) r.front r.back y x (λ h g. c.differ (eqb-true k.second a h ∙ sym (eqb-true k.first a g))))
-        ∙ sym (ap (λ l. map (deed_named f) (deeds m l w a)) k.this ∙ ap (λ es. map (deed_named f) (map deed_in (filter (by_taker a) es))) r.this);
+        ∙ ap (λ es. map (deed_named names) (map deed_in es)) (crossed (by_taker a) r.front r.back y x (λ h g. c.differ (eqb-true k.second a h ∙ sym (eqb-true k.first a g))))
+        ∙ sym (ap (λ l. map (deed_named names) (deeds m l w a)) k.this ∙ ap (λ es. map (deed_named names) (map deed_in (filter (by_taker a) es))) r.this);
     tells = λ test never.
         ap (λ l. map only_event (filter (by_event test) (entries m l w))) k.this ∙ ap (λ es. map only_event (filter (by_event test) es)) r.this
         ∙ ap (map only_event) (crossed (by_event test) r.front r.back x y
@@ -237,7 +240,7 @@ module _ (m : ModuleValue) (limits : IsWithinLimits m) (ok : IsAccepted m) (w : 
         alike = same_joined x.0 (names_along us) z r.last rest.last r.alike rest.alike;
         does = λ a.
             ap (deeds m t w) (named_append x.0 (names_along us) a) ∙ rest.does (all_named x.0 a)
-            ∙ ap (map (deed_named (all_named (names_along us)))) (r.does a) ∙ deeds_on x.0 (names_along us) (deeds m s w a);
+            ∙ ap (map (deed_named (names_along us))) (r.does a) ∙ deeds_on x.0 (names_along us) (deeds m s w a);
         tells = λ test never. r.tells test never ∙ rest.tells test (λ v g. never v (met_by m w v s x.1 (class_swap m w s x.0 x.1 h.0) g));
       }
 
@@ -272,9 +275,9 @@ moments_are m list w a = ap (map (λ (p : ℕ × Event). p.1)) (events_filtered 
     by [] = refl
     by (x ∷ es) = ap (λ l. x.1.0 ∷ l) (by es)
 
-events_named : (f : ℕ → ℕ) (ds : List Deed) → map (λ (d : Deed). d.0) (map (deed_named f) ds) ≡ map (λ (d : Deed). d.0) ds
-events_named f [] = refl
-events_named f (d ∷ ds) = ap (λ l. d.0 ∷ l) (events_named f ds)
+events_named : (xs : List Exchange) (ds : List Deed) → map (λ (d : Deed). d.0) (map (deed_named xs) ds) ≡ map (λ (d : Deed). d.0) ds
+events_named xs [] = refl
+events_named xs (d ∷ ds) = ap (λ l. d.0 ∷ l) (events_named xs ds)
 
 abbrev seen_of : List (ℕ × Event) → List (ℕ × Event)
 seen_of es = filter (λ x. not (is_local x.1)) es
@@ -308,7 +311,7 @@ module _ (m : ModuleValue) (limits : IsWithinLimits m) (ok : IsAccepted m) (w z 
   goes = class_goes m limits ok w reached s t z member legal
 
   -- what each activity does
-  pub same_deeds : (a : ℕ) → deeds m t w (name_in member a) ≡ map (deed_named (all_named (names_along member.between))) (deeds m s w a)
+  pub same_deeds : (a : ℕ) → deeds m t w (name_in member a) ≡ map (deed_named (names_along member.between)) (deeds m s w a)
   same_deeds a = goes.does a
 
   pub class_as_well : GoesAsWell m w s t member z
@@ -317,7 +320,7 @@ module _ (m : ModuleValue) (limits : IsWithinLimits m) (ok : IsAccepted m) (w z 
     legal = goes.legal;
     alike = goes.alike;
     same = λ a.
-        moments_are m s w a ∙ sym (events_named (all_named (names_along member.between)) (deeds m s w a))
+        moments_are m s w a ∙ sym (events_named (names_along member.between) (deeds m s w a))
         ∙ ap (map (λ (d : Deed). d.0)) (sym (goes.does a)) ∙ sym (moments_are m t w (name_in member a));
   }
 

@@ -13,19 +13,18 @@ use Rattle.xk_types.specs.Code.{ModuleValue, IsWithinLimits}
 use Rattle.xk_types.specs.World.{Activity, World, is_ended}
 use Rattle.xk_types.specs.Step.{Stepped, step}
 use Rattle.xk_types.specs.Schedule.{Through, run, IsReached, is_step, is_enabled, all_ended}
-use Rattle.xk_laws.proofs.ReachabilityLemmas.{same_through, first_step}
+use Rattle.xk_laws.proofs.ReachabilityLemmas.{same_through, first_step, reached_step}
 use Rattle.xk_squares.specs.Conflicts.{next_instruction, AreConflictFree}
 use Rattle.xk_squares.proofs.ChangeSquareLemmas.{found_of}
 use Rattle.xk_squares.proofs.StartSquareLemmas.{alive_of}
 use Rattle.xk_squares.proofs.QuietStepLaw.{enabled_step}
 use Rattle.xk_renaming.specs.Names.{Exchange, all_named}
 use Rattle.xk_renaming.proofs.NameLaw.{same_ends, all_unnamed, named_unnamed}
-use Rattle.xk_renaming.proofs.NamelessLemmas.{nameless_activity, state_of}
 use Rattle.xk_classes.specs.Classes.{AreJoined, AreOneClass, names_along, name_in, IsMet, HasNoRace, HasNeverTwo}
 use Rattle.xk_classes.specs.Edges.{StepName, turns_of, IsTaken, carried_by, instruction_of, AreApart, IsLink, IsWay, IsBefore, AreSound, AreOrdered, AreOneByOne}
 use Rattle.xk_classes.specs.OneRun.{GoesAsWell}
 use Rattle.xk_classes.proofs.StepEventLemmas.{others_stay}
-use Rattle.xk_classes.proofs.SwapLemmas.{Deed, Entry, deed_named, deed_of, entries, entries_first, instruction_by, instruction_in, carried_filtered, get_map, next_by_state, run_first}
+use Rattle.xk_classes.proofs.SwapLemmas.{State, stand_of, stand_named, state_stays, reached_run, Deed, Entry, deed_named, deed_of, entries, entries_first, instruction_by, instruction_in, carried_filtered, get_map, next_by_state, run_first}
 use Rattle.xk_classes.proofs.ClassLemmas.{by_taker, deed_in, deeds, same_deeds, class_as_well}
 
 -- ---- turns
@@ -171,25 +170,27 @@ ended_at (z ∷ xs) zero x h at =
 ended_at (z ∷ xs) (suc a) x h at = ended_at xs a x (and_parts (is_ended z.status) (list_all (λ (act : Activity). is_ended act.status) xs) h).1 at
 
 -- how one stands who does it
-abbrev pub state_in : Option Deed → Option (Option Activity)
+abbrev pub state_in : Option Deed → Option State
 state_in o = option_map (λ d. d.1) o
 
 -- one that hasn't ended takes its next step as it stands, if all end
-stands_next : (m : ModuleValue) (after : List ℕ) (v z : World) (a : ℕ) (act : Activity) → slice_get v.activities a ≡ Some act → is_ended act.status ≡ false
-    → run m after v ≡ Through z → all_ended z ≡ true → state_in (slice_get (deeds m after v a) 0) ≡ Some (state_of v a)
-stands_next m [] v z a act at alive h ended =
+stands_next : (m : ModuleValue) → IsWithinLimits m → IsAccepted m → (after : List ℕ) (v z : World) (a : ℕ) (act : Activity) → IsReached m v
+    → slice_get v.activities a ≡ Some act → is_ended act.status ≡ false
+    → run m after v ≡ Through z → all_ended z ≡ true → state_in (slice_get (deeds m after v a) 0) ≡ Some (stand_of v a)
+stands_next m limits ok [] v z a act reached at alive h ended =
     absurd (true≢false (sym (ended_at v.activities a act (ap all_ended (same_through v z h) ∙ ended) at) ∙ alive))
-stands_next m (d ∷ after) v z a act at alive h ended =
+stands_next m limits ok (d ∷ after) v z a act reached at alive h ended =
     let x = first_step v z (step m v d) (run m after) h in
-    ap (λ l. state_in (slice_get l 0)) (by_first m after v x.0 d x.1 a x.2) ∙ by (d == a) refl x.0 x.1 x.2 (λ there. stands_next m after x.0 z a act there alive x.3 ended)
+    ap (λ l. state_in (slice_get l 0)) (by_first m after v x.0 d x.1 a x.2)
+    ∙ by (d == a) refl x.0 x.1 x.2 (λ there. stands_next m limits ok after x.0 z a act (reached_step m v x.0 d x.1 reached x.2) there alive x.3 ended)
   where
     by : (q : Bool) → (d == a) ≡ q → (u : World) (e : Event) → step m v d ≡ Stepped u e
-        → (slice_get u.activities a ≡ Some act → state_in (slice_get (deeds m after u a) 0) ≡ Some (state_of u a))
-        → state_in (slice_get (cond q (deed_of v d e ∷ deeds m after u a) (deeds m after u a)) 0) ≡ Some (state_of v a)
-    by true g u e takes shorter = ap (λ c. Some (state_of v c)) (eqb-true d a g)
+        → (slice_get u.activities a ≡ Some act → state_in (slice_get (deeds m after u a) 0) ≡ Some (stand_of u a))
+        → state_in (slice_get (cond q (deed_of v d e ∷ deeds m after u a) (deeds m after u a)) 0) ≡ Some (stand_of v a)
+    by true g u e takes shorter = ap (λ c. Some (stand_of v c)) (eqb-true d a g)
     by false g u e takes shorter =
-        let there : slice_get u.activities a ≡ Some act = others_stay m v u d a e act takes (λ q. eqb-false d a g (sym q)) at in
-        shorter there ∙ ap (λ o. Some (option_map nameless_activity o)) (there ∙ sym at)
+        let differs : a ≡ d → ⊥ = λ q. eqb-false d a g (sym q) in
+        shorter (others_stay m v u d a e act takes differs at) ∙ ap (λ st. Some st) (state_stays m limits ok v u d a e act reached takes differs at)
 
 -- what an activity carries out is what it does as it stands
 carried_is : (m : ModuleValue) (list : List ℕ) (w : World) (a : ℕ) → carried_by m list w a ≡ map (λ (d : Deed). instruction_by m d.1) (deeds m list w a)
@@ -239,21 +240,21 @@ module _ (m : ModuleValue) (limits : IsWithinLimits m) (ok : IsAccepted m) (w z 
     pub rest_of : (g : GoesAsWell m w s (before ++ after) member z) → run m after v ≡ Through g.last
     rest_of g = sym (run_behind m before after w v leads) ∙ g.legal
 
-    -- how one stands that can take a step, in a schedule of the class as in this one
+    -- how one stands that can take a step, in a schedule of the class as in this one, by the numbers there
     pub stands : (a : ℕ) → is_enabled m v (name_in member a) ≡ true
-        → state_in (slice_get (deeds m s w a) (turns_of (name_in member a) before)) ≡ Some (state_of v (name_in member a))
+        → option_map (stand_named (names_along member.between)) (state_in (slice_get (deeds m s w a) (turns_of (name_in member a) before))) ≡ Some (stand_of v (name_in member a))
     stands a enabled =
         let b : ℕ = name_in member a in
         let g : GoesAsWell m w s (before ++ after) member z = class_as_well m limits ok w z reached s (before ++ after) member legal in
         let over : all_ended g.last ≡ true = sym (same_ends m (names_along member.between) z g.last g.alike) ∙ ended in
         let u = enabled_step (step m v b) enabled in
         let x = found_of m v b u.0 u.1 u.2 in
-        sym (named (slice_get (deeds m s w a) (turns_of b before)))
-        ∙ sym (ap state_in (get_map (deed_named (all_named (names_along member.between))) (deeds m s w a) (turns_of b before)))
+        sym (named (slice_get (deeds m s w a) (turns_of b before))) ∙ sym (ap state_in (get_map (deed_named (names_along member.between)) (deeds m s w a) (turns_of b before)))
         ∙ ap (λ l. state_in (slice_get l (turns_of b before))) (sym (same_deeds m limits ok w z reached s (before ++ after) member legal a))
-        ∙ ap state_in (at_turn m before after w v b leads) ∙ stands_next m after v g.last b x.0 x.1 (alive_of m v b x.0 u.0 u.1 x.1 u.2) (rest_of g) over
+        ∙ ap state_in (at_turn m before after w v b leads)
+        ∙ stands_next m limits ok after v g.last b x.0 (reached_run m before w v reached leads) x.1 (alive_of m v b x.0 u.0 u.1 x.1 u.2) (rest_of g) over
       where
-        named : (o : Option Deed) → state_in (option_map (deed_named (all_named (names_along member.between))) o) ≡ state_in o
+        named : (o : Option Deed) → state_in (option_map (deed_named (names_along member.between)) o) ≡ option_map (stand_named (names_along member.between)) (state_in o)
         named None = refl
         named (Some d) = refl
 
@@ -266,10 +267,10 @@ module _ (m : ModuleValue) (limits : IsWithinLimits m) (ok : IsAccepted m) (w z 
         ∙ ap (option_and_then (λ i. i)) (get_map (λ (d : Deed). instruction_by m d.1) (deeds m s w a) k) ∙ by (slice_get (deeds m s w a) k) (stands a enabled)
         ∙ sym (next_by_state m v (name_in member a))
       where
-        by : (o : Option Deed) → state_in o ≡ Some (state_of v (name_in member a))
-            → option_and_then (λ i. i) (option_map (λ (d : Deed). instruction_by m d.1) o) ≡ instruction_by m (state_of v (name_in member a))
+        by : (o : Option Deed) → option_map (stand_named (names_along member.between)) (state_in o) ≡ Some (stand_of v (name_in member a))
+            → option_and_then (λ i. i) (option_map (λ (d : Deed). instruction_by m d.1) o) ≡ instruction_by m (stand_of v (name_in member a))
         by None h = absurd (none-some _ h)
-        by (Some d) h = ap (instruction_by m) (same_Some d.1 (state_of v (name_in member a)) h)
+        by (Some d) h = ap (instruction_by m) (same_Some (stand_named (names_along member.between) d.1) (stand_of v (name_in member a)) h)
 
   -- where two could both be taken, neither is before the other
   neither_before : (edges : List (StepName × StepName)) → AreSound m w s edges → (v : World) (met : IsMet m w s v) (a b : ℕ)

@@ -1,9 +1,11 @@
--- Two schedules of one class, two starts in either order, edges of a start and of a finish, and why a race is looked for in the whole class: by
--- evaluation.
+-- Two schedules of one class, two starts in either order, edges of a start, of a finish and of a clock, and why a race is looked for in the whole
+-- class: by evaluation.
 use Rattle.std.proofs.Common.{◌≡◌, ℕ, zero, suc, pos, ◌==◌, Bool, true, false, not, ◌&&◌, ◌||◌, List, [], ◌∷◌, get_or, refl, arith, inl, inr}
 use Rattle.std.proofs.lemmas.List.Elements.{All-cons, All-nil, All-from_recursion}
 use Rattle.xk_types.specs.declared.instr.Instr.TheVariants as instr
 use Rattle.xk_types.specs.declared.world.Event.TheVariants as event
+use Rattle.xk_types.specs.declared.world.Standing.TheVariants as standing
+use Rattle.xk_types.specs.declared.unit.ParamKind.TheVariants as param
 use Rattle.xk_types.specs.declared.rules.Kind.{Kind}
 use Rattle.xk_types.specs.declared.rules.Kind.TheVariants as kind
 use Rattle.xk_types.specs.Code.{UnitValue, ModuleValue, IsUnitWithinLimits, IsWithinLimits}
@@ -16,7 +18,7 @@ use Rattle.xk_laws.proofs.Examples.AcceptanceTest.{HasFewArguments, accepted_by}
 use Rattle.xk_squares.specs.Conflicts.{reads_next, stores_next}
 use Rattle.xk_renaming.specs.Names.{OfActivities, all_named}
 use Rattle.xk_classes.specs.Moments.{printed_by}
-use Rattle.xk_classes.specs.Edges.{StepName, IsStart, IsUnderFinish, IsBefore}
+use Rattle.xk_classes.specs.Edges.{StepName, IsStart, IsUnderFinish, IsPass, standing_on, phase_of, IsBefore}
 use Rattle.xk_classes.specs.OneRun.{ComeToOne, gets_or_puts, AddsInUnit, AddsAtMost}
 use Rattle.xk_classes.proofs.OneRunLaw.{adders_free, one_every}
 
@@ -208,3 +210,67 @@ joined_edges = ((0, 1), (1, 0)) ∷ ((1, 1), (0, 2)) ∷ []
 
 joined_before : IsBefore joined_edges (1, 1) (0, 3)
 joined_before = record { between = (0, 2) ∷ []; way = (inl (1, refl), inr (refl, omega arith)) }
+
+-- ---- main puts a number before it comes to wait for a clock; what it started gets it behind its pass
+
+abbrev phased : ModuleValue
+phased = record {
+  shared = pos 0 ∷ [];
+  units = main_with 2 (instr.Make 0 ∷ instr.Spawn 1 (0 ∷ []) ∷ instr.Lit 1 (pos 5) ∷ instr.Put 0 1 ∷ instr.Advance ∷ instr.Ret ∷ [])
+      ∷ body_with (param.Clock ∷ []) 2 (instr.Advance ∷ instr.Get 1 0 ∷ instr.Print 1 ∷ instr.Ret ∷ []) ∷ [];
+}
+
+abbrev in_phases : List ℕ
+in_phases = 0 ∷ 0 ∷ 1 ∷ 0 ∷ 0 ∷ 0 ∷ 1 ∷ 1 ∷ 1 ∷ 1 ∷ 0 ∷ 0 ∷ []
+
+-- the `put` comes before the pass: main was open on the clock, which has advanced since
+phased_pass : IsPass phased (fresh phased) in_phases (0, 3) (1, 1)
+phased_pass = record {
+  first = record {
+    before = 0 ∷ 0 ∷ 1 ∷ 0 ∷ [];
+    after = 0 ∷ 1 ∷ 1 ∷ 1 ∷ 1 ∷ 0 ∷ 0 ∷ [];
+    here = last phased (0 ∷ 0 ∷ 1 ∷ 0 ∷ []);
+    whole = refl;
+    leads = refl;
+    turn = refl;
+  };
+  second = record {
+    before = 0 ∷ 0 ∷ 1 ∷ 0 ∷ 0 ∷ 0 ∷ [];
+    after = 1 ∷ 1 ∷ 1 ∷ 0 ∷ 0 ∷ [];
+    here = last phased (0 ∷ 0 ∷ 1 ∷ 0 ∷ 0 ∷ 0 ∷ []);
+    whole = refl;
+    leads = refl;
+    turn = refl;
+  };
+  clock = 0;
+  pending = refl;
+  there = last phased (0 ∷ 0 ∷ 1 ∷ 0 ∷ 0 ∷ 0 ∷ 1 ∷ []);
+  passes = refl;
+  awaited = refl;
+  advanced = omega arith;
+}
+
+-- so the `put` is before the `get`
+phased_before : IsBefore (((0, 3), (1, 1)) ∷ []) (0, 3) (1, 2)
+phased_before = record { between = (1, 1) ∷ []; way = (inl (0, refl), inr (refl, omega arith)) }
+
+-- ---- main resumes the clock, and then puts: nobody waits for that
+
+abbrev resumes_first : ModuleValue
+resumes_first = record {
+  shared = pos 0 ∷ [];
+  units = main_with 2 (instr.Make 0 ∷ instr.Spawn 1 (0 ∷ []) ∷ instr.Lit 1 (pos 5) ∷ instr.Resume 0 ∷ instr.Put 0 1 ∷ instr.Advance ∷ instr.Ret ∷ [])
+      ∷ body_with (param.Clock ∷ []) 2 (instr.Advance ∷ instr.Get 1 0 ∷ instr.Print 1 ∷ instr.Ret ∷ []) ∷ [];
+}
+
+-- what it started can take its pass where the `put` is still to come
+abbrev passes_early : World
+passes_early = last resumes_first (0 ∷ 0 ∷ 0 ∷ 0 ∷ 1 ∷ [])
+
+resumed_early : (is_enabled resumes_first passes_early 1 ≡ true) × (stores_next resumes_first passes_early 0 0 ≡ true)
+resumed_early = (refl, refl)
+
+-- though it may come behind it: main is registered before the `put`, but has signalled, so that this is no such edge
+resumed_late : (standing_on (last resumes_first (0 ∷ 0 ∷ 0 ∷ 0 ∷ [])) 0 0 ≡ standing.Signalled) × (phase_of (last resumes_first (0 ∷ 0 ∷ 0 ∷ 0 ∷ [])) 0 ≡ 0)
+    × (phase_of (last resumes_first (0 ∷ 0 ∷ 0 ∷ 0 ∷ 0 ∷ 1 ∷ [])) 0 ≡ 1) × (is_enabled resumes_first (last resumes_first (0 ∷ 0 ∷ 0 ∷ 0 ∷ 0 ∷ 1 ∷ [])) 1 ≡ true)
+resumed_late = (refl, refl, refl, refl)

@@ -1,9 +1,8 @@
 -- What is under a finish comes before its end: in each schedule of a class all under it are there when it ends, by their numbers there, and have taken all
 -- their steps.
-use Rattle.std.proofs.Common.{◌≡◌, ℕ, ℤ, suc, zero, ◌+◌, ◌<◌, ◌≤◌, ◌==◌, ◌⊎◌, inl, inr, Bool, true, false, true≢false, cond, List, [], ◌∷◌, ◌++◌, length, set, Some, option_map, refl, sym, ap, ◌∙◌, subst, append_assoc, length-set, eq-eqb, arith}
+use Rattle.std.proofs.Common.{◌≡◌, ℕ, ℤ, suc, zero, ◌+◌, ◌<◌, ◌≤◌, ◌==◌, ◌⊎◌, inl, inr, Bool, true, false, true≢false, cond, List, [], ◌∷◌, ◌++◌, length, set, Some, option_map, refl, sym, ap, ◌∙◌, subst, append_assoc, length-set, eq-eqb, arith, Option, None}
 use Rattle.std.specs.Prelude.{slice_get}
 use Rattle.std.proofs.lemmas.Bool.{eqb-false, cases_lt}
-use Rattle.std.proofs.lemmas.List.{length-map}
 use Rattle.std.proofs.lemmas.Option.{same_Some, slice_get_within}
 use Rattle.xk_types.specs.declared.instr.Instr.{Instr}
 use Rattle.xk_types.specs.declared.instr.Instr.TheVariants as instr
@@ -28,13 +27,13 @@ use Rattle.xk_renaming.specs.Names.{Exchange, all_named}
 use Rattle.xk_renaming.proofs.NamelessLemmas.{nameless_activity, state_of, finish_named, governed_same}
 use Rattle.xk_renaming.proofs.StartEventLemmas.{at_advance}
 use Rattle.xk_classes.specs.Classes.{AreOneClass, names_along, name_in}
-use Rattle.xk_classes.specs.Edges.{StepName, turns_of, IsTaken, IsEdge, AreSound, IsUnderFinish, IsCause}
+use Rattle.xk_classes.specs.Edges.{StepName, turns_of, IsTaken, IsUnderFinish}
 use Rattle.xk_classes.specs.OneRun.{GoesAsWell}
 use Rattle.xk_classes.proofs.StepEventLemmas.{is_start, not_start, grown, others_stay}
-use Rattle.xk_classes.proofs.SwapLemmas.{deed_named, run_first, reached_run}
-use Rattle.xk_classes.proofs.ClassLemmas.{deeds, same_deeds, class_as_well}
-use Rattle.xk_classes.proofs.EdgeLaw.{turns_on, turns_same, turns_other, WasTaken, was_taken, run_behind, turns_done, state_in, stands}
-use Rattle.xk_classes.proofs.StartEdgeLaw.{child_in, start_deed, child_done, start_taken}
+use Rattle.xk_classes.proofs.SwapLemmas.{State, stand_of, stand_named, run_first, reached_run}
+use Rattle.xk_classes.proofs.ClassLemmas.{deeds, class_as_well}
+use Rattle.xk_classes.proofs.EdgeLaw.{turns_on, turns_same, turns_other, WasTaken, was_taken, run_behind, state_in, stands}
+use Rattle.xk_classes.proofs.StartEdgeLaw.{child_in, start_deed, turns_all, child_done}
 
 -- ---- who stays as it is, and what governs it
 
@@ -274,17 +273,24 @@ module _ (m : ModuleValue) (args : List ℤ) (limits : IsWithinLimits m) (ok : I
         let u = enabled_step (step m v (named y.0)) enabled in
         let a = found_of m v (named y.0) u.0 u.1 u.2 in
         let itself : AreOneClass m w s (f.before ++ y.0 ∷ f.after) = record { between = []; joined = f.whole } in
-        let one : state_in (slice_get (deeds m s w y.0) (turns_of y.0 f.before)) ≡ Some (state_of f.here y.0) =
+        let one : option_map (stand_named []) (state_in (slice_get (deeds m s w y.0) (turns_of y.0 f.before))) ≡ Some (stand_of f.here y.0) =
         stands m limits ok w z reached s legal over f.before (y.0 ∷ f.after) f.here itself f.leads y.0 (ap is_step f.takes) in
-        let two : state_in (slice_get (deeds m s w y.0) (turns_of (named y.0) before)) ≡ Some (state_of v (named y.0)) =
+        let two : option_map (stand_named xs) (state_in (slice_get (deeds m s w y.0) (turns_of (named y.0) before))) ≡ Some (stand_of v (named y.0)) =
         stands m limits ok w z reached s legal over before after v member leads y.0 enabled in
         let states : state_of f.here y.0 ≡ state_of v (named y.0) =
-        same_Some (state_of f.here y.0) (state_of v (named y.0)) (sym one ∙ ap (λ k. state_in (slice_get (deeds m s w y.0) k)) (f.turn ∙ sym turn) ∙ two) in (
+        same_Some (state_of f.here y.0) (state_of v (named y.0))
+        (sym (ap (option_map (λ (st : State). st.0)) one) ∙ by (state_in (slice_get (deeds m s w y.0) (turns_of y.0 f.before)))
+        ∙ ap (λ k. option_map (λ (st : State). st.0) (option_map (stand_named xs) (state_in (slice_get (deeds m s w y.0) k)))) (f.turn ∙ sym turn)
+        ∙ ap (option_map (λ (st : State). st.0)) two) in (
           a.0,
           a.1,
           same_Some (nameless_activity f.closer) (nameless_activity a.0)
               (sym (ap (option_map nameless_activity) f.found) ∙ states ∙ ap (option_map nameless_activity) a.1),
         )
+      where
+        by : (o : Option State) → option_map (λ (st : State). st.0) (option_map (stand_named []) o) ≡ option_map (λ (st : State). st.0) (option_map (stand_named xs) o)
+        by None = refl
+        by (Some st) = refl
 
     free : awaits v.activities other ≡ false
     free =
@@ -321,12 +327,6 @@ module _ (m : ModuleValue) (args : List ℤ) (limits : IsWithinLimits m) (ok : I
         by false h = absurd (true≢false (sym (awaits_given v.activities other (record { b = c; act = q; found = at; under = under; alive = h })) ∙ free))
 
     -- so that it has taken all its steps
-    turns_all : (c : ℕ) → turns_of c s ≡ turns_of (named c) before + turns_of (named c) after
-    turns_all c =
-        sym (turns_done m s w z c legal) ∙ sym (length-map (deeds m s w c) (deed_named (all_named xs)))
-        ∙ ap length (sym (same_deeds m limits ok w z reached s (before ++ after) member legal c)) ∙ turns_done m (before ++ after) w g.last (named c) g.legal
-        ∙ turns_on (named c) before after
-
     none_later : (c : ℕ) (q : Activity) → slice_get v.activities c ≡ Some q → is_ended q.status ≡ true → (n : ℕ) → turns_of c after ≡ n → n ≡ 0
     none_later c q at is zero h = refl
     none_later c q at is (suc n) h =
@@ -340,7 +340,7 @@ module _ (m : ModuleValue) (args : List ℤ) (limits : IsWithinLimits m) (ok : I
         let q = get_inside v.activities (named c) inside in
         let later : turns_of (named c) after ≡ 0 =
         none_later (named c) q.0 q.1 (ended_there (named c) q.0 q.1 (under_there (suc c) c (omega arith) inside p at under)) (turns_of (named c) after) refl in
-        let all = turns_all c in
+        let all = turns_all m limits ok w z reached s legal before after v member leads c in
         omega arith
 
     -- ---- who isn't there yet
@@ -422,10 +422,3 @@ module _ (m : ModuleValue) (args : List ℤ) (limits : IsWithinLimits m) (ok : I
 
     pub under_taken : IsTaken before (named x.0, x.1)
     under_taken = all_taken x.0 x.1 (are_there (suc x.0) x.0 (omega arith) f.child f.known f.under) f.child f.known f.under f.taken
-
-  pub causes_sound : (edges : List (StepName × StepName)) → ((x y : StepName) → IsEdge edges x y → IsCause m w s x y) → AreSound m w s edges
-  causes_sound edges all x y edge before after v member leads turn enabled = by (all x y edge)
-    where
-      by : IsCause m w s x y → IsTaken before (name_in member x.0, x.1)
-      by (inl start) = start_taken m limits ok w z reached s legal before after v member leads x y start enabled
-      by (inr f) = under_taken x y f before after v member leads turn enabled

@@ -1,4 +1,8 @@
 pub mod StepEventLemmas
+pub mod StageLemmas
+pub mod ExchangeLemmas
+pub mod InStepLemmas
+pub mod PassEventLemmas
 pub mod SwapLemmas
 pub mod ClassLemmas
 pub mod ClassLaw
@@ -6,4 +10,5 @@ pub mod EdgeLaw
 pub mod OneRunLaw
 pub mod StartEdgeLaw
 pub mod FinishEdgeLaw
+pub mod PassEdgeLaw
 pub mod Examples

@@ -3,6 +3,7 @@
 use Rattle.std.proofs.Common.{◌≡◌, ℕ, zero, suc, ◌+◌, ◌-◌, ◌<◌, ◌≤◌, ◌==◌, ◌⊎◌, inl, inr, Bool, true, false, cond, List, [], ◌∷◌, ◌++◌, length, Option, Some, None, option_map, refl, sym, ap, ◌∙◌, arith, eq-eqb}
 use Rattle.std.specs.Prelude.{slice_get}
 use Rattle.std.proofs.lemmas.Bool.{cases_lt}
+use Rattle.std.proofs.lemmas.List.{length-map}
 use Rattle.std.proofs.lemmas.Option.{none-some, same_Some, slice_get_within}
 use Rattle.xk_types.specs.declared.world.Event.{Event}
 use Rattle.xk_types.specs.declared.world.Event.TheVariants as event
@@ -15,14 +16,13 @@ use Rattle.xk_laws.proofs.ReachabilityLemmas.{first_step}
 use Rattle.xk_squares.proofs.ChangeSquareLemmas.{found_of}
 use Rattle.xk_squares.proofs.QuietStepLaw.{enabled_step}
 use Rattle.xk_renaming.specs.Names.{all_named}
-use Rattle.xk_renaming.proofs.NamelessLemmas.{state_of}
 use Rattle.xk_classes.specs.Classes.{AreOneClass, names_along, name_in}
 use Rattle.xk_classes.specs.Edges.{StepName, turns_of, IsTaken, IsStart}
 use Rattle.xk_classes.specs.OneRun.{GoesAsWell}
 use Rattle.xk_classes.proofs.StepEventLemmas.{is_start, grown, wider, run_wider}
-use Rattle.xk_classes.proofs.SwapLemmas.{Deed, deed_named, deed_of, get_map}
+use Rattle.xk_classes.proofs.SwapLemmas.{stand_of, Deed, deed_named, deed_of, get_map}
 use Rattle.xk_classes.proofs.ClassLemmas.{deeds, same_deeds, class_as_well}
-use Rattle.xk_classes.proofs.EdgeLaw.{by_first, turns_done, done_on, get_front, get_back, at_turn, run_behind}
+use Rattle.xk_classes.proofs.EdgeLaw.{turns_on, by_first, turns_done, done_on, get_front, get_back, at_turn, run_behind}
 
 -- the activity that a deed starts
 abbrev pub child_in : Option Deed → Option ℕ
@@ -41,7 +41,7 @@ late_child m (d ∷ list) v z a j c h is =
     (λ k g. late_child m list x.0 z a k c x.3 g)
   where
     plain_deed : Event → Bool → Deed
-    plain_deed e r = (e, state_of v d, cond r (Some (length v.activities)) None)
+    plain_deed e r = (e, stand_of v d, cond r (Some (length v.activities)) None)
 
     by : (u : World) (e : Event) → length v.activities ≤ length u.activities → (q r : Bool) (j : ℕ)
         → child_in (slice_get (cond q (plain_deed e r ∷ deeds m list u a) (deeds m list u a)) j) ≡ Some c
@@ -61,7 +61,7 @@ early_child m (d ∷ list) v z a j c h is =
     (sym (ap (λ l. child_in (slice_get l j)) (by_first m list v x.0 d x.1 a x.2)) ∙ is) (λ k g. early_child m list x.0 z a k c x.3 g)
   where
     plain_deed : Event → Bool → Deed
-    plain_deed e r = (e, state_of v d, cond r (Some (length v.activities)) None)
+    plain_deed e r = (e, stand_of v d, cond r (Some (length v.activities)) None)
 
     by : (u : World) (e : Event) → length u.activities ≤ length z.activities → (q r : Bool) → length u.activities ≡ length v.activities + cond r 1 0 → (j : ℕ)
         → child_in (slice_get (cond q (plain_deed e r ∷ deeds m list u a) (deeds m list u a)) j) ≡ Some c
@@ -84,14 +84,22 @@ start_deed m before after w here there a e leads takes starts =
 
 module _ (m : ModuleValue) (limits : IsWithinLimits m) (ok : IsAccepted m) (w z : World) (reached : IsReached m w) (s : List ℕ) (legal : run m s w ≡ Through z)
     (before after : List ℕ) (v : World) (member : AreOneClass m w s (before ++ after)) (leads : run m before w ≡ Through v) where
+  -- all that one takes, before and after
+  pub turns_all : (c : ℕ) → turns_of c s ≡ turns_of (name_in member c) before + turns_of (name_in member c) after
+  turns_all c =
+      let g : GoesAsWell m w s (before ++ after) member z = class_as_well m limits ok w z reached s (before ++ after) member legal in
+      sym (turns_done m s w z c legal) ∙ sym (length-map (deeds m s w c) (deed_named (names_along member.between)))
+      ∙ ap length (sym (same_deeds m limits ok w z reached s (before ++ after) member legal c)) ∙ turns_done m (before ++ after) w g.last (name_in member c) g.legal
+      ∙ turns_on (name_in member c) before after
+
   -- the child of a deed, by its number there
   child_there : (a k c : ℕ) → child_in (slice_get (deeds m s w a) k) ≡ Some c
       → child_in (slice_get (deeds m (before ++ after) w (name_in member a)) k) ≡ Some (name_in member c)
   child_there a k c is =
       ap (λ l. child_in (slice_get l k)) (same_deeds m limits ok w z reached s (before ++ after) member legal a)
-      ∙ ap child_in (get_map (deed_named (all_named (names_along member.between))) (deeds m s w a) k) ∙ by (slice_get (deeds m s w a) k) is
+      ∙ ap child_in (get_map (deed_named (names_along member.between)) (deeds m s w a) k) ∙ by (slice_get (deeds m s w a) k) is
     where
-      by : (o : Option Deed) → child_in o ≡ Some c → child_in (option_map (deed_named (all_named (names_along member.between))) o) ≡ Some (name_in member c)
+      by : (o : Option Deed) → child_in o ≡ Some c → child_in (option_map (deed_named (names_along member.between)) o) ≡ Some (name_in member c)
       by None h = absurd (none-some c h)
       by (Some d) h = ap (option_map (all_named (names_along member.between))) h
 

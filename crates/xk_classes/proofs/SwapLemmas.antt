@@ -1,12 +1,9 @@
 -- Two neighbours whose steps commute, in either order: both schedules are legal or neither, they lead to worlds that are the same but for names, and have
 -- the same entries but for these two, and for names.
-use Rattle.std.proofs.Common.{◌≡◌, ℕ, suc, zero, ◌+◌, ◌<◌, ◌≤◌, ◌&&◌, ◌⊎◌, inl, inr, Bool, true, false, true≢false, cond, List, [], ◌∷◌, ◌++◌, map, length, Option, Some, None, option_map, refl, sym, ap, ◌∙◌, subst, arith}
+use Rattle.std.proofs.Common.{◌≡◌, ℕ, suc, zero, ◌+◌, ◌<◌, ◌≤◌, Bool, true, false, cond, List, [], ◌∷◌, ◌++◌, map, length, Option, Some, None, option_map, refl, sym, ap, ◌∙◌, subst, arith}
 use Rattle.std.specs.Prelude.{filter, slice_get, option_and_then}
-use Rattle.std.specs.Option.{option_map_or}
-use Rattle.std.proofs.lemmas.Bool.{and_parts}
 use Rattle.std.proofs.lemmas.Option.{slice_get_within}
 use Rattle.xk_types.specs.declared.instr.Instr.{Instr}
-use Rattle.xk_types.specs.declared.instr.Instr.TheVariants as instr
 use Rattle.xk_types.specs.declared.world.Event.{Event}
 use Rattle.xk_types.specs.Acceptance.{IsAccepted}
 use Rattle.xk_types.specs.Code.{ModuleValue, IsWithinLimits}
@@ -15,24 +12,30 @@ use Rattle.xk_types.specs.Step.{Outcome, Blocked, Wrong, Stepped, step}
 use Rattle.xk_types.specs.Schedule.{Through, run, run_on, IsReached, events, events_on}
 use Rattle.xk_laws.proofs.ReachabilityLemmas.{same_through, first_step, reached_step}
 use Rattle.xk_squares.specs.Conflicts.{next_instruction}
-use Rattle.xk_squares.specs.Squares.{makes, starts, makes_next, starts_next}
 use Rattle.xk_squares.proofs.ChangeSquareLemmas.{found_of}
-use Rattle.xk_renaming.specs.ActivityNames.{renamed}
-use Rattle.xk_renaming.specs.Names.{Exchange, OfClocks, OfActivities, all_named, AreSameBy, exchange_of}
-use Rattle.xk_renaming.proofs.NameLaw.{same_activities, named_beyond, go_as_one, squares_but_names}
+use Rattle.xk_renaming.specs.Names.{Exchange, all_named, AreSameBy, exchange_of}
+use Rattle.xk_renaming.proofs.ClockNameRunLaw.{Keeps, step_keeps}
+use Rattle.xk_renaming.proofs.NameLaw.{same_activities, named_beyond, clocks_unnamed, clock_back, go_as_one, squares_but_names}
 use Rattle.xk_renaming.proofs.NamelessLemmas.{nameless_activity, state_of, state_same}
-use Rattle.xk_renaming.proofs.ActivityNameListLemmas.{renamed_below}
-use Rattle.xk_renaming.proofs.ClockNameListLemmas.{renamed_first, renamed_second}
 use Rattle.xk_renaming.proofs.ActivityNameRunLaw.{reached_full}
-use Rattle.xk_renaming.proofs.StartEventLemmas.{event_started, start_says}
 use Rattle.xk_classes.specs.Classes.{DoCommute}
 use Rattle.xk_classes.specs.Edges.{carried, carried_on}
-use Rattle.xk_classes.proofs.StepEventLemmas.{is_start, start_is, grown, wider, run_wider, others_stay}
+use Rattle.xk_classes.proofs.StageLemmas.{stage_at, moves_on}
+use Rattle.xk_classes.proofs.ExchangeLemmas.{stays_named, number_first, number_second, far_back}
+use Rattle.xk_classes.proofs.InStepLemmas.{AreInStep, steps_in_step, square_in_step}
+use Rattle.xk_classes.proofs.StepEventLemmas.{is_start, grown, wider, run_wider, others_stay}
 
--- ---- entries: who takes each step of a run, and the deed: its event, how who takes it stands, but for names, and the activity that it starts
+-- ---- entries: who takes each step of a run, and the deed: its event, how who takes it stands, and the activity that it starts
+
+-- how an activity stands: what it is, if it's there, but for names; and its stage on each clock
+abbrev pub State : Type 0
+State = Option Activity × (ℕ → ℕ)
+
+abbrev pub stand_of : World → ℕ → State
+stand_of w a = (state_of w a, λ k. stage_at w k a)
 
 abbrev pub Deed : Type 0
-Deed = Event × Option Activity × Option ℕ
+Deed = Event × State × Option ℕ
 
 abbrev pub Entry : Type 0
 Entry = ℕ × Deed
@@ -42,14 +45,14 @@ abbrev pub child_of : World → Event → Option ℕ
 child_of w e = cond (is_start e) (Some (length w.activities)) None
 
 abbrev pub deed_of : World → ℕ → Event → Deed
-deed_of w a e = (e, state_of w a, child_of w e)
+deed_of w a e = (e, stand_of w a, child_of w e)
 
 abbrev pub entry_of : World → ℕ → Event → Entry
 entry_of w a e = (a, deed_of w a e)
 
 -- what an activity that stands so carries out
-abbrev pub instruction_by : ModuleValue → Option Activity → Option Instr
-instruction_by m o = option_and_then (λ act. instruction_at m act.frame) o
+abbrev pub instruction_by : ModuleValue → State → Option Instr
+instruction_by m st = option_and_then (λ act. instruction_at m act.frame) st.0
 
 abbrev pub entries_on : ℕ → World → Outcome → (World → List Entry) → List Entry
 entries_on a w Blocked go = []
@@ -61,11 +64,14 @@ entries m [] w = []
 entries m (a ∷ list) w = entries_on a w (step m w a) (entries m list)
 
 -- by other numbers
-abbrev pub deed_named : (ℕ → ℕ) → Deed → Deed
-deed_named f d = (d.0, d.1, option_map f d.2)
+abbrev pub stand_named : List Exchange → State → State
+stand_named xs st = (st.0, λ k. st.1 (clocks_unnamed xs k))
 
-abbrev pub entry_named : (ℕ → ℕ) → Entry → Entry
-entry_named f x = (f x.0, deed_named f x.1)
+abbrev pub deed_named : List Exchange → Deed → Deed
+deed_named xs d = (d.0, stand_named xs d.1, option_map (all_named xs) d.2)
+
+abbrev pub entry_named : List Exchange → Entry → Entry
+entry_named xs x = (all_named xs x.0, deed_named xs x.1)
 
 -- a list of what entries have, of which some pass
 pub filter_of_map : {X Y : Type 0} (g : X → Y) (p : Y → Bool) (xs : List X) → filter p (map g xs) ≡ map g (filter (λ x. p (g x)) xs)
@@ -84,10 +90,10 @@ abbrev pub instruction_in : ModuleValue → Entry → ℕ × Option Instr
 instruction_in m x = (x.0, instruction_by m x.1.1)
 
 -- the next instruction is that of how one stands
-pub next_by_state : (m : ModuleValue) (w : World) (a : ℕ) → next_instruction m w a ≡ instruction_by m (state_of w a)
+pub next_by_state : (m : ModuleValue) (w : World) (a : ℕ) → next_instruction m w a ≡ instruction_by m (stand_of w a)
 next_by_state m w a = by (slice_get w.activities a)
   where
-    by : (o : Option Activity) → option_and_then (λ (x : Activity). instruction_at m x.frame) o ≡ instruction_by m (option_map nameless_activity o)
+    by : (o : Option Activity) → option_and_then (λ (x : Activity). instruction_at m x.frame) o ≡ instruction_by m (option_map nameless_activity o, λ k. stage_at w k a)
     by None = refl
     by (Some x) = refl
 
@@ -124,12 +130,17 @@ get_map g [] k = refl
 get_map g (x ∷ xs) zero = refl
 get_map g (x ∷ xs) (suc k) = get_map g xs k
 
+-- in two worlds one stands so that is the same in both, and has come as far on each clock
+same_stand : (w v : World) (a : ℕ) (f : ℕ → ℕ) → state_of w a ≡ state_of v a → ((k : ℕ) → stage_at w (f k) a ≡ stage_at v k a)
+    → (state_of w a, (λ k. stage_at w (f k) a)) ≡ stand_of v a
+same_stand w v a f h g = λ i. (h i, λ k. g k i)
+
 -- another's step leaves that as it is
-state_stays : (m : ModuleValue) (w u v : World) (a b : ℕ) (e f : Event) → step m w a ≡ Stepped u e → step m w b ≡ Stepped v f → (b ≡ a → ⊥)
-    → state_of u b ≡ state_of w b
-state_stays m w u v a b e f hu hv differs =
-    let y = found_of m w b v f hv in
-    ap (option_map nameless_activity) (others_stay m w u a b e y.0 hu differs y.1 ∙ sym y.1)
+pub state_stays : (m : ModuleValue) → IsWithinLimits m → IsAccepted m → (w u : World) (a b : ℕ) (e : Event) (y : Activity) → IsReached m w → step m w a ≡ Stepped u e
+    → (b ≡ a → ⊥) → slice_get w.activities b ≡ Some y → stand_of u b ≡ stand_of w b
+state_stays m limits ok w u a b e y reached h differs at = same_stand u w b (λ k. k)
+    (ap (option_map nameless_activity) (others_stay m w u a b e y h differs at ∙ sym at))
+    (λ k. (moves_on m limits ok w u a e reached h).others k b (slice_get_within w.activities b y at) differs)
 
 -- what a run leads to is reached
 pub reached_run : (m : ModuleValue) (list : List ℕ) (w v : World) → IsReached m w → run m list w ≡ Through v → IsReached m v
@@ -137,6 +148,15 @@ reached_run m [] w v reached h = subst (IsReached m) (same_through w v h) reache
 reached_run m (d ∷ list) w v reached h =
     let x = first_step w v (step m w d) (run m list) h in
     reached_run m list x.0 v (reached_step m w x.0 d x.1 reached x.2) x.3
+
+-- no run takes a clock away
+run_keeps : (m : ModuleValue) (list : List ℕ) (w v : World) → run m list w ≡ Through v → length w.clocks ≤ length v.clocks
+run_keeps m [] w v h = let e = ap (λ (z : World). length z.clocks) (same_through w v h) in omega arith
+run_keeps m (d ∷ list) w v h =
+    let x = first_step w v (step m w d) (run m list) h in
+    let one : length w.clocks ≤ length x.0.clocks = subst (Keeps (length w.clocks)) x.2 (step_keeps m w d) in
+    let rest = run_keeps m list x.0 v x.3 in
+    omega arith
 
 -- ---- the first step of a run
 
@@ -150,11 +170,16 @@ run_first m list w u a e h = ap (λ o. run_on w o (run m list)) h
 -- ---- worlds that are the same but for names
 
 -- an entry by its numbers there
-entry_same : (xs : List Exchange) (w v : World) (a : ℕ) (e : Event) → AreSameBy xs w v → entry_of v (all_named xs a) e ≡ entry_named (all_named xs) (entry_of w a e)
-entry_same xs w v a e same = λ i. (all_named xs a, (e, state_same xs w v a same i, child (is_start e) i))
+entry_same : (xs : List Exchange) (w v : World) (a : ℕ) (e : Event) → AreSameBy xs w v → AreInStep xs w v → a < length w.activities
+    → entry_of v (all_named xs a) e ≡ entry_named xs (entry_of w a e)
+entry_same xs w v a e same step_same inside =
+    λ i. (all_named xs a, (e, (state_same xs w v a same i, λ k. stage k i), child (is_start e) i))
   where
     many : length v.activities ≡ all_named xs (length w.activities)
     many = sym (same_activities xs w v same) ∙ sym (named_beyond xs w (length w.activities) same.there (omega arith))
+
+    stage : (k : ℕ) → stage_at v k (all_named xs a) ≡ stage_at w (clocks_unnamed xs k) a
+    stage k = sym (step_same (clocks_unnamed xs k) a inside ∙ ap (λ j. stage_at v j (all_named xs a)) (clock_back xs k))
 
     child : (q : Bool) → cond q (Some (length v.activities)) None ≡ option_map (all_named xs) (cond q (Some (length w.activities)) None)
     child true = ap (λ n. Some n) many
@@ -164,110 +189,40 @@ pub record RunsAlike (m : ModuleValue) (xs : List Exchange) (list : List ℕ) (w
   pub last : World
   pub legal : run m (map (all_named xs) list) v ≡ Through last
   pub alike : AreSameBy xs z last
-  pub same : entries m (map (all_named xs) list) v ≡ map (entry_named (all_named xs)) (entries m list w)
+  pub same : entries m (map (all_named xs) list) v ≡ map (entry_named xs) (entries m list w)
 
 module _ (m : ModuleValue) (limits : IsWithinLimits m) (ok : IsAccepted m) where
-  pub runs_alike : (xs : List Exchange) (list : List ℕ) (w v z : World) → IsReached m w → AreSameBy xs w v → run m list w ≡ Through z → RunsAlike m xs list w v z
-  runs_alike xs [] w v z reached same h = record { last = v; legal = refl; alike = subst (λ x. AreSameBy xs x v) (same_through w z h) same; same = refl }
-  runs_alike xs (a ∷ list) w v z reached same h =
+  pub runs_alike : (xs : List Exchange) (list : List ℕ) (w v z : World) → IsReached m w → IsReached m v → AreSameBy xs w v → AreInStep xs w v → run m list w ≡ Through z
+      → RunsAlike m xs list w v z
+  runs_alike xs [] w v z here there same step_same h = record { last = v; legal = refl; alike = subst (λ x. AreSameBy xs x v) (same_through w z h) same; same = refl }
+  runs_alike xs (a ∷ list) w v z here there same step_same h =
       let f = first_step w z (step m w a) (run m list) h in
-      let next = (go_as_one m xs w v (reached_full m w limits ok reached) same).steps f.0 a f.1 f.2 in
-      let rest : RunsAlike m xs list f.0 next.0 z = runs_alike xs list f.0 next.0 z (reached_step m w f.0 a f.1 reached f.2) next.2 f.3 in
+      let next = (go_as_one m xs w v (reached_full m w limits ok here) same).steps f.0 a f.1 f.2 in
+      let x = found_of m w a f.0 f.1 f.2 in
+      let rest : RunsAlike m xs list f.0 next.0 z =
+      runs_alike xs list f.0 next.0 z (reached_step m w f.0 a f.1 here f.2) (reached_step m v next.0 (all_named xs a) f.1 there next.1) next.2
+      (steps_in_step m limits ok xs w v f.0 next.0 a f.1 here there same step_same f.2 next.1 next.2) f.3 in
       record {
         last = rest.last;
         legal = run_first m (map (all_named xs) list) v next.0 (all_named xs a) f.1 next.1 ∙ rest.legal;
         alike = rest.alike;
         same = entries_first m (map (all_named xs) list) v next.0 (all_named xs a) f.1 next.1
-            ∙ ap (λ x. x ∷ entries m (map (all_named xs) list) next.0) (entry_same xs w v a f.1 same)
-            ∙ ap (λ es. entry_named (all_named xs) (entry_of w a f.1) ∷ es) rest.same
-            ∙ sym (ap (map (entry_named (all_named xs))) (entries_first m list w f.0 a f.1 f.2));
+            ∙ ap (λ y. y ∷ entries m (map (all_named xs) list) next.0) (entry_same xs w v a f.1 same step_same (slice_get_within w.activities a x.0 x.1))
+            ∙ ap (λ es. entry_named xs (entry_of w a f.1) ∷ es) rest.same
+            ∙ sym (ap (map (entry_named xs)) (entries_first m list w f.0 a f.1 f.2));
       }
 
-  -- ---- what the other order exchanges
-
-  -- no instruction does both
-  not_both : (o : Option Instr) → option_map_or makes o false ≡ true → option_map_or starts o false ≡ true → ⊥
-  not_both (Some (instr.Make d)) h g = true≢false (sym g)
-  not_both None h g = true≢false (sym h)
-  not_both (Some _) h g = true≢false (sym h)
+  -- ---- the entries of both in the other order
 
   module _ (w : World) (a b : ℕ) (c : DoCommute m w a b) (reached : IsReached m w) where
     abbrev xs : List Exchange
     xs = exchange_of m w a b
-
-    -- both start an activity, and these exchange their numbers; or not both do, and all keep theirs
-    abbrev Exchanges : List Exchange → Type 0
-    Exchanges ys = ((is_start c.first_event ≡ true) × (is_start c.second_event ≡ true) × (ys ≡ OfActivities (length w.activities) ∷ []))
-        ⊎ ((is_start c.first_event ≡ true → is_start c.second_event ≡ true → ⊥) × ((j : ℕ) → all_named ys j ≡ j))
-
-    says_first : is_start c.first_event ≡ true → starts_next m w a ≡ true
-    says_first h = start_says m w c.first_world a (c.first_steps ∙ ap (Stepped c.first_world) (start_is c.first_event h))
-
-    says_second : is_start c.second_event ≡ true → starts_next m w b ≡ true
-    says_second h = start_says m w c.second_world b (c.second_steps ∙ ap (Stepped c.second_world) (start_is c.second_event h))
-
-    exchanges : Exchanges xs
-    exchanges = by (makes_next m w a && makes_next m w b) (starts_next m w a && starts_next m w b) refl refl
-      where
-        none : (p q : Bool) → (p && q) ≡ false → p ≡ true → q ≡ true → ⊥
-        none true q h g k = true≢false (sym k ∙ h)
-        none false q h g k = true≢false (sym g)
-
-        by : (x y : Bool) → (makes_next m w a && makes_next m w b) ≡ x → (starts_next m w a && starts_next m w b) ≡ y
-            → Exchanges (cond x (OfClocks (length w.clocks) ∷ []) (cond y (OfActivities (length w.activities) ∷ []) []))
-        by true y hx hy = inr ((λ p q. not_both (next_instruction m w a) (and_parts (makes_next m w a) (makes_next m w b) hx).0 (says_first p)), (λ j. refl))
-        by false true hx hy =
-            let p = and_parts (starts_next m w a) (starts_next m w b) hy in
-            inl (
-              ap is_start (event_started m limits ok w c.first_world a c.first_event reached c.first_steps p.0),
-              ap is_start (event_started m limits ok w c.second_world b c.second_event reached c.second_steps p.1),
-              refl,
-            )
-        by false false hx hy = inr ((λ p q. none (starts_next m w a) (starts_next m w b) hy (says_first p) (says_second q)), (λ j. refl))
-
-    -- who is there already keeps his number
-    pub stays_named : (j : ℕ) → j < length w.activities → all_named xs j ≡ j
-    stays_named j h = by xs exchanges
-      where
-        by : (ys : List Exchange) → Exchanges ys → all_named ys j ≡ j
-        by ys (inl p) = ap (λ zs. all_named zs j) p.2 ∙ renamed_below (length w.activities) j h
-        by ys (inr p) = p.1 j
 
     abbrev u : World
     u = c.first_world
 
     abbrev v : World
     v = c.second_world
-
-    inside_first : a < length w.activities
-    inside_first = let x = found_of m w a u c.first_event c.first_steps in slice_get_within w.activities a x.0 x.1
-
-    inside_second : b < length w.activities
-    inside_second = let x = found_of m w b v c.second_event c.second_steps in slice_get_within w.activities b x.0 x.1
-
-    -- the number of what either starts, behind the other's step
-    number_second : is_start c.second_event ≡ true → length w.activities ≡ all_named xs (length u.activities)
-    number_second h = by xs exchanges (is_start c.first_event) refl (grown m w u a c.first_event c.first_steps)
-      where
-        by : (ys : List Exchange) → Exchanges ys → (q : Bool) → is_start c.first_event ≡ q → length u.activities ≡ length w.activities + cond q 1 0
-            → length w.activities ≡ all_named ys (length u.activities)
-        by ys (inl p) true g k =
-            sym (renamed_second (length w.activities)) ∙ ap (renamed (length w.activities)) (omega arith) ∙ sym (ap (λ zs. all_named zs (length u.activities)) p.2)
-        by ys (inl p) false g k = absurd (true≢false (sym p.0 ∙ g))
-        by ys (inr p) true g k = absurd (p.0 g h)
-        by ys (inr p) false g k = let r = p.1 (length u.activities) in omega arith
-
-    number_first : is_start c.first_event ≡ true → length v.activities ≡ all_named xs (length w.activities)
-    number_first h = by xs exchanges (is_start c.second_event) refl (grown m w v b c.second_event c.second_steps)
-      where
-        by : (ys : List Exchange) → Exchanges ys → (q : Bool) → is_start c.second_event ≡ q → length v.activities ≡ length w.activities + cond q 1 0
-            → length v.activities ≡ all_named ys (length w.activities)
-        by ys (inl p) true g k =
-            let one : length v.activities ≡ suc (length w.activities) = omega arith in
-            one ∙ sym (renamed_first (length w.activities)) ∙ sym (ap (λ zs. all_named zs (length w.activities)) p.2)
-        by ys (inl p) false g k = absurd (true≢false (sym p.1 ∙ g))
-        by ys (inr p) true g k = absurd (p.0 h g)
-        by ys (inr p) false g k = let r = p.1 (length w.activities) in omega arith
 
     child_by : (e : Event) (n k : ℕ) → (is_start e ≡ true → n ≡ all_named xs k)
         → cond (is_start e) (Some n) None ≡ option_map (all_named xs) (cond (is_start e) (Some k) None)
@@ -277,18 +232,25 @@ module _ (m : ModuleValue) (limits : IsWithinLimits m) (ok : IsAccepted m) where
         by true g = ap (λ j. Some j) (g refl)
         by false g = refl
 
-    -- the entries of both in the other order
-    second_entry : entry_of w b c.second_event ≡ entry_named (all_named xs) (entry_of u b c.second_event)
+    second_entry : entry_of w b c.second_event ≡ entry_named xs (entry_of u b c.second_event)
     second_entry =
-        let who : b ≡ all_named xs b = sym (stays_named b inside_second) in
-        let state : state_of w b ≡ state_of u b = sym (state_stays m w u v a b c.first_event c.second_event c.first_steps c.second_steps c.differ) in
-        λ i. (who i, (c.second_event, state i, child_by c.second_event (length w.activities) (length u.activities) number_second i))
+        let y = found_of m w b v c.second_event c.second_steps in
+        let inside : b < length w.activities = slice_get_within w.activities b y.0 y.1 in
+        let who : b ≡ all_named xs b = sym (stays_named m limits ok w a b c reached b inside) in
+        let stand : stand_of u b ≡ stand_of w b = state_stays m limits ok w u a b c.first_event y.0 reached c.first_steps c.differ y.1 in
+        let far_off : stand_named xs (stand_of w b) ≡ stand_of w b = same_stand w w b (clocks_unnamed xs) refl (λ k. far_back m limits ok w a b c reached w (omega arith) k b) in
+        let same : stand_of w b ≡ stand_named xs (stand_of u b) = sym (ap (stand_named xs) stand ∙ far_off) in
+        λ i. (who i, (c.second_event, same i, child_by c.second_event (length w.activities) (length u.activities) (number_second m limits ok w a b c reached) i))
 
-    first_entry : entry_of v a c.first_event ≡ entry_named (all_named xs) (entry_of w a c.first_event)
+    first_entry : entry_of v a c.first_event ≡ entry_named xs (entry_of w a c.first_event)
     first_entry =
-        let who : a ≡ all_named xs a = sym (stays_named a inside_first) in
-        let state : state_of v a ≡ state_of w a = state_stays m w v u b a c.second_event c.first_event c.second_steps c.first_steps (λ q. c.differ (sym q)) in
-        λ i. (who i, (c.first_event, state i, child_by c.first_event (length v.activities) (length w.activities) number_first i))
+        let x = found_of m w a u c.first_event c.first_steps in
+        let inside : a < length w.activities = slice_get_within w.activities a x.0 x.1 in
+        let who : a ≡ all_named xs a = sym (stays_named m limits ok w a b c reached a inside) in
+        let stand : stand_of v a ≡ stand_of w a = state_stays m limits ok w v b a c.second_event x.0 reached c.second_steps (λ q. c.differ (sym q)) x.1 in
+        let far_off : stand_named xs (stand_of w a) ≡ stand_of w a = same_stand w w a (clocks_unnamed xs) refl (λ k. far_back m limits ok w a b c reached w (omega arith) k a) in
+        let same : stand_of v a ≡ stand_named xs (stand_of w a) = stand ∙ sym far_off in
+        λ i. (who i, (c.first_event, same i, child_by c.first_event (length v.activities) (length w.activities) (number_first m limits ok w a b c reached) i))
 
   -- ---- a swap
 
@@ -301,7 +263,7 @@ module _ (m : ModuleValue) (limits : IsWithinLimits m) (ok : IsAccepted m) where
     pub back : List Entry
     pub this : entries m (before ++ a ∷ b ∷ after) w ≡ front ++ entry_of here a c.first_event ∷ entry_of c.first_world b c.second_event ∷ back
     pub other : entries m (before ++ b ∷ a ∷ map (all_named (exchange_of m here a b)) after) w
-        ≡ map (entry_named (all_named (exchange_of m here a b))) (front ++ entry_of c.first_world b c.second_event ∷ entry_of here a c.first_event ∷ back)
+        ≡ map (entry_named (exchange_of m here a b)) (front ++ entry_of c.first_world b c.second_event ∷ entry_of here a c.first_event ∷ back)
 
   -- at the front
   at_once : (w z : World) (after : List ℕ) (a b : ℕ) (c : DoCommute m w a b) → IsReached m w → run m (a ∷ b ∷ after) w ≡ Through z → IsExchange w z w [] after a b c
@@ -311,8 +273,9 @@ module _ (m : ModuleValue) (limits : IsWithinLimits m) (ok : IsAccepted m) where
       let x : World = s.0 in
       let y : World = s.1 in
       let there : IsReached m y = reached_step m c.first_world y b c.second_event (reached_step m w c.first_world a c.first_event reached c.first_steps) s.3 in
+      let here : IsReached m x = reached_step m c.second_world x a c.first_event (reached_step m w c.second_world b c.second_event reached c.second_steps) s.2 in
       let r : RunsAlike m (exchange_of m w a b) after y x z =
-      runs_alike (exchange_of m w a b) after y x z there s.4
+      runs_alike (exchange_of m w a b) after y x z there here s.4 (square_in_step m limits ok w x y a b c reached s.2 s.3 s.4)
       (sym (run_first m (b ∷ after) w c.first_world a c.first_event c.first_steps ∙ run_first m after c.first_world y b c.second_event s.3) ∙ h) in
       record {
         last = r.last;
@@ -328,19 +291,21 @@ module _ (m : ModuleValue) (limits : IsWithinLimits m) (ok : IsAccepted m) where
       }
 
   -- an entry of before stays
-  entry_stays : (w u here : World) (d : ℕ) (e : Event) (a b : ℕ) (c : DoCommute m here a b) → IsReached m here
-      → step m w d ≡ Stepped u e → length u.activities ≤ length here.activities
-      → entry_of w d e ≡ entry_named (all_named (exchange_of m here a b)) (entry_of w d e)
-  entry_stays w u here d e a b c reached takes wide =
+  entry_stays : (w u here : World) (d : ℕ) (e : Event) (a b : ℕ) (c : DoCommute m here a b) → IsReached m here → step m w d ≡ Stepped u e
+      → length u.activities ≤ length here.activities → length w.clocks ≤ length here.clocks
+      → entry_of w d e ≡ entry_named (exchange_of m here a b) (entry_of w d e)
+  entry_stays w u here d e a b c reached takes wide few =
       let x = found_of m w d u e takes in
       let inside : d < length w.activities = slice_get_within w.activities d x.0 x.1 in
       let one = grown m w u d e takes in
-      let taker : d ≡ all_named (exchange_of m here a b) d = sym (stays_named here a b c reached d (let more = wider m w u d e takes in omega arith)) in
-      λ i. (taker i, (e, state_of w d, by (is_start e) one i))
+      let taker : d ≡ all_named (exchange_of m here a b) d = sym (stays_named m limits ok here a b c reached d (let more = wider m w u d e takes in omega arith)) in
+      let stand : stand_of w d ≡ stand_named (exchange_of m here a b) (stand_of w d) =
+      sym (same_stand w w d (clocks_unnamed (exchange_of m here a b)) refl (λ k. far_back m limits ok here a b c reached w few k d)) in
+      λ i. (taker i, (e, stand i, by (is_start e) one i))
     where
       by : (q : Bool) → length u.activities ≡ length w.activities + cond q 1 0
           → cond q (Some (length w.activities)) None ≡ option_map (all_named (exchange_of m here a b)) (cond q (Some (length w.activities)) None)
-      by true g = ap (λ n. Some n) (sym (stays_named here a b c reached (length w.activities) (omega arith)))
+      by true g = ap (λ n. Some n) (sym (stays_named m limits ok here a b c reached (length w.activities) (omega arith)))
       by false g = refl
 
   pub exchange : (before : List ℕ) (w here z : World) (after : List ℕ) (a b : ℕ) (c : DoCommute m here a b) → IsReached m w → run m before w ≡ Through here
@@ -354,6 +319,7 @@ module _ (m : ModuleValue) (limits : IsWithinLimits m) (ok : IsAccepted m) where
       let g : ℕ → ℕ = all_named (exchange_of m here a b) in
       let go = sym (run_first m (before ++ a ∷ b ∷ after) w f.0 d f.1 f.2) ∙ h in
       let next : IsReached m f.0 = reached_step m w f.0 d f.1 reached f.2 in
+      let few : length w.clocks ≤ length here.clocks = run_keeps m (d ∷ before) w here leads in
       let r : IsExchange f.0 z here before after a b c = exchange before f.0 here z after a b c next f.3 go in
       record {
         last = r.last;
@@ -363,5 +329,5 @@ module _ (m : ModuleValue) (limits : IsWithinLimits m) (ok : IsAccepted m) where
         back = r.back;
         this = entries_first m (before ++ a ∷ b ∷ after) w f.0 d f.1 f.2 ∙ ap (λ es. entry_of w d f.1 ∷ es) r.this;
         other = entries_first m (before ++ b ∷ a ∷ map g after) w f.0 d f.1 f.2
-            ∙ (λ i. entry_stays w f.0 here d f.1 a b c (reached_run m before f.0 here next f.3) f.2 (run_wider m before f.0 here f.3) i ∷ r.other i);
+            ∙ (λ i. entry_stays w f.0 here d f.1 a b c (reached_run m before f.0 here next f.3) f.2 (run_wider m before f.0 here f.3) few i ∷ r.other i);
       }

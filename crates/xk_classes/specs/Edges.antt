@@ -1,13 +1,19 @@
 -- What orders the steps of a run in each schedule of its class.
+--
+-- X10 Language Specification 2.4: an activity begins when it is started (chapter Activities, Spawning an activity); a finish waits for the end of
+-- all that were started under it (chapter Activities, Finish); who advances waits until all that are registered on its clocks have resumed them or
+-- have left (chapter Clocks, Advancing clocks). That these come before one another whatever the order of other steps is what we prove.
 use Rattle.std.specs.Prelude.{◌≡◌, ℕ, ◌<◌, ◌==◌, ◌⊎◌, Bool, true, false, List, [], ◌∷◌, ◌++◌, length, map, filter, slice_get, Option, Some, option_and_then}
 use Rattle.std.specs.Option.{option_map_or}
 use Rattle.xk_types.specs.declared.instr.Instr.{Instr}
 use Rattle.xk_types.specs.declared.instr.Instr.TheVariants as instr
+use Rattle.xk_types.specs.declared.world.Standing.{Standing}
+use Rattle.xk_types.specs.declared.world.Standing.TheVariants as standing
 use Rattle.xk_types.specs.declared.world.Event.{Event}
 use Rattle.xk_types.specs.declared.world.Event.TheVariants as event
 use Rattle.xk_types.specs.Code.{ModuleValue}
-use Rattle.xk_types.specs.World.{Activity, World, instruction_at}
-use Rattle.xk_types.specs.Step.{Outcome, Blocked, Wrong, Stepped, innermost, is_under, step}
+use Rattle.xk_types.specs.World.{Activity, World, standing_of, instruction_at}
+use Rattle.xk_types.specs.Step.{Outcome, Blocked, Wrong, Stepped, is_pending, innermost, is_under, step}
 use Rattle.xk_types.specs.Schedule.{Through, run, is_enabled}
 use Rattle.xk_squares.specs.Conflicts.{reads, puts, stores, next_instruction}
 use Rattle.xk_classes.specs.Classes.{AreOneClass, name_in}
@@ -131,6 +137,34 @@ pub record IsUnderFinish (m : ModuleValue) (w : World) (s : List ℕ) (x y : Ste
   pub under : is_under here.activities (innermost y.0 closer) x.0 ≡ true
   pub taken : IsTaken s x
 
--- what an edge stands for: a start, or a finish
+-- Step x of the schedule is taken in world `here`.
+pub record IsTurn (m : ModuleValue) (w : World) (s : List ℕ) (x : StepName) : Type 0 where
+  pub before : List ℕ
+  pub after : List ℕ
+  pub here : World
+  pub whole : s ≡ before ++ x.0 ∷ after
+  pub leads : run m before w ≡ Through here
+  pub turn : turns_of x.0 before ≡ x.1
+
+-- where activity a stands on clock c; the clock's phase
+abbrev pub standing_on : World → ℕ → ℕ → Standing
+standing_on w a c = option_map_or (λ k. standing_of k a) (slice_get w.clocks c) standing.Apart
+
+abbrev pub phase_of : World → ℕ → ℕ
+phase_of w c = option_map_or (λ k. k.phase) (slice_get w.clocks c) 0
+
+-- Step y passes a clock that has advanced since step x, before which it waited for the activity that takes x: that one was registered, and hadn't
+-- signalled.
+pub record IsPass (m : ModuleValue) (w : World) (s : List ℕ) (x y : StepName) : Type 0 where
+  pub first : IsTurn m w s x
+  pub second : IsTurn m w s y
+  pub clock : ℕ
+  pub pending : is_pending (standing_on first.here x.0 clock) ≡ true
+  pub there : World
+  pub passes : step m second.here y.0 ≡ Stepped there event.Passed
+  pub awaited : is_pending (standing_on second.here y.0 clock) ≡ true
+  pub advanced : phase_of first.here clock < phase_of second.here clock
+
+-- what an edge stands for: a start, a finish, or a clock that was waited for
 abbrev pub IsCause : ModuleValue → World → List ℕ → StepName → StepName → Type 0
-IsCause m w s x y = IsStart m w s x y ⊎ IsUnderFinish m w s x y
+IsCause m w s x y = (IsStart m w s x y ⊎ IsUnderFinish m w s x y) ⊎ IsPass m w s x y

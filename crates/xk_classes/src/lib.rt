@@ -72,8 +72,9 @@ pub fn ordered_run()
         → printed m s (opening m args) ≡ printed m t (opening m args) }
 {}
 
-/// Edges of starts and of finishes are sound: from the start of an activity to its first step, and from each step of an activity
-/// under a finish to the end of that finish.
+/// Edges of starts, of finishes and of clocks are sound: from the start of an activity to its first step; from each step of an activity
+/// under a finish to the end of that finish; and to a pass from each step before which one of its clocks still waited for whoever took
+/// the step, if that clock has advanced since.
 pub fn sound_edges()
     ensures { (m : ModuleValue) (args : List ℤ) (s : List ℕ) (z : World)
         (edges : List (StepName × StepName))

@@ -166,6 +166,10 @@ const STOOD: &str = "steps 12\nact 0 has ended\nact 1 has ended\nclock 0 phase 1
 const RACED: &str =
     "races 0\nprints not in one order: step 7 act 0 at 1:129, step 11 act 1 at 1:83\nof this run alone\n";
 
+const EXPLAIN: Command<'static> = Command::Explain { json: false };
+
+const TALLY: Command<'static> = Command::Tally { seed: 1, runs: 4 };
+
 /// Four runs by chance.
 const TALLIED: &str = "runs 4 first seed 1 prints 2 1\nruns 4 outcomes 1\n";
 
@@ -189,6 +193,16 @@ fn done(
     }
 }
 
+/// A log that isn't a run of the program in step.
+fn log_refused(
+    name: &'static str,
+    command: Command<'static>,
+    log: &'static str,
+    err: &'static str,
+) -> Row {
+    refused(name, command, IN_STEP, log, 3, err)
+}
+
 /// A row that is refused.
 fn refused(
     name: &'static str,
@@ -210,12 +224,17 @@ fn refused(
     }
 }
 
+/// A text that is no program.
+fn of_no_program(name: &'static str, command: Command<'static>) -> Row {
+    refused(name, command, "main", "", 1, NO_PROGRAM)
+}
+
 /// What is said of a text that is no program.
 fn explained(name: &'static str, json: bool, out: &'static str) -> Row {
     let explain = Command::Explain { json };
     Row {
         out,
-        ..refused(name, explain, "main", "", 1, NO_PROGRAM)
+        ..of_no_program(name, explain)
     }
 }
 
@@ -236,13 +255,7 @@ pub fn rows() -> [Row; 21] {
     [
         done("check", Command::Check, "", CHECKED, ""),
         done("compile", Command::Compile, "", MODULE, ""),
-        done(
-            "explain",
-            Command::Explain { json: false },
-            "",
-            ACCEPTED,
-            "",
-        ),
+        done("explain", EXPLAIN, "", ACCEPTED, ""),
         done("listing", Command::Listing, "", LISTED, ""),
         done("run", RUN, "", PRINTED, LOG),
         done("run by a worker", by_worker, "", PRINTED, LOG),
@@ -254,39 +267,12 @@ pub fn rows() -> [Row; 21] {
         done("lanes", DRAWN, LOG, LANES, ""),
         done("where", Command::Where { log: "log" }, LOG, STOOD, ""),
         done("races", Command::Races { log: None }, "", RACED, ""),
-        done(
-            "tally",
-            Command::Tally { seed: 1, runs: 4 },
-            "",
-            TALLIED,
-            "",
-        ),
-        refused(
-            "check of no program",
-            Command::Check,
-            "main",
-            "",
-            1,
-            NO_PROGRAM,
-        ),
+        done("tally", TALLY, "", TALLIED, ""),
+        of_no_program("check of no program", Command::Check),
         explained("explain of no program", false, EXPLAINED),
         explained("explain of no program, as JSON", true, EXPLAINED_JSON),
         refused("run of itself", RUN, ITSELF, "", 1, RECURSIVE),
-        refused(
-            "replay of a beginning",
-            REPLAY,
-            IN_STEP,
-            BEGINNING,
-            3,
-            TRUNCATED,
-        ),
-        refused(
-            "chart of another log",
-            CHART,
-            IN_STEP,
-            OTHER_LOG,
-            3,
-            NOT_ENABLED,
-        ),
+        log_refused("replay of a beginning", REPLAY, BEGINNING, TRUNCATED),
+        log_refused("chart of another log", CHART, OTHER_LOG, NOT_ENABLED),
     ]
 }

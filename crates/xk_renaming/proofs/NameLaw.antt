@@ -1,5 +1,5 @@
 -- Worlds that are the same but for names go on as one, and steps commute up to names.
-use Rattle.std.proofs.Common.{◌≡◌, ℕ, ◌≤◌, ◌==◌, ◌&&◌, Bool, true, false, true≢false, cond, List, [], ◌∷◌, ◌++◌, length, refl, sym, ap, ◌∙◌, subst, arith}
+use Rattle.std.proofs.Common.{◌≡◌, ℕ, ◌≤◌, ◌==◌, ◌&&◌, Bool, true, false, true≢false, cond, List, [], ◌∷◌, ◌++◌, length, refl, sym, ap, ◌∙◌, subst, arith, suc, zero, ◌<◌}
 use Rattle.std.proofs.lemmas.List.{length-map}
 use Rattle.std.proofs.lemmas.Bool.{and_parts}
 use Rattle.xk_types.specs.declared.world.Event.{Event}
@@ -132,6 +132,54 @@ named_beyond (OfClocks k ∷ xs) w n h g = named_beyond xs w n h.1 g
 named_beyond (OfActivities k ∷ xs) w n h g =
     ap (all_named xs) (renamed_beyond k n (let p = h.0 in omega arith)) ∙ named_beyond xs w n h.1 g
 
+-- a number of one that is there stays such
+renamed_within : (k a n : ℕ) → suc k < n → a < n → renamed k a < n
+renamed_within zero zero n h g = omega arith
+renamed_within zero (suc zero) n h g = omega arith
+renamed_within zero (suc (suc a)) n h g = g
+renamed_within (suc k) zero n h g = omega arith
+renamed_within (suc k) (suc a) zero h g = absurd (omega arith)
+renamed_within (suc k) (suc a) (suc n) h g = let r = renamed_within k a n (omega arith) (omega arith) in omega arith
+
+named_within : (xs : List Exchange) (w : World) (a : ℕ) → ArePairs xs w → a < length w.activities → all_named xs a < length w.activities
+named_within [] w a h g = g
+named_within (OfClocks k ∷ xs) w a h g = named_within xs w a h.1 g
+named_within (OfActivities k ∷ xs) w a h g = named_within xs w (renamed k a) h.1 (renamed_within k a (length w.activities) h.0 g)
+
+pub named_inside : (xs : List Exchange) (w v : World) (a : ℕ) → AreSameBy xs w v → a < length w.activities → all_named xs a < length v.activities
+named_inside xs w v a same h = let n = named_within xs w a same.there h in let many = same_activities xs w v same in omega arith
+
+-- ---- numbers of clocks
+
+abbrev pub clock_named : Exchange → ℕ → ℕ
+clock_named (OfClocks k) c = renamed k c
+clock_named (OfActivities k) c = c
+
+abbrev pub clocks_named : List Exchange → ℕ → ℕ
+clocks_named [] c = c
+clocks_named (x ∷ xs) c = clocks_named xs (clock_named x c)
+
+-- the number that becomes c
+abbrev pub clocks_unnamed : List Exchange → ℕ → ℕ
+clocks_unnamed [] c = c
+clocks_unnamed (x ∷ xs) c = clock_named x (clocks_unnamed xs c)
+
+clock_twice : (x : Exchange) (c : ℕ) → clock_named x (clock_named x c) ≡ c
+clock_twice (OfClocks k) c = renamed_twice k c
+clock_twice (OfActivities k) c = refl
+
+pub clock_back : (xs : List Exchange) (c : ℕ) → clocks_named xs (clocks_unnamed xs c) ≡ c
+clock_back [] c = refl
+clock_back (x ∷ xs) c = ap (clocks_named xs) (clock_twice x (clocks_unnamed xs c)) ∙ clock_back xs c
+
+pub clock_there : (xs : List Exchange) (c : ℕ) → clocks_unnamed xs (clocks_named xs c) ≡ c
+clock_there [] c = refl
+clock_there (x ∷ xs) c = ap (clock_named x) (clock_there xs (clock_named x c)) ∙ clock_twice x c
+
+pub clock_append : (xs ys : List Exchange) (c : ℕ) → clocks_unnamed (xs ++ ys) c ≡ clocks_unnamed xs (clocks_unnamed ys c)
+clock_append [] ys c = refl
+clock_append (x ∷ xs) ys c = ap (clock_named x) (clock_append xs ys c)
+
 -- ---- going on
 
 cells_one : (x : Exchange) (w : World) → (exchanged x w).cells ≡ w.cells
@@ -151,7 +199,7 @@ module _ (m : ModuleValue) where
   step_one (OfClocks k) w u a e there full h = step_swapped m w k a there ∙ ap (outcome_swapped k) h
   step_one (OfActivities k) w u a e there full h = step-swapped m w k a there full ∙ ap (outcome_renamed k) h
 
-  full_one : (x : Exchange) (w : World) → HasAllStandings w → HasAllStandings (exchanged x w)
+  pub full_one : (x : Exchange) (w : World) → HasAllStandings w → HasAllStandings (exchanged x w)
   full_one (OfClocks k) w full = λ j c at. each-swapped (λ (d : Clock). length d.standings ≡ length w.activities) k w.clocks full j c at
       ∙ sym (length-map w.activities (activity_renamed k))
   full_one (OfActivities k) w full = full_exchanged k w full

@@ -1,16 +1,19 @@
 -- How activities stand without the numbers of clocks and activities: in worlds that are the same but for these it is the same.
-use Rattle.std.proofs.Common.{◌≡◌, ℕ, List, [], ◌∷◌, Option, Some, None, option_map, map, refl, sym, ap, ◌∙◌}
+use Rattle.std.proofs.Common.{◌≡◌, ℕ, List, [], ◌∷◌, Option, Some, None, option_map, map, refl, sym, ap, ◌∙◌, arith}
 use Rattle.std.specs.Prelude.{slice_get}
 use Rattle.std.proofs.lemmas.Option.{slice_get-map}
 use Rattle.xk_types.specs.declared.world.Value.{Value}
 use Rattle.xk_types.specs.declared.world.Value.TheVariants as value
-use Rattle.xk_types.specs.World.{Frame, Finish, Activity, World, root}
-use Rattle.xk_squares.specs.PlainWorlds.{plain_activity, plain, AreAlike}
+use Rattle.xk_types.specs.declared.world.Standing.{Standing}
+use Rattle.xk_types.specs.Code.{ModuleValue}
+use Rattle.xk_types.specs.World.{Frame, Finish, Activity, Clock, World, standing_of, root}
+use Rattle.xk_squares.specs.PlainWorlds.{plain_activity, plain_clock, plain, AreAlike}
 use Rattle.xk_renaming.specs.ClockNames.{value_renamed, frame_renamed, activity_renamed}
-use Rattle.xk_renaming.specs.ActivityNames.{renamed, neighbours_swapped, governed_renamed}
+use Rattle.xk_renaming.specs.ActivityNames.{renamed, neighbours_swapped, governed_renamed, clock_swapped, HasAllStandings}
 use Rattle.xk_renaming.specs.Names.{Exchange, OfClocks, OfActivities, exchanged, IsPair, named, all_exchanged, ArePairs, all_named, AreSameBy}
 use Rattle.xk_renaming.proofs.ActivityNameListLemmas.{get-swapped}
-use Rattle.xk_renaming.proofs.NameLaw.{pairs_behind}
+use Rattle.xk_renaming.proofs.ActivityNameWorldLemmas.{standing-swapped}
+use Rattle.xk_renaming.proofs.NameLaw.{pairs_behind, clock_named, clocks_named, full_one}
 
 -- every clock has one name
 abbrev pub nameless_value : Value → Value
@@ -144,3 +147,39 @@ state_same xs w v a same =
 pub governed_same : (xs : List Exchange) (w v : World) (a : ℕ) → AreSameBy xs w v → governed_of v (all_named xs a) ≡ option_map (finish_named xs) (governed_of w a)
 governed_same xs w v a same =
     sym (found_alike (λ (act : Activity). act.governed) (λ act. refl) (all_exchanged xs w) v (all_named xs a) same.alike) ∙ governed_all xs w a same.there
+
+-- ---- where one stands on a clock
+
+-- on a clock, if it's there
+abbrev pub stands_at : World → ℕ → ℕ → Option Standing
+stands_at w k a = option_map (λ (c : Clock). standing_of c a) (slice_get w.clocks k)
+
+stands_one : (x : Exchange) (w : World) (k a : ℕ) → IsPair x w → HasAllStandings w → stands_at (exchanged x w) (clock_named x k) (named x a) ≡ stands_at w k a
+stands_one (OfClocks j) w k a there full = ap (option_map (λ (c : Clock). standing_of c a)) (get-swapped j w.clocks k there)
+stands_one (OfActivities j) w k a there full =
+    ap (option_map (λ (c : Clock). standing_of c (renamed j a))) (slice_get-map (clock_swapped j) w.clocks k) ∙ by (slice_get w.clocks k) refl
+  where
+    by : (o : Option Clock) → slice_get w.clocks k ≡ o
+        → option_map (λ (c : Clock). standing_of c (renamed j a)) (option_map (clock_swapped j) o) ≡ option_map (λ (c : Clock). standing_of c a) o
+    by None h = refl
+    by (Some c) h = ap (λ s. Some s) (standing-swapped j a c (let n = full k c h in omega arith))
+
+stands_all : (m : ModuleValue) (xs : List Exchange) (w : World) (k a : ℕ) → ArePairs xs w → HasAllStandings w
+    → stands_at (all_exchanged xs w) (clocks_named xs k) (all_named xs a) ≡ stands_at w k a
+stands_all m [] w k a there full = refl
+stands_all m (x ∷ xs) w k a there full =
+    stands_all m xs (exchanged x w) (clock_named x k) (named x a) (pairs_behind xs x w there.1) (full_one m x w full) ∙ stands_one x w k a there.0 full
+
+-- by the numbers there an activity stands the same on each clock
+pub stands_same : (m : ModuleValue) (xs : List Exchange) (w v : World) (k a : ℕ) → HasAllStandings w → AreSameBy xs w v
+    → stands_at v (clocks_named xs k) (all_named xs a) ≡ stands_at w k a
+stands_same m xs w v k a full same =
+    sym (sym (seen (all_exchanged xs w)) ∙ ap (λ (z : World). stands_at z (clocks_named xs k) (all_named xs a)) same.alike ∙ seen v)
+    ∙ stands_all m xs w k a same.there full
+  where
+    by : (o : Option Clock) → option_map (λ (c : Clock). standing_of c (all_named xs a)) (option_map plain_clock o) ≡ option_map (λ (c : Clock). standing_of c (all_named xs a)) o
+    by None = refl
+    by (Some c) = refl
+
+    seen : (z : World) → stands_at (plain z) (clocks_named xs k) (all_named xs a) ≡ stands_at z (clocks_named xs k) (all_named xs a)
+    seen z = ap (option_map (λ (c : Clock). standing_of c (all_named xs a))) (slice_get-map plain_clock z.clocks (clocks_named xs k)) ∙ by (slice_get z.clocks (clocks_named xs k))

@@ -1,3 +1,4 @@
+pub mod HolderLaw
 pub mod PieceLemmas
 pub mod ProgressLemmas
 pub mod WaitingLaw

@@ -1,5 +1,5 @@
 -- The law, from the lemma.
-use Rattle.xk_classes.proofs.FinishEdgeLaw.{causes_sound}
+use Rattle.xk_classes.proofs.PassEdgeLaw.{causes_sound}
 use Rattle.xk_classes.proofs.sound_edges.Goals as goal
 
 pub returns : goal.returns

@@ -1,0 +1,16 @@
+pub mod TurnLemmas
+pub mod EdgeListLemmas
+pub mod PhaseLemmas
+pub mod NumberedFinishLemmas
+pub mod StepNestingLemmas
+pub mod DeedPartLemmas
+pub mod ScopeLemmas
+pub mod LinkLemmas
+pub mod SeenLemmas
+pub mod StepDeedLemmas
+pub mod AccessLemmas
+pub mod RaceFreeLaw
+pub mod PrintOrderLaw
+pub mod BeginningOrderLemmas
+pub mod SpeaksForAllLaw
+pub mod Examples
