@@ -97,6 +97,10 @@ next_by_state m w a = by (slice_get w.activities a)
     by None = refl
     by (Some x) = refl
 
+-- and that of the activity
+pub next_of : (m : ModuleValue) (w : World) (a : ℕ) (act : Activity) → slice_get w.activities a ≡ Some act → next_instruction m w a ≡ instruction_at m act.frame
+next_of m w a act h = ap (option_and_then (λ (x : Activity). instruction_at m x.frame)) h
+
 events_are : (m : ModuleValue) (list : List ℕ) (w : World) → events m list w ≡ map event_in (entries m list w)
 events_are m [] w = refl
 events_are m (a ∷ list) w = by (step m w a) (events_are m list)
