@@ -64,7 +64,8 @@ module _ (m : ModuleValue) (limits : IsWithinLimits m) (ok : IsAccepted m) where
     next_same h g =
         alike.this ∙ same_next s alike.one alike.other alike.st (subst (GoesFrom s) alike.this h) (subst (GoesFrom s) alike.that g) ∙ sym alike.that
 
-    given_same : IsGivenFrom s (stage_at w k a) → IsGivenFrom s (stage_at v (clocks_named xs k) (all_named xs a)) → stage_at w k a ≡ stage_at v (clocks_named xs k) (all_named xs a)
+    given_same : IsGivenFrom s (stage_at w k a)
+        → IsGivenFrom s (stage_at v (clocks_named xs k) (all_named xs a)) → stage_at w k a ≡ stage_at v (clocks_named xs k) (all_named xs a)
     given_same h g =
         alike.this ∙ same_given s alike.one alike.other alike.st (subst (IsGivenFrom s) alike.this h) (subst (IsGivenFrom s) alike.that g) ∙ sym alike.that
 

@@ -177,9 +177,11 @@ stands_same m xs w v k a full same =
     sym (sym (seen (all_exchanged xs w)) ∙ ap (λ (z : World). stands_at z (clocks_named xs k) (all_named xs a)) same.alike ∙ seen v)
     ∙ stands_all m xs w k a same.there full
   where
-    by : (o : Option Clock) → option_map (λ (c : Clock). standing_of c (all_named xs a)) (option_map plain_clock o) ≡ option_map (λ (c : Clock). standing_of c (all_named xs a)) o
+    by : (o : Option Clock) → option_map (λ (c : Clock). standing_of c (all_named xs a)) (option_map plain_clock o)
+        ≡ option_map (λ (c : Clock). standing_of c (all_named xs a)) o
     by None = refl
     by (Some c) = refl
 
     seen : (z : World) → stands_at (plain z) (clocks_named xs k) (all_named xs a) ≡ stands_at z (clocks_named xs k) (all_named xs a)
-    seen z = ap (option_map (λ (c : Clock). standing_of c (all_named xs a))) (slice_get-map plain_clock z.clocks (clocks_named xs k)) ∙ by (slice_get z.clocks (clocks_named xs k))
+    seen z = ap (option_map (λ (c : Clock). standing_of c (all_named xs a))) (slice_get-map plain_clock z.clocks (clocks_named xs k))
+        ∙ by (slice_get z.clocks (clocks_named xs k))
