@@ -1,8 +1,9 @@
 -- Classes: a step put in front, one class after another, and what all schedules of a class have in common.
-use Rattle.std.proofs.Common.{◌≡◌, ℕ, ℤ, ◌==◌, Bool, true, false, cond, List, [], ◌∷◌, ◌++◌, map, refl, sym, ap, ◌∙◌, subst, eqb-true}
+use Rattle.std.proofs.Common.{◌≡◌, ℕ, ℤ, ◌==◌, Bool, true, false, true≢false, cond, List, [], ◌∷◌, ◌++◌, map, Option, Some, None, option_map, refl, sym, ap, ◌∙◌, subst, eqb-true, ◌<◌, length, arith}
 use Rattle.std.specs.Prelude.{filter, not}
-use Rattle.std.specs.List.{filter_map}
+use Rattle.std.specs.List.{filter_map, cons_option}
 use Rattle.std.proofs.lemmas.List.Elements.{filter-append}
+use Rattle.std.proofs.lemmas.Option.{slice_get_within}
 use Rattle.xk_types.specs.declared.world.Event.{Event}
 use Rattle.xk_types.specs.declared.world.Event.TheVariants as event
 use Rattle.xk_types.specs.Acceptance.{IsAccepted}
@@ -10,31 +11,35 @@ use Rattle.xk_types.specs.Code.{ModuleValue, IsWithinLimits}
 use Rattle.xk_types.specs.World.{World}
 use Rattle.xk_types.specs.Step.{Stepped, step}
 use Rattle.xk_types.specs.Schedule.{Through, run, IsReached, is_local, events, number_printed, printed}
-use Rattle.xk_squares.specs.PlainWorlds.{AreAlike}
-use Rattle.xk_classes.specs.Moments.{is_print, is_make, is_start}
-use Rattle.xk_classes.specs.Classes.{DoCommute, AreSwapped, AreJoined, AreOneClass, IsMet, HasNeverTwo}
+use Rattle.xk_squares.proofs.ChangeSquareLemmas.{found_of}
+use Rattle.xk_renaming.specs.Names.{Exchange, all_named, AreSameBy, exchange_of}
+use Rattle.xk_renaming.proofs.NameLaw.{same_itself, same_joined, named_same, named_append, clocks_unnamed, clock_append}
+use Rattle.xk_classes.specs.Moments.{is_print, moments}
+use Rattle.xk_classes.specs.Classes.{DoCommute, AreSwapped, Turn, AreJoined, AreOneClass, names_along, name_in, IsMet, HasNeverTwo}
 use Rattle.xk_classes.specs.OneRun.{GoesAsWell}
-use Rattle.xk_classes.proofs.SwapLemmas.{Entry, State, entries, event_in, events_filtered, first_entry, second_entry, run_first, IsExchange, exchange}
+use Rattle.xk_classes.proofs.SwapLemmas.{Deed, Entry, deed_named, entry_named, entry_of, entries, event_in, events_filtered, run_first, reached_run, IsExchange, exchange}
+use Rattle.xk_classes.proofs.ExchangeLemmas.{stays_named}
 
 -- ---- one class after another
 
 pub class_same : (m : ModuleValue) (w : World) (s t : List ℕ) → s ≡ t → AreOneClass m w s t
 class_same m w s t h = record { between = []; joined = h }
 
-pub class_swap : (m : ModuleValue) (w : World) (s t : List ℕ) → AreSwapped m w s t → AreOneClass m w s t
-class_swap m w s t h = record { between = t ∷ []; joined = (h, refl) }
+pub class_swap : (m : ModuleValue) (w : World) (s : List ℕ) (xs : List Exchange) (t : List ℕ) → AreSwapped m w s xs t → AreOneClass m w s t
+class_swap m w s xs t h = record { between = (xs, t) ∷ []; joined = (h, refl) }
 
-joined_on : (m : ModuleValue) (w : World) (us vs : List (List ℕ)) (s t u : List ℕ) → AreJoined m w s us t → AreJoined m w t vs u → AreJoined m w s (us ++ vs) u
+joined_on : (m : ModuleValue) (w : World) (us vs : List Turn) (s t u : List ℕ) → AreJoined m w s us t → AreJoined m w t vs u → AreJoined m w s (us ++ vs) u
 joined_on m w [] vs s t u h g = subst (λ x. AreJoined m w x vs u) (sym h) g
-joined_on m w (x ∷ us) vs s t u h g = (h.0, joined_on m w us vs x t u h.1 g)
+joined_on m w (x ∷ us) vs s t u h g = (h.0, joined_on m w us vs x.1 t u h.1 g)
 
 pub class_on : (m : ModuleValue) (w : World) (s t u : List ℕ) → AreOneClass m w s t → AreOneClass m w t u → AreOneClass m w s u
 class_on m w s t u h g = record { between = h.between ++ g.between; joined = joined_on m w h.between g.between s t u h.joined g.joined }
 
 -- ---- a step in front
 
-swap_behind : (m : ModuleValue) (w u : World) (a : ℕ) (e : Event) → step m w a ≡ Stepped u e → (s t : List ℕ) → AreSwapped m u s t → AreSwapped m w (a ∷ s) (a ∷ t)
-swap_behind m w u a e h s t x = record {
+swap_behind : (m : ModuleValue) (w u : World) (a : ℕ) (e : Event) → step m w a ≡ Stepped u e → (s : List ℕ) (xs : List Exchange) (t : List ℕ) → AreSwapped m u s xs t
+    → AreSwapped m w (a ∷ s) xs (a ∷ t)
+swap_behind m w u a e h s xs t x = record {
   before = a ∷ x.before;
   first = x.first;
   second = x.second;
@@ -42,17 +47,21 @@ swap_behind m w u a e h s t x = record {
   here = x.here;
   leads = run_first m x.before w u a e h ∙ x.leads;
   commute = x.commute;
+  exchanges = x.exchanges;
   this = ap (λ l. a ∷ l) x.this;
   other = ap (λ l. a ∷ l) x.other;
 }
 
-joined_behind : (m : ModuleValue) (w u : World) (a : ℕ) (e : Event) → step m w a ≡ Stepped u e → (us : List (List ℕ)) (s t : List ℕ) → AreJoined m u s us t
-    → AreJoined m w (a ∷ s) (map (λ l. a ∷ l) us) (a ∷ t)
+abbrev behind : ℕ → Turn → Turn
+behind a x = (x.0, a ∷ x.1)
+
+joined_behind : (m : ModuleValue) (w u : World) (a : ℕ) (e : Event) → step m w a ≡ Stepped u e → (us : List Turn) (s t : List ℕ) → AreJoined m u s us t
+    → AreJoined m w (a ∷ s) (map (behind a) us) (a ∷ t)
 joined_behind m w u a e h [] s t g = ap (λ l. a ∷ l) g
-joined_behind m w u a e h (x ∷ us) s t g = (swap_behind m w u a e h s x g.0, joined_behind m w u a e h us x t g.1)
+joined_behind m w u a e h (x ∷ us) s t g = (swap_behind m w u a e h s x.0 x.1 g.0, joined_behind m w u a e h us x.1 t g.1)
 
 pub class_behind : (m : ModuleValue) (w u : World) (a : ℕ) (e : Event) → step m w a ≡ Stepped u e → (s t : List ℕ) → AreOneClass m u s t → AreOneClass m w (a ∷ s) (a ∷ t)
-class_behind m w u a e h s t g = record { between = map (λ l. a ∷ l) g.between; joined = joined_behind m w u a e h g.between s t g.joined }
+class_behind m w u a e h s t g = record { between = map (behind a) g.between; joined = joined_behind m w u a e h g.between s t g.joined }
 
 -- ---- worlds to which a class comes
 
@@ -70,10 +79,78 @@ met_behind m w u v a e s h g = record {
   leads = run_first m g.before w u a e h ∙ g.leads;
 }
 
--- ---- what all schedules of a class have in common
+-- ---- what each activity does, and what is done with some events
+
+abbrev pub by_event : (Event → Bool) → Entry → Bool
+by_event test x = test x.1.0
+
+abbrev pub by_taker : ℕ → Entry → Bool
+by_taker a x = x.0 == a
+
+abbrev pub deed_in : Entry → Deed
+deed_in x = x.1
+
+abbrev only_event : Entry → Event
+only_event x = x.1.0
+
+abbrev pub deeds : ModuleValue → List ℕ → World → ℕ → List Deed
+deeds m list w a = map deed_in (filter (by_taker a) (entries m list w))
+
+-- entries by other numbers that pass
+abbrev named_entries : (Entry → Bool) → List Exchange → List Entry → List Entry
+named_entries test xs es = filter test (map (entry_named xs) es)
+
+-- by other numbers the deeds are the same, but for the numbers of activities that are started; and so are events
+named_deeds : (xs : List Exchange) (a : ℕ) (es : List Entry)
+    → map deed_in (named_entries (by_taker (all_named xs a)) xs es) ≡ map (deed_named xs) (map deed_in (filter (by_taker a) es))
+named_deeds xs a [] = refl
+named_deeds xs a (x ∷ es) = by (all_named xs x.0 == all_named xs a) (x.0 == a) (named_same xs x.0 a) (named_deeds xs a es)
+  where
+    named : List Entry
+    named = named_entries (by_taker (all_named xs a)) xs es
+
+    by : (p q : Bool) → p ≡ q → map deed_in named ≡ map (deed_named xs) (map deed_in (filter (by_taker a) es))
+        → map deed_in (cond p (entry_named xs x ∷ named) named)
+        ≡ map (deed_named xs) (map deed_in (cond q (x ∷ filter (by_taker a) es) (filter (by_taker a) es)))
+    by true true e h = ap (λ ds. deed_named xs x.1 ∷ ds) h
+    by false false e h = h
+    by true false e h = absurd (true≢false e)
+    by false true e h = absurd (true≢false (sym e))
+
+named_events : (test : Event → Bool) (xs : List Exchange) (es : List Entry)
+    → map only_event (named_entries (by_event test) xs es) ≡ map only_event (filter (by_event test) es)
+named_events test xs [] = refl
+named_events test xs (x ∷ es) = by (test x.1.0) (named_events test xs es)
+  where
+    named : List Entry
+    named = named_entries (by_event test) xs es
+
+    by : (q : Bool) → map only_event named ≡ map only_event (filter (by_event test) es)
+        → map only_event (cond q (entry_named xs x ∷ named) named) ≡ map only_event (cond q (x ∷ filter (by_event test) es) (filter (by_event test) es))
+    by true h = ap (λ ds. x.1.0 ∷ ds) h
+    by false h = h
+
+-- numbers twice exchanged
+child_on : (xs ys : List Exchange) (o : Option ℕ) → option_map (all_named ys) (option_map (all_named xs) o) ≡ option_map (all_named (xs ++ ys)) o
+child_on xs ys None = refl
+child_on xs ys (Some n) = ap (λ k. Some k) (sym (named_append xs ys n))
+
+deeds_on : (xs ys : List Exchange) (ds : List Deed) → map (deed_named ys) (map (deed_named xs) ds) ≡ map (deed_named (xs ++ ys)) ds
+deeds_on xs ys [] = refl
+deeds_on xs ys (d ∷ ds) =
+    let stage : (k : ℕ) → d.1.1 (clocks_unnamed xs (clocks_unnamed ys k)) ≡ d.1.1 (clocks_unnamed (xs ++ ys) k) = λ k. ap d.1.1 (sym (clock_append xs ys k)) in
+    λ i. (d.0, (d.1.0, λ k. stage k i), child_on xs ys d.2 i) ∷ deeds_on xs ys ds i
+
+deeds_same : (ds : List Deed) → map (deed_named []) ds ≡ ds
+deeds_same [] = refl
+deeds_same (d ∷ ds) = λ i. (d.0, d.1, by d.2 i) ∷ deeds_same ds i
+  where
+    by : (o : Option ℕ) → option_map (all_named []) o ≡ o
+    by None = refl
+    by (Some n) = refl
 
 -- two entries of which not both pass, in either order
-crossed : (p : Entry → Bool) (front back : List (Entry)) (x y : Entry) → (p x ≡ true → p y ≡ true → ⊥)
+crossed : (p : Entry → Bool) (front back : List Entry) (x y : Entry) → (p x ≡ true → p y ≡ true → ⊥)
     → filter p (front ++ x ∷ y ∷ back) ≡ filter p (front ++ y ∷ x ∷ back)
 crossed p front back x y h =
     filter-append p front (x ∷ y ∷ back) ∙ ap (λ l. filter p front ++ l) (by (p x) (p y) h) ∙ sym (filter-append p front (y ∷ x ∷ back))
@@ -85,71 +162,122 @@ crossed p front back x y h =
     by true false g = refl
     by false r g = refl
 
--- of two steps that change places not both pass
-abbrev pub NeverCrosses : (Entry → Bool) → ModuleValue → World → List ℕ → Type 0
-NeverCrosses p m w s = (v : World) → IsMet m w s v → (a b : ℕ) (c : DoCommute m v a b) → p (first_entry m v a b c) ≡ true → p (second_entry m v a b c) ≡ true → ⊥
+-- ---- what all schedules of a class have in common
 
--- the other schedule is legal, leads to a world that is alike, and has the same entries that pass
-pub record GoesOn (p : Entry → Bool) (m : ModuleValue) (w z : World) (s t : List ℕ) : Type 0 where
+-- by these exchanges the other schedule is legal, leads to a world that is the same, each activity does the same in it, and where no two steps with
+-- such events could be taken at once, they are taken in one order
+pub record GoesOn (m : ModuleValue) (w z : World) (s t : List ℕ) (xs : List Exchange) : Type 0 where
   pub last : World
   pub legal : run m t w ≡ Through last
-  pub alike : AreAlike z last
-  pub same : filter p (entries m s w) ≡ filter p (entries m t w)
+  pub alike : AreSameBy xs z last
+  pub does : (a : ℕ) → deeds m t w (all_named xs a) ≡ map (deed_named xs) (deeds m s w a)
+  pub tells : (test : Event → Bool) → HasNeverTwo test m w s
+      → map only_event (filter (by_event test) (entries m s w)) ≡ map only_event (filter (by_event test) (entries m t w))
 
-module _ (m : ModuleValue) (limits : IsWithinLimits m) (ok : IsAccepted m) (p : Entry → Bool) (w : World) (reached : IsReached m w) where
-  joined_goes : (us : List (List ℕ)) (s t : List ℕ) (z : World) → AreJoined m w s us t → run m s w ≡ Through z → NeverCrosses p m w s → GoesOn p m w z s t
-  joined_goes [] s t z h legal never = record {
+module _ (m : ModuleValue) (limits : IsWithinLimits m) (ok : IsAccepted m) (w : World) (reached : IsReached m w) where
+  -- one swap
+  swapped_goes : (s : List ℕ) (xs : List Exchange) (t : List ℕ) (z : World) → AreSwapped m w s xs t → run m s w ≡ Through z → GoesOn m w z s t xs
+  swapped_goes s xs t z k legal = subst (λ ys. GoesOn m w z s t ys) (sym k.exchanges) (record {
+    last = r.last;
+    legal = ap (λ l. run m l w) other ∙ r.legal;
+    alike = r.alike;
+    does = λ a.
+        ap (λ l. deeds m l w (f a)) other ∙ ap (λ es. map deed_in (filter (by_taker (f a)) es)) r.other
+        ∙ named_deeds names a (r.front ++ y ∷ x ∷ r.back)
+        ∙ ap (λ es. map (deed_named names) (map deed_in es)) (crossed (by_taker a) r.front r.back y x (λ h g. c.differ (eqb-true k.second a h ∙ sym (eqb-true k.first a g))))
+        ∙ sym (ap (λ l. map (deed_named names) (deeds m l w a)) k.this ∙ ap (λ es. map (deed_named names) (map deed_in (filter (by_taker a) es))) r.this);
+    tells = λ test never.
+        ap (λ l. map only_event (filter (by_event test) (entries m l w))) k.this ∙ ap (λ es. map only_event (filter (by_event test) es)) r.this
+        ∙ ap (map only_event) (crossed (by_event test) r.front r.back x y
+        (never k.here met k.first k.second c.differ c.first_world c.second_world c.first_event c.second_event c.first_steps c.second_steps))
+        ∙ sym (ap (λ l. map only_event (filter (by_event test) (entries m l w))) other ∙ ap (λ es. map only_event (filter (by_event test) es)) r.other
+        ∙ named_events test names (r.front ++ y ∷ x ∷ r.back));
+  })
+    where
+      c : DoCommute m k.here k.first k.second
+      c = k.commute
+
+      names : List Exchange
+      names = exchange_of m k.here k.first k.second
+
+      f : ℕ → ℕ
+      f = all_named names
+
+      other : t ≡ k.before ++ k.second ∷ k.first ∷ map f k.after
+      other = k.other ∙ ap (λ ys. k.before ++ k.second ∷ k.first ∷ map (all_named ys) k.after) k.exchanges
+
+      r : IsExchange m limits ok w z k.here k.before k.after k.first k.second c
+      r = exchange m limits ok k.before w k.here z k.after k.first k.second c reached k.leads (ap (λ l. run m l w) (sym k.this) ∙ legal)
+
+      x : Entry
+      x = entry_of k.here k.first c.first_event
+
+      y : Entry
+      y = entry_of c.first_world k.second c.second_event
+
+      met : IsMet m w s k.here
+      met = record {
+        before = k.before;
+        after = k.first ∷ k.second ∷ k.after;
+        member = class_same m w s (k.before ++ k.first ∷ k.second ∷ k.after) k.this;
+        leads = k.leads;
+      }
+
+  joined_goes : (us : List Turn) (s t : List ℕ) (z : World) → AreJoined m w s us t → run m s w ≡ Through z → GoesOn m w z s t (names_along us)
+  joined_goes [] s t z h legal = record {
     last = z;
     legal = ap (λ l. run m l w) (sym h) ∙ legal;
-    alike = refl;
-    same = ap (λ l. filter p (entries m l w)) h;
+    alike = same_itself z;
+    does = λ a. ap (λ l. deeds m l w a) (sym h) ∙ sym (deeds_same (deeds m s w a));
+    tells = λ test never. ap (λ l. map only_event (filter (by_event test) (entries m l w))) h;
   }
-  joined_goes (x ∷ us) s t z h legal never =
-      let k : AreSwapped m w s x = h.0 in
-      let r : IsExchange m w z k.before k.after (first_entry m k.here k.first k.second k.commute) (second_entry m k.here k.first k.second k.commute) =
-      exchange m limits ok k.before w k.here z k.after k.first k.second k.commute reached k.leads (ap (λ l. run m l w) (sym k.this) ∙ legal) in
-      let met : IsMet m w s k.here =
-      record { before = k.before; after = k.first ∷ k.second ∷ k.after; member = class_same m w s (k.before ++ k.first ∷ k.second ∷ k.after) k.this; leads = k.leads } in
-      let rest : GoesOn p m w r.last x t =
-      joined_goes us x t r.last h.1 (ap (λ l. run m l w) k.other ∙ r.legal) (λ v g. never v (met_by m w v s x (class_swap m w s x k) g)) in
+  joined_goes (x ∷ us) s t z h legal =
+      let r : GoesOn m w z s x.1 x.0 = swapped_goes s x.0 x.1 z h.0 legal in
+      let rest : GoesOn m w r.last x.1 t (names_along us) = joined_goes us x.1 t r.last h.1 r.legal in
       record {
         last = rest.last;
         legal = rest.legal;
-        alike = r.alike ∙ rest.alike;
-        same = ap (λ l. filter p (entries m l w)) k.this ∙ ap (filter p) r.this
-            ∙ crossed p r.front r.back (first_entry m k.here k.first k.second k.commute) (second_entry m k.here k.first k.second k.commute)
-            (never k.here met k.first k.second k.commute)
-            ∙ sym (ap (λ l. filter p (entries m l w)) k.other ∙ ap (filter p) r.other) ∙ rest.same;
+        alike = same_joined x.0 (names_along us) z r.last rest.last r.alike rest.alike;
+        does = λ a.
+            ap (deeds m t w) (named_append x.0 (names_along us) a) ∙ rest.does (all_named x.0 a)
+            ∙ ap (map (deed_named (names_along us))) (r.does a) ∙ deeds_on x.0 (names_along us) (deeds m s w a);
+        tells = λ test never. r.tells test never ∙ rest.tells test (λ v g. never v (met_by m w v s x.1 (class_swap m w s x.0 x.1 h.0) g));
       }
 
-  pub class_goes : (s t : List ℕ) (z : World) → AreOneClass m w s t → run m s w ≡ Through z → NeverCrosses p m w s → GoesOn p m w z s t
-  class_goes s t z h legal never = joined_goes h.between s t z h.joined legal never
+  pub class_goes : (s t : List ℕ) (z : World) (member : AreOneClass m w s t) → run m s w ≡ Through z → GoesOn m w z s t (names_along member.between)
+  class_goes s t z member legal = joined_goes member.between s t z member.joined legal
 
--- ---- of each activity, of clocks that are made, of activities that are started, of prints
+-- ---- main
 
-abbrev pub by_event : (Event → Bool) → Entry → Bool
-by_event test x = test x.1
+module _ (m : ModuleValue) (limits : IsWithinLimits m) (ok : IsAccepted m) (w : World) (reached : IsReached m w) where
+  main_joined : (us : List Turn) (s t : List ℕ) (z : World) → AreJoined m w s us t → run m s w ≡ Through z → all_named (names_along us) 0 ≡ 0
+  main_joined [] s t z h legal = refl
+  main_joined (x ∷ us) s t z h legal =
+      let k : AreSwapped m w s x.0 x.1 = h.0 in
+      let there : IsReached m k.here = reached_run m k.before w k.here reached k.leads in
+      let a = found_of m k.here k.first k.commute.first_world k.commute.first_event k.commute.first_steps in
+      let inside : k.first < length k.here.activities = slice_get_within k.here.activities k.first a.0 a.1 in
+      let r : GoesOn m w z s x.1 x.0 = swapped_goes m limits ok w reached s x.0 x.1 z k legal in
+      named_append x.0 (names_along us) 0
+      ∙ ap (all_named (names_along us)) (ap (λ ys. all_named ys 0) k.exchanges ∙ stays_named m limits ok k.here k.first k.second k.commute there 0 (omega arith))
+      ∙ main_joined us x.1 t r.last h.1 r.legal
 
-abbrev pub by_taker : ℕ → Entry → Bool
-by_taker a x = x.0 == a
+  -- main keeps its number
+  pub main_stays : (s t : List ℕ) (z : World) (member : AreOneClass m w s t) → run m s w ≡ Through z → name_in member 0 ≡ 0
+  main_stays s t z member legal = main_joined member.between s t z member.joined legal
 
-abbrev pub state_in : Entry → State
-state_in x = x.2
+-- ---- by events alone
 
-abbrev pub states_by : ModuleValue → List ℕ → World → ℕ → List State
-states_by m list w a = map state_in (filter (by_taker a) (entries m list w))
+moments_are : (m : ModuleValue) (list : List ℕ) (w : World) (a : ℕ) → moments m list w a ≡ map (λ (d : Deed). d.0) (deeds m list w a)
+moments_are m list w a = ap (map (λ (p : ℕ × Event). p.1)) (events_filtered (λ x. x.0 == a) m list w) ∙ by (filter (by_taker a) (entries m list w))
+  where
+    by : (es : List Entry) → map (λ (p : ℕ × Event). p.1) (map event_in es) ≡ map (λ (d : Deed). d.0) (map deed_in es)
+    by [] = refl
+    by (x ∷ es) = ap (λ l. x.1.0 ∷ l) (by es)
 
-pub never_one : (m : ModuleValue) (w : World) (s : List ℕ) (d : ℕ) → NeverCrosses (by_taker d) m w s
-never_one m w s d v met a b c h g = c.differ (eqb-true b d g ∙ sym (eqb-true a d h))
-
-pub never_makes : (m : ModuleValue) (w : World) (s : List ℕ) → NeverCrosses (by_event is_make) m w s
-never_makes m w s v met a b c = c.makes
-
-pub never_starts : (m : ModuleValue) (w : World) (s : List ℕ) → NeverCrosses (by_event is_start) m w s
-never_starts m w s v met a b c = c.starts
-
-pub never_two : (test : Event → Bool) (m : ModuleValue) (w : World) (s : List ℕ) → HasNeverTwo test m w s → NeverCrosses (by_event test) m w s
-never_two test m w s never v met a b c = never v met a b c.differ c.first_world c.second_world c.first_event c.second_event c.first_steps c.second_steps
+events_named : (xs : List Exchange) (ds : List Deed) → map (λ (d : Deed). d.0) (map (deed_named xs) ds) ≡ map (λ (d : Deed). d.0) ds
+events_named xs [] = refl
+events_named xs (d ∷ ds) = ap (λ l. d.0 ∷ l) (events_named xs ds)
 
 abbrev seen_of : List (ℕ × Event) → List (ℕ × Event)
 seen_of es = filter (λ x. not (is_local x.1)) es
@@ -168,29 +296,33 @@ prints_alone (x ∷ es) = by x.1 (prints_alone es)
     by event.Local h = h
     by _ h = h
 
-module _ (m : ModuleValue) (limits : IsWithinLimits m) (ok : IsAccepted m) (w z : World) (reached : IsReached m w) (s t : List ℕ) (h : AreOneClass m w s t) (legal : run m s w ≡ Through z) where
-  -- events that pass, and how activities stand as they take their steps
-  pub same_events : (p : ℕ × Event → Bool) → NeverCrosses (λ x. p (event_in x)) m w s → filter p (events m s w) ≡ filter p (events m t w)
-  same_events p never =
-      events_filtered p m s w ∙ ap (map event_in) (class_goes m limits ok (λ x. p (event_in x)) w reached s t z h legal never).same ∙ sym (events_filtered p m t w)
+-- and not by who prints
+numbers_are : (es : List Entry) → numbers_of (map event_in es) ≡ filter_map number_printed (map only_event es)
+numbers_are [] = refl
+numbers_are (x ∷ es) = ap (cons_option (number_printed x.1.0)) (numbers_are es)
 
-  pub same_states : (a : ℕ) → states_by m s w a ≡ states_by m t w a
-  same_states a = ap (map state_in) (class_goes m limits ok (by_taker a) w reached s t z h legal (never_one m w s a)).same
+printed_are : (m : ModuleValue) (list : List ℕ) (w : World) → printed m list w ≡ filter_map number_printed (map only_event (filter (by_event is_print) (entries m list w)))
+printed_are m list w =
+    prints_alone (events m list w) ∙ ap numbers_of (events_filtered (λ x. is_print x.1) m list w) ∙ numbers_are (filter (by_event is_print) (entries m list w))
 
-  pub class_as_well : GoesAsWell m w s t z
-  class_as_well =
-      let g : GoesOn (by_event is_make) m w z s t = class_goes m limits ok (by_event is_make) w reached s t z h legal (never_makes m w s) in
-      record {
-        last = g.last;
-        legal = g.legal;
-        alike = g.alike;
-        same = record {
-          each = λ a. ap (map (λ (x : ℕ × Event). x.1)) (same_events (λ x. x.0 == a) (never_one m w s a));
-          made = ap (map (λ (x : ℕ × Event). x.0)) (same_events (λ x. is_make x.1) (never_makes m w s));
-          started = ap (map (λ (x : ℕ × Event). x.0)) (same_events (λ x. is_start x.1) (never_starts m w s));
-        };
-      }
+module _ (m : ModuleValue) (limits : IsWithinLimits m) (ok : IsAccepted m) (w z : World) (reached : IsReached m w)
+    (s t : List ℕ) (member : AreOneClass m w s t) (legal : run m s w ≡ Through z) where
+  goes : GoesOn m w z s t (names_along member.between)
+  goes = class_goes m limits ok w reached s t z member legal
+
+  -- what each activity does
+  pub same_deeds : (a : ℕ) → deeds m t w (name_in member a) ≡ map (deed_named (names_along member.between)) (deeds m s w a)
+  same_deeds a = goes.does a
+
+  pub class_as_well : GoesAsWell m w s t member z
+  class_as_well = record {
+    last = goes.last;
+    legal = goes.legal;
+    alike = goes.alike;
+    same = λ a.
+        moments_are m s w a ∙ sym (events_named (names_along member.between) (deeds m s w a))
+        ∙ ap (map (λ (d : Deed). d.0)) (sym (goes.does a)) ∙ sym (moments_are m t w (name_in member a));
+  }
 
   pub class_prints : HasNeverTwo is_print m w s → printed m s w ≡ printed m t w
-  class_prints never =
-      prints_alone (events m s w) ∙ ap numbers_of (same_events (λ x. is_print x.1) (never_two is_print m w s never)) ∙ sym (prints_alone (events m t w))
+  class_prints never = printed_are m s w ∙ ap (filter_map number_printed) (goes.tells is_print never) ∙ sym (printed_are m t w)

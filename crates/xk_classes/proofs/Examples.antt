@@ -1,7 +1,6 @@
--- Two schedules of one class, edges of a start, of a finish and of a clock, and why a race is looked for in the whole class: by evaluation.
-use Rattle.std.proofs.Common.{◌≡◌, ℕ, zero, suc, pos, ◌==◌, Bool, true, false, not, ◌&&◌, ◌||◌, List, [], ◌∷◌, get_or, refl, subst, arith, inl, inr}
-use Rattle.std.specs.Prelude.{All}
-use Rattle.std.proofs.lemmas.Option.{none-some, same_Some}
+-- Two schedules of one class, two starts in either order, edges of a start, of a finish and of a clock, and why a race is looked for in the whole
+-- class: by evaluation.
+use Rattle.std.proofs.Common.{◌≡◌, ℕ, zero, suc, pos, ◌==◌, Bool, true, false, not, ◌&&◌, ◌||◌, List, [], ◌∷◌, get_or, refl, arith, inl, inr}
 use Rattle.std.proofs.lemmas.List.Elements.{All-cons, All-nil, All-from_recursion}
 use Rattle.xk_types.specs.declared.instr.Instr.TheVariants as instr
 use Rattle.xk_types.specs.declared.world.Event.TheVariants as event
@@ -17,10 +16,11 @@ use Rattle.xk_types.specs.Schedule.{Course, Through, Held, Wronged, run, is_enab
 use Rattle.xk_types.proofs.Examples.Notation.{fresh, main_with, body_with}
 use Rattle.xk_laws.proofs.Examples.AcceptanceTest.{HasFewArguments, accepted_by}
 use Rattle.xk_squares.specs.Conflicts.{reads_next, stores_next}
-use Rattle.xk_classes.specs.Moments.{takers, is_start, printed_by}
+use Rattle.xk_renaming.specs.Names.{OfActivities, all_named}
+use Rattle.xk_classes.specs.Moments.{printed_by}
 use Rattle.xk_classes.specs.Edges.{StepName, IsStart, IsUnderFinish, IsPass, standing_on, phase_of, IsBefore}
-use Rattle.xk_classes.specs.OneRun.{ComeToOne, gets_or_puts, AddsInUnit, AddsAtMost, begins, OnlyMainBegins}
-use Rattle.xk_classes.proofs.OneRunLaw.{adders_free, one_in_order}
+use Rattle.xk_classes.specs.OneRun.{ComeToOne, gets_or_puts, AddsInUnit, AddsAtMost}
+use Rattle.xk_classes.proofs.OneRunLaw.{adders_free, one_every}
 
 -- the world that a run comes to, if it comes through
 abbrev last_of : World → Course → World
@@ -80,17 +80,28 @@ main_last = 0 ∷ 1 ∷ 1 ∷ 1 ∷ 1 ∷ 0 ∷ 0 ∷ 0 ∷ []
 
 -- the law says something of them
 sum_same : ComeToOne sum [] main_first main_last (last sum main_first) (last sum main_last)
-sum_same = one_in_order sum [] sum_limits sum_accepted refl main_first main_last (last sum main_first) (last sum main_last)
+sum_same = one_every sum [] sum_limits sum_accepted refl main_first main_last (last sum main_first) (last sum main_last)
     (record { legal = refl; ended = refl }) (adders_free sum (fresh sum) main_first sum_adds) (record { legal = refl; ended = refl })
-    (record { made = record { rest = []; whole = refl }; started = record { rest = []; whole = refl } })
 
--- main alone starts somebody: so it says that of any two schedules by which all have ended
-sum_main : OnlyMainBegins sum
-sum_main zero u at = subst AreQuiet (same_Some helper u at) (All-from_recursion (λ i. begins i ≡ false) helper.code (refl, (refl, (refl, (refl, tt)))))
-  where
-    AreQuiet : UnitValue → Type 0
-    AreQuiet v = All (λ i. begins i ≡ false) v.code
-sum_main (suc k) u at = absurd (none-some u at)
+-- ---- main and what it starts first each start one more: one prints 7, the other 8
+
+abbrev starters : ModuleValue
+starters = record {
+  shared = [];
+  units = main_with 0 (instr.Spawn 1 [] ∷ instr.Spawn 2 [] ∷ instr.Ret ∷ []) ∷ body_with [] 0 (instr.Spawn 3 [] ∷ instr.Ret ∷ [])
+      ∷ body_with [] 1 (instr.Lit 0 (pos 7) ∷ instr.Print 0 ∷ instr.Ret ∷ []) ∷ body_with [] 1 (instr.Lit 0 (pos 8) ∷ instr.Print 0 ∷ instr.Ret ∷ []) ∷ [];
+}
+
+-- who comes first starts activity 2, and who comes last starts activity 3
+abbrev main_before : List ℕ
+main_before = 0 ∷ 0 ∷ 1 ∷ 2 ∷ 2 ∷ []
+
+abbrev main_after : List ℕ
+main_after = 0 ∷ 1 ∷ 0 ∷ 3 ∷ 3 ∷ []
+
+starters_print : (printed_by starters main_before (fresh starters) 2 ≡ pos 7 ∷ []) × (printed_by starters main_after (fresh starters) 2 ≡ [])
+    × (printed_by starters main_after (fresh starters) (all_named (OfActivities 2 ∷ []) 2) ≡ pos 7 ∷ [])
+starters_print = (refl, refl, refl)
 
 -- ---- a writes a number and ends; b starts c, which reads it
 
@@ -135,10 +146,10 @@ c_first = 0 ∷ 0 ∷ 0 ∷ 1 ∷ 2 ∷ 3 ∷ 3 ∷ 3 ∷ 1 ∷ 1 ∷ 2 ∷ []
 late_along : (conflicts_along late 4 a_first (fresh late) ≡ false) × (conflicts_along late 4 c_first (fresh late) ≡ true)
 late_along = (refl, refl)
 
--- both start the activities in the same order, and all end; what c prints is another number
-late_prints : (takers is_start late a_first (fresh late) ≡ takers is_start late c_first (fresh late)) × (all_ended (last late a_first) ≡ true)
-    × (all_ended (last late c_first) ≡ true) × (printed_by late a_first (fresh late) 3 ≡ pos 5 ∷ []) × (printed_by late c_first (fresh late) 3 ≡ pos 0 ∷ [])
-late_prints = (refl, refl, refl, refl, refl)
+-- in both all end; what c prints is another number
+late_prints : (all_ended (last late a_first) ≡ true) × (all_ended (last late c_first) ≡ true)
+    × (printed_by late a_first (fresh late) 3 ≡ pos 5 ∷ []) × (printed_by late c_first (fresh late) 3 ≡ pos 0 ∷ [])
+late_prints = (refl, refl, refl, refl)
 
 -- ---- what main starts under a finish puts a number, which main gets behind it
 

@@ -1,14 +1,14 @@
 pub mod StepEventLemmas
-pub mod PassEventLemmas
 pub mod StageLemmas
+pub mod ExchangeLemmas
 pub mod InStepLemmas
+pub mod PassEventLemmas
 pub mod SwapLemmas
 pub mod ClassLemmas
 pub mod ClassLaw
 pub mod EdgeLaw
+pub mod OneRunLaw
 pub mod StartEdgeLaw
 pub mod FinishEdgeLaw
 pub mod PassEdgeLaw
-pub mod OneRunLaw
-pub mod BeginningLaw
 pub mod Examples

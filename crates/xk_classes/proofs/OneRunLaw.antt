@@ -16,12 +16,13 @@ use Rattle.xk_types.specs.Schedule.{Through, run, all_ended, number_printed, pri
 use Rattle.xk_laws.proofs.ReachabilityLemmas.{same_through, first_step, opening_reached}
 use Rattle.xk_squares.specs.Conflicts.{reads, puts, next_instruction, AreConflictFree}
 use Rattle.xk_squares.proofs.ExplorationLaw.{nobody_steps}
-use Rattle.xk_classes.specs.Moments.{is_make, is_start, is_print, BeginsInOrder}
-use Rattle.xk_classes.specs.Classes.{AreOneClass, HasNoRace, HasNeverTwo}
+use Rattle.xk_renaming.proofs.NameLaw.{same_cells}
+use Rattle.xk_classes.specs.Moments.{is_print}
+use Rattle.xk_classes.specs.Classes.{AreOneClass, names_along, HasNoRace, HasNeverTwo}
 use Rattle.xk_classes.specs.OneRun.{GoesAsWell, IsBegun, IsWholeRun, ComeToOne, gets_or_puts, AddsInUnit, AddsAtMost}
 use Rattle.xk_classes.proofs.SwapLemmas.{run_first}
-use Rattle.xk_classes.proofs.ClassLemmas.{class_as_well, class_prints}
-use Rattle.xk_classes.proofs.ClassLaw.{in_order, every}
+use Rattle.xk_classes.proofs.ClassLemmas.{main_stays, class_as_well, class_prints}
+use Rattle.xk_classes.proofs.ClassLaw.{every}
 use Rattle.xk_classes.proofs.EdgeLaw.{ordered_free}
 use Rattle.xk_classes.specs.Edges.{StepName, AreSound, AreOrdered}
 
@@ -41,54 +42,43 @@ run_on_ended m (a ∷ t) rest w y z h ended g =
     run_on_ended m t rest x.0 y z x.3 ended (sym (run_first m (t ++ rest) w x.0 a x.1 x.2) ∙ g)
 
 module _ (m : ModuleValue) (args : List ℤ) (limits : IsWithinLimits m) (ok : IsAccepted m) (taken : AreArguments m args) where
-  pub same : (s t : List ℕ) (z : World) → run m s (opening m args) ≡ Through z → AreOneClass m (opening m args) s t → GoesAsWell m (opening m args) s t z
-  same s t z legal h = class_as_well m limits ok (opening m args) z (opening_reached m args taken) s t h legal
+  abbrev w : World
+  w = opening m args
 
-  pub prints : (s t : List ℕ) (z : World) → run m s (opening m args) ≡ Through z → AreOneClass m (opening m args) s t → HasNeverTwo is_print m (opening m args) s
-      → printed m s (opening m args) ≡ printed m t (opening m args)
-  prints s t z legal h never = class_prints m limits ok (opening m args) z (opening_reached m args taken) s t h legal never
+  pub same : (s t : List ℕ) (z : World) → run m s w ≡ Through z → (member : AreOneClass m w s t) → GoesAsWell m w s t member z
+  same s t z legal member = class_as_well m limits ok w z (opening_reached m args taken) s t member legal
 
-  pub begun_in_order : (s t : List ℕ) (z y : World) → IsWholeRun m args s z → HasNoRace m (opening m args) s → run m t (opening m args) ≡ Through y
-      → BeginsInOrder m (opening m args) t s → IsBegun m (opening m args) s t
-  begun_in_order s t z y one free goes order = in_order m limits ok t s (opening m args) y z (opening_reached m args taken) one.legal one.ended free goes order
+  pub prints : (s t : List ℕ) (z : World) → run m s w ≡ Through z → AreOneClass m w s t → HasNeverTwo is_print m w s → printed m s w ≡ printed m t w
+  prints s t z legal member never = class_prints m limits ok w z (opening_reached m args taken) s t member legal never
 
-  pub begun_every : (s t : List ℕ) (z y : World) → IsWholeRun m args s z → HasNoRace m (opening m args) s → HasNeverTwo is_make m (opening m args) s
-      → HasNeverTwo is_start m (opening m args) s → run m t (opening m args) ≡ Through y → IsBegun m (opening m args) s t
-  begun_every s t z y one free made started goes = every m limits ok t s (opening m args) y z (opening_reached m args taken) one.legal one.ended free made started goes
+  pub begun : (s t : List ℕ) (z y : World) → IsWholeRun m args s z → HasNoRace m w s → run m t w ≡ Through y → IsBegun m w s t
+  begun s t z y one free goes = every m limits ok t s w y z (opening_reached m args taken) one.legal one.ended free goes
 
-  pub ordered_run : (s : List ℕ) (z : World) (edges : List (StepName × StepName)) → IsWholeRun m args s z → AreSound m (opening m args) s edges
-      → AreOrdered m (opening m args) s edges → HasNoRace m (opening m args) s
-  ordered_run s z edges one sound ordered = ordered_free m limits ok (opening m args) z (opening_reached m args taken) s one.legal one.ended edges sound ordered
+  pub ordered_run : (s : List ℕ) (z : World) (edges : List (StepName × StepName)) → IsWholeRun m args s z → AreSound m w s edges → AreOrdered m w s edges → HasNoRace m w s
+  ordered_run s z edges one sound ordered = ordered_free m limits ok w z (opening_reached m args taken) s one.legal one.ended edges sound ordered
 
   -- a whole run with which a schedule of a class begins is one of the class
-  whole_member : (s t : List ℕ) (z y : World) → IsWholeRun m args s z → IsWholeRun m args t y → IsBegun m (opening m args) s t → AreOneClass m (opening m args) s t
+  whole_member : (s t : List ℕ) (z y : World) → IsWholeRun m args s z → IsWholeRun m args t y → IsBegun m w s t → AreOneClass m w s t
   whole_member s t z y one other begun =
-      let g : GoesAsWell m (opening m args) s (t ++ begun.rest) z = same s (t ++ begun.rest) z one.legal begun.member in
-      let none : begun.rest ≡ [] = run_on_ended m t begun.rest (opening m args) y g.last other.legal other.ended g.legal in
-      subst (AreOneClass m (opening m args) s) (ap (λ l. t ++ l) none ∙ append-nil t) begun.member
+      let g : GoesAsWell m w s (t ++ begun.rest) begun.member z = same s (t ++ begun.rest) z one.legal begun.member in
+      let none : begun.rest ≡ [] = run_on_ended m t begun.rest w y g.last other.legal other.ended g.legal in
+      subst (AreOneClass m w s) (ap (λ l. t ++ l) none ∙ append-nil t) begun.member
 
-  pub come_to_one : (s t : List ℕ) (z y : World) → IsWholeRun m args s z → IsWholeRun m args t y → AreOneClass m (opening m args) s t → ComeToOne m args s t z y
+  come_to_one : (s t : List ℕ) (z y : World) → IsWholeRun m args s z → IsWholeRun m args t y → AreOneClass m w s t → ComeToOne m args s t z y
   come_to_one s t z y one other member =
-      let g : GoesAsWell m (opening m args) s t z = same s t z one.legal member in
+      let g : GoesAsWell m w s t member z = same s t z one.legal member in
       record {
-        cells = ap (λ (x : World). x.cells) g.alike ∙ ap (λ (x : World). x.cells) (same_through g.last y (sym g.legal ∙ other.legal));
-        prints = λ a. ap (filter_map number_printed) (g.same.each a);
+        names = names_along member.between;
+        main = main_stays m limits ok w (opening_reached m args taken) s t z member one.legal;
+        cells = same_cells (names_along member.between) z g.last g.alike ∙ ap (λ (x : World). x.cells) (same_through g.last y (sym g.legal ∙ other.legal));
+        prints = λ a. ap (filter_map number_printed) (g.same a);
       }
 
-  pub one_in_order : (s t : List ℕ) (z y : World) → IsWholeRun m args s z → HasNoRace m (opening m args) s → IsWholeRun m args t y
-      → BeginsInOrder m (opening m args) t s → ComeToOne m args s t z y
-  one_in_order s t z y one free other order =
-      come_to_one s t z y one other (whole_member s t z y one other (begun_in_order s t z y one free other.legal order))
+  pub one_every : (s t : List ℕ) (z y : World) → IsWholeRun m args s z → HasNoRace m w s → IsWholeRun m args t y → ComeToOne m args s t z y
+  one_every s t z y one free other = come_to_one s t z y one other (whole_member s t z y one other (begun s t z y one free other.legal))
 
-  pub one_every : (s t : List ℕ) (z y : World) → IsWholeRun m args s z → HasNoRace m (opening m args) s → HasNeverTwo is_make m (opening m args) s
-      → HasNeverTwo is_start m (opening m args) s → IsWholeRun m args t y → ComeToOne m args s t z y
-  one_every s t z y one free made started other =
-      come_to_one s t z y one other (whole_member s t z y one other (begun_every s t z y one free made started other.legal))
-
-  pub one_prints : (s t : List ℕ) (z y : World) → IsWholeRun m args s z → HasNoRace m (opening m args) s → HasNeverTwo is_print m (opening m args) s
-      → IsWholeRun m args t y → BeginsInOrder m (opening m args) t s → printed m s (opening m args) ≡ printed m t (opening m args)
-  one_prints s t z y one free never other order =
-      prints s t z one.legal (whole_member s t z y one other (begun_in_order s t z y one free other.legal order)) never
+  pub one_prints : (s t : List ℕ) (z y : World) → IsWholeRun m args s z → HasNoRace m w s → HasNeverTwo is_print m w s → IsWholeRun m args t y → printed m s w ≡ printed m t w
+  one_prints s t z y one free never other = prints s t z one.legal (whole_member s t z y one other (begun s t z y one free other.legal)) never
 
 -- ---- modules that add to shared numbers at most
 

@@ -17,12 +17,17 @@ use Rattle.xk_types.specs.World.{Frame, Activity, Clock, World, standing_of, ins
 use Rattle.xk_types.specs.Step.{onward, left, past, Outcome, Blocked, Wrong, Stepped, ClockUse, OutOfRange, slot_at, with_slots, is_registered, registered_on, number_in, clock_in, cell_in, put_in, writing, arguments_in, no_further, beginning, turning, going, closing, awaits, innermost, calling, called, returning, done, none, all, passed, waits, carried_out, run_at, step_by, step_of, step}
 use Rattle.xk_types.specs.Schedule.{is_step, is_enabled}
 use Rattle.xk_laws.proofs.StepFormLemmas.{finishes_of, spawning_form}
-use Rattle.xk_classes.proofs.StepEventLemmas.{Has}
 
 -- a step with this event doesn't pass
 abbrev is_other : Event → Bool
 is_other event.Passed = false
 is_other _ = true
+
+-- it isn't a step, or its event passes the test
+abbrev Has : (Event → Bool) → Outcome → Type 0
+Has test Blocked = Unit {0}
+Has test (Wrong c) = Unit {0}
+Has test (Stepped u e) = test e ≡ true
 
 -- ---- no step of one that runs does
 

@@ -16,11 +16,12 @@ use Rattle.xk_types.specs.World.{Activity, World, standing_of, instruction_at}
 use Rattle.xk_types.specs.Step.{Outcome, Blocked, Wrong, Stepped, is_pending, innermost, is_under, step}
 use Rattle.xk_types.specs.Schedule.{Through, run, is_enabled}
 use Rattle.xk_squares.specs.Conflicts.{reads, puts, stores, next_instruction}
-use Rattle.xk_classes.specs.Classes.{AreOneClass}
+use Rattle.xk_classes.specs.Classes.{AreOneClass, name_in}
 
 -- ---- steps by name
 
--- A step is named by who takes it, and by how many steps that one took before: so it has the same name in each schedule of a class.
+-- A step is named by who takes it, and by how many steps that one took before: so it has the same name in each schedule of a class, but for the
+-- activity's number there.
 abbrev pub StepName : Type 0
 StepName = ℕ × ℕ
 
@@ -84,8 +85,9 @@ pub record IsBefore (edges : List (StepName × StepName)) (x y : StepName) : Typ
 
 -- Edges are sound if no schedule of the class of s comes to a world where the second step of an edge could be taken and the first one wasn't.
 abbrev pub AreSound : ModuleValue → World → List ℕ → List (StepName × StepName) → Type 0
-AreSound m w s edges = (x y : StepName) → IsEdge edges x y → (before after : List ℕ) (v : World) → AreOneClass m w s (before ++ after) → run m before w ≡ Through v
-    → turns_of y.0 before ≡ y.1 → is_enabled m v y.0 ≡ true → IsTaken before x
+AreSound m w s edges = (x y : StepName) → IsEdge edges x y → (before after : List ℕ) (v : World) (member : AreOneClass m w s (before ++ after))
+    → run m before w ≡ Through v → turns_of (name_in member y.0) before ≡ y.1 → is_enabled m v (name_in member y.0) ≡ true
+    → IsTaken before (name_in member x.0, x.1)
 
 -- of two steps of different activities that conflict on a shared number, one is before the other
 abbrev pub AreOrdered : ModuleValue → World → List ℕ → List (StepName × StepName) → Type 0
@@ -96,6 +98,11 @@ AreOrdered m w s edges = (x y : StepName) → (y.0 ≡ x.0 → ⊥)
 abbrev pub AreOneByOne : (Instr → Bool) → ModuleValue → World → List ℕ → List (StepName × StepName) → Type 0
 AreOneByOne test m w s edges = (x y : StepName) → (y.0 ≡ x.0 → ⊥) → option_map_or test (instruction_of m s w x) false ≡ true
     → option_map_or test (instruction_of m s w y) false ≡ true → IsBefore edges x y ⊎ IsBefore edges y x
+
+-- it prints
+abbrev pub prints : Instr → Bool
+prints (instr.Print x) = true
+prints _ = false
 
 -- step x of the schedule starts an activity, and y is the first one that this takes
 pub record IsStart (m : ModuleValue) (w : World) (s : List ℕ) (x y : StepName) : Type 0 where

@@ -1,27 +1,21 @@
 -- What one run without a race tells of others.
-use Rattle.std.specs.Prelude.{◌≡◌, ℕ, suc, ℤ, Bool, true, false, List, ◌++◌, All, Some, slice_get}
+use Rattle.std.specs.Prelude.{◌≡◌, ℕ, ℤ, Bool, true, false, List, ◌++◌, All}
 use Rattle.xk_types.specs.declared.instr.Instr.{Instr}
 use Rattle.xk_types.specs.declared.instr.Instr.TheVariants as instr
 use Rattle.xk_types.specs.Code.{UnitValue, ModuleValue}
 use Rattle.xk_types.specs.World.{World, opening}
 use Rattle.xk_types.specs.Schedule.{Through, run, all_ended}
-use Rattle.xk_squares.specs.PlainWorlds.{AreAlike}
-use Rattle.xk_classes.specs.Moments.{moments, takers, is_make, is_start, printed_by}
-use Rattle.xk_classes.specs.Classes.{AreOneClass}
+use Rattle.xk_renaming.specs.Names.{Exchange, all_named, AreSameBy}
+use Rattle.xk_classes.specs.Moments.{moments, printed_by}
+use Rattle.xk_classes.specs.Classes.{AreOneClass, names_along, name_in}
 
--- Each activity has the same events in both schedules, in the same order; and clocks are made, and activities started, in the same order.
-pub record AreSameToEach (m : ModuleValue) (w : World) (s t : List ℕ) : Type 0 where
-  pub each : (a : ℕ) → moments m s w a ≡ moments m t w a
-  pub made : takers is_make m s w ≡ takers is_make m t w
-  pub started : takers is_start m s w ≡ takers is_start m t w
-
--- Schedule t, which is of the class of s, is legal; it leads to a world that is like the one to which s leads; and to each activity the two are
--- the same.
-pub record GoesAsWell (m : ModuleValue) (w : World) (s t : List ℕ) (z : World) : Type 0 where
+-- Schedule t, which is of the class of s, is legal; it leads to the world to which s leads, but for names; and each activity has, by its number
+-- there, the same events in the same order.
+pub record GoesAsWell (m : ModuleValue) (w : World) (s t : List ℕ) (member : AreOneClass m w s t) (z : World) : Type 0 where
   pub last : World
   pub legal : run m t w ≡ Through last
-  pub alike : AreAlike z last
-  pub same : AreSameToEach m w s t
+  pub alike : AreSameBy (names_along member.between) z last
+  pub same : (a : ℕ) → moments m s w a ≡ moments m t w (name_in member a)
 
 -- a schedule of the class of s begins with t
 pub record IsBegun (m : ModuleValue) (w : World) (s t : List ℕ) : Type 0 where
@@ -33,10 +27,13 @@ pub record IsWholeRun (m : ModuleValue) (args : List ℤ) (s : List ℕ) (z : Wo
   pub legal : run m s (opening m args) ≡ Through z
   pub ended : all_ended z ≡ true
 
--- two whole runs of a module with these arguments have the same shared numbers at the end, and each activity prints the same in both
+-- Two whole runs of a module with these arguments have the same shared numbers at the end, and each activity, by its number there, prints the
+-- same in both. Numbers are exchanged between neighbours, so that no two become one, and main keeps its own.
 pub record ComeToOne (m : ModuleValue) (args : List ℤ) (s t : List ℕ) (y z : World) : Type 0 where
+  pub names : List Exchange
+  pub main : all_named names 0 ≡ 0
   pub cells : y.cells ≡ z.cells
-  pub prints : (a : ℕ) → printed_by m s (opening m args) a ≡ printed_by m t (opening m args) a
+  pub prints : (a : ℕ) → printed_by m s (opening m args) a ≡ printed_by m t (opening m args) (all_named names a)
 
 -- it reads a shared number, or writes it whatever that was
 abbrev pub gets_or_puts : Instr → Bool
@@ -50,13 +47,3 @@ AddsInUnit u = All (λ i. gets_or_puts i ≡ false) u.code
 
 abbrev pub AddsAtMost : ModuleValue → Type 0
 AddsAtMost m = All AddsInUnit m.units
-
--- it makes a clock, or starts an activity
-abbrev pub begins : Instr → Bool
-begins (instr.Make d) = true
-begins (instr.Spawn t args) = true
-begins _ = false
-
--- No unit but main's, which is the first, makes clocks or starts activities: no method does, and no body.
-abbrev pub OnlyMainBegins : ModuleValue → Type 0
-OnlyMainBegins m = (k : ℕ) (u : UnitValue) → slice_get m.units (suc k) ≡ Some u → All (λ i. begins i ≡ false) u.code

@@ -1,7 +1,5 @@
 -- A program of which one run tells no race, a program that has one, and why main alone has to begin: by evaluation.
-use Rattle.std.proofs.Common.{◌≡◌, ◌∙◌, ℕ, zero, suc, pos, true, false, List, [], ◌∷◌, map, None, is_some, refl, sym, subst, arith}
-use Rattle.std.specs.Prelude.{All}
-use Rattle.std.proofs.lemmas.Option.{none-some, same_Some}
+use Rattle.std.proofs.Common.{◌≡◌, ◌∙◌, ℕ, zero, suc, pos, true, false, List, [], ◌∷◌, map, None, is_some, refl, sym, arith}
 use Rattle.std.proofs.lemmas.List.Elements.{All-cons, All-nil, All-from_recursion}
 use Rattle.xk_types.specs.declared.instr.Instr.TheVariants as instr
 use Rattle.xk_types.specs.declared.world.Entry.{Entry}
@@ -18,7 +16,7 @@ use Rattle.xk_types.proofs.Examples.Notation.{fresh, main_with, body_with}
 use Rattle.xk_laws.proofs.Examples.AcceptanceTest.{HasFewArguments, accepted_by}
 use Rattle.xk_squares.specs.Conflicts.{reads_next, stores_next}
 use Rattle.xk_classes.specs.Moments.{printed_by}
-use Rattle.xk_classes.specs.OneRun.{IsWholeRun, begins, OnlyMainBegins}
+use Rattle.xk_classes.specs.OneRun.{IsWholeRun}
 use Rattle.xk_races.specs.Races.{gap_in, is_race_free, sights_of_run}
 use Rattle.xk_determinacy.proofs.SpeaksForAllLaw.{prints_every}
 
@@ -90,17 +88,6 @@ meeting_limits = record {
       (All-nil IsUnitWithinLimits)));
 }
 
-meeting_main : OnlyMainBegins meeting
-meeting_main zero u at = subst AreQuiet (same_Some clocked u at) (All-from_recursion (λ i. begins i ≡ false) clocked.code (refl, (refl, (refl, (refl, tt)))))
-  where
-    AreQuiet : UnitValue → Type 0
-    AreQuiet v = All (λ i. begins i ≡ false) v.code
-meeting_main (suc zero) u at = subst AreQuiet (same_Some awaited u at) (All-from_recursion (λ i. begins i ≡ false) awaited.code (refl, (refl, (refl, tt))))
-  where
-    AreQuiet : UnitValue → Type 0
-    AreQuiet v = All (λ i. begins i ≡ false) v.code
-meeting_main (suc (suc k)) u at = absurd (none-some u at)
-
 -- one run
 abbrev met : List ℕ
 met = 0 ∷ 0 ∷ 0 ∷ 0 ∷ 2 ∷ 2 ∷ 2 ∷ 0 ∷ 0 ∷ 0 ∷ 0 ∷ 1 ∷ 1 ∷ 1 ∷ 1 ∷ 1 ∷ 0 ∷ 0 ∷ 0 ∷ 0 ∷ []
@@ -128,7 +115,7 @@ met_prints = refl
 -- so every run by which all have ended prints 7 and 5
 meeting_prints : (t : List ℕ) (y : World) → IsWholeRun meeting [] t y → printed meeting t (fresh meeting) ≡ pos 7 ∷ pos 5 ∷ []
 meeting_prints t y other =
-    sym (prints_every meeting [] meeting_limits meeting_accepted refl (log_of met) (last meeting met) met_whole met_free meeting_main met_ordered t y other)
+    sym (prints_every meeting [] meeting_limits meeting_accepted refl (log_of met) (last meeting met) met_whole met_free met_ordered t y other)
     ∙ met_prints
 
 -- ---- main starts one that writes a number, and reads it: a race, whoever comes first

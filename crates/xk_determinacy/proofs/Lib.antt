@@ -11,6 +11,5 @@ pub mod StepDeedLemmas
 pub mod AccessLemmas
 pub mod RaceFreeLaw
 pub mod PrintOrderLaw
-pub mod BeginningOrderLemmas
 pub mod SpeaksForAllLaw
 pub mod Examples

@@ -335,5 +335,5 @@ module _ (m : ModuleValue) (args : List ℤ) (limits : IsWithinLimits m) (ok : I
   -- no two numbers could be printed at once
   pub never_two_prints : all_ended z ≡ true → HasNeverTwo is_print m w s
   never_two_prints over =
-      never_two_ordered m limits ok w z reached s legal over is_print prints (λ v u a e there takes is. print_says m v u a e takes is) all_prints.edges
+      never_two_ordered m limits ok w z reached s legal over is_print prints (λ v u a e takes is. print_says m v u a e takes is) all_prints.edges
       (causes_sound m args limits ok taken s z legal over all_prints.edges all_prints.causes) one_by_one

@@ -16,7 +16,7 @@ use Rattle.xk_types.specs.Schedule.{IsReached}
 use Rattle.xk_laws.proofs.ReachabilityLemmas.{reached_sound}
 use Rattle.xk_squares.specs.Conflicts.{next_instruction}
 use Rattle.xk_squares.proofs.ChangeSquareLemmas.{found_of}
-use Rattle.xk_classes.proofs.StepEventLemmas.{at_advance}
+use Rattle.xk_renaming.proofs.StartEventLemmas.{at_advance}
 use Rattle.xk_classes.proofs.SwapLemmas.{next_of}
 use Rattle.xk_events.specs.Steps.{run_step}
 use Rattle.xk_races.specs.declared.deeds.Deed.{Deed}

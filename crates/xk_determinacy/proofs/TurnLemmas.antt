@@ -13,9 +13,9 @@ use Rattle.xk_laws.proofs.ReachabilityLemmas.{same_through, first_step}
 use Rattle.xk_squares.specs.Conflicts.{next_instruction}
 use Rattle.xk_squares.proofs.ChangeSquareLemmas.{same_step, found_of}
 use Rattle.xk_classes.specs.Edges.{StepName, turns_of, IsTaken, carried_on, carried, carried_by, instruction_of}
-use Rattle.xk_classes.proofs.SwapLemmas.{run_first}
-use Rattle.xk_classes.proofs.EdgeLaw.{turns_on, turns_same, turns_other, run_behind, reached_run}
-use Rattle.xk_classes.proofs.StartEdgeLaw.{grown_run}
+use Rattle.xk_classes.proofs.SwapLemmas.{run_first, reached_run}
+use Rattle.xk_classes.proofs.EdgeLaw.{turns_on, turns_same, turns_other, run_behind}
+use Rattle.xk_classes.proofs.StepEventLemmas.{run_wider}
 use Rattle.xk_events.specs.Steps.{told_on, told}
 use Rattle.xk_races.specs.declared.deeds.Deed.{Deed}
 use Rattle.xk_races.specs.Deeds.{tell_deeds}
@@ -312,7 +312,7 @@ name_inside m s w z x i legal is =
     let t = r.turn in
     let act = found_of m t.here t.act t.there t.e t.takes in
     let here = slice_get_within t.here.activities t.act act.0 act.1 in
-    let grown = grown_run m (t.act ∷ t.after) t.here z
+    let grown = run_wider m (t.act ∷ t.after) t.here z
     (sym (run_behind m t.before (t.act ∷ t.after) w t.here t.leads) ∙ ap (λ l. run m l w) (sym t.whole) ∙ legal) in
     let who = r.who in
     let many = r.many in

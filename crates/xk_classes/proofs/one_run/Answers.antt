@@ -1,9 +1,6 @@
 -- The law, from the lemmas.
-use Rattle.xk_classes.proofs.OneRunLaw.{one_in_order, one_every, one_prints}
+use Rattle.xk_classes.proofs.OneRunLaw.{one_every, one_prints}
 use Rattle.xk_classes.proofs.one_run.Goals as goal
-
-pub returns-clause-in_order : goal.returns-clause-in_order
-returns-clause-in_order c m args s t z y limits ok taken = one_in_order m args limits ok taken s t z y
 
 pub returns-clause-every : goal.returns-clause-every
 returns-clause-every c m args s t z y limits ok taken = one_every m args limits ok taken s t z y

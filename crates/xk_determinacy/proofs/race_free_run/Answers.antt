@@ -1,12 +1,9 @@
 -- The law, from the lemmas.
-use Rattle.xk_determinacy.proofs.SpeaksForAllLaw.{no_race, every, in_order}
+use Rattle.xk_determinacy.proofs.SpeaksForAllLaw.{no_race, every}
 use Rattle.xk_determinacy.proofs.race_free_run.Goals as goal
 
 pub returns-clause-no_race : goal.returns-clause-no_race
 returns-clause-no_race c m args log z limits ok taken one free = no_race m args limits ok taken log z one free
 
 pub returns-clause-every : goal.returns-clause-every
-returns-clause-every c m args log t z y limits ok taken only one free other = every m args limits ok taken log z one free only t y other
-
-pub returns-clause-in_order : goal.returns-clause-in_order
-returns-clause-in_order c m args log t z y limits ok taken one free other order = in_order m args limits ok taken log z one free t y other order
+returns-clause-every c m args log t z y limits ok taken one free other = every m args limits ok taken log z one free t y other

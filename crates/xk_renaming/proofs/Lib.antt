@@ -1,0 +1,17 @@
+pub mod ActivityNameListLemmas
+pub mod ActivityNameWorldLemmas
+pub mod ActivityNameStepLaw
+pub mod ActivityNameRunLaw
+pub mod ActivityNameStartLaw
+pub mod ActivityNameExchangeLaw
+pub mod ActivityNameOrderLaw
+pub mod ActivityNameExamples
+pub mod ClockNameListLemmas
+pub mod ClockNameStepLaw
+pub mod ClockNameRunLaw
+pub mod ClockNameSquareLaw
+pub mod ClockNameExchangeLaw
+pub mod ClockNameExamples
+pub mod StartEventLemmas
+pub mod NameLaw
+pub mod NamelessLemmas

@@ -1,0 +1,3 @@
+pub mod ActivityNames
+pub mod ClockNames
+pub mod Names
