@@ -39,6 +39,9 @@ from telling_outcomes import Answer, Asked, Walk
 PROGRAM = TESTS.parent / "crates/x10clock/out/x10clock"
 CHUNK = 10
 SHOWN = 5
+ORDERS = ("first", "last", "round")
+# What `races` says at its end.
+THIS_RUN, THESE_NUMBERS, THIS_ORDER = "of this run alone", "every schedule prints these numbers", "every schedule prints these numbers in this order"
 # Logs of so many outcomes of a program are looked at.
 LOGS = 8
 ACTIVITIES = range(2, 5)
@@ -150,6 +153,23 @@ class Asker:
             wrong = [*telling_outcomes.held_faults(self.case.walk, asked, told, Answer(status, out))] + ([f"on standard error: {err}"] if err else [])
         yield from (f"outcomes {' '.join(map(str, options))} of {lines}: {what}: {(status, out, err)}" for what in wrong)
 
+    def raced(self, order: str) -> Iterator[str]:
+        """What is wrong with what the races of the run in this order say of all runs."""
+        file, log = self.program.folder / "text", self.program.folder / "run"
+        file.write_bytes(self.case.text.data)
+        _, printed, _ = self.program.call("run", *self.case.text.words(), "--order", order, "--log", log, file)
+        status, out, err = self.program.call("races", *self.case.text.words(), file, log)
+        said, numbers = out.splitlines()[-1], tuple(map(int, printed.rpartition("ended")[0].split()))
+        self.counts[f"races: {said}"] += 1
+        outcomes = self.case.walk.outcomes
+        is_right = {
+            THIS_RUN: status == 6,
+            THESE_NUMBERS: status == 0 and {tuple(sorted(each)) for each in outcomes} == {tuple(sorted(numbers))},
+            THIS_ORDER: status == 0 and outcomes == {numbers},
+        }
+        if err or not is_right.get(said, False):
+            yield f"races of the run in the order {order}, which prints {numbers}: {(status, out, err)}"
+
     def lists(self, rng: random.Random) -> Iterator[str]:
         """What is wrong with answers where outcomes are held against what the program told, and against what it didn't."""
         file = self.program.folder / "text"
@@ -174,6 +194,8 @@ class Asker:
         limit = rng.choice([1, 2, 3, 10, max(1, count - 1), count, count + 1, telling_outcomes.SPARE * self.case.walk.entries + 1])
         yield from self.asked(limit, rng.choice([None, 1, 2, count]))
         yield from self.lists(rng)
+        for order in ORDERS:
+            yield from self.raced(order)
 
 
 def count_case(counts: collections.Counter[str], case: Case) -> None:
