@@ -1,6 +1,6 @@
 -- Words that were read are those that were given.
 use Rattle.std.proofs.Common.{◌≡◌, ℕ, List, Some, subst}
-use Rattle.xk_cli.specs.CommandLine.{Asked, IsRefused, WithOrders, excludes_in, faults_in, job_of, misplaces_in, strays_in}
+use Rattle.xk_cli.specs.CommandLine.{Asked, IsRefused, WithOrders, crowds_in, excludes_in, faults_in, job_of, misplaces_in, strays_in}
 use Rattle.xk_cli.specs.declared.words_fault.WordsFault.{WordsFault}
 use Rattle.x10clock.specs.CommandLine.{AreNoJob, AskForJob}
 
@@ -12,5 +12,5 @@ asked found given job e h =
 
 -- they are no job for this reason
 pub refused : (found given : List (List ℕ)) (f : WordsFault) → found ≡ given
-    → WithOrders (λ names. IsRefused (faults_in names found) (job_of names found) (excludes_in names found) (strays_in names found) (misplaces_in names found) f) → AreNoJob given f
+    → WithOrders (λ names. IsRefused (faults_in names found) (job_of names found) (excludes_in names found) (strays_in names found) (misplaces_in names found) (crowds_in names found) f) → AreNoJob given f
 refused found given f e h = subst (λ words. AreNoJob words f) e h

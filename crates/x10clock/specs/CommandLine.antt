@@ -3,7 +3,7 @@ use Rattle.std.specs.Prelude.{◌≡◌, ◌⊎◌, ℕ, List, Some, codes}
 use Rattle.std.specs.IoError.{error_kind}
 use Rattle.std.specs.declared.io.Error.{Error}
 use Rattle.std.specs.declared.io.ErrorKind.TheVariants as kind
-use Rattle.xk_cli.specs.CommandLine.{Asked, IsRefused, WithOrders, excludes_in, faults_in, job_of, misplaces_in, strays_in}
+use Rattle.xk_cli.specs.CommandLine.{Asked, IsRefused, WithOrders, crowds_in, excludes_in, faults_in, job_of, misplaces_in, strays_in}
 use Rattle.xk_cli.specs.declared.words_fault.WordsFault.{WordsFault}
 use Rattle.xk_cli.specs.declared.words_fault.WordsFault.TheVariants as words
 
@@ -25,7 +25,7 @@ AskForJob given = WithOrders (λ names. (job : Asked) × (job_of names given ≡
 
 -- they are no job, for this reason
 abbrev pub AreNoJob : List (List ℕ) → WordsFault → Type 0
-AreNoJob given f = WithOrders (λ names. IsRefused (faults_in names given) (job_of names given) (excludes_in names given) (strays_in names given) (misplaces_in names given) f)
+AreNoJob given f = WithOrders (λ names. IsRefused (faults_in names given) (job_of names given) (excludes_in names given) (strays_in names given) (misplaces_in names given) (crowds_in names given) f)
 
 -- words that ask for no job are told as that, for a reason that they have, or as want of memory
 abbrev pub AreTold : List (List ℕ) → (WordsFault → Type 0) → Type 0
