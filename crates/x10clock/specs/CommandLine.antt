@@ -29,8 +29,7 @@ AskSomebody given = WithOrders (λ names. (job : Asked) × (job_of names given �
 
 -- they are no job, for this reason
 abbrev pub AreNoJob : List (List ℕ) → WordsFault → Type 0
-AreNoJob given f = WithOrders (λ names.
-    IsRefused (faults_in names given) (job_of names given) (excludes_in names given) (strays_in names given) (misplaces_in names given) (crowds_in names given) f)
+AreNoJob given f = WithOrders (λ names. IsRefused (faults_in names given) (job_of names given) (excludes_in names given) (strays_in names given) (misplaces_in names given) (crowds_in names given) f)
 
 -- words that ask for no job are told as that, for a reason that they have, or as want of memory
 abbrev pub AreTold : List (List ℕ) → (WordsFault → Type 0) → Type 0
