@@ -15,6 +15,7 @@ from dataclasses import dataclass, field
 from typing import BinaryIO
 
 import telling
+import telling_ask
 import telling_explain
 import telling_explain_json
 import telling_listing
@@ -24,6 +25,7 @@ import telling_runs
 import telling_source
 import telling_tally
 from telling import Accepted, Arguments, Refused, Way
+from telling_events import Program
 
 TESTS = pathlib.Path(__file__).resolve().parent.parent
 # A number's digits are read one after another, up to the first that makes it too large.
@@ -42,6 +44,10 @@ SEED_ALONE = "x10clock: --seed goes with --order random"
 RUNS_MISPLACED = "x10clock: --runs goes with --order random, and not with --log"
 LIST_MISPLACED = "x10clock: --expect goes without --log and --pick"
 OVER_FILE = "x10clock: --log would write over FILE"
+OVER_ANSWERS = "x10clock: --log would write over FILE or standard input"
+ASKED_INPUT = "x10clock: --order ask reads standard input, so FILE can't be -"
+# The order that a person is asked for.
+ASK = "ask"
 VERSION = "x10clock 1.0.0\n"
 
 
@@ -79,7 +85,7 @@ class Option:
 
 
 OPTIONS = {
-    "order": Option("--order <ORDER>", names=telling.ORDERS),
+    "order": Option("--order <ORDER>", names=[*telling.ORDERS, ASK]),
     "seed": Option("--seed <SEED>", UNSIGNED),
     "runs": Option("--runs <RUNS>", COUNTS),
     "workers": Option("--workers <N>", WORKERS),
@@ -318,7 +324,7 @@ def help_text(command: str) -> str:
 
 @dataclass(frozen=True)
 class Told:
-    """What a call answers: its status, standard output, and the first line of standard error."""
+    """What a call answers: its status, standard output, and the first line of standard error, or, of a run that is asked for, all of it."""
 
     status: int
     out: str = ""
@@ -396,6 +402,16 @@ def ran(job: Job, judged: Accepted, log: BinaryIO | None) -> Told:
     return Told(0, telling.run(judged.module, way, given).text())
 
 
+def asked(job: Job, data: bytes, judged: Accepted, answers: bytes, log: BinaryIO | None) -> Told:
+    """What a run prints whose order is asked for, and what is asked."""
+    if judged.bounds.steps > TOO_LONG:
+        raise TooLong
+    told = telling_ask.game(Program(data, "module" in job.flags), judged, answers, tuple(job.numbers))
+    if log:
+        log.write(told.log)
+    return Told(told.status, told.out, told.err.removesuffix("\n"))
+
+
 def tallied(job: Job, judged: Accepted) -> Told:
     """How often what is printed in runs by chance."""
     seed, runs, given = int(job.values.get("seed", "0")), int(job.values["runs"]), tuple(job.numbers)
@@ -448,8 +464,8 @@ def first_log(judged: Accepted, arguments: Arguments) -> bytes:
     return telling_log.text_of(telling_log.log_of(judged.module, way, arguments))
 
 
-def answered(job: Job, data: bytes, log_in: BinaryIO | None, log_out: BinaryIO | None) -> Told:
-    """What is said of a program's bytes."""
+def answered(job: Job, data: bytes, given: BinaryIO, log_in: BinaryIO | None, log_out: BinaryIO | None) -> Told:
+    """What is said of a program's bytes, with this standard input."""
     if job.command in ("compile", "listing"):
         return compiled(data) if job.command == "compile" else listed(job, data)
     judged = judge(job, data)
@@ -458,6 +474,8 @@ def answered(job: Job, data: bytes, log_in: BinaryIO | None, log_out: BinaryIO |
         return Told(1, explained(job, data, judged) if job.command == "explain" else "", f"x10clock: {line}")
     if job.command in ("check", "explain"):
         return Told(0, accepted(job, data, judged.bounds.line() + "\n"))
+    if job.values.get("order") == ASK:
+        return asked(job, data, judged, contents(given), log_out)
     if "runs" in job.values:
         return tallied(job, judged)
     if "expect" in job.values:
@@ -472,16 +490,20 @@ def answered(job: Job, data: bytes, log_in: BinaryIO | None, log_out: BinaryIO |
 
 def done(job: Job, given: BinaryIO) -> Told:
     """What a job is answered, with this standard input. The files are those of the folder that the caller is in."""
-    file, log_in, log_out = job.values["FILE"], None, None
+    file, log_in, log_out, is_asked = job.values["FILE"], None, None, job.values.get("order") == ASK
+    if is_asked and file == "-":
+        return Told(2, "", ASKED_INPUT)
     program = given if file == "-" else opened(file, "rb")
     try:
         if {"LOG", "expect"} & {*job.values}:
             log_in = opened(job.values["LOG" if "LOG" in job.values else "expect"], "rb")
         if "log" in job.values:
+            if is_asked and (is_same(job.values["log"], given) or is_same(job.values["log"], program)):
+                return Told(2, "", OVER_ANSWERS)
             if is_same(job.values["log"], program):
                 return Told(2, "", OVER_FILE)
             log_out = opened(job.values["log"], "wb")
-        return answered(job, contents(program), log_in, log_out)
+        return answered(job, contents(program), given, log_in, log_out)
     finally:
         for opened_file in (log_in, log_out, program if file != "-" else None):
             if opened_file:

@@ -1,7 +1,7 @@
 -- An answer on open devices, told where the run's log isn't.
-use Rattle.std.proofs.Common.{◌≡◌, ◌≢◌, ℕ, List, Option, None, inl, inr}
-use Rattle.std.specs.Prelude.{◌⊎◌}
-use Rattle.xk_serve.specs.Answer.{Task}
+use Rattle.std.proofs.Common.{◌≡◌, ◌≢◌, ℕ, Bool, true, false, if◌then◌else◌, List, [], Option, None, Some, inl, inr}
+use Rattle.std.specs.Prelude.{◌⊎◌, IfSome}
+use Rattle.xk_serve.specs.Answer.{Task, reads_more}
 use Rattle.xk_serve.specs.Devices.{Answered, IfKnown, read_of}
 use Rattle.xk_serve.proofs.ReplyLemmas.{of_known}
 use Rattle.xk_serve.proofs.TaskLemmas.{of_each}
@@ -26,3 +26,12 @@ module _ (t : Task) (p l : Option (List ℕ)) (s : ℕ) (out out_new err err_new
   pub not_answered : (s ≡ 4) ⊎ (s ≡ 5) → IfKnown t p l (λ bytes logged. s ≢ 4 → s ≢ 5 → Answered t bytes logged s out out_new err err_new None None ⊎ Told)
   not_answered (inl e) = of_known t p l IsAnswer (λ bytes logged memory device. absurd (memory e))
   not_answered (inr e) = of_known t p l IsAnswer (λ bytes logged memory device. absurd (device e))
+
+-- what holds of what may be read holds where nothing is known of it
+without : (reads : Bool) (known : Option (List ℕ)) (P : List ℕ → Type 0) → IfSome (if reads then known else Some []) P → IfSome (if reads then None else Some []) P
+without true known P h = tt
+without false known P h = h
+
+pub less_known : (t : Task) (program known : Option (List ℕ)) (P : List ℕ → List ℕ → Type 0) → IfKnown t program known P → IfKnown t program None P
+less_known t None known P h = tt
+less_known t (Some bytes) known P h = without (reads_more t.doing) known (P bytes) h

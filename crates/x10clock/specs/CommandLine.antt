@@ -1,9 +1,9 @@
 -- What the program makes of words, and of files that it can't open. This project's own.
-use Rattle.std.specs.Prelude.{◌≡◌, ◌⊎◌, ℕ, List, Some, codes}
+use Rattle.std.specs.Prelude.{◌≡◌, ◌⊎◌, ℕ, List, Some, true, codes}
 use Rattle.std.specs.IoError.{error_kind}
 use Rattle.std.specs.declared.io.Error.{Error}
 use Rattle.std.specs.declared.io.ErrorKind.TheVariants as kind
-use Rattle.xk_cli.specs.CommandLine.{Asked, IsRefused, WithOrders, excludes_in, faults_in, job_of, misplaces_in, strays_in}
+use Rattle.xk_cli.specs.CommandLine.{Asked, IsRefused, WithOrders, crowds_in, excludes_in, faults_in, job_of, misplaces_in, strays_in}
 use Rattle.xk_cli.specs.declared.words_fault.WordsFault.{WordsFault}
 use Rattle.xk_cli.specs.declared.words_fault.WordsFault.TheVariants as words
 
@@ -23,9 +23,13 @@ over_file_line = codes "x10clock: --log would write over FILE\n"
 abbrev pub AskForJob : List (List ℕ) → Type 0
 AskForJob given = WithOrders (λ names. (job : Asked) × (job_of names given ≡ Some job))
 
+-- they ask for a job, and for a person that is asked for the order of its run
+abbrev pub AskSomebody : List (List ℕ) → Type 0
+AskSomebody given = WithOrders (λ names. (job : Asked) × (job_of names given ≡ Some job) × (job.asks ≡ true))
+
 -- they are no job, for this reason
 abbrev pub AreNoJob : List (List ℕ) → WordsFault → Type 0
-AreNoJob given f = WithOrders (λ names. IsRefused (faults_in names given) (job_of names given) (excludes_in names given) (strays_in names given) (misplaces_in names given) f)
+AreNoJob given f = WithOrders (λ names. IsRefused (faults_in names given) (job_of names given) (excludes_in names given) (strays_in names given) (misplaces_in names given) (crowds_in names given) f)
 
 -- words that ask for no job are told as that, for a reason that they have, or as want of memory
 abbrev pub AreTold : List (List ℕ) → (WordsFault → Type 0) → Type 0

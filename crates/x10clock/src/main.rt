@@ -1,7 +1,7 @@
 //! The program: words to a job, files and streams to devices, and the status that serving it answers.
 #![tactic(auto)]
 
-ghost use Rattle.std.specs.Prelude.{◌≡◌, ◌≢◌, ◌⊎◌, false, [], None, map, string_bytes, IfOk};
+ghost use Rattle.std.specs.Prelude.{◌≡◌, ◌≢◌, ◌⊎◌, true, false, [], None, map, string_bytes, IfOk};
 ghost use Rattle.std.specs.Io.KnownBytes.{Appends};
 ghost use Rattle.xk_types.specs.Device.{Rose};
 ghost use Rattle.xk_cli.specs.CommandLine.{texts};
@@ -11,7 +11,7 @@ ghost use Rattle.xk_serve.specs.Lines.{device_line};
 ghost use Rattle.xk_diagnostics.specs.Lines.{memory_line};
 ghost use Rattle.xk_serve.specs.Devices.{Answered, ErrBegins, IfKnown, OutBegins, Reports, Tells, TellsWords};
 ghost use Rattle.xk_serve.specs.declared.fault.Fault.TheVariants as fault;
-ghost use Rattle.x10clock.specs.CommandLine.{AreTold, IsWantOfMemory, no_text_line, over_file_line};
+ghost use Rattle.x10clock.specs.CommandLine.{AreTold, AskSomebody, IsWantOfMemory, no_text_line, over_file_line};
 
 mod files;
 
@@ -24,6 +24,7 @@ use std::sync::Wait;
 use std::thread::Threads;
 use std::{env, fs, io};
 use xk_cli::{Command, Job, WordsFault, read_job, status};
+use xk_dialogue::serve_asked;
 use xk_serve::{Fault, report, serve, tell, tell_words};
 use xk_types::{Counted, Sink, Source};
 
@@ -74,8 +75,10 @@ fn on_words<R: Runtime, O: Sink, E: Sink>(rt: &R, words: &[String], out: &mut O,
         (E.fault_count err.old) (E.fault_count err.new) result)) }
     ensures memory_out { result ≡ status_memory
         → Appends (O.contents out.old) (O.contents out.new) [] }
+    // Where somebody is asked, questions stand before it.
     ensures memory_err { result ≡ status_memory
-        → Appends (E.contents err.old) (E.contents err.new) memory_line }
+        → Appends (E.contents err.old) (E.contents err.new) memory_line
+        ⊎ AskSomebody (map string_bytes words.now) }
     ensures faults { result ≢ status_device
         → (O.fault_count out.new ≡ O.fault_count out.old)
         × (E.fault_count err.new ≡ E.fault_count err.old) }
@@ -84,7 +87,7 @@ fn on_words<R: Runtime, O: Sink, E: Sink>(rt: &R, words: &[String], out: &mut O,
         return tell_words(&WordsFault::OutOfMemory, out, err);
     };
     match read_job(rt.alloc(), &texts) {
-        Ok(job) => on_job(rt, &job, out, err),
+        Ok(job) => on_request(rt, &job, out, err),
         Err(fault) => tell_words(&fault, out, err),
     }
 }
@@ -98,6 +101,28 @@ fn texts_of<'a>(alloc: Global, words: &'a [String]) -> Result<Vec<&'a str>, Allo
         found.push(word.as_str())?;
     }
     Ok(found)
+}
+
+/// Does the job, or asks for the order of its run.
+fn on_request<R: Runtime, O: Sink, E: Sink>(
+    rt: &R,
+    job: &Job<'_>,
+    out: &mut O,
+    err: &mut E,
+) -> u8
+    ensures memory_out { result ≡ status_memory
+        → Appends (O.contents out.old) (O.contents out.new) [] }
+    ensures memory_err { result ≡ status_memory
+        → Appends (E.contents err.old) (E.contents err.new) memory_line
+        ⊎ (job.now.asks ≡ true) }
+    ensures faults { result ≢ status_device
+        → (O.fault_count out.new ≡ O.fault_count out.old)
+        × (E.fault_count err.new ≡ E.fault_count err.old) }
+{
+    if job.asks {
+        return on_asked(rt, job, out, err);
+    }
+    on_job(rt, job, out, err)
 }
 
 /// Opens FILE, and does the job.
@@ -120,6 +145,100 @@ fn on_job<R: Runtime, O: Sink, E: Sink>(rt: &R, job: &Job<'_>, out: &mut O, err:
         Ok(file) => on_program(rt, job, file, out, err),
         Err(e) => not_opened(rt, &e, err),
     }
+}
+
+/// Opens FILE, and plays a run of it whose order is asked for: the answers come from standard input, so FILE is none.
+fn on_asked<R: Runtime, O: Sink, E: Sink>(rt: &R, job: &Job<'_>, out: &mut O, err: &mut E) -> u8
+    ensures memory_out { result ≡ status_memory
+        → Appends (O.contents out.old) (O.contents out.new) [] }
+    ensures faults { result ≢ status_device
+        → (O.fault_count out.new ≡ O.fault_count out.old)
+        × (E.fault_count err.new ≡ E.fault_count err.old) }
+{
+    if job.file == "-" {
+        return tell(
+            "x10clock: --order ask reads standard input, so FILE can't be -\n",
+            status::WORDS,
+            err,
+        );
+    }
+    match fs::open(rt, job.file) {
+        Ok(file) => on_game(rt, job, &mut Counted::new(file), out, err),
+        Err(e) => not_opened(rt, &e, err),
+    }
+}
+
+/// Makes the file of the log that is written, or empties it, where there is to be one, and plays a run of an open program.
+fn on_game<R: Runtime, P: Source, O: Sink, E: Sink>(
+    rt: &R,
+    job: &Job<'_>,
+    program: &mut P,
+    out: &mut O,
+    err: &mut E,
+) -> u8
+    ensures memory_out { result ≡ status_memory
+        → Appends (O.contents out.old) (O.contents out.new) [] }
+    ensures faults { result ≢ status_device
+        → (P.fault_count program.new ≡ P.fault_count program.old)
+        × (O.fault_count out.new ≡ O.fault_count out.old)
+        × (E.fault_count err.new ≡ E.fault_count err.old) }
+{
+    let Some(path) = path_of_log(job.command) else {
+        let mut log_out = Counted::new(io::sink());
+        return play(rt, job, false, program, out, err, &mut log_out);
+    };
+    match log_beside(rt, path, job.file) {
+        Ok(Some(file)) => play(rt, job, true, program, out, err, &mut Counted::new(file)),
+        Ok(None) => tell(
+            "x10clock: --log would write over FILE or standard input\n",
+            status::WORDS,
+            err,
+        ),
+        Err(e) => not_opened(rt, &e, err),
+    }
+}
+
+/// The file of the log that is written, made or emptied; `None`, and nothing is emptied, where that is FILE itself, or what the answers are read from.
+fn log_beside<R: Files>(rt: &R, path: &str, file: &str) -> io::Result<Option<R::File>> {
+    if is_same_file(rt, path, "-")? {
+        return Ok(None);
+    }
+    log_file(rt, path, file)
+}
+
+/// Plays a run of an open program by the answers in standard input.
+fn play<R: AllocGlobal + Input, P: Source, O: Sink, E: Sink, K: Sink>(
+    rt: &R,
+    job: &Job<'_>,
+    keeps_log: bool,
+    program: &mut P,
+    out: &mut O,
+    err: &mut E,
+    log_out: &mut K,
+) -> u8
+    ensures memory_out { result ≡ status_memory
+        → Appends (O.contents out.old) (O.contents out.new) [] }
+    ensures memory_log { result ≡ status_memory
+        → Appends (K.contents log_out.old) (K.contents log_out.new) [] }
+    ensures faults { result ≢ status_device
+        → (P.fault_count program.new ≡ P.fault_count program.old)
+        × (O.fault_count out.new ≡ O.fault_count out.old)
+        × (E.fault_count err.new ≡ E.fault_count err.old)
+        × (K.fault_count log_out.new ≡ K.fault_count log_out.old) }
+{
+    let mut input = Counted::new(rt.reader());
+    let arguments = job.arguments.as_slice();
+    serve_asked(
+        rt.alloc(),
+        job.form,
+        arguments,
+        keeps_log,
+        program,
+        &mut input,
+        out,
+        err,
+        log_out,
+    )
 }
 
 /// Opens the log or the list that is read, where there is one, and does the job on an open program.

@@ -24,6 +24,7 @@ impl Row {
             form: Form::Source,
             file: "-",
             arguments: Vec::new(alloc),
+            asks: false,
         }
     }
 }

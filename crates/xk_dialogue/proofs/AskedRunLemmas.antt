@@ -15,15 +15,8 @@ use Rattle.xk_serve.specs.Bytes.{kept}
 use Rattle.xk_serve.specs.Devices.{Reports}
 use Rattle.xk_serve.specs.Lines.{fault_line, status_of}
 use Rattle.xk_serve.proofs.ReplyLemmas.{appends_none}
-use Rattle.xk_module.specs.declared.fault.ModuleFault.{ModuleFault}
-use Rattle.xk_module.specs.declared.fault.ModuleFault.TheVariants as text
-use Rattle.xk_tree.specs.declared.fault.FrontError.{FrontError}
-use Rattle.xk_tree.specs.declared.fault.FrontError.TheVariants as error
 use Rattle.xk_cli.specs.declared.job.Form.{Form}
-use Rattle.xk_cli.specs.declared.job.Form.TheVariants as forms
-use Rattle.xk_serve.specs.AskedRun.{AnsweredAsked, FailsWhile, GivesNone, IfBoth, IsAskedRun, IsUnfitFor, IsWrittenBy, StandsAgainstAsked, asked_reply, last_line}
-use Rattle.xk_serve.specs.Faults.{of_front, of_text}
-use Rattle.xk_serve.specs.Programs.{IsUnfit, IsUnfitModule}
+use Rattle.xk_dialogue.specs.AskedRun.{AnsweredAsked, FailsWhile, IfBoth, IsAskedRun, IsUnfitFor, IsWrittenBy, StandsAgainstAsked, asked_reply, last_line}
 
 -- ---- what was written
 
@@ -73,6 +66,7 @@ meanwhile i j e g (fault.Grammar n) h = absurd h
 meanwhile i j e g fault.Truncated h = absurd h
 meanwhile i j e g (fault.NotEnabled n) h = absurd h
 meanwhile i j e g fault.NotEnded h = absurd h
+meanwhile i j e g (fault.NoOutcome n) h = absurd h
 
 -- so it is answered by that
 pub fault_answers : (form : Form) (program input : Option (List ℕ)) (bytes : List ℕ) (args : List ℤ) (keeps : Bool) (f : Fault) (i j e g : ℕ)

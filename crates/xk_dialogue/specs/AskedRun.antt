@@ -21,9 +21,9 @@ use Rattle.xk_serve.specs.Faults.{GivesNoModule}
 use Rattle.xk_serve.specs.Programs.{Gives}
 
 -- want of memory is one fault, whoever met it
-abbrev pub of_ask : AskFault → Fault
-of_ask ask.Device = fault.Device
-of_ask ask.OutOfMemory = fault.OutOfMemory
+abbrev pub fault_of : AskFault → Fault
+fault_of ask.Device = fault.Device
+fault_of ask.OutOfMemory = fault.OutOfMemory
 
 -- where the input ends before the run does
 abbrev pub stopped_line : ℕ → List ℕ

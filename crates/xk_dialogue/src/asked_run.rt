@@ -10,20 +10,17 @@ ghost use Rattle.xk_output.specs.Lines.{number_lines};
 ghost use Rattle.xk_cli.specs.Status.{status_device, status_memory};
 ghost use Rattle.xk_ask.specs.Play.{IsPlayed, played_log};
 ghost use Rattle.xk_serve.specs.Answer.{whole_status};
-ghost use Rattle.xk_serve.specs.AskedRun.{AnsweredAsked, FailsWhile, IfBoth, IsAskedRun, IsAskedText, IsUnfitFor, IsWrittenBy, StandsAgainstAsked, last_line, stopped_line};
+ghost use Rattle.xk_dialogue.specs.AskedRun.{AnsweredAsked, FailsWhile, fault_of, IfBoth, IsAskedRun, IsAskedText, IsUnfitFor, IsWrittenBy, StandsAgainstAsked, last_line};
 ghost use Rattle.xk_serve.specs.Bytes.{IsReadToLimit, kept};
 
-use crate::commands::runnable;
-use crate::devices::{read_program, report};
-use crate::fault::Fault;
-use crate::program_loader::{module_by, origins_in};
 use std::alloc::{AllocError, Global};
-use xk_ask::{Played, module_ask, source_ask};
+use xk_ask::{AskFault, Played, module_ask, source_ask};
 use xk_bounds::Verified;
 use xk_cli::{Form, status};
 use xk_diagnostics::ended_line;
 use xk_log::{Device, write_all, write_entries};
 use xk_output::write_numbers;
+use xk_serve::{Fault, module_by, origins_in, read_program, report, runnable};
 use xk_types::{Sink, Source};
 
 /// A run whose order was asked for, and what is printed behind its numbers.
@@ -31,6 +28,16 @@ use xk_types::{Sink, Source};
 struct AskedRun {
     played: Played,
     ending: String,
+}
+
+/// Want of memory is one fault, whoever met it.
+fn fault_of(fault: AskFault) -> Fault
+    ensures { result ≡ fault_of fault }
+{
+    match fault {
+        AskFault::Device => Fault::Device,
+        AskFault::OutOfMemory => Fault::OutOfMemory,
+    }
 }
 
 /// The last line of standard output.
@@ -69,11 +76,15 @@ fn played_by<L: Source, E: Sink>(
     match origins_in(alloc, form, bytes)? {
         Some(origins) => {
             let units = origins.units();
-            Ok(source_ask(
-                alloc, bytes, units, verified, arguments, input, err,
-            )?)
+            match source_ask(alloc, bytes, units, verified, arguments, input, err) {
+                Ok(played) => Ok(played),
+                Err(fault) => Err(fault_of(fault)),
+            }
         }
-        None => Ok(module_ask(alloc, verified, arguments, input, err)?),
+        None => match module_ask(alloc, verified, arguments, input, err) {
+            Ok(played) => Ok(played),
+            Err(fault) => Err(fault_of(fault)),
+        },
     }
 }
 

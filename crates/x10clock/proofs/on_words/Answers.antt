@@ -1,6 +1,6 @@
 use Rattle.std.proofs.Common.{◌∙◌, ap, inl, inr}
 use Rattle.xk_cli.specs.CommandLine.{asked_value, texts}
-use Rattle.x10clock.proofs.WordLemmas.{asked, refused}
+use Rattle.x10clock.proofs.WordLemmas.{asked, or_somebody, refused}
 use Rattle.x10clock.proofs.on_words.Goals as goal
 
 pub returns-in-Ok-read_job-clause-told : goal.returns-in-Ok-read_job-clause-told
@@ -11,3 +11,8 @@ pub returns-clause-told : goal.returns-clause-told
 returns-clause-told g c =
     let same = ap texts c.deref.ensures.value ∙ c.in-Ok.ensures.same in
     inr (inl (c.in-Err.fault, refused (texts c.deref.result.now) _ c.in-Err.fault same c.in-Err.ensures.refused, c.tell_words-in-Err.ensures))
+
+pub returns-in-Ok-read_job-clause-memory_err : goal.returns-in-Ok-read_job-clause-memory_err
+returns-in-Ok-read_job-clause-memory_err g c = λ memory.
+    or_somebody _ (texts c.deref.result.now) _ (asked_value c.in-Ok-read_job.job) (ap texts c.deref.ensures.value ∙ c.in-Ok.ensures.same) c.in-Ok-read_job.ensures.job
+    (c.on_request.ensures.memory_err memory)

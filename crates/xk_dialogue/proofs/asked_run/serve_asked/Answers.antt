@@ -1,5 +1,5 @@
-use Rattle.xk_serve.proofs.AskedRunLemmas.{fault_answers, run_answers}
-use Rattle.xk_serve.proofs.asked_run.serve_asked.Goals as goal
+use Rattle.xk_dialogue.proofs.AskedRunLemmas.{fault_answers, run_answers}
+use Rattle.xk_dialogue.proofs.asked_run.serve_asked.Goals as goal
 
 pub returns-in-Ok-asked_of-clause-answered : goal.returns-in-Ok-asked_of-clause-answered
 returns-in-Ok-asked_of-clause-answered g c =

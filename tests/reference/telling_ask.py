@@ -1,0 +1,103 @@
+#!/usr/bin/env python3
+"""A second telling, in Python, of `run --order ask`: a person names who takes the next steps.
+
+    python3 tests/reference/telling_ask.py [--module] FILE [LOG] [--arg=N].. < ANSWERS
+"""
+
+from __future__ import annotations
+
+import pathlib
+import re
+import sys
+from dataclasses import dataclass
+
+import telling
+import telling_log
+import telling_source
+from telling import Accepted, Arguments, Refused
+from telling_events import Program
+from telling_log import Entry, Played
+
+NUMBER = re.compile(rb"[ \t\r]*([0-9]+)[ \t\r]*")
+PROMPT, AGAIN = "who steps?\n", "none of these: who steps?\n"
+# The status where the input ends before the run does.
+EARLY = 6
+
+
+@dataclass(frozen=True)
+class Game:
+    """What comes of answers: the status, standard output, standard error, and the log."""
+
+    status: int
+    out: str
+    err: str
+    log: bytes = b""
+
+
+def named(line: bytes) -> int | None:
+    """The number of 32 bits that a line is."""
+    found = NUMBER.fullmatch(line)
+    return int(found[1]) if found and int(found[1]) < 2**32 else None
+
+
+def able(played: Played) -> list[int]:
+    """Who can step, rising."""
+    return [who for who in range(len(played.world.activities)) if telling.step(played.module, played.world, who) is not None]
+
+
+def question(program: Program, played: Played) -> str:
+    """A line for each that can step, and the prompt; nothing where all have ended."""
+    if played.world.has_ended:
+        return ""
+    lines = []
+    for who in able(played):
+        frame = played.world.activities[who].frames[-1]
+        position = program.position(frame)
+        lines.append(f"act {who} " + (f"at {position}" if position else f"unit {frame.unit} place {frame.place}") + "\n")
+    return "".join(lines) + PROMPT
+
+
+def take_turn(played: Played, who: int) -> None:
+    """The steps of an activity up to one that others see, as far as it can take them."""
+    while played.step(who) and not played.taken[-1].step.event:
+        pass
+
+
+def game(program: Program, judged: Accepted | Refused, data: bytes, arguments: Arguments = ()) -> Game:
+    """The run of a program by the answers in these bytes."""
+    line = telling.refusal("run", judged, arguments)
+    if line:
+        return Game(1, "", f"x10clock: {line}\n")
+    played = Played.opening(judged.module, arguments)
+    told = question(program, played)
+    for answer in data.split(b"\n")[:-1]:
+        if played.world.has_ended:
+            break
+        who = named(answer)
+        if who not in able(played):
+            told += AGAIN
+            continue
+        take_turn(played, who)
+        told += question(program, played)
+    log = telling_log.text_of([Entry(taken.who, 1) for taken in played.taken])
+    if played.world.has_ended:
+        return Game(0, played.output(), told, log)
+    return Game(EARLY, "".join(f"{number}\n" for number in played.printed) + f"stopped steps {played.steps}\n", told, log)
+
+
+def main(words: list[str]) -> int:
+    more, arguments = telling.parted(words)
+    is_module = "--module" in more
+    file, *logs = [word for word in more if word != "--module"]
+    data = pathlib.Path(file).read_bytes()
+    judged = telling.judge(data) if is_module else telling_source.judge(data)
+    told = game(Program(data, is_module), judged, sys.stdin.buffer.read(), arguments)
+    for log in logs:
+        pathlib.Path(log).write_bytes(told.log)
+    sys.stdout.write(told.out)
+    sys.stderr.write(told.err)
+    return told.status
+
+
+if __name__ == "__main__":
+    sys.exit(main(sys.argv[1:]))
