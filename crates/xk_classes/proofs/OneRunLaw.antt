@@ -71,7 +71,9 @@ module _ (m : ModuleValue) (args : List ℤ) (limits : IsWithinLimits m) (ok : I
         names = names_along member.between;
         main = main_stays m limits ok w (opening_reached m args taken) s t z member one.legal;
         cells = same_cells (names_along member.between) z g.last g.alike ∙ ap (λ (x : World). x.cells) (same_through g.last y (sym g.legal ∙ other.legal));
+        starts = λ a. g.starts a;
         prints = λ a. ap (filter_map number_printed) (g.same a);
+        numbers = λ n. g.numbers n;
       }
 
   pub one_every : (s t : List ℕ) (z y : World) → IsWholeRun m args s z → HasNoRace m w s → IsWholeRun m args t y → ComeToOne m args s t z y
