@@ -309,30 +309,34 @@ started_are m (b ∷ list) w a = by (step m w b) (λ u e h. grown m w u b e h) (
     n : ℕ
     n = length w.activities
 
+    -- from another world on: what activity a starts, if the next one that is started has number k; its entries; and all starts
     after : World → ℕ → List ℕ
     after u k = positions_of a k (starters m list u)
 
-    -- behind the step the next number is that of the world there
-    behind_step : (u : World) (k : ℕ) → length u.activities ≡ k → started_by m list u a ≡ children (deeds m list u a) → after u k ≡ children (deeds m list u a)
-    behind_step u k many rest = ap (after u) (sym many) ∙ rest
+    own : World → List Entry
+    own u = filter (by_taker a) (entries m list u)
 
-    starts : (u : World) (e : Event) (r : Bool) → after u (suc n) ≡ children (deeds m list u a)
-        → cond r (n ∷ after u (suc n)) (after u (suc n))
-        ≡ children (map deed_in (cond r ((b, (e, stand_of w b, Some n)) ∷ filter (by_taker a) (entries m list u)) (filter (by_taker a) (entries m list u))))
-    starts u e true h = ap (λ l. n ∷ l) h
-    starts u e false h = h
+    begun : World → List (ℕ × Event)
+    begun u = filter (λ (p : ℕ × Event). is_start p.1) (events m list u)
 
-    starts_none : (u : World) (e : Event) (r : Bool) → after u n ≡ children (deeds m list u a)
-        → after u n ≡ children (map deed_in (cond r ((b, (e, stand_of w b, None)) ∷ filter (by_taker a) (entries m list u)) (filter (by_taker a) (entries m list u))))
-    starts_none u e true h = h
-    starts_none u e false h = h
+    goes_on : (u : World) (k : ℕ) → length u.activities ≡ k → started_by m list u a ≡ children (deeds m list u a) → after u k ≡ children (map deed_in (own u))
+    goes_on u k many rest = ap (after u) (sym many) ∙ rest
+
+    one_more : (u : World) (e : Event) (r : Bool) → after u (suc n) ≡ children (map deed_in (own u))
+        → cond r (n ∷ after u (suc n)) (after u (suc n)) ≡ children (map deed_in (cond r ((b, (e, stand_of w b, Some n)) ∷ own u) (own u)))
+    one_more u e true h = ap (λ l. n ∷ l) h
+    one_more u e false h = h
+
+    no_more : (u : World) (e : Event) (r : Bool) → after u n ≡ children (map deed_in (own u))
+        → after u n ≡ children (map deed_in (cond r ((b, (e, stand_of w b, None)) ∷ own u) (own u)))
+    no_more u e true h = h
+    no_more u e false h = h
 
     by_start : (u : World) (e : Event) (q : Bool) → length u.activities ≡ n + cond q 1 0 → started_by m list u a ≡ children (deeds m list u a)
-        → positions_of a n (map (λ (p : ℕ × Event). p.0) (cond q ((b, e) ∷ filter (λ (p : ℕ × Event). is_start p.1) (events m list u))
-        (filter (λ (p : ℕ × Event). is_start p.1) (events m list u))))
-        ≡ children (map deed_in (cond (b == a) ((b, (e, stand_of w b, cond q (Some n) None)) ∷ filter (by_taker a) (entries m list u)) (filter (by_taker a) (entries m list u))))
-    by_start u e true many rest = starts u e (b == a) (behind_step u (suc n) (omega arith) rest)
-    by_start u e false many rest = starts_none u e (b == a) (behind_step u n (omega arith) rest)
+        → positions_of a n (map (λ (p : ℕ × Event). p.0) (cond q ((b, e) ∷ begun u) (begun u)))
+        ≡ children (map deed_in (cond (b == a) ((b, (e, stand_of w b, cond q (Some n) None)) ∷ own u) (own u)))
+    by_start u e true many rest = one_more u e (b == a) (goes_on u (suc n) (omega arith) rest)
+    by_start u e false many rest = no_more u e (b == a) (goes_on u n (omega arith) rest)
 
     by : (o : Outcome) → ((u : World) (e : Event) → o ≡ Stepped u e → length u.activities ≡ n + cond (is_start e) 1 0)
         → ((u : World) → started_by m list u a ≡ children (deeds m list u a))

@@ -21,7 +21,8 @@ abbrev numbers_of : List (ℕ × Event) → List ℤ
 numbers_of es = filter_map (λ x. number_printed x.1) es
 
 -- what prints nothing may be left out
-left_out : (p : Event → Bool) → ((e : Event) → p e ≡ false → number_printed e ≡ None) → (es : List (ℕ × Event)) → numbers_of (filter (λ x. p x.1) es) ≡ numbers_of es
+left_out : (p : Event → Bool) → ((e : Event) → p e ≡ false → number_printed e ≡ None) → (es : List (ℕ × Event))
+    → numbers_of (filter (λ x. p x.1) es) ≡ numbers_of es
 left_out p silent [] = refl
 left_out p silent (x ∷ es) = by (p x.1) (silent x.1) (left_out p silent es)
   where

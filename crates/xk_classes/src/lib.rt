@@ -36,8 +36,8 @@ pub fn class_law()
 {}
 
 /// One run without a race speaks for all others: whoever took the steps by which all have ended, the shared numbers are the same at the
-/// end, each activity, by its number there, starts the same activities and prints the same, and each number is printed as often. So who
-/// an activity is tells its path from main: who started it, and as which. In which order clocks were made and activities started doesn't
+/// end, each activity, by its number there, starts the same activities and prints the same, and each number is printed as often. So an
+/// activity is known by its path from main: who started it, and as which. In which order clocks were made and activities started doesn't
 /// matter. Where no two numbers could be printed at once either, the printed list is the same.
 pub fn one_run()
     ensures every { (m : ModuleValue) (args : List ℤ) (s t : List ℕ) (z y : World)
