@@ -1,5 +1,5 @@
 -- What a run looks like to one who doesn't see in which order steps of different activities were taken.
-use Rattle.std.specs.Prelude.{ℕ, ℤ, suc, ◌==◌, Bool, true, false, List, [], ◌∷◌, length, map, filter, count_by, if◌then◌else◌}
+use Rattle.std.specs.Prelude.{ℕ, ℤ, suc, ◌==◌, Bool, true, false, List, [], ◌∷◌, length, map, filter, slice_get, Option, Some, option_map, option_and_then, count_by, if◌then◌else◌}
 use Rattle.std.specs.List.{filter_map}
 use Rattle.std.specs.Ordering.{int_eq}
 use Rattle.xk_types.specs.declared.world.Event.{Event}
@@ -43,3 +43,13 @@ positions_of a n (b ∷ bs) = if b == a then n ∷ positions_of a (suc n) bs els
 -- that there are, and each further one the next.
 abbrev pub started_by : ModuleValue → List ℕ → World → ℕ → List ℕ
 started_by m list w a = positions_of a (length w.activities) (starters m list w)
+
+-- the activity to which a path leads from activity a, if it leads to one: its first number says which one of those that a starts, counted from 0,
+-- and the rest of it leads on from there
+abbrev pub led_to : ModuleValue → List ℕ → World → ℕ → List ℕ → Option ℕ
+led_to m list w a [] = Some a
+led_to m list w a (k ∷ path) = option_and_then (λ b. led_to m list w b path) (slice_get (started_by m list w a) k)
+
+-- the numbers that the activity prints to which the path leads from main
+abbrev pub printed_at : ModuleValue → List ℕ → World → List ℕ → Option (List ℤ)
+printed_at m list w path = option_map (printed_by m list w) (led_to m list w 0 path)

@@ -6,7 +6,7 @@ use Rattle.xk_types.specs.Code.{UnitValue, ModuleValue}
 use Rattle.xk_types.specs.World.{World, opening}
 use Rattle.xk_types.specs.Schedule.{Through, run, all_ended}
 use Rattle.xk_renaming.specs.Names.{Exchange, all_named, AreSameBy}
-use Rattle.xk_classes.specs.Moments.{moments, printed_by, times_printed, started_by}
+use Rattle.xk_classes.specs.Moments.{moments, printed_by, printed_at, times_printed, started_by}
 use Rattle.xk_classes.specs.Classes.{AreOneClass, names_along, name_in}
 
 -- Schedule t, which is of the class of s, is legal; it leads to the world to which s leads, but for names; and each activity has, by its number
@@ -31,14 +31,15 @@ pub record IsWholeRun (m : ModuleValue) (args : List ℤ) (s : List ℕ) (z : Wo
 
 -- Two whole runs of a module with these arguments have the same shared numbers at the end, and each activity, by its number there, prints the
 -- same in both. Numbers are exchanged between neighbours, so that no two become one; main keeps its own; and what an activity starts first, second
--- and so on in one run it starts so in the other. So an activity is known by its path from main: who started it, and as which. Whoever prints it,
--- and when, each number is printed as often in both.
+-- and so on in one run it starts so in the other. So an activity is known by its path from main, who started it and as which: by that it prints the
+-- same. Whoever prints it, and when, each number is printed as often in both.
 pub record ComeToOne (m : ModuleValue) (args : List ℤ) (s t : List ℕ) (y z : World) : Type 0 where
   pub names : List Exchange
   pub main : all_named names 0 ≡ 0
   pub cells : y.cells ≡ z.cells
   pub starts : (a : ℕ) → map (all_named names) (started_by m s (opening m args) a) ≡ started_by m t (opening m args) (all_named names a)
   pub prints : (a : ℕ) → printed_by m s (opening m args) a ≡ printed_by m t (opening m args) (all_named names a)
+  pub paths : (path : List ℕ) → printed_at m s (opening m args) path ≡ printed_at m t (opening m args) path
   pub numbers : (n : ℤ) → times_printed m s (opening m args) n ≡ times_printed m t (opening m args) n
 
 -- it reads a shared number, or writes it whatever that was
