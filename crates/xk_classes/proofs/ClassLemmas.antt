@@ -1,24 +1,26 @@
 -- Classes: a step put in front, one class after another, and what all schedules of a class have in common.
-use Rattle.std.proofs.Common.{◌≡◌, ℕ, ℤ, ◌==◌, Bool, true, false, true≢false, cond, List, [], ◌∷◌, ◌++◌, map, Option, Some, None, option_map, refl, sym, ap, ◌∙◌, subst, eqb-true, ◌<◌, length, arith}
-use Rattle.std.specs.Prelude.{filter, not}
+use Rattle.std.proofs.Common.{◌≡◌, ℕ, suc, ◌+◌, ℤ, ◌==◌, Bool, true, false, true≢false, cond, List, [], ◌∷◌, ◌++◌, map, Option, Some, None, option_map, refl, sym, ap, ◌∙◌, subst, eqb-true, ◌<◌, length, arith}
+use Rattle.std.specs.Prelude.{filter, count_by}
 use Rattle.std.specs.List.{filter_map, cons_option}
+use Rattle.std.specs.Ordering.{int_eq}
 use Rattle.std.proofs.lemmas.List.Elements.{filter-append}
 use Rattle.std.proofs.lemmas.Option.{slice_get_within}
 use Rattle.xk_types.specs.declared.world.Event.{Event}
-use Rattle.xk_types.specs.declared.world.Event.TheVariants as event
 use Rattle.xk_types.specs.Acceptance.{IsAccepted}
 use Rattle.xk_types.specs.Code.{ModuleValue, IsWithinLimits}
 use Rattle.xk_types.specs.World.{World}
-use Rattle.xk_types.specs.Step.{Stepped, step}
-use Rattle.xk_types.specs.Schedule.{Through, run, IsReached, is_local, events, number_printed, printed}
+use Rattle.xk_types.specs.Step.{Outcome, Blocked, Wrong, Stepped, step}
+use Rattle.xk_types.specs.Schedule.{Through, run, IsReached, events, events_on, number_printed, printed}
 use Rattle.xk_squares.proofs.ChangeSquareLemmas.{found_of}
 use Rattle.xk_renaming.specs.Names.{Exchange, all_named, AreSameBy, exchange_of}
 use Rattle.xk_renaming.proofs.NameLaw.{same_itself, same_joined, named_same, named_append, clocks_unnamed, clock_append}
-use Rattle.xk_classes.specs.Moments.{is_print, moments}
+use Rattle.xk_classes.specs.Moments.{is_print, moments, is_start, starters, positions_of, started_by}
 use Rattle.xk_classes.specs.Classes.{DoCommute, AreSwapped, Turn, AreJoined, AreOneClass, names_along, name_in, IsMet, HasNeverTwo}
 use Rattle.xk_classes.specs.OneRun.{GoesAsWell}
-use Rattle.xk_classes.proofs.SwapLemmas.{Deed, Entry, deed_named, entry_named, entry_of, entries, event_in, events_filtered, run_first, reached_run, IsExchange, exchange}
+use Rattle.xk_classes.proofs.SwapLemmas.{Deed, Entry, deed_named, entry_named, stand_of, entry_of, entries, entries_on, event_in, events_filtered, run_first, reached_run, IsExchange, exchange}
 use Rattle.xk_classes.proofs.ExchangeLemmas.{stays_named}
+use Rattle.xk_classes.proofs.PrintLemmas.{numbers_in, printed_are, printed_alone, numbers_named, crossed_count}
+use Rattle.xk_classes.proofs.StepEventLemmas.{grown}
 
 -- ---- one class after another
 
@@ -164,13 +166,14 @@ crossed p front back x y h =
 
 -- ---- what all schedules of a class have in common
 
--- by these exchanges the other schedule is legal, leads to a world that is the same, each activity does the same in it, and where no two steps with
--- such events could be taken at once, they are taken in one order
+-- by these exchanges the other schedule is legal, leads to a world that is the same, each activity does the same in it, as many numbers that pass are
+-- printed, and where no two steps with such events could be taken at once, they are taken in one order
 pub record GoesOn (m : ModuleValue) (w z : World) (s t : List ℕ) (xs : List Exchange) : Type 0 where
   pub last : World
   pub legal : run m t w ≡ Through last
   pub alike : AreSameBy xs z last
   pub does : (a : ℕ) → deeds m t w (all_named xs a) ≡ map (deed_named xs) (deeds m s w a)
+  pub counts : (p : ℤ → Bool) → count_by p (numbers_in (entries m s w)) ≡ count_by p (numbers_in (entries m t w))
   pub tells : (test : Event → Bool) → HasNeverTwo test m w s
       → map only_event (filter (by_event test) (entries m s w)) ≡ map only_event (filter (by_event test) (entries m t w))
 
@@ -186,6 +189,10 @@ module _ (m : ModuleValue) (limits : IsWithinLimits m) (ok : IsAccepted m) (w : 
         ∙ named_deeds names a (r.front ++ y ∷ x ∷ r.back)
         ∙ ap (λ es. map (deed_named names) (map deed_in es)) (crossed (by_taker a) r.front r.back y x (λ h g. c.differ (eqb-true k.second a h ∙ sym (eqb-true k.first a g))))
         ∙ sym (ap (λ l. map (deed_named names) (deeds m l w a)) k.this ∙ ap (λ es. map (deed_named names) (map deed_in (filter (by_taker a) es))) r.this);
+    counts = λ p.
+        ap (λ l. count_by p (numbers_in (entries m l w))) k.this ∙ ap (λ es. count_by p (numbers_in es)) r.this
+        ∙ crossed_count p r.front r.back x y ∙ sym (ap (count_by p) (numbers_named names (r.front ++ y ∷ x ∷ r.back)))
+        ∙ sym (ap (λ l. count_by p (numbers_in (entries m l w))) other ∙ ap (λ es. count_by p (numbers_in es)) r.other);
     tells = λ test never.
         ap (λ l. map only_event (filter (by_event test) (entries m l w))) k.this ∙ ap (λ es. map only_event (filter (by_event test) es)) r.this
         ∙ ap (map only_event) (crossed (by_event test) r.front r.back x y
@@ -229,6 +236,7 @@ module _ (m : ModuleValue) (limits : IsWithinLimits m) (ok : IsAccepted m) (w : 
     legal = ap (λ l. run m l w) (sym h) ∙ legal;
     alike = same_itself z;
     does = λ a. ap (λ l. deeds m l w a) (sym h) ∙ sym (deeds_same (deeds m s w a));
+    counts = λ p. ap (λ l. count_by p (numbers_in (entries m l w))) h;
     tells = λ test never. ap (λ l. map only_event (filter (by_event test) (entries m l w))) h;
   }
   joined_goes (x ∷ us) s t z h legal =
@@ -241,6 +249,7 @@ module _ (m : ModuleValue) (limits : IsWithinLimits m) (ok : IsAccepted m) (w : 
         does = λ a.
             ap (deeds m t w) (named_append x.0 (names_along us) a) ∙ rest.does (all_named x.0 a)
             ∙ ap (map (deed_named (names_along us))) (r.does a) ∙ deeds_on x.0 (names_along us) (deeds m s w a);
+        counts = λ p. r.counts p ∙ rest.counts p;
         tells = λ test never. r.tells test never ∙ rest.tells test (λ v g. never v (met_by m w v s x.1 (class_swap m w s x.0 x.1 h.0) g));
       }
 
@@ -279,31 +288,63 @@ events_named : (xs : List Exchange) (ds : List Deed) → map (λ (d : Deed). d.0
 events_named xs [] = refl
 events_named xs (d ∷ ds) = ap (λ l. d.0 ∷ l) (events_named xs ds)
 
-abbrev seen_of : List (ℕ × Event) → List (ℕ × Event)
-seen_of es = filter (λ x. not (is_local x.1)) es
+-- the activities that deeds start
+abbrev children : List Deed → List ℕ
+children ds = filter_map (λ d. d.2) ds
 
-abbrev numbers_of : List (ℕ × Event) → List ℤ
-numbers_of es = filter_map (λ x. number_printed x.1) es
-
--- what is printed goes by prints alone
-prints_alone : (es : List (ℕ × Event)) → numbers_of (seen_of es) ≡ numbers_of (filter (λ x. is_print x.1) es)
-prints_alone [] = refl
-prints_alone (x ∷ es) = by x.1 (prints_alone es)
+children_named : (xs : List Exchange) (ds : List Deed) → map (all_named xs) (children ds) ≡ children (map (deed_named xs) ds)
+children_named xs [] = refl
+children_named xs (d ∷ ds) = by d.2 (children_named xs ds)
   where
-    by : (e : Event) → numbers_of (seen_of es) ≡ numbers_of (filter (λ x. is_print x.1) es)
-        → numbers_of (seen_of ((x.0, e) ∷ es)) ≡ numbers_of (filter (λ y. is_print y.1) ((x.0, e) ∷ es))
-    by (event.Printed n) h = ap (λ ns. n ∷ ns) h
-    by event.Local h = h
-    by _ h = h
+    by : (o : Option ℕ) → map (all_named xs) (children ds) ≡ children (map (deed_named xs) ds)
+        → map (all_named xs) (cons_option o (children ds)) ≡ cons_option (option_map (all_named xs) o) (children (map (deed_named xs) ds))
+    by None h = h
+    by (Some n) h = ap (λ l. all_named xs n ∷ l) h
 
--- and not by who prints
-numbers_are : (es : List Entry) → numbers_of (map event_in es) ≡ filter_map number_printed (map only_event es)
-numbers_are [] = refl
-numbers_are (x ∷ es) = ap (cons_option (number_printed x.1.0)) (numbers_are es)
+-- an activity starts those that its deeds start
+started_are : (m : ModuleValue) (list : List ℕ) (w : World) (a : ℕ) → started_by m list w a ≡ children (deeds m list w a)
+started_are m [] w a = refl
+started_are m (b ∷ list) w a = by (step m w b) (λ u e h. grown m w u b e h) (λ u. started_are m list u a)
+  where
+    n : ℕ
+    n = length w.activities
 
-printed_are : (m : ModuleValue) (list : List ℕ) (w : World) → printed m list w ≡ filter_map number_printed (map only_event (filter (by_event is_print) (entries m list w)))
-printed_are m list w =
-    prints_alone (events m list w) ∙ ap numbers_of (events_filtered (λ x. is_print x.1) m list w) ∙ numbers_are (filter (by_event is_print) (entries m list w))
+    -- from another world on: what activity a starts, if the next one that is started has number k; its entries; and all starts
+    after : World → ℕ → List ℕ
+    after u k = positions_of a k (starters m list u)
+
+    own : World → List Entry
+    own u = filter (by_taker a) (entries m list u)
+
+    begun : World → List (ℕ × Event)
+    begun u = filter (λ (p : ℕ × Event). is_start p.1) (events m list u)
+
+    goes_on : (u : World) (k : ℕ) → length u.activities ≡ k → started_by m list u a ≡ children (deeds m list u a) → after u k ≡ children (map deed_in (own u))
+    goes_on u k many rest = ap (after u) (sym many) ∙ rest
+
+    one_more : (u : World) (e : Event) (r : Bool) → after u (suc n) ≡ children (map deed_in (own u))
+        → cond r (n ∷ after u (suc n)) (after u (suc n)) ≡ children (map deed_in (cond r ((b, (e, stand_of w b, Some n)) ∷ own u) (own u)))
+    one_more u e true h = ap (λ l. n ∷ l) h
+    one_more u e false h = h
+
+    no_more : (u : World) (e : Event) (r : Bool) → after u n ≡ children (map deed_in (own u))
+        → after u n ≡ children (map deed_in (cond r ((b, (e, stand_of w b, None)) ∷ own u) (own u)))
+    no_more u e true h = h
+    no_more u e false h = h
+
+    by_start : (u : World) (e : Event) (q : Bool) → length u.activities ≡ n + cond q 1 0 → started_by m list u a ≡ children (deeds m list u a)
+        → positions_of a n (map (λ (p : ℕ × Event). p.0) (cond q ((b, e) ∷ begun u) (begun u)))
+        ≡ children (map deed_in (cond (b == a) ((b, (e, stand_of w b, cond q (Some n) None)) ∷ own u) (own u)))
+    by_start u e true many rest = one_more u e (b == a) (goes_on u (suc n) (omega arith) rest)
+    by_start u e false many rest = no_more u e (b == a) (goes_on u n (omega arith) rest)
+
+    by : (o : Outcome) → ((u : World) (e : Event) → o ≡ Stepped u e → length u.activities ≡ n + cond (is_start e) 1 0)
+        → ((u : World) → started_by m list u a ≡ children (deeds m list u a))
+        → positions_of a n (map (λ (p : ℕ × Event). p.0) (filter (λ (p : ℕ × Event). is_start p.1) (events_on b o (events m list))))
+        ≡ children (map deed_in (filter (by_taker a) (entries_on b w o (entries m list))))
+    by Blocked many rest = refl
+    by (Wrong c) many rest = refl
+    by (Stepped u e) many rest = by_start u e (is_start e) (many u e refl) (rest u)
 
 module _ (m : ModuleValue) (limits : IsWithinLimits m) (ok : IsAccepted m) (w z : World) (reached : IsReached m w)
     (s t : List ℕ) (member : AreOneClass m w s t) (legal : run m s w ≡ Through z) where
@@ -322,7 +363,17 @@ module _ (m : ModuleValue) (limits : IsWithinLimits m) (ok : IsAccepted m) (w z 
     same = λ a.
         moments_are m s w a ∙ sym (events_named (names_along member.between) (deeds m s w a))
         ∙ ap (map (λ (d : Deed). d.0)) (sym (goes.does a)) ∙ sym (moments_are m t w (name_in member a));
+    starts = λ a.
+        ap (map (name_in member)) (started_are m s w a) ∙ children_named (names_along member.between) (deeds m s w a)
+        ∙ ap children (sym (goes.does a)) ∙ sym (started_are m t w (name_in member a));
+    numbers = λ n. ap (count_by (int_eq n)) (printed_are m s w) ∙ goes.counts (int_eq n) ∙ sym (ap (count_by (int_eq n)) (printed_are m t w));
   }
 
   pub class_prints : HasNeverTwo is_print m w s → printed m s w ≡ printed m t w
-  class_prints never = printed_are m s w ∙ ap (filter_map number_printed) (goes.tells is_print never) ∙ sym (printed_are m t w)
+  class_prints never =
+      printed_alone m s w ∙ by_events (filter (by_event is_print) (entries m s w)) ∙ ap (filter_map number_printed) (goes.tells is_print never)
+      ∙ sym (printed_alone m t w ∙ by_events (filter (by_event is_print) (entries m t w)))
+    where
+      by_events : (es : List Entry) → numbers_in es ≡ filter_map number_printed (map only_event es)
+      by_events [] = refl
+      by_events (x ∷ es) = ap (cons_option (number_printed x.1.0)) (by_events es)

@@ -1,6 +1,6 @@
 -- Two schedules of one class, two starts in either order, edges of a start, of a finish and of a clock, and why a race is looked for in the whole
 -- class: by evaluation.
-use Rattle.std.proofs.Common.{◌≡◌, ℕ, zero, suc, pos, ◌==◌, Bool, true, false, not, ◌&&◌, ◌||◌, List, [], ◌∷◌, get_or, refl, arith, inl, inr}
+use Rattle.std.proofs.Common.{◌≡◌, ℕ, zero, suc, pos, ◌==◌, Bool, true, false, not, ◌&&◌, ◌||◌, List, [], ◌∷◌, map, get_or, Some, None, refl, arith, inl, inr}
 use Rattle.std.proofs.lemmas.List.Elements.{All-cons, All-nil, All-from_recursion}
 use Rattle.xk_types.specs.declared.instr.Instr.TheVariants as instr
 use Rattle.xk_types.specs.declared.world.Event.TheVariants as event
@@ -17,7 +17,7 @@ use Rattle.xk_types.proofs.Examples.Notation.{fresh, main_with, body_with}
 use Rattle.xk_laws.proofs.Examples.AcceptanceTest.{HasFewArguments, accepted_by}
 use Rattle.xk_squares.specs.Conflicts.{reads_next, stores_next}
 use Rattle.xk_renaming.specs.Names.{OfActivities, all_named}
-use Rattle.xk_classes.specs.Moments.{printed_by}
+use Rattle.xk_classes.specs.Moments.{printed_by, printed_at, times_printed, started_by}
 use Rattle.xk_classes.specs.Edges.{StepName, IsStart, IsUnderFinish, IsPass, standing_on, phase_of, IsBefore}
 use Rattle.xk_classes.specs.OneRun.{ComeToOne, gets_or_puts, AddsInUnit, AddsAtMost}
 use Rattle.xk_classes.proofs.OneRunLaw.{adders_free, one_every}
@@ -102,6 +102,23 @@ main_after = 0 ∷ 1 ∷ 0 ∷ 3 ∷ 3 ∷ []
 starters_print : (printed_by starters main_before (fresh starters) 2 ≡ pos 7 ∷ []) × (printed_by starters main_after (fresh starters) 2 ≡ [])
     × (printed_by starters main_after (fresh starters) (all_named (OfActivities 2 ∷ []) 2) ≡ pos 7 ∷ [])
 starters_print = (refl, refl, refl)
+
+-- By their numbers there main starts the same activities in both orders, and so does activity 1.
+starters_start : (started_by starters main_before (fresh starters) 0 ≡ 1 ∷ 2 ∷ []) × (started_by starters main_after (fresh starters) 0 ≡ 1 ∷ 3 ∷ [])
+    × (map (all_named (OfActivities 2 ∷ [])) (1 ∷ 2 ∷ []) ≡ 1 ∷ 3 ∷ [])
+    × (started_by starters main_before (fresh starters) 1 ≡ 3 ∷ []) × (started_by starters main_after (fresh starters) 1 ≡ 2 ∷ [])
+    × (map (all_named (OfActivities 2 ∷ [])) (3 ∷ []) ≡ 2 ∷ [])
+starters_start = (refl, refl, refl, refl, refl, refl)
+
+-- The second one that main starts prints 7 in both; and there is no third.
+starters_paths : (printed_at starters main_before (fresh starters) (1 ∷ []) ≡ Some (pos 7 ∷ [])) × (printed_at starters main_after (fresh starters) (1 ∷ []) ≡ Some (pos 7 ∷ []))
+    × (printed_at starters main_before (fresh starters) (2 ∷ []) ≡ None) × (printed_at starters main_before (fresh starters) (0 ∷ 0 ∷ []) ≡ Some [])
+starters_paths = (refl, refl, refl, refl)
+
+-- and 7 is printed once, 8 not yet
+starters_numbers : (times_printed starters main_before (fresh starters) (pos 7) ≡ 1) × (times_printed starters main_after (fresh starters) (pos 7) ≡ 1)
+    × (times_printed starters main_before (fresh starters) (pos 8) ≡ 0)
+starters_numbers = (refl, refl, refl)
 
 -- ---- a writes a number and ends; b starts c, which reads it
 

@@ -19,8 +19,9 @@ use Rattle.xk_renaming.proofs.NameLaw.{clocks_named, clocks_unnamed}
 use Rattle.xk_renaming.proofs.ActivityNameListLemmas.{renamed_below}
 use Rattle.xk_renaming.proofs.ClockNameListLemmas.{renamed_first, renamed_second}
 use Rattle.xk_renaming.proofs.StartEventLemmas.{event_started, start_says}
+use Rattle.xk_classes.specs.Moments.{is_start}
 use Rattle.xk_classes.specs.Classes.{DoCommute}
-use Rattle.xk_classes.proofs.StepEventLemmas.{is_start, start_is, grown}
+use Rattle.xk_classes.proofs.StepEventLemmas.{start_is, grown}
 use Rattle.xk_classes.proofs.StageLemmas.{stage_in, stage_at}
 
 -- on clocks that aren't there yet all are apart, by each number

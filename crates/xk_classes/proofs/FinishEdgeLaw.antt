@@ -26,10 +26,11 @@ use Rattle.xk_squares.proofs.QuietStepLaw.{enabled_step}
 use Rattle.xk_renaming.specs.Names.{Exchange, all_named}
 use Rattle.xk_renaming.proofs.NamelessLemmas.{nameless_activity, state_of, finish_named, governed_same}
 use Rattle.xk_renaming.proofs.StartEventLemmas.{at_advance}
+use Rattle.xk_classes.specs.Moments.{is_start}
 use Rattle.xk_classes.specs.Classes.{AreOneClass, names_along, name_in}
 use Rattle.xk_classes.specs.Edges.{StepName, turns_of, IsTaken, IsUnderFinish}
 use Rattle.xk_classes.specs.OneRun.{GoesAsWell}
-use Rattle.xk_classes.proofs.StepEventLemmas.{is_start, not_start, grown, others_stay}
+use Rattle.xk_classes.proofs.StepEventLemmas.{not_start, grown, others_stay}
 use Rattle.xk_classes.proofs.SwapLemmas.{State, stand_of, stand_named, run_first, reached_run}
 use Rattle.xk_classes.proofs.ClassLemmas.{deeds, class_as_well}
 use Rattle.xk_classes.proofs.EdgeLaw.{turns_on, turns_same, turns_other, WasTaken, was_taken, run_behind, state_in, stands}

@@ -20,8 +20,9 @@ use Rattle.xk_renaming.specs.Names.{Exchange, all_named, AreSameBy, exchange_of}
 use Rattle.xk_renaming.proofs.NameLaw.{same_activities, named_beyond, named_inside, named_same, clocks_named}
 use Rattle.xk_renaming.proofs.NamelessLemmas.{stands_same}
 use Rattle.xk_renaming.proofs.ActivityNameRunLaw.{reached_full}
+use Rattle.xk_classes.specs.Moments.{is_start}
 use Rattle.xk_classes.specs.Classes.{DoCommute}
-use Rattle.xk_classes.proofs.StepEventLemmas.{is_start, grown, wider}
+use Rattle.xk_classes.proofs.StepEventLemmas.{grown, wider}
 use Rattle.xk_classes.proofs.StageLemmas.{stage_by, stage_of, stage_at, GoesFrom, IsGivenFrom, same_next, same_given, MovesOn, moves_on}
 use Rattle.xk_classes.proofs.ExchangeLemmas.{stays_named, inside_first, inside_second, number_first, number_second, far}
 

@@ -4,6 +4,7 @@ pub mod ExchangeLemmas
 pub mod InStepLemmas
 pub mod PassEventLemmas
 pub mod SwapLemmas
+pub mod PrintLemmas
 pub mod ClassLemmas
 pub mod ClassLaw
 pub mod EdgeLaw

@@ -1,5 +1,5 @@
 -- What one run without a race tells of others, from the class law.
-use Rattle.std.proofs.Common.{◌≡◌, ℕ, ℤ, Bool, true, false, true≢false, List, [], ◌∷◌, ◌++◌, Some, None, Option, refl, sym, ap, ◌∙◌, subst}
+use Rattle.std.proofs.Common.{◌≡◌, ℕ, ℤ, Bool, true, false, true≢false, List, [], ◌∷◌, ◌++◌, map, Some, None, Option, option_map, refl, sym, ap, ◌∙◌, subst}
 use Rattle.std.specs.Prelude.{slice_get, option_and_then, All}
 use Rattle.std.specs.List.{filter_map}
 use Rattle.std.specs.Option.{option_map_or}
@@ -16,11 +16,12 @@ use Rattle.xk_types.specs.Schedule.{Through, run, all_ended, number_printed, pri
 use Rattle.xk_laws.proofs.ReachabilityLemmas.{same_through, first_step, opening_reached}
 use Rattle.xk_squares.specs.Conflicts.{reads, puts, next_instruction, AreConflictFree}
 use Rattle.xk_squares.proofs.ExplorationLaw.{nobody_steps}
+use Rattle.xk_renaming.specs.Names.{all_named}
 use Rattle.xk_renaming.proofs.NameLaw.{same_cells}
-use Rattle.xk_classes.specs.Moments.{is_print}
+use Rattle.xk_classes.specs.Moments.{is_print, printed_by, printed_at, led_to, started_by}
 use Rattle.xk_classes.specs.Classes.{AreOneClass, names_along, HasNoRace, HasNeverTwo}
 use Rattle.xk_classes.specs.OneRun.{GoesAsWell, IsBegun, IsWholeRun, ComeToOne, gets_or_puts, AddsInUnit, AddsAtMost}
-use Rattle.xk_classes.proofs.SwapLemmas.{run_first}
+use Rattle.xk_classes.proofs.SwapLemmas.{run_first, get_map}
 use Rattle.xk_classes.proofs.ClassLemmas.{main_stays, class_as_well, class_prints}
 use Rattle.xk_classes.proofs.ClassLaw.{every}
 use Rattle.xk_classes.proofs.EdgeLaw.{ordered_free}
@@ -40,6 +41,32 @@ run_on_ended m [] (a ∷ rest) w y z h ended g =
 run_on_ended m (a ∷ t) rest w y z h ended g =
     let x = first_step w y (step m w a) (run m t) h in
     run_on_ended m t rest x.0 y z x.3 ended (sym (run_first m (t ++ rest) w x.0 a x.1 x.2) ∙ g)
+
+-- ---- who is who by a path
+
+module _ (m : ModuleValue) (w : World) (s t : List ℕ) (f : ℕ → ℕ) (starts : (a : ℕ) → map f (started_by m s w a) ≡ started_by m t w (f a)) where
+  -- where starts go by these numbers, so do paths
+  path_leads : (a : ℕ) (path : List ℕ) → option_map f (led_to m s w a path) ≡ led_to m t w (f a) path
+  path_leads a [] = refl
+  path_leads a (k ∷ path) =
+      by (slice_get (started_by m s w a) k) (λ b. path_leads b path)
+      ∙ ap (option_and_then (λ b. led_to m t w b path)) (sym (get_map f (started_by m s w a) k) ∙ ap (λ l. slice_get l k) (starts a))
+    where
+      by : (o : Option ℕ) → ((b : ℕ) → option_map f (led_to m s w b path) ≡ led_to m t w (f b) path)
+          → option_map f (option_and_then (λ b. led_to m s w b path) o) ≡ option_and_then (λ b. led_to m t w b path) (option_map f o)
+      by None h = refl
+      by (Some b) h = h b
+
+  -- and so what is printed there
+  path_prints : f 0 ≡ 0 → ((a : ℕ) → printed_by m s w a ≡ printed_by m t w (f a)) → (path : List ℕ) → printed_at m s w path ≡ printed_at m t w path
+  path_prints main prints path =
+      by (led_to m s w 0 path) ∙ ap (option_map (printed_by m t w)) (path_leads 0 path ∙ ap (λ a. led_to m t w a path) main)
+    where
+      by : (o : Option ℕ) → option_map (printed_by m s w) o ≡ option_map (printed_by m t w) (option_map f o)
+      by None = refl
+      by (Some a) = ap (λ l. Some l) (prints a)
+
+-- ---- all runs
 
 module _ (m : ModuleValue) (args : List ℤ) (limits : IsWithinLimits m) (ok : IsAccepted m) (taken : AreArguments m args) where
   abbrev w : World
@@ -71,7 +98,11 @@ module _ (m : ModuleValue) (args : List ℤ) (limits : IsWithinLimits m) (ok : I
         names = names_along member.between;
         main = main_stays m limits ok w (opening_reached m args taken) s t z member one.legal;
         cells = same_cells (names_along member.between) z g.last g.alike ∙ ap (λ (x : World). x.cells) (same_through g.last y (sym g.legal ∙ other.legal));
+        starts = λ a. g.starts a;
         prints = λ a. ap (filter_map number_printed) (g.same a);
+        paths = path_prints m w s t (all_named (names_along member.between)) g.starts
+            (main_stays m limits ok w (opening_reached m args taken) s t z member one.legal) (λ a. ap (filter_map number_printed) (g.same a));
+        numbers = λ n. g.numbers n;
       }
 
   pub one_every : (s t : List ℕ) (z y : World) → IsWholeRun m args s z → HasNoRace m w s → IsWholeRun m args t y → ComeToOne m args s t z y

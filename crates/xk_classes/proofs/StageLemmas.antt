@@ -24,7 +24,8 @@ use Rattle.xk_squares.proofs.ChangeSquareLemmas.{same_step, not_none, found_of}
 use Rattle.xk_squares.proofs.StartSquareLemmas.{made_world, started_world, maker}
 use Rattle.xk_squares.proofs.ViewLemmas.{Goes, IsNone, DoesAct, DoesMake, DoesStart, goes, sees_itself}
 use Rattle.xk_classes.specs.Edges.{phase_of}
-use Rattle.xk_classes.proofs.StepEventLemmas.{is_start, grown}
+use Rattle.xk_classes.specs.Moments.{is_start}
+use Rattle.xk_classes.proofs.StepEventLemmas.{grown}
 
 -- ---- one clock
 

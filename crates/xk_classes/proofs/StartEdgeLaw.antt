@@ -16,10 +16,11 @@ use Rattle.xk_laws.proofs.ReachabilityLemmas.{first_step}
 use Rattle.xk_squares.proofs.ChangeSquareLemmas.{found_of}
 use Rattle.xk_squares.proofs.QuietStepLaw.{enabled_step}
 use Rattle.xk_renaming.specs.Names.{all_named}
+use Rattle.xk_classes.specs.Moments.{is_start}
 use Rattle.xk_classes.specs.Classes.{AreOneClass, names_along, name_in}
 use Rattle.xk_classes.specs.Edges.{StepName, turns_of, IsTaken, IsStart}
 use Rattle.xk_classes.specs.OneRun.{GoesAsWell}
-use Rattle.xk_classes.proofs.StepEventLemmas.{is_start, grown, wider, run_wider}
+use Rattle.xk_classes.proofs.StepEventLemmas.{grown, wider, run_wider}
 use Rattle.xk_classes.proofs.SwapLemmas.{stand_of, Deed, deed_named, deed_of, get_map}
 use Rattle.xk_classes.proofs.ClassLemmas.{deeds, same_deeds, class_as_well}
 use Rattle.xk_classes.proofs.EdgeLaw.{turns_on, by_first, turns_done, done_on, get_front, get_back, at_turn, run_behind}

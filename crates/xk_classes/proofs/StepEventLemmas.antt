@@ -19,15 +19,10 @@ use Rattle.xk_squares.proofs.StepEffect.{enacted}
 use Rattle.xk_squares.proofs.ChangeSquareLemmas.{same_step, not_none, found_of}
 use Rattle.xk_squares.proofs.StartSquareLemmas.{made_world, started_world, maker}
 use Rattle.xk_squares.proofs.ViewLemmas.{Goes, IsNone, DoesAct, DoesMake, DoesStart, goes, sees_itself}
-use Rattle.xk_classes.specs.Moments.{is_print}
+use Rattle.xk_classes.specs.Moments.{is_print, is_start}
 use Rattle.xk_classes.specs.Edges.{prints}
 
 -- ---- starts
-
--- an activity is started
-abbrev pub is_start : Event → Bool
-is_start event.Spawned = true
-is_start _ = false
 
 pub start_is : (e : Event) → is_start e ≡ true → e ≡ event.Spawned
 start_is event.Spawned h = refl

@@ -18,12 +18,13 @@ use Rattle.xk_renaming.proofs.ClockNameRunLaw.{Keeps, step_keeps}
 use Rattle.xk_renaming.proofs.NameLaw.{same_activities, named_beyond, clocks_unnamed, clock_back, go_as_one, squares_but_names}
 use Rattle.xk_renaming.proofs.NamelessLemmas.{nameless_activity, state_of, state_same}
 use Rattle.xk_renaming.proofs.ActivityNameRunLaw.{reached_full}
+use Rattle.xk_classes.specs.Moments.{is_start}
 use Rattle.xk_classes.specs.Classes.{DoCommute}
 use Rattle.xk_classes.specs.Edges.{carried, carried_on}
 use Rattle.xk_classes.proofs.StageLemmas.{stage_at, moves_on}
 use Rattle.xk_classes.proofs.ExchangeLemmas.{stays_named, number_first, number_second, far_back}
 use Rattle.xk_classes.proofs.InStepLemmas.{AreInStep, steps_in_step, square_in_step}
-use Rattle.xk_classes.proofs.StepEventLemmas.{is_start, grown, wider, run_wider, others_stay}
+use Rattle.xk_classes.proofs.StepEventLemmas.{grown, wider, run_wider, others_stay}
 
 -- ---- entries: who takes each step of a run, and the deed: its event, how who takes it stands, and the activity that it starts
 
@@ -101,7 +102,7 @@ next_by_state m w a = by (slice_get w.activities a)
 pub next_of : (m : ModuleValue) (w : World) (a : ℕ) (act : Activity) → slice_get w.activities a ≡ Some act → next_instruction m w a ≡ instruction_at m act.frame
 next_of m w a act h = ap (option_and_then (λ (x : Activity). instruction_at m x.frame)) h
 
-events_are : (m : ModuleValue) (list : List ℕ) (w : World) → events m list w ≡ map event_in (entries m list w)
+pub events_are : (m : ModuleValue) (list : List ℕ) (w : World) → events m list w ≡ map event_in (entries m list w)
 events_are m [] w = refl
 events_are m (a ∷ list) w = by (step m w a) (events_are m list)
   where

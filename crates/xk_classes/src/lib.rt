@@ -12,8 +12,8 @@ ghost use Rattle.xk_types.specs.Schedule.{Through, printed, run};
 ghost use Rattle.xk_types.specs.World.{AreArguments, World, opening};
 
 /// Schedules of one class are one run to each activity: if one is legal, so is the other; they lead to the same world, but for numbers
-/// of clocks and activities; and each activity has, by its number there, the same events in both. Where no two numbers could be printed
-/// at once, the same list is printed.
+/// of clocks and activities; and each activity has, by its number there, the same events in both, and starts the same activities. Each
+/// number is printed as often; where no two could be printed at once, the same list is printed.
 pub fn one_class()
     ensures same { (m : ModuleValue) (args : List ℤ) (s t : List ℕ) (z : World)
         → IsWithinLimits m → IsAccepted m → AreArguments m args
@@ -36,8 +36,9 @@ pub fn class_law()
 {}
 
 /// One run without a race speaks for all others: whoever took the steps by which all have ended, the shared numbers are the same at the
-/// end, and each activity, by its number there, prints the same. In which order clocks were made and activities started doesn't matter.
-/// Where no two numbers could be printed at once either, the printed list is the same.
+/// end, each activity, by its number there, starts the same activities and prints the same, and each number is printed as often. So an
+/// activity is known by its path from main: who started it, and as which. In which order clocks were made and activities started doesn't
+/// matter. Where no two numbers could be printed at once either, the printed list is the same.
 pub fn one_run()
     ensures every { (m : ModuleValue) (args : List ℤ) (s t : List ℕ) (z y : World)
         → IsWithinLimits m → IsAccepted m → AreArguments m args
@@ -84,7 +85,8 @@ pub fn sound_edges()
 {}
 
 /// X10's promise for clocks, finishes and starts alone: an accepted module that neither reads nor writes shared numbers, but adds to them
-/// at most, has no race. So all its runs end with the same shared numbers, and in all of them each activity prints the same.
+/// at most, has no race. So all its runs end with the same shared numbers and print each number as often, and in all of them each
+/// activity starts the same activities and prints the same.
 pub fn only_additions()
     ensures no_race { (m : ModuleValue) (args : List ℤ) (s : List ℕ)
         → AddsAtMost m → HasNoRace m (opening m args) s }

@@ -15,7 +15,7 @@ use Rattle.xk_types.specs.Logs.{schedule_of, one_step_of}
 use Rattle.xk_types.proofs.Examples.Notation.{fresh, main_with, body_with}
 use Rattle.xk_laws.proofs.Examples.AcceptanceTest.{HasFewArguments, accepted_by}
 use Rattle.xk_squares.specs.Conflicts.{reads_next, stores_next}
-use Rattle.xk_classes.specs.Moments.{printed_by}
+use Rattle.xk_classes.specs.Moments.{printed_by, times_printed, started_by}
 use Rattle.xk_classes.specs.OneRun.{IsWholeRun}
 use Rattle.xk_races.specs.Races.{gap_in, is_race_free, sights_of_run}
 use Rattle.xk_determinacy.proofs.SpeaksForAllLaw.{prints_every}
@@ -162,6 +162,14 @@ twins_differ : (is_race_free twins [] (log_of first_begins) ≡ true) × (is_rac
     × (all_ended (last twins first_begins) ≡ true) × (all_ended (last twins second_begins) ≡ true)
     × (printed_by twins first_begins (fresh twins) 3 ≡ pos 1 ∷ []) × (printed_by twins second_begins (fresh twins) 3 ≡ pos 2 ∷ [])
 twins_differ = (refl, refl, refl, refl, refl, refl)
+
+-- It is another activity: what 1 starts in one is 3, and in the other 4. Main starts 1 and 2 in both; and 1 and 2 are printed once each.
+twins_start : (started_by twins first_begins (fresh twins) 0 ≡ 1 ∷ 2 ∷ []) × (started_by twins second_begins (fresh twins) 0 ≡ 1 ∷ 2 ∷ [])
+    × (started_by twins first_begins (fresh twins) 1 ≡ 3 ∷ []) × (started_by twins second_begins (fresh twins) 1 ≡ 4 ∷ [])
+    × (started_by twins first_begins (fresh twins) 2 ≡ 4 ∷ []) × (started_by twins second_begins (fresh twins) 2 ≡ 3 ∷ [])
+    × (times_printed twins first_begins (fresh twins) (pos 1) ≡ 1) × (times_printed twins second_begins (fresh twins) (pos 1) ≡ 1)
+    × (times_printed twins first_begins (fresh twins) (pos 2) ≡ 1) × (times_printed twins second_begins (fresh twins) (pos 2) ≡ 1)
+twins_start = (refl, refl, refl, refl, refl, refl, refl, refl, refl, refl)
 
 -- where prints aren't told to be in one order
 twins_prints : is_some (gap_in (sights_of_run twins [] (log_of first_begins))) ≡ true

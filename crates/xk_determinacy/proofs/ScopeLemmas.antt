@@ -16,7 +16,7 @@ use Rattle.xk_laws.proofs.ReachabilityLemmas.{same_through, first_step}
 use Rattle.xk_squares.proofs.ChangeSquareLemmas.{found_of}
 use Rattle.xk_squares.proofs.StartSquareLemmas.{alive_of}
 use Rattle.xk_classes.proofs.StepEventLemmas.{others_stay}
-use Rattle.xk_classes.proofs.StepEventLemmas.{is_start}
+use Rattle.xk_classes.specs.Moments.{is_start}
 use Rattle.xk_races.specs.declared.deeds.Deed.{Deed}
 use Rattle.xk_races.specs.declared.deeds.Part.{Part}
 use Rattle.xk_races.specs.declared.deeds.Part.TheVariants as part

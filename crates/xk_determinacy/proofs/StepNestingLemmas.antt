@@ -16,7 +16,7 @@ use Rattle.xk_types.specs.Code.{UnitValue, ModuleValue, is_method, compares, Loo
 use Rattle.xk_types.specs.World.{Frame, Activity, Clock, World, standing_of, is_ended, instruction_at}
 use Rattle.xk_types.specs.Step.{Outcome, Blocked, Wrong, Stepped, ClockUse, OutOfRange, is_registered, number_in, clock_in, registered_on, put_in, slot_at, arguments_in, no_further, turning, again, beginning, carried_out, run_at, done, waits, passing, past, passed, step_by, step_of, step, called, calling, returning, none, only, all, resumed, dropped, awaits, innermost, governing, child, onward, going, with_slots, entered, left, ended, arrived, closing, cell_in}
 use Rattle.xk_laws.proofs.StepFormLemmas.{spawning_form, finishes_of}
-use Rattle.xk_classes.proofs.StepEventLemmas.{is_start}
+use Rattle.xk_classes.specs.Moments.{is_start}
 
 -- What a step with this event makes of the activity that takes it: it has one finish more open, or one fewer, where it stood at an end of one; or as
 -- many, and it is over if it ends.
