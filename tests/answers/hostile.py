@@ -165,6 +165,36 @@ def strange_files(tried: Tried) -> None:
         tried.answers(f"exec $x {command} in-step.x10 /dev/null", 3, err="x10clock: L2 Truncated\n")
 
 
+def asked(tried: Tried) -> None:
+    """Answers that can't be read, that end early, or have no end; and a question stands there before its answer is read."""
+    first, run = "act 0 at 2:9\nwho steps?\n", "run --order ask in-step.x10"
+    for given in ("<&-", "< ."):
+        tried.answers(f"exec $x {run} {given}", 5, err=first + DEVICE)
+    tried.answers(f"exec $x {run} 2> /dev/full", 5)
+    tried.answers(f"exec $x {run} 2>&-", 5)
+    tried.answers(f"exec $x {run} > /dev/full", 5, err=first + DEVICE)
+    tried.answers(f"exec $x {run} --log /dev/full", 5, "stopped steps 0\n", first + DEVICE)
+    tried.answers(f"exec $x {run} --log no-folder/log", 5, err=DEVICE)
+    tried.answers(f"exec $x {run} < /dev/null", 6, "stopped steps 0\n", first)
+    tried.answers(f"head -c 30000000 /dev/zero | $x {run}", 6, "stopped steps 0\n", first)
+    tried.answers(f"{{ head -c 30000000 /dev/zero; echo; }} | $x {run}", 6, "stopped steps 0\n", first + "none of these: who steps?\n")
+    tried.answers("exec $x run --order ask .", 5, err=DEVICE)
+    for path in ("in-step.x10", "answers", "/dev/stdin"):
+        tried.file("answers", "0\n")
+        tried.answers(f"exec $x {run} --log {path} < answers", 2, err="x10clock: --log would write over FILE or standard input\n")
+        tried.wants(f"the answers beside {path}", (tried.folder / "answers").read_text(), "0\n")
+    tried.calls += 1
+    words = [tried.program, *run.split(), "--log", "played"]
+    with subprocess.Popen(words, stdin=subprocess.PIPE, stdout=subprocess.PIPE, stderr=subprocess.PIPE, cwd=tried.folder, text=True) as person:
+        told = [person.stderr.readline() for _ in range(2)]
+        person.stdin.write("0\n")
+        person.stdin.flush()
+        told += [person.stderr.readline() for _ in range(2)]
+        out, _ = person.communicate(timeout=SECONDS)
+        tried.wants("what a person is asked", ("".join(told), out, person.returncode), (first + "act 0 at 3:5\nwho steps?\n", "stopped steps 1\n", 6))
+    tried.wants("the log of what was played", (tried.folder / "played").read_text(), "x10log 1\n0 1\nend 1\n")
+
+
 def strange_lists(tried: Tried) -> None:
     """Lists of outcomes that are none, that come in pieces, or that have no end: what is behind the most that is read isn't looked at."""
     tried.file("outcomes", OUTCOMES)
@@ -297,7 +327,7 @@ def killed(tried: Tried) -> None:
 
 
 def all_of_them() -> Iterator[Callable[[Tried], None]]:
-    yield from (full_devices, streams, over_file, strange_files, strange_lists, pipes, endless, growing, small_files)
+    yield from (full_devices, streams, over_file, strange_files, asked, strange_lists, pipes, endless, growing, small_files)
     yield from (little_memory, few_files, few_threads, small_stack, killed)
 
 
