@@ -16,7 +16,7 @@ ghost use Rattle.xk_types.specs.declared.world.Entry.{Entry};
 /// Where no race is told of one run by which all have ended, its class has none. So every run by which all have ended comes to the same:
 /// the shared numbers are the same at the end, each activity, by its number there, starts the same activities and prints the same, so
 /// that it is known by who started it and as which, and each number is printed as often.
-pub fn race_free_run()
+pub fn one_speaks_for_all()
     ensures no_race { (m : ModuleValue) (args : List ℤ) (log : List Entry) (z : World)
         → IsWithinLimits m → IsAccepted m → AreArguments m args
         → IsWholeRun m args (schedule_of log) z → is_race_free m args log ≡ true

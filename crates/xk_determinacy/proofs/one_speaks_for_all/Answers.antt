@@ -1,6 +1,6 @@
 -- The law, from the lemmas.
 use Rattle.xk_determinacy.proofs.SpeaksForAllLaw.{no_race, every}
-use Rattle.xk_determinacy.proofs.race_free_run.Goals as goal
+use Rattle.xk_determinacy.proofs.one_speaks_for_all.Goals as goal
 
 pub returns-clause-no_race : goal.returns-clause-no_race
 returns-clause-no_race c m args log z limits ok taken one free = no_race m args limits ok taken log z one free
