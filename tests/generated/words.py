@@ -208,7 +208,7 @@ class Caller:
             except subprocess.TimeoutExpired:
                 return Told(-1, "", "no answer in time"), {}
         out, err = (text.decode("utf-8", "replace") for text in (ran.stdout, ran.stderr))
-        return Told(ran.returncode, out, err.partition("\n")[0]), found(self.folder)
+        return Told(ran.returncode, out, err.removesuffix("\n") if is_asked(words) else err.partition("\n")[0]), found(self.folder)
 
     def told(self, words: list[str], given: str) -> tuple[Told, Folder]:
         fill(self.folder)
@@ -239,6 +239,12 @@ def job_of(words: list[str]) -> Job | None:
         return telling_words.read(words)
     except (telling_words.Mistake, telling_words.Help, telling_words.Version):
         return None
+
+
+def is_asked(words: list[str]) -> bool:
+    """Whether they ask for a run whose order is asked for, of which all that goes to standard error counts."""
+    job = job_of(words)
+    return job is not None and job.values.get("order") == telling_words.ASK
 
 
 def log_path(job: Job) -> str:
