@@ -66,7 +66,3 @@ quiet_by Races kind file bytes said f h = λ e. h
 quiet_by (Tally seed runs) kind file bytes said f h = λ e. h
 quiet_by (Outcomes sets limit pick kept) kind file bytes said f h = λ e. h
 quiet_by (Expected sets limit) kind file bytes said f h = λ e. h
-
--- the same of what a task says
-pub quiet_said : (t : Task) (bytes said : List ℕ) (f : Fault) → IsSaidOf t bytes f said → IsQuiet f said
-quiet_said t bytes said f h = quiet_by t.doing t.form t.file bytes said f h

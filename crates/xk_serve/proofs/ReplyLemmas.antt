@@ -79,10 +79,6 @@ begun_known t program known d out_old out_new log_old log_new h b = known_weaker
 
 -- ---- devices
 
--- nothing is a beginning of any text
-pub begins_none : (a : Option (List ℕ)) (text : List ℕ) → AppendsBeginning a a text
-begins_none a text = (0, appends_none a)
-
 take_none : (k : ℕ) (xs : List ℕ) → xs ≡ [] → take k xs ≡ []
 take_none zero xs e = refl
 take_none (suc k) xs e = ap (take (suc k)) e

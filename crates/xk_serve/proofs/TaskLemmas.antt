@@ -344,13 +344,6 @@ against_list t bytes known old new m what args (Err f) is told lists given h =
 
 -- ---- the verifier
 
--- what it says where it accepts no module
-pub refusal_of : (m : ModuleValue) (r : Refusal) → Refuses m r → IsRefusal m (of_refusal r)
-refusal_of m (refusal.Shape f) h = h
-refusal_of m (refusal.Kind f) h = h
-refusal_of m (refusal.Bound f) h = h
-refusal_of m refusal.OutOfMemory h = tt
-
 -- what stands against a run by a log of the module that it accepted
 pub run_stands : (m v : ModuleValue) (args : List ℤ) (known : Option (List ℕ)) (old new : ℕ) (r : Result Done Fault) → v ≡ m → IsAccepted m → AreArguments m args
     → IfErr r (AgainstRun v args known old new) → IfErr r (AgainstModule m args known old new)
@@ -369,12 +362,6 @@ pub list_stands : (m : ModuleValue) (args : List ℤ) (known : Option (List ℕ)
 list_stands m args known old new (Ok d) accepted taken h = tt
 list_stands m args known old new (Err f) accepted taken h = inr (accepted, taken, h)
 
--- want of memory where no read failed
-pub run_wants : (m : ModuleValue) (args : List ℤ) (known : Option (List ℕ)) (old new : ℕ) (r : Result Done Fault) → new ≡ old → IfErr r (λ f. f ≡ fault.OutOfMemory)
-    → IfErr r (AgainstRun m args known old new)
-run_wants m args known old new (Ok d) e h = tt
-run_wants m args known old new (Err f) e h = subst (AgainstRun m args known old new) (sym h) (e, of_any _ known (λ logged. tt))
-
 -- a log that was read, and is none of a whole run
 pub replay_stands : (m : ModuleValue) (args : List ℤ) (known : Option (List ℕ)) (old new : ℕ) (es : List Entry) (f : ReplayFault) → new ≡ old
     → IfSome known (λ logged. IsLogText logged es) → IsFaultOf m args es f → AgainstRun m args known old new (of_replay f)
@@ -382,30 +369,4 @@ replay_stands m args known old new es (replay.NotEnabled i) e text h = (e, of_ea
 replay_stands m args known old new es replay.NotEnded e text h = (e, of_each _ _ known (λ logged t. (es, t, h)) text)
 replay_stands m args known old new es replay.OutOfMemory e text h = (e, of_any _ known (λ logged. tt))
 
--- what the verifier says of a module that is to be run
-pub not_run : (m : ModuleValue) (args : List ℤ) (f : Fault) → IsRefusal m f → IsNotRun m args f
-not_run m args (fault.Text f) h = h
-not_run m args (fault.Front f) h = h
-not_run m args (fault.Refused r) h = h
-not_run m args (fault.Arguments wants has) h = absurd h
-not_run m args (fault.Grammar line) h = h
-not_run m args fault.Truncated h = h
-not_run m args (fault.NotEnabled i) h = h
-not_run m args fault.NotEnded h = h
-not_run m args (fault.NoOutcome line) h = h
-not_run m args fault.OutOfMemory h = h
-not_run m args fault.Device h = h
-
 -- ---- a log that was read
-
--- what is said of a log is no refusal of the program
-pub log_status : (f : LogFault) → status_of (of_log f) ≢ status_program
-log_status log.Device = λ e. cc
-log_status log.OutOfMemory = λ e. cc
-log_status (log.Grammar line) = λ e. cc
-log_status log.Truncated = λ e. cc
-
-pub replay_status : (f : ReplayFault) → status_of (of_replay f) ≢ status_program
-replay_status replay.OutOfMemory = λ e. cc
-replay_status (replay.NotEnabled entry) = λ e. cc
-replay_status replay.NotEnded = λ e. cc

@@ -18,7 +18,7 @@ use crate::logged_run::{run_by_workers, run_with_log, steps_of};
 use crate::ordered_run::run_in_order;
 use crate::outcome_search::{held, searched};
 use crate::picture::{Picture, drawn, lanes_given};
-use crate::program_loader::module_in;
+use crate::program_loader::module_by;
 use crate::tally::tallied;
 use crate::whereabouts::stood;
 use std::alloc::{AllocError, Global};
@@ -51,7 +51,7 @@ pub(crate) fn answer<R: Threads + Wait + Sync, L: Source>(
     ensures refused { IfErr result
         (λ f. status_of f ≡ status_program → log_in.new ≡ log_in.old) }
 {
-    let module = module_in(alloc, job, bytes)?;
+    let module = module_by(alloc, job.form, bytes)?;
     let arguments = job.arguments.as_slice();
     match job.command {
         Command::Compile => compiled(alloc, &module),

@@ -1,8 +1,7 @@
 //! From the bytes of FILE to a module.
 
-ghost use Rattle.std.specs.Prelude.{◌≡◌, ◌≤◌, ℕ, List, Some, length, IfOk, OnOk, IfErr, IsUtf8};
+ghost use Rattle.std.specs.Prelude.{◌≡◌, ◌≤◌, Some, length, IfOk, OnOk, IfErr, IsUtf8};
 ghost use Rattle.xk_serve.specs.Explanation.{GiveProgram, HaveOrigins};
-ghost use Rattle.xk_serve.specs.Answer.{FailsBy, task_of};
 ghost use Rattle.xk_serve.specs.Faults.{GivesNoModule};
 ghost use Rattle.xk_serve.specs.Programs.{Gives, IsNoText, IsSource, IsUnfit, IsUnfitModule, IsUnspelled, longest_source};
 ghost use Rattle.xk_tree.specs.Program.{tree_value};
@@ -10,7 +9,7 @@ ghost use Rattle.xk_cli.specs.declared.job.Form.TheVariants as form;
 
 use crate::fault::Fault;
 use std::alloc::{AllocError, Global};
-use xk_cli::{Form, Job};
+use xk_cli::Form;
 use xk_codegen::compile;
 use xk_module::{ModuleFault, read_module};
 use xk_origins::{Origins, origins};
@@ -25,18 +24,6 @@ pub(crate) const LONGEST_SOURCE: usize = 1_048_576;
 pub(crate) const LONGEST_MODULE: usize = 268_435_456;
 
 /// The module that these bytes give, as a source text or as a module text.
-pub(crate) fn module_in(alloc: Global, job: &Job<'_>, bytes: &[u8]) -> Result<Module, Fault>
-    ensures module { IfOk result (Gives job.now.form bytes.now) }
-    ensures fault { IfErr result (λ f. (logged : List ℕ)
-        → FailsBy (task_of job.now) bytes.now logged f) }
-{
-    match job.form {
-        Form::Module => Ok(module_of(alloc, bytes)?),
-        Form::Source => Ok(compiled(alloc, bytes)?),
-    }
-}
-
-/// The same where what stands there is such a text.
 pub fn module_by(alloc: Global, form: Form, bytes: &[u8]) -> Result<Module, Fault>
     ensures module { IfOk result (Gives form bytes.now) }
     ensures fault { IfErr result (GivesNoModule form bytes.now) }

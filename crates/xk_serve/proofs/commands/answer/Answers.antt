@@ -4,13 +4,14 @@ use Rattle.xk_serve.specs.declared.picture.Picture.TheVariants as picture
 use Rattle.std.proofs.lemmas.Result.{err_from_is_err_and}
 use Rattle.xk_serve.specs.Answer.{Check, Compile, Draw, Expected, Outcomes, Races, Replay, Run, Where, doing_of, races_by, task_of, usual_limit, way_given}
 use Rattle.xk_serve.proofs.TaskLemmas.{against_any, against_list, against_log, against_memory, against_refused, against_run_of, against_text, done_of_any, done_of_list, done_of_log, done_of_none, done_of_run, done_of_text, done_of_told}
+use Rattle.xk_serve.proofs.UnfitModuleLemmas.{no_module_fails}
 use Rattle.xk_serve.proofs.commands.answer.Goals as goal
 
 pub returns-in_err-module-clause-fault : goal.returns-in_err-module-clause-fault
 returns-in_err-module-clause-fault g c =
     let p = err_from_is_err_and c.from_residual.result c.from_residual.ensures.1 in
     rw (p.1, p.2) (against_any (task_of c.args.job.now) c.args.bytes.now (g.L.Source.remaining c.args.log_in.now) _ _ c.in_err-module.field-0.0 refl
-    c.in_err-module.ensures.fault)
+    (no_module_fails (task_of c.args.job.now) c.args.bytes.now c.in_err-module.field-0.0 c.in_err-module.ensures.fault))
 
 pub returns-in-Compile-clause-done : goal.returns-in-Compile-clause-done
 returns-in-Compile-clause-done g c =
