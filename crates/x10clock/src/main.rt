@@ -162,7 +162,8 @@ fn on_asked<R: Runtime, O: Sink, E: Sink>(rt: &R, job: &Job<'_>, out: &mut O, er
             err,
         );
     }
-    match fs::open(rt, job.file) {
+    let path = job.file;
+    match fs::open(rt, path) {
         Ok(file) => on_game(rt, job, &mut Counted::new(file), out, err),
         Err(e) => not_opened(rt, &e, err),
     }
