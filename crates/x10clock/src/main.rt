@@ -104,12 +104,7 @@ fn texts_of<'a>(alloc: Global, words: &'a [String]) -> Result<Vec<&'a str>, Allo
 }
 
 /// Does the job, or asks for the order of its run.
-fn on_request<R: Runtime, O: Sink, E: Sink>(
-    rt: &R,
-    job: &Job<'_>,
-    out: &mut O,
-    err: &mut E,
-) -> u8
+fn on_request<R: Runtime, O: Sink, E: Sink>(rt: &R, job: &Job<'_>, out: &mut O, err: &mut E) -> u8
     ensures memory_out { result ≡ status_memory
         → Appends (O.contents out.old) (O.contents out.new) [] }
     ensures memory_err { result ≡ status_memory
