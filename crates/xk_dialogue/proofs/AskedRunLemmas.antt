@@ -1,5 +1,5 @@
 -- What comes of a run whose order is asked for, and what stands against one.
-use Rattle.std.proofs.Common.{◌≡◌, ◌≢◌, ◌∙◌, ℕ, ℤ, ◌⊎◌, inl, inr, Bool, List, [], ◌++◌, refl, sym, ap, subst, Option, Some, None}
+use Rattle.std.proofs.Common.{◌≡◌, ◌≢◌, ◌∙◌, ℕ, ℤ, ◌⊎◌, inl, inr, Bool, List, [], ◌++◌, refl, sym, subst, Option, Some, None}
 use Rattle.std.specs.Prelude.{IfSome, if◌then◌else◌}
 use Rattle.std.specs.Io.KnownBytes.{Appends}
 use Rattle.xk_types.specs.declared.world.Entry.{Entry}

@@ -1,5 +1,5 @@
 -- What the program answers to `run --order ask`: which status and texts the bytes of FILE and of standard input may have. This project's own.
-use Rattle.std.specs.Prelude.{◌≡◌, ℕ, ℤ, ◌⊎◌, ⊤, Bool, List, [], ◌++◌, codes, decimal, Option, IfSome, if◌then◌else◌}
+use Rattle.std.specs.Prelude.{◌≡◌, ℕ, ℤ, ◌⊎◌, Bool, List, [], ◌++◌, codes, decimal, Option, IfSome, if◌then◌else◌}
 use Rattle.std.specs.Io.KnownBytes.{Appends}
 use Rattle.xk_types.specs.declared.world.Entry.{Entry}
 use Rattle.xk_types.specs.Acceptance.{IsAccepted}
