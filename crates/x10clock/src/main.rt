@@ -150,14 +150,14 @@ fn on_asked<R: Runtime, O: Sink, E: Sink>(rt: &R, job: &Job<'_>, out: &mut O, er
         → (O.fault_count out.new ≡ O.fault_count out.old)
         × (E.fault_count err.new ≡ E.fault_count err.old) }
 {
-    if job.file == "-" {
+    let path = job.file;
+    if path == "-" {
         return tell(
             "x10clock: --order ask reads standard input, so FILE can't be -\n",
             status::WORDS,
             err,
         );
     }
-    let path = job.file;
     match fs::open(rt, path) {
         Ok(file) => on_game(rt, job, &mut Counted::new(file), out, err),
         Err(e) => not_opened(rt, &e, err),

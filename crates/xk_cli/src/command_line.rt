@@ -479,7 +479,7 @@ fn order_option<'a>(alloc: Global) -> Arg<'a>
         alloc,
         "ORDER",
         "order",
-        "Who takes the next step: the least activity that can (the default), the greatest, each in turn, or by chance",
+        "Who steps next: the least activity that can (the default), the greatest, each in turn, by chance, or whom standard input names",
     );
     order.value_parser(ORDERS.as_slice())
 }
