@@ -82,7 +82,8 @@ class Answer:
 
 @dataclass(frozen=True)
 class Call:
-    """A call of a program with its words and standard input, and what it answers with ample memory."""
+    """A call of a program with its words and standard input, and what it answers with ample memory. One that asks may have told some of it before it
+    says that memory is out."""
 
     name: str
     words: list[str]
@@ -90,6 +91,7 @@ class Call:
     wanted: Answer
     first: int = 1
     step: int = 1
+    asks: bool = False
 
 
 class Place:
@@ -150,7 +152,8 @@ def judge(call: Call, growth: int, told: Answer, is_refused: bool) -> None:
         raise Wrong(f"{where}: {told}, not {call.wanted}")
     if not is_refused:
         raise Wrong(f"{where}: out of memory without a refused growth")
-    if told.out or told.err != MEMORY or told.log:
+    said = told.err.removesuffix(MEMORY) if call.asks else b""
+    if told.out or told.err != said + MEMORY or not call.wanted.err.startswith(said) or told.log:
         raise Wrong(f"{where}: {told} with status 4")
 
 
@@ -178,11 +181,11 @@ class Calls:
         self.place, self.program = place, str(program.resolve())
         self.calls: list[Call] = []
 
-    def ask(self, name: str, words: list[str], text: bytes = b"") -> Answer:
+    def ask(self, name: str, words: list[str], text: bytes = b"", asks: bool = False) -> Answer:
         """Adds a call of the program, and what it answers."""
         self.place.give(text)
         wanted, _ = self.place.answer([self.program, *words], 0)
-        self.calls.append(Call(name, [self.program, *words], text, wanted))
+        self.calls.append(Call(name, [self.program, *words], text, wanted, asks=asks))
         return wanted
 
     def need(self, name: str, words: list[str], text: bytes, status: int, out: bytes, err: bytes) -> Answer:
@@ -315,6 +318,19 @@ def each_list(calls: Calls, folder: str) -> None:
         calls.ask(f"a list of {name}, without order", ["outcomes", "--sets", "--limit", "4", "--expect", str(kept), "-"], row.read_bytes())
 
 
+def each_game(calls: Calls) -> None:
+    """Runs by hand: to their end, with a log and without, and where the input ends before."""
+    for name in ("in-step.x10", "ring.json", "as-many.x10"):
+        row = ROWS / name
+        words = ["run", "--order", "ask", *given(row), str(row)]
+        whole = b"".join(b"%d\n" % act for act in [0, 1, 2, 3] * 60)
+        for what, answers, status in (("to its end", whole, 0), ("to no end", b"0\nnobody\n0\n", 6), ("without an answer", b"", 6)):
+            played = calls.ask(f"{name}, by hand {what}", words, answers, asks=True)
+            logged = calls.ask(f"{name}, by hand {what}, with a log", [*words, "--log", LOG], answers, asks=True)
+            if (played.status, logged.status) != (status, status) or not played.err or not logged.log:
+                raise Wrong(f"{name}, by hand {what}: {played} {logged}")
+
+
 def each_worker(calls: Calls) -> None:
     """Runs by one worker, which takes the steps as in the order `first`; and fifty activities."""
     for name in ("in-step.x10", "ring.json", "shared-sum.x10", "two-loops.x10", "as-many.x10"):
@@ -364,6 +380,7 @@ def all_calls(folder: str, preloaded: str, given: argparse.Namespace) -> list[Ca
     each_text(calls)
     each_search(calls)
     each_list(calls, folder)
+    each_game(calls)
     each_worker(calls)
     each_mistake(calls)
     return calls.calls
