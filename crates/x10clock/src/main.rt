@@ -7,10 +7,12 @@ ghost use Rattle.xk_types.specs.Device.{Rose};
 ghost use Rattle.xk_cli.specs.CommandLine.{texts};
 ghost use Rattle.xk_cli.specs.Status.{status_device, status_memory, status_program, status_words};
 ghost use Rattle.xk_serve.specs.Answer.{reads_more, task_of};
+ghost use Rattle.xk_serve.specs.Bytes.{kept};
 ghost use Rattle.xk_serve.specs.Lines.{device_line};
 ghost use Rattle.xk_diagnostics.specs.Lines.{memory_line};
 ghost use Rattle.xk_serve.specs.Devices.{Answered, ErrBegins, IfKnown, OutBegins, Reports, Tells, TellsWords};
 ghost use Rattle.xk_serve.specs.declared.fault.Fault.TheVariants as fault;
+ghost use Rattle.xk_dialogue.specs.AskedRun.{AnsweredAsked, IfBoth};
 ghost use Rattle.x10clock.specs.CommandLine.{AreTold, AskSomebody, IsWantOfMemory, no_text_line, over_file_line};
 
 mod files;
@@ -179,12 +181,16 @@ fn on_game<R: Runtime, P: Source, O: Sink, E: Sink>(
         × (O.fault_count out.new ≡ O.fault_count out.old)
         × (E.fault_count err.new ≡ E.fault_count err.old) }
 {
+    let mut input = Counted::new(rt.reader());
     let Some(path) = path_of_log(job.command) else {
         let mut log_out = Counted::new(io::sink());
-        return play(rt, job, false, program, out, err, &mut log_out);
+        return play(rt, job, false, program, &mut input, out, err, &mut log_out);
     };
     match log_beside(rt, path, job.file) {
-        Ok(Some(file)) => play(rt, job, true, program, out, err, &mut Counted::new(file)),
+        Ok(Some(file)) => {
+            let mut log_out = Counted::new(file);
+            play(rt, job, true, program, &mut input, out, err, &mut log_out)
+        }
         Ok(None) => tell(
             "x10clock: --log would write over FILE or standard input\n",
             status::WORDS,
@@ -202,27 +208,39 @@ fn log_beside<R: Files>(rt: &R, path: &str, file: &str) -> io::Result<Option<R::
     log_file(rt, path, file)
 }
 
-/// Plays a run of an open program by the answers in standard input.
-fn play<R: AllocGlobal + Input, P: Source, O: Sink, E: Sink, K: Sink>(
+/// Plays a run of an open program by the answers in the input.
+fn play<R: AllocGlobal, P: Source, L: Source, O: Sink, E: Sink, K: Sink>(
     rt: &R,
     job: &Job<'_>,
     keeps_log: bool,
     program: &mut P,
+    input: &mut L,
     out: &mut O,
     err: &mut E,
     log_out: &mut K,
 ) -> u8
+    ensures answered { IfBoth (P.remaining program.old) (L.remaining input.old)
+        (λ bytes answers. result ≢ status_memory → result ≢ status_device
+        → AnsweredAsked job.now.form (kept job.now.form bytes) job.now.arguments.items answers
+        keeps_log result (O.contents out.old) (O.contents out.new)
+        (E.contents err.old) (E.contents err.new) (K.contents log_out.old) (K.contents log_out.new)) }
     ensures memory_out { result ≡ status_memory
         → Appends (O.contents out.old) (O.contents out.new) [] }
     ensures memory_log { result ≡ status_memory
         → Appends (K.contents log_out.old) (K.contents log_out.new) [] }
     ensures faults { result ≢ status_device
         → (P.fault_count program.new ≡ P.fault_count program.old)
+        × (L.fault_count input.new ≡ L.fault_count input.old)
         × (O.fault_count out.new ≡ O.fault_count out.old)
         × (E.fault_count err.new ≡ E.fault_count err.old)
         × (K.fault_count log_out.new ≡ K.fault_count log_out.old) }
+    ensures device { result ≡ status_device
+        → Rose (P.fault_count program.old) (P.fault_count program.new)
+        ⊎ (Rose (L.fault_count input.old) (L.fault_count input.new)
+        ⊎ (Rose (O.fault_count out.old) (O.fault_count out.new)
+        ⊎ (Rose (E.fault_count err.old) (E.fault_count err.new)
+        ⊎ Rose (K.fault_count log_out.old) (K.fault_count log_out.new)))) }
 {
-    let mut input = Counted::new(rt.reader());
     let arguments = job.arguments.as_slice();
     serve_asked(
         rt.alloc(),
@@ -230,7 +248,7 @@ fn play<R: AllocGlobal + Input, P: Source, O: Sink, E: Sink, K: Sink>(
         arguments,
         keeps_log,
         program,
-        &mut input,
+        input,
         out,
         err,
         log_out,
