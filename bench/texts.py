@@ -85,14 +85,19 @@ def counted(path):
     return total, memory
 
 
-for name, text in TEXTS.items():
-    with tempfile.TemporaryDirectory() as folder:
-        path = pathlib.Path(folder, "text")
-        path.write_text(text)
-        if "--count" in sys.argv:
-            total, memory = counted(path)
-            print(f"{name}: {len(text)} bytes, {total:,} instructions, {total / len(text):.0f} a byte, {memory:,} of them for memory", flush=True)
-            continue
-        times = [called(path) for _ in range(5)]
-    seconds, out = min(times)
-    print(f"{name}: {len(text)} bytes, {seconds:.3f} s: {out[:60]!r}", flush=True)
+def main():
+    for name, text in TEXTS.items():
+        with tempfile.TemporaryDirectory() as folder:
+            path = pathlib.Path(folder, "text")
+            path.write_text(text)
+            if "--count" in sys.argv:
+                total, memory = counted(path)
+                print(f"{name}: {len(text)} bytes, {total:,} instructions, {total / len(text):.0f} a byte, {memory:,} of them for memory", flush=True)
+                continue
+            times = [called(path) for _ in range(5)]
+        seconds, out = min(times)
+        print(f"{name}: {len(text)} bytes, {seconds:.3f} s: {out[:60]!r}", flush=True)
+
+
+if __name__ == "__main__":
+    main()
