@@ -38,7 +38,7 @@ pre,ul,#event,#printed{font:13px/1.5 ui-monospace,Menlo,Consolas,monospace}
 pub(crate) const PLACES: &str = r#"/* Two columns; on a phone, one. */
 header{position:sticky;top:0;z-index:1;padding:.6rem 1rem;background:var(--page);border-bottom:1px solid var(--edge)}
 #controls{display:flex;align-items:center;gap:.5rem;margin:.4rem 0 0}
-#controls[hidden]{display:none}
+.still #controls,.still .state,.still .help{display:none}
 #slider{flex:1;min-width:0;height:2rem;accent-color:var(--seen)}
 button{padding:.3rem .8rem;border:1px solid var(--edge);border-radius:6px;background:var(--panel);color:inherit;font:inherit}
 button:disabled{color:var(--faint);opacity:.6}
@@ -61,6 +61,7 @@ section{min-width:0}
 /// How the source text, the lists and the picture look.
 pub(crate) const MARKS: &str = r#"/* The source text: a line where somebody stands is marked, and who it is stands behind it. */
 #source{max-height:45vh;margin:0;padding:.4rem 0;overflow:auto;background:var(--panel);border:1px solid var(--edge);border-radius:6px}
+.still #source{padding:.4rem .75rem}
 #source .row{width:max-content;min-width:100%;padding-right:.75rem}
 #source .line{display:inline-block;width:3.2em;padding-right:.9em;text-align:right;color:var(--faint);user-select:none}
 #source .row.can{background:var(--can-line)}
@@ -86,11 +87,11 @@ li.moved{font-weight:bold}
 "#;
 
 /// The page's beginning, up to the source text, which begins in a line of its own.
-pub(crate) const BEGINNING: &str = r#"<body>
+pub(crate) const BEGINNING: &str = r#"<body class="still">
 <header>
 <h1>A run, step by step</h1>
 <output id="event" for="slider"></output>
-<div id="controls" role="group" aria-label="Steps" hidden>
+<div id="controls" role="group" aria-label="Steps">
 <button type="button" id="back">Back</button>
 <input id="slider" type="range" min="0" max="0" value="0" aria-label="Step of the run">
 <button type="button" id="next">Next</button>
@@ -261,7 +262,7 @@ byId("back").addEventListener("click", () => go(Number(slider.value) - 1));
 byId("next").addEventListener("click", () => go(Number(slider.value) + 1));
 window.addEventListener("hashchange", () => go(named()));
 slider.max = moments.length - 1;
-byId("controls").hidden = false;
+document.body.classList.remove("still");
 go(named());
 </script>
 </body>
