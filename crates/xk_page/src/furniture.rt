@@ -67,14 +67,16 @@ pub(crate) const MARKS: &str = r#"/* The source text: a line where somebody stan
 #source .row.can{background:var(--can-line)}
 #source .row.waits{background:var(--waits-line)}
 #source .badges{position:sticky;right:.5rem;margin-left:.5em}
-.badge{display:inline-block;min-width:1.6em;margin:0 .2em;padding:0 .35em;border-radius:.8em;font-weight:bold;text-align:center}
-.badge.can{border:1px solid var(--can);background:var(--can);color:var(--page)}
+.badge{display:inline-block;min-width:1.6em;margin:0 .2em;padding:0 .35em;border:1px solid var(--edge);border-radius:.8em}
+.badge{background:var(--panel);font-weight:bold;text-align:center}
+.badge.can{border-color:var(--can);background:var(--can);color:var(--page)}
 .badge.waits{border:1px dashed var(--waits);background:var(--page);color:var(--waits)}
 .badge.moved{outline:2px solid var(--seen);outline-offset:1px}
 /* The lists: a bar tells who can step, who waits, and who has ended. */
 ul{margin:0 0 1rem;padding:0;list-style:none}
 li{padding:0 .5rem;border-left:4px solid var(--edge)}
 ul:empty::after,#printed:empty::after{content:"none";color:var(--faint)}
+#activities{max-height:40vh;overflow:auto}
 li.can{border-color:var(--can)}
 li.waits{border-left-style:dashed;border-color:var(--waits)}
 li.ended{color:var(--faint)}
@@ -194,21 +196,24 @@ function doing(line) {
   return / can step/.test(line) ? "can" : / waits /.test(line) ? "waits" : "ended";
 }
 
-// Marks the lines of the source text where activities stand. A line where somebody can step is marked so, whoever waits there.
+// Marks the lines of the source text where activities stand: as one where somebody can step, if one can. Behind it stand
+// the first four of them, who took the step, and how many more there are.
 function mark(acts, who) {
+  const more = new Map();
   for (const row of rows) {
     row.className = "row";
-    row.lastChild.textContent = "";
+    row.lastChild.replaceChildren();
   }
   for (const line of acts) {
     const at = /^act (\d+) at (\d+):/.exec(line), row = at && rows[at[2] - 1];
     if (!row) continue;
-    const badge = make("span", "badge " + doing(line) + (at[1] === who ? " moved" : ""), at[1]);
-    badge.title = line;
-    row.lastChild.append(badge);
+    const badges = row.lastChild, moved = at[1] === who;
     if (!row.classList.contains("can")) row.className = "row " + doing(line);
-    if (at[1] === who) reveal(source, row);
+    if (badges.childElementCount < 4 || moved) badges.append(make("span", "badge " + doing(line) + (moved ? " moved" : ""), at[1]));
+    else more.set(badges, (more.get(badges) || 0) + 1);
+    if (moved) reveal(source, row);
   }
+  for (const [badges, count] of more) badges.append(make("span", "badge", "+" + count));
 }
 
 // Shows the moment of this number.
@@ -219,12 +224,16 @@ function show(k) {
   byId("slider").setAttribute("aria-valuetext", said);
   byId("back").disabled = k === 0;
   byId("next").disabled = k === moments.length - 1;
-  byId("activities").replaceChildren(...moment.act.map(line =>
-    make("li", doing(line) + (line.split(" ")[1] === who ? " moved" : ""), line)));
+  byId("activities").replaceChildren(...moment.act.map(line => make("li", doing(line), line)));
   byId("clocks").replaceChildren(...moment.clock.map(line => make("li", "", line)));
   byId("shared").replaceChildren(...moment.shared.map(line => make("li", "", line)));
   byId("printed").textContent = printed.slice(0, moment.printed).join(" ");
   mark(moment.act, who);
+  const mover = byId("activities").children[who];
+  if (mover) {
+    mover.classList.add("moved");
+    reveal(byId("activities"), mover);
+  }
   for (const box of document.querySelectorAll("#picture .now")) box.classList.remove("now");
   const box = boxes.get(moment.steps);
   if (box) {
