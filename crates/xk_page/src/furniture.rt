@@ -59,7 +59,7 @@ section{min-width:0}
 "#;
 
 /// How the source text, the lists and the picture look.
-pub(crate) const MARKS: &str = r#"/* The source text: a line where somebody stands is marked, and who it is stands behind it. */
+pub(crate) const MARKS: &str = r#"/* The source text: marked lines, and who stands there. */
 #source{max-height:45vh;margin:0;padding:.4rem 0;overflow:auto;background:var(--panel);border:1px solid var(--edge);border-radius:6px}
 .still #source{padding:.4rem .75rem}
 #source .row{width:max-content;min-width:100%;padding-right:.75rem}
