@@ -101,7 +101,9 @@ all_seen (e ∷ rest) n k (suc i) d at is = of (is_sight e.part) (all_seen rest 
 pub order_is_exact : (ds : List Deed) → OrderIsExact ds
 order_is_exact ds = record {
   deeds = λ p x at. let r = seen ds p x at in subst (λ i. IsAt ds i x.deed) (sym (ap pred r.number)) r.there;
-  all = λ i d at is. all_seen ds 0 nothing_known i d at is;
+  all = λ i d at is.
+      let f = all_seen ds 0 nothing_known i d at is in
+      let e : 0 + i ≡ i = omega arith in (f.0, f.1, f.2, f.3 ∙ ap suc e);
   sound = λ p q x y here there h.
       let r = seen ds p x here in
       let s = seen ds q y there in
