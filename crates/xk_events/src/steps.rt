@@ -1,8 +1,8 @@
 //! The steps of a run, one by one.
 
-ghost use Rattle.std.specs.Prelude.{◌≡◌, true, ◌++◌, replicate, IfOk, OnOk};
+ghost use Rattle.std.specs.Prelude.{◌≡◌, true, ◌++◌, replicate, IfOk, OnErr, OnOk};
 ghost use Rattle.xk_types.specs.Schedule.{Through, is_enabled, run};
-ghost use Rattle.xk_core.specs.Core.{StepsTo};
+ghost use Rattle.xk_core.specs.Core.{StepsTo, WantsMemory};
 ghost use Rattle.xk_events.specs.Steps.{IsLegalFrom, if_seen, run_step, seen_steps, tell_seen, told};
 
 use crate::words::is_seen;
@@ -30,7 +30,8 @@ pub struct RunStep {
     pub event: Event,
 }
 
-/// Takes a step of an activity that can take one, and says what is told of it. Err where memory was refused.
+/// Takes a step of an activity that can take one, and says what is told of it. Only the start of an activity wants memory; where that is refused
+/// the core is as before.
 #[tactic(auto, using(crate::proofs::StepLemmas::enabled_there))]
 pub fn take_step(core: &mut Core<'_>, act: Act) -> Result<RunStep, AllocError>
     requires { is_enabled core.old.module_run core.old.world act ≡ true }
@@ -38,6 +39,8 @@ pub fn take_step(core: &mut Core<'_>, act: Act) -> Result<RunStep, AllocError>
     ensures told { IfOk result (λ s. s
         ≡ run_step act core.old.world core.new.world s.event) }
     ensures same_module { core.new.module_run ≡ core.old.module_run }
+    ensures refused { OnErr result (core.new ≡ core.old) }
+    ensures only_where_it_grows { OnErr result (WantsMemory core.old act) }
 {
     let frames = core.frames(act);
     let unit = frames.unit();

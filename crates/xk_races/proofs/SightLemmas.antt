@@ -1,7 +1,7 @@
 -- What is seen of a run has the rows of the least order.
 use Rattle.std.proofs.Common.{◌≡◌, ◌∙◌, ℕ, zero, suc, ◌+◌, ◌<◌, Bool, true, false, List, [], ◌∷◌, ◌++◌, Some, slice_get, ◌⊎◌, inl, inr, refl, sym, ap, subst, arith}
 use Rattle.std.specs.Prelude.{pred, if◌then◌else◌}
-use Rattle.std.proofs.lemmas.Bool.{leb-true, le-leb}
+use Rattle.std.proofs.lemmas.Bool.{leb-true, le-leb, false≢true}
 use Rattle.std.proofs.lemmas.Option.{same_Some}
 use Rattle.xk_races.specs.declared.deeds.Deed.{Deed}
 use Rattle.xk_races.specs.Lists.{number_at, row_at}
@@ -65,9 +65,45 @@ right ds (d ∷ rest) n k known h p x at =
 seen : (ds : List Deed) (p : ℕ) (x : Sight) → IsSeen ds p x → IsRight ds x
 seen ds = right ds ds 0 nothing_known (known_first ds) (λ i d at. let e : i ≡ 0 + i = omega arith in subst (λ j. IsAt ds j d) e at)
 
+-- deed number i of these, of which the first has number n, is seen
+abbrev IsSeenFrom : ℕ → Known → List Deed → ℕ → Type 0
+IsSeenFrom n k rest i = (p : ℕ) × (x : Sight) × (slice_get (sights_from k n rest) p ≡ Some x) × (x.number ≡ suc (n + i))
+
+all_seen : (rest : List Deed) (n : ℕ) (k : Known) (i : ℕ) (d : Deed) → slice_get rest i ≡ Some d → is_sight d.part ≡ true → IsSeenFrom n k rest i
+all_seen [] n k i d at is = absurd (none at)
+  where
+    none : slice_get [] i ≡ Some d → ⊥
+    none e = cc
+all_seen (e ∷ rest) n k zero d at is = of (is_sight e.part) (ap (λ (y : Deed). is_sight y.part) (same_Some e d at) ∙ is)
+  where
+    others : List Sight
+    others = sights_from (after (suc n) e k) (suc n) rest
+
+    first : Sight
+    first = sight (suc n) e (after (suc n) e k)
+
+    of : (b : Bool) → b ≡ true → (p : ℕ) × (x : Sight) × (slice_get ((if b then first ∷ [] else []) ++ others) p ≡ Some x) × (x.number ≡ suc (n + 0))
+    of true h = (0, first, refl, omega arith)
+    of false h = absurd (false≢true h)
+all_seen (e ∷ rest) n k (suc i) d at is = of (is_sight e.part) (all_seen rest (suc n) (after (suc n) e k) i d at is)
+  where
+    others : List Sight
+    others = sights_from (after (suc n) e k) (suc n) rest
+
+    first : Sight
+    first = sight (suc n) e (after (suc n) e k)
+
+    of : (b : Bool) → IsSeenFrom (suc n) (after (suc n) e k) rest i
+        → (p : ℕ) × (x : Sight) × (slice_get ((if b then first ∷ [] else []) ++ others) p ≡ Some x) × (x.number ≡ suc (n + suc i))
+    of true f = (suc f.0, f.1, f.2, let a : f.1.number ≡ suc (suc n + i) = f.3 in omega (arith, a))
+    of false f = (f.0, f.1, f.2, let a : f.1.number ≡ suc (suc n + i) = f.3 in omega (arith, a))
+
 pub order_is_exact : (ds : List Deed) → OrderIsExact ds
 order_is_exact ds = record {
   deeds = λ p x at. let r = seen ds p x at in subst (λ i. IsAt ds i x.deed) (sym (ap pred r.number)) r.there;
+  all = λ i d at is.
+      let f = all_seen ds 0 nothing_known i d at is in
+      let e : 0 + i ≡ i = omega arith in (f.0, f.1, f.2, f.3 ∙ ap suc e);
   sound = λ p q x y here there h.
       let r = seen ds p x here in
       let s = seen ds q y there in
