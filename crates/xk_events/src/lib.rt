@@ -9,4 +9,4 @@ mod words;
 pub use events::{module_events, source_events};
 pub use places::Places;
 pub use steps::{RunStep, seen_steps, take_step};
-pub use words::{event_words, is_seen, place_words};
+pub use words::{event_line, event_words, is_seen, place_words};

@@ -79,9 +79,9 @@ pub fn place_words(
     }
 }
 
-/// The line of a step: `step 4 act 0 at 6:5 print 10`.
+/// The line of a step: `step 4 act 0 at 6:5 print 10`. Err where memory was refused.
 #[tactic(auto, unfolding(crate::specs::Events::event_line))]
-pub(crate) fn event_line(
+pub fn event_line(
     alloc: Global,
     places: &Places<'_>,
     step: &RunStep,

@@ -11,4 +11,4 @@ mod texts;
 
 pub use condition::Condition;
 pub use progress::Stop;
-pub use standings::{Whereabouts, module_where, source_where};
+pub use standings::{Whereabouts, module_where, source_where, standings_text};

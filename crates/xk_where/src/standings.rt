@@ -131,8 +131,10 @@ fn push_stop(
     }
 }
 
-/// How things stand in a core, and the step that can't be taken there.
-fn standings_text(
+/// How things stand in a core: how many steps were taken; of each activity where it is, whether it can step, waits or has ended, for whom it
+/// waits, and where it stands on its clocks; the phases of the clocks; the shared numbers; and the step that can't be taken there, if one is
+/// given. Err where memory was refused.
+pub fn standings_text(
     alloc: Global,
     places: &Places<'_>,
     core: &Core<'_>,

@@ -1,0 +1,279 @@
+//! What stands in each page: how things look, what they are called, and the script that shows moments. The definitions name these texts.
+
+/// What stands before the colours. The page fetches nothing: its policy forbids it.
+pub(crate) const TOP: &str = r#"<!DOCTYPE html>
+<html lang="en">
+<head>
+<meta charset="utf-8">
+<meta name="viewport" content="width=device-width, initial-scale=1">
+<meta http-equiv="Content-Security-Policy" content="default-src 'none'; style-src 'unsafe-inline'; script-src 'unsafe-inline'">
+<title>A run, step by step</title>
+"#;
+
+/// Colours and letters, in light and in dark.
+pub(crate) const COLOURS: &str = r#"<style>
+/* In light, and in dark. */
+:root{
+  color-scheme:light dark;
+  --page:#ffffff; --panel:#f6f8fa; --ink:#1f2328; --faint:#59636e; --edge:#d0d7de;
+  --can:#1a7f37; --waits:#b3261e; --seen:#0a58ca;
+  --can-line:#e3f5e6; --waits-line:#fde9e7;
+}
+@media (prefers-color-scheme:dark){
+  :root{
+    --page:#0d1117; --panel:#161b22; --ink:#e6edf3; --faint:#9198a1; --edge:#30363d;
+    --can:#56d364; --waits:#ff8f87; --seen:#79b8ff;
+    --can-line:#12301b; --waits-line:#3a1a18;
+  }
+}
+*{box-sizing:border-box}
+body{margin:0;background:var(--page);color:var(--ink);font:15px/1.45 system-ui,sans-serif}
+h1{margin:0;font-size:1.15rem}
+h2{margin:0 0 .35rem;font-size:.95rem}
+pre,ul,#event,#printed{font:13px/1.5 ui-monospace,Menlo,Consolas,monospace}
+.help{margin:.25rem 0 0;color:var(--faint);font-size:.85rem}
+"#;
+
+/// Where things stand: two columns, on a phone one.
+pub(crate) const PLACES: &str = r#"/* Two columns; on a phone, one. */
+header{position:sticky;top:0;z-index:1;padding:.6rem 1rem;background:var(--page);border-bottom:1px solid var(--edge)}
+#controls{display:flex;align-items:center;gap:.5rem;margin:.4rem 0 0}
+.still #controls,.still .state,.still .help{display:none}
+#slider{flex:1;min-width:0;height:2rem;accent-color:var(--seen)}
+button{padding:.3rem .8rem;border:1px solid var(--edge);border-radius:6px;background:var(--panel);color:inherit;font:inherit}
+button:disabled{color:var(--faint);opacity:.6}
+#event{display:block;min-height:1.5em;font-weight:bold}
+main{display:grid;grid-template-columns:minmax(17rem,2fr) minmax(0,3fr);grid-template-rows:auto 1fr;gap:1rem;padding:1rem}
+section{min-width:0}
+.lanes{grid-column:2;grid-row:1/3}
+#picture{max-height:calc(100vh - 11rem);overflow:auto;border:1px solid var(--edge);border-radius:6px}
+#picture svg{display:block}
+@media (min-width:700px){.lanes{position:sticky;top:8.5rem;align-self:start}}
+@media (max-width:699px){
+  header{padding:.5rem .75rem}
+  h1,header .help{display:none}
+  main{display:block;padding:.75rem}
+  section{margin-bottom:1rem}
+  #picture{max-height:70vh}
+}
+"#;
+
+/// How the source text, the lists and the picture look.
+pub(crate) const MARKS: &str = r#"/* The source text: marked lines, and who stands there. */
+#source{max-height:45vh;margin:0;padding:.4rem 0;overflow:auto;background:var(--panel);border:1px solid var(--edge);border-radius:6px}
+.still #source{padding:.4rem .75rem}
+#source .row{width:max-content;min-width:100%;padding-right:.75rem}
+#source .line{display:inline-block;width:3.2em;padding-right:.9em;text-align:right;color:var(--faint);user-select:none}
+#source .row.can{background:var(--can-line)}
+#source .row.waits{background:var(--waits-line)}
+#source .badges{position:sticky;right:.5rem;margin-left:.5em}
+.badge{display:inline-block;min-width:1.6em;margin:0 .2em;padding:0 .35em;border:1px solid var(--edge);border-radius:.8em}
+.badge{background:var(--panel);font-weight:bold;text-align:center}
+.badge.can{border-color:var(--can);background:var(--can);color:var(--page)}
+.badge.waits{border:1px dashed var(--waits);background:var(--page);color:var(--waits)}
+.badge.moved{outline:2px solid var(--seen);outline-offset:1px}
+/* The lists: a bar tells who can step, who waits, and who has ended. */
+ul{margin:0 0 1rem;padding:0;list-style:none}
+li{padding:0 .5rem;border-left:4px solid var(--edge)}
+ul:empty::after,#printed:empty::after{content:"none";color:var(--faint)}
+#activities{max-height:40vh;overflow:auto}
+li.can{border-color:var(--can)}
+li.waits{border-left-style:dashed;border-color:var(--waits)}
+li.ended{color:var(--faint)}
+li.moved{font-weight:bold}
+#printed{margin:0;overflow-wrap:anywhere}
+/* The picture: the box of the step. */
+#picture .now rect{stroke:var(--seen);stroke-width:3}
+</style>
+</head>
+"#;
+
+/// The page's beginning, up to the source text, which begins in a line of its own.
+pub(crate) const BEGINNING: &str = r#"<body class="still">
+<header>
+<h1>A run, step by step</h1>
+<output id="event" for="slider"></output>
+<div id="controls" role="group" aria-label="Steps">
+<button type="button" id="back">Back</button>
+<input id="slider" type="range" min="0" max="0" value="0" aria-label="Step of the run">
+<button type="button" id="next">Next</button>
+</div>
+<p class="help">Move the slider, or press the keys left, right, home and end.</p>
+<noscript><p>Scripts are off: here are the source text and the picture of the run, but not its single steps.</p></noscript>
+</header>
+<main>
+<section class="text">
+<h2>Source text</h2>
+<pre id="source">
+"#;
+
+/// What stands between the source text and the picture.
+pub(crate) const LISTS: &str = r#"</pre>
+<p class="help"><span class="badge can">0</span> can step, <span class="badge waits">1</span> waits. Activity 0 is main.</p>
+</section>
+<section class="state">
+<h2>Activities</h2>
+<ul id="activities"></ul>
+<h2>Clocks</h2>
+<ul id="clocks"></ul>
+<h2>Shared numbers</h2>
+<ul id="shared"></ul>
+<h2>Printed so far</h2>
+<p id="printed"></p>
+</section>
+<section class="lanes">
+<h2>Lanes</h2>
+<div id="picture" tabindex="0" role="group" aria-label="Lanes of the run">
+"#;
+
+/// What stands between the picture and the moments.
+pub(crate) const BEHIND: &str = r#"</div>
+</section>
+</main>
+<script type="text/plain" id="moments">
+"#;
+
+/// The script's first part: it reads the moments, the source text and the picture.
+pub(crate) const READER: &str = r##"</script>
+<script>
+"use strict";
+const byId = id => document.getElementById(id);
+
+// The moments. Each begins at a line "steps 5"; the line "step 5 act 0 at 8:13 print 1" before it says what was done.
+// Of a step outside of the part that was asked for there is at most that line, where it printed.
+const moments = [], printed = [];
+let done = "";
+for (const line of byId("moments").textContent.split("\n")) {
+  const word = line.split(" ")[0];
+  if (word === "step") {
+    done = line;
+    const print = / print (-?\d+)$/.exec(line);
+    if (print) printed.push(print[1]);
+  } else if (word === "steps") {
+    moments.push({steps: Number(line.split(" ")[1]), done, printed: printed.length, act: [], clock: [], shared: []});
+    done = "";
+  } else if (word) {
+    moments[moments.length - 1][word].push(line);
+  }
+}
+
+// An element with a class and a text.
+function make(name, kind, text) {
+  const made = document.createElement(name);
+  made.className = kind;
+  made.textContent = text;
+  return made;
+}
+
+// The source text, a row for each line, with room for badges. A module has none.
+const source = byId("source");
+const lines = source.textContent.replace(/\n$/, "").split("\n");
+const rows = lines.map((text, i) => {
+  const row = make("div", "row", "");
+  row.append(make("span", "line", i + 1), make("span", "code", text), make("span", "badges", ""));
+  return row;
+});
+source.parentNode.hidden = source.textContent === "";
+source.replaceChildren(...rows);
+
+// The boxes of the picture, by the numbers of their steps: a title is "step 5 act 0 at 8:13 print 1".
+const boxes = new Map();
+for (const title of document.querySelectorAll("#picture g > title"))
+  boxes.set(Number(title.textContent.split(" ")[1]), title.parentNode);
+"##;
+
+/// The script's second part: it shows a moment.
+pub(crate) const SHOWER: &str = r##"
+// Scrolls a pane, and nothing else, so that something in it can be seen.
+function reveal(pane, seen) {
+  const a = pane.getBoundingClientRect(), b = seen.getBoundingClientRect();
+  if (b.top < a.top || b.bottom > a.bottom) pane.scrollTop += b.top - a.top - pane.clientHeight / 2;
+  if (b.left < a.left || b.right > a.right) pane.scrollLeft += b.left - a.left - pane.clientWidth / 2;
+}
+
+// What an activity does, by its line: "act 1 at 5:9 waits for clocks, clock 0 signalled held by 0".
+function doing(line) {
+  return / can step/.test(line) ? "can" : / waits /.test(line) ? "waits" : "ended";
+}
+
+// Marks the lines of the source text where activities stand: as one where somebody can step, if one can. Behind it stand
+// the first four of them, who took the step, and how many more there are.
+function mark(acts, who) {
+  const more = new Map();
+  for (const row of rows) {
+    row.className = "row";
+    row.lastChild.replaceChildren();
+  }
+  for (const line of acts) {
+    const at = /^act (\d+) at (\d+):/.exec(line), row = at && rows[at[2] - 1];
+    if (!row) continue;
+    const badges = row.lastChild, moved = at[1] === who;
+    if (!row.classList.contains("can")) row.className = "row " + doing(line);
+    if (badges.childElementCount < 4 || moved) badges.append(make("span", "badge " + doing(line) + (moved ? " moved" : ""), at[1]));
+    else more.set(badges, (more.get(badges) || 0) + 1);
+    if (moved) reveal(source, row);
+  }
+  for (const [badges, count] of more) badges.append(make("span", "badge", "+" + count));
+}
+
+// Shows the moment of this number.
+function show(k) {
+  const moment = moments[k], who = moment.done.split(" ")[3];
+  const said = moment.done || "before the first step";
+  byId("event").textContent = said;
+  byId("slider").setAttribute("aria-valuetext", said);
+  byId("back").disabled = k === 0;
+  byId("next").disabled = k === moments.length - 1;
+  byId("activities").replaceChildren(...moment.act.map(line => make("li", doing(line), line)));
+  byId("clocks").replaceChildren(...moment.clock.map(line => make("li", "", line)));
+  byId("shared").replaceChildren(...moment.shared.map(line => make("li", "", line)));
+  byId("printed").textContent = printed.slice(0, moment.printed).join(" ");
+  mark(moment.act, who);
+  const mover = byId("activities").children[who];
+  if (mover) {
+    mover.classList.add("moved");
+    reveal(byId("activities"), mover);
+  }
+  for (const box of document.querySelectorAll("#picture .now")) box.classList.remove("now");
+  const box = boxes.get(moment.steps);
+  if (box) {
+    box.classList.add("now");
+    reveal(byId("picture"), box);
+  } else byId("picture").scrollTop = 0;
+}
+"##;
+
+/// The script's third part: it goes to a moment as it is told.
+pub(crate) const MOVER: &str = r#"
+// Goes to a moment, or the nearest one that there is.
+const slider = byId("slider");
+function go(k) {
+  slider.value = k;
+  show(Number(slider.value));
+}
+
+// The moment that the address names by a step's number, as in "page.html#12", or the last one before it.
+function named() {
+  const steps = Number(location.hash.slice(1));
+  return Math.max(0, moments.filter(moment => moment.steps <= steps).length - 1);
+}
+
+// The keys, wherever one is on the page; the slider has its own.
+const keys = {ArrowLeft: k => k - 1, ArrowRight: k => k + 1, Home: () => 0, End: () => moments.length - 1};
+document.addEventListener("keydown", pressed => {
+  const move = keys[pressed.key];
+  if (!move || pressed.target === slider || pressed.altKey || pressed.ctrlKey || pressed.metaKey || pressed.shiftKey) return;
+  pressed.preventDefault();
+  go(move(Number(slider.value)));
+});
+slider.addEventListener("input", () => show(Number(slider.value)));
+byId("back").addEventListener("click", () => go(Number(slider.value) - 1));
+byId("next").addEventListener("click", () => go(Number(slider.value) + 1));
+window.addEventListener("hashchange", () => go(named()));
+slider.max = moments.length - 1;
+document.body.classList.remove("still");
+go(named());
+</script>
+</body>
+</html>
+"#;

@@ -1,0 +1,283 @@
+#!/usr/bin/env python3
+"""Opens pages of `page` in headless Chromium, and compares what they say at each moment with what the program says.
+
+    python3 tests/browser/page.py [--program PATH] [--shots FOLDER]
+
+At each moment of some runs: what the page says was done with `events`, how things stand, and which lines are marked, with `where` behind the
+log cut to so many steps, the printed numbers and the framed box with the events up to there. Then the keys and the buttons, and whether all
+fits into a wide window and a phone's. Into the folder go screenshots of these, in light and dark. Where no browser is found it says so, and
+ends with status 0.
+"""
+
+from __future__ import annotations
+
+import argparse
+import base64
+import itertools
+import json
+import os
+import pathlib
+import re
+import shutil
+import subprocess
+import sys
+import tempfile
+from typing import Any, NamedTuple
+
+ROOT = pathlib.Path(__file__).resolve().parents[2]
+BROWSERS = ("chromium", "chromium-browser", "google-chrome", "chrome")
+# A program whose text has what HTML takes for something else.
+SIGNS = """// </pre><script>alert(1)</script> &lt; & &amp; \u00e9\r
+def main() {\r
+\tif (1 < 2) Console.OUT.println(-1); // <!--\r
+}
+"""
+# The runs: a program of examples/ or SIGNS, who takes the steps, and which steps are asked for.
+RUNS = (
+    ("held-back.x10", "last", ()),
+    ("stencil.x10", "first", ()),
+    ("stencil.x10", "random", (40, 60)),
+    ("tree-of-finishes.x10", "last", ()),
+    ("ring.json", "first", ()),
+    ("signs.x10", "first", ()),
+)
+# Screenshots: a name, and how wide and high the window is.
+SIZES = {"wide": (1200, 900), "phone": (390, 844)}
+# What a page shows.
+SHOWN = """(() => {
+  const lines = id => [...document.querySelectorAll(id + " > li")].map(line => line.textContent);
+  const rows = [...document.querySelectorAll("#source > .row")];
+  const box = document.querySelectorAll("#picture .now > title");
+  return {
+    event: document.getElementById("event").textContent,
+    standings: [...lines("#activities"), ...lines("#clocks"), ...lines("#shared")],
+    printed: document.getElementById("printed").textContent.split(" ").filter(word => word),
+    badges: rows.flatMap((row, i) => [...row.querySelectorAll(".badge")].map(badge => [i + 1, badge.textContent, badge.classList.contains("waits")])),
+    boxes: [...box].map(title => title.textContent),
+    place: Number(document.getElementById("slider").value),
+    most: Number(document.getElementById("slider").max),
+    source: [...document.querySelectorAll("#source .code")].map(code => code.textContent).join("\\n"),
+    fits: document.documentElement.scrollWidth <= window.innerWidth,
+  };
+})()"""
+
+
+class Browser:
+    """A headless browser, which is told what to do through two pipes."""
+
+    def __init__(self, program: str, folder: str) -> None:
+        words = [program, "--headless", "--no-sandbox", "--disable-gpu", "--remote-debugging-pipe", f"--user-data-dir={folder}", "about:blank"]
+        there, self.said = os.pipe()
+        heard, here = os.pipe()
+
+        def joined() -> None:
+            kept = os.dup(there), os.dup(here)
+            os.dup2(kept[0], 3)
+            os.dup2(kept[1], 4)
+
+        self.process = subprocess.Popen(words, preexec_fn=joined, pass_fds=(3, 4), stdout=subprocess.DEVNULL, stderr=subprocess.DEVNULL)
+        os.close(there)
+        os.close(here)
+        self.hears, self.numbers, self.session = os.fdopen(heard, "rb"), itertools.count(1), None
+        target = self.ask("Target.createTarget", url="about:blank")["targetId"]
+        self.session = self.ask("Target.attachToTarget", targetId=target, flatten=True)["sessionId"]
+        self.ask("Page.enable")
+
+    def message(self) -> dict[str, Any]:
+        """The next message of the browser: each ends in a zero byte."""
+        read = bytearray()
+        while (byte := self.hears.read(1)) != b"\0":
+            if not byte:
+                raise OSError("the browser has gone")
+            read += byte
+        return json.loads(read)
+
+    def ask(self, method: str, **words: Any) -> dict[str, Any]:
+        """Has the browser do something, and returns what it answers."""
+        number = next(self.numbers)
+        told = {"id": number, "method": method, "params": words}
+        os.write(self.said, json.dumps(told | ({"sessionId": self.session} if self.session else {})).encode() + b"\0")
+        while (message := self.message()).get("id") != number:
+            pass
+        if "error" in message:
+            raise OSError(f"{method}: {message['error']}")
+        return message["result"]
+
+    def open(self, page: pathlib.Path, fragment: str = "") -> None:
+        """Loads a page anew, and waits for it."""
+        for address in ("about:blank", page.as_uri() + fragment):
+            self.ask("Page.navigate", url=address)
+            while self.value("document.readyState + location.href") != "complete" + address:
+                pass
+
+    def value(self, script: str) -> Any:
+        answer = self.ask("Runtime.evaluate", expression=script, returnByValue=True, awaitPromise=True)
+        if "exceptionDetails" in answer:
+            raise OSError(answer["exceptionDetails"]["exception"].get("description"))
+        return answer["result"].get("value")
+
+    def press(self, key: str) -> None:
+        self.ask("Input.dispatchKeyEvent", type="keyDown", key=key, code=key)
+        self.ask("Input.dispatchKeyEvent", type="keyUp", key=key, code=key)
+
+    def look(self, scheme: str, wide: int, high: int) -> None:
+        """In light or dark, in a window of this size."""
+        self.ask("Emulation.setEmulatedMedia", features=[{"name": "prefers-color-scheme", "value": scheme}])
+        self.ask("Emulation.setDeviceMetricsOverride", width=wide, height=high, deviceScaleFactor=1, mobile=wide < 700)
+
+    def shoot(self, path: pathlib.Path) -> None:
+        path.write_bytes(base64.b64decode(self.ask("Page.captureScreenshot")["data"]))
+
+    def close(self) -> None:
+        self.ask("Browser.close")
+        self.process.wait()
+
+
+class Run(NamedTuple):
+    """A program, its log, and which steps are asked for."""
+
+    program: str
+    file: pathlib.Path
+    log: pathlib.Path
+    part: tuple[int, ...]
+
+    @property
+    def is_module(self) -> bool:
+        return self.file.suffix == ".json"
+
+    @property
+    def flags(self) -> list[str]:
+        return ["--module"] if self.is_module else []
+
+    def ask(self, command: str, log: pathlib.Path, *more: str) -> str:
+        words = [self.program, command, *self.flags, *more, str(self.file), str(log)]
+        return subprocess.run(words, check=True, capture_output=True).stdout.decode()
+
+    def standings(self, steps: int) -> list[str]:
+        """How things stand behind so many steps of the log, which has an entry for each."""
+        entries = self.log.read_text().splitlines()[1 : steps + 1]
+        cut = self.log.with_suffix(".cut")
+        cut.write_text("".join(f"{line}\n" for line in ["x10log 1", *entries, f"end {steps}"]))
+        return self.ask("where", cut).splitlines()
+
+    def page(self) -> str:
+        return self.ask("page", self.log, *(f"{flag}={step}" for flag, step in zip(("--from", "--to"), self.part)))
+
+    def events(self) -> dict[int, str]:
+        """The lines of the steps that others see, by their numbers."""
+        return {int(line.split()[1]): line for line in self.ask("events", self.log).splitlines()}
+
+    def asked(self) -> list[int]:
+        """The steps behind which the page shows how things stand; 0 is before the first."""
+        first, last = self.part or (0, sys.maxsize)
+        return [0, *(step for step in self.events() if first <= step <= last)]
+
+
+class Wrong(Exception):
+    """The page says something else than the program."""
+
+
+def same(what: str, said: Any, wanted: Any) -> None:
+    if said != wanted:
+        raise Wrong(f"{what}: the page says {said!r}, and not {wanted!r}")
+
+
+def wanted_badges(standings: list[str]) -> list[list[Any]]:
+    """The lines of the source text where activities stand, whose they are, and whether they wait."""
+    found = [re.match(r"act (\d+) at (\d+):\d+ (can|waits)", line) for line in standings]
+    return sorted([int(it[2]), it[1], it[3] == "waits"] for it in found if it)
+
+
+def compare(shown: dict[str, Any], run: Run, events: dict[int, str], steps: int) -> None:
+    """What a page shows behind so many steps, with what the program says of it."""
+    standings = run.standings(steps)
+    prints = [re.search(r" print (-?\d+)$", line) for step, line in events.items() if step <= steps]
+    same("steps", f"steps {steps}", standings[0])
+    same(f"standings {steps}", shown["standings"], standings[1:])
+    same(f"event {steps}", shown["event"], events.get(steps, "before the first step"))
+    same(f"printed {steps}", shown["printed"], [found[1] for found in prints if found])
+    same(f"box {steps}", [title.split(" at ")[0] for title in shown["boxes"]], [re.split(" at | unit ", events[steps])[0]] if steps else [])
+    same(f"badges {steps}", sorted(shown["badges"]), [] if run.is_module else wanted_badges(standings))
+    same(f"source {steps}", shown["source"], "" if run.is_module else run.file.read_bytes().decode().removesuffix("\n"))
+
+
+def try_moments(browser: Browser, run: Run, page: pathlib.Path) -> int:
+    """Goes through all moments by the address, and then by keys and buttons; how many there are."""
+    events, asked = run.events(), run.asked()
+    browser.look("light", *SIZES["wide"])
+    browser.open(page)
+    for place, steps in enumerate(asked):
+        browser.value(f"location.hash = '#{steps}'; new Promise(done => setTimeout(done, 0))")
+        shown = browser.value(SHOWN)
+        compare(shown, run, events, steps)
+        same(f"slider {steps}", [shown["place"], shown["most"]], [place, len(asked) - 1])
+    try_moves(browser, len(asked) - 1)
+    return len(asked)
+
+
+def try_moves(browser: Browser, last: int) -> None:
+    """The keys, wherever one is on the page, and the buttons, and no further than there are moments."""
+    moves = [("Home", 0), ("ArrowLeft", 0), ("ArrowRight", 1), ("End", last), ("ArrowRight", last), ("ArrowLeft", last - 1)]
+    for before in ("document.activeElement.blur()", "document.getElementById('slider').focus()"):
+        browser.value(before)
+        for key, place in moves:
+            browser.press(key)
+            same(key, browser.value(SHOWN)["place"], place)
+    for button, place in (("back", last - 2), ("next", last - 1)):
+        browser.value(f"document.getElementById('{button}').click()")
+        same(button, browser.value(SHOWN)["place"], max(0, place))
+
+
+def try_looks(browser: Browser, page: pathlib.Path, steps: int, shots: pathlib.Path | None) -> None:
+    """Whether nothing is wider than the window, behind so many steps; screenshots go into the folder, if there is one."""
+    for scheme, (size, (wide, high)) in itertools.product(("light", "dark"), SIZES.items()):
+        browser.look(scheme, wide, high)
+        browser.open(page, f"#{steps}")
+        same(f"{scheme} {size}", browser.value(SHOWN)["fits"], True)
+        if shots:
+            browser.shoot(shots / f"{page.stem}-{size}-{scheme}.png")
+
+
+def made(program: str, name: str, order: str, part: tuple[int, ...], folder: pathlib.Path) -> tuple[Run, pathlib.Path]:
+    """A run of a program, and its page."""
+    file = ROOT / "examples" / name
+    if not file.exists():
+        file = folder / name
+        file.write_bytes(SIGNS.encode())
+    run = Run(program, file, folder / f"{name}.log", part)
+    subprocess.run([program, "run", *run.flags, "--order", order, "--log", run.log, run.file], check=True, capture_output=True)
+    page = folder / f"{file.stem}{'-part' if part else ''}.html"
+    page.write_bytes(run.page().encode())
+    return run, page
+
+
+def main() -> int:
+    words = argparse.ArgumentParser()
+    words.add_argument("--program", default=str(ROOT / "crates/x10clock/out/x10clock"))
+    words.add_argument("--shots", type=pathlib.Path)
+    asked = words.parse_args()
+    found = next(filter(None, map(shutil.which, BROWSERS)), None)
+    if not found:
+        print("no browser is here: nothing was tried")
+        return 0
+    if asked.shots:
+        asked.shots.mkdir(parents=True, exist_ok=True)
+    with tempfile.TemporaryDirectory() as there:
+        folder = pathlib.Path(there)
+        browser = Browser(found, f"{there}/browser")
+        try:
+            for name, order, part in RUNS:
+                run, page = made(asked.program, name, order, part, folder)
+                print(page.name, try_moments(browser, run, page), "moments", flush=True)
+                steps = run.asked()
+                try_looks(browser, page, steps[len(steps) // 2], asked.shots)
+        except Wrong as wrong:
+            print(f"{name}: {wrong}", file=sys.stderr)
+            return 1
+        finally:
+            browser.close()
+    return 0
+
+
+if __name__ == "__main__":
+    sys.exit(main())
