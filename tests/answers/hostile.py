@@ -92,7 +92,7 @@ def full_devices(tried: Tried) -> None:
     tried.answers("exec $x outcomes --log /dev/full in-step.x10", 5, OUTCOMES, DEVICE)
     tried.answers("$x outcomes in-step.x10 > list; exec $x outcomes --expect list in-step.x10 > /dev/full", 5, err=DEVICE)
     tried.answers("exec $x events in-step.x10 log > /dev/full", 5, err=DEVICE)
-    for command in ("lanes", "lanes --svg", "where", "races"):
+    for command in ("lanes", "lanes --svg", "page", "where", "races"):
         tried.answers(f"exec $x {command} in-step.x10 log > /dev/full", 5, err=DEVICE)
     tried.answers("exec $x races in-step.x10 > /dev/full", 5, err=DEVICE)
     tried.answers("exec $x run --order random --runs 3 in-step.x10 > /dev/full", 5, err=DEVICE)
@@ -158,7 +158,7 @@ def strange_files(tried: Tried) -> None:
     tried.answers("exec $x listing /dev/zero", 1, err="x10clock: F4 TooLong at 0\n")
     tried.answers("exec $x listing --module /dev/zero", 1, err="x10clock: M3 Limit\n")
     tried.answers("exec $x listing /dev/null", 1, err="x10clock: F9 NoMain at 0\n")
-    for command in ("replay", "chart", "events", "lanes", "lanes --svg", "where", "races"):
+    for command in ("replay", "chart", "events", "lanes", "lanes --svg", "page", "where", "races"):
         tried.answers(f"exec $x {command} in-step.x10 .", 5, err=DEVICE)
         tried.answers(f"exec $x {command} in-step.x10 no-such-file", 5, err=DEVICE)
         tried.answers(f"exec $x {command} in-step.x10 /dev/zero", 3, err="x10clock: L1 Grammar line 1\n")
@@ -275,7 +275,7 @@ def little_memory(tried: Tried) -> None:
     """An answer, or none for want of memory; no more than that."""
     many = tried.file("many.x10", "def main() { val c = Clock.make(); for (i in 1..9000) async clocked(c) { Clock.advanceAll(); } Clock.advanceAll(); }")
     words = [f"check {many}", f"listing {many}", f"explain --json {many}", f"run {many}", f"run --log log {many}", f"run --workers 8 {many}", f"run --workers 64 {many}", f"outcomes {many}", "outcomes --expect /dev/zero in-step.x10", "replay in-step.x10 kept.log",
-             "events in-step.x10 kept.log", "lanes in-step.x10 kept.log", "--help"]
+             "events in-step.x10 kept.log", "lanes in-step.x10 kept.log", "page in-step.x10 kept.log", "--help"]
     whole = {word: tried.shell(f"exec $x {word}") for word in words}
     for word, size in ((word, size) for word in words for size in LIMITS_OF_MEMORY):
         ran = tried.shell(f"exec $x {word}", limits=limited(resource.RLIMIT_AS, size << 20))

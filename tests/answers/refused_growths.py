@@ -267,14 +267,14 @@ def each_log(calls: Calls, folder: str) -> None:
         charted = calls.ask(f"{name}, chart", ["chart", *words, "-", str(kept)], text)
         if charted.status:
             raise Wrong(f"{name}, chart: {charted}")
-        for command in ("events", "lanes", "lanes --svg", "where", "races"):
+        for command in ("events", "lanes", "lanes --svg", "page", "where", "races"):
             told = calls.ask(f"{name}, {command}", [*command.split(), *words, "-", str(kept)], text)
             if told.status not in ((0, 6) if command == "races" else (0,)) or not told.out:
                 raise Wrong(f"{name}, {command}: {told}")
     text = (ROWS / "in-step.x10").read_bytes()
     for log, line in (("zero-steps", "L1 Grammar line 2"), ("no-end", "L2 Truncated"),
                       ("waits", "L4 NotEnabled entry 3"), ("stops", "L5 NotEnded")):
-        for command in ("replay", "chart", "events", "lanes", "races"):
+        for command in ("replay", "chart", "events", "lanes", "page", "races"):
             err = f"x10clock: {line}\n".encode()
             calls.need(f"{command}, {log}", [command, "-", str(LOGS / f"{log}.log")], text, 3, b"", err)
     for log, status in (("zero-steps", 3), ("no-end", 3), ("waits", 6), ("stops", 0)):

@@ -4,7 +4,7 @@
 The modules are those of tests/answers/rows and whole programs that are made up here, as they are, with a rule broken, or changed operand by
 operand and byte by byte (tests/generated/generated.py). `check` and `run`, the latter in each order, also by chance, and with numbers by chance where
 main takes some, and `explain`, have to answer what the telling answers, byte for byte, and so have `explain --json` and `listing` of one text in ten,
-and `events` and `lanes` of a run of one accepted program in five; where there are several walks to what is refused, another shortest one is taken
+and `events`, `lanes` and `page` of a run of one accepted program in five; where there are several walks to what is refused, another shortest one is taken
 too, and counted. Of an accepted module with few worlds the telling goes through all schedules, and looks whether the promises hold; of one such
 module in ten `outcomes` has to tell what these schedules print.
 With `--source` the texts are programs in the language (tests/generated/generated_source.py) and those of tests/answers/programs/sources*.rows
@@ -353,7 +353,7 @@ class Comparer:
             self.draws(text, judged, outcome)
 
     def draws(self, text: bytes, judged: Accepted, outcome: Outcome) -> None:
-        """`events`, `lanes`, its picture, `races` and `where` tell of a run by its log, unless it is a large one."""
+        """`events`, `lanes`, its picture, `page`, `races` and `where` tell of a run by its log, unless it is a large one."""
         way, given = random.Random(text).choice(ways(text, judged))
         log = telling_log.log_of(judged.module, way, given)
         if len(log) * judged.bounds.activities > MOST_DRAWN:
@@ -362,7 +362,7 @@ class Comparer:
         outcome.counts["runs drawn"] += 1
         with tempfile.NamedTemporaryFile() as file:
             pathlib.Path(file.name).write_bytes(telling_log.text_of(log))
-            for command, *flags in (["events"], ["lanes"], ["lanes", "--svg"], ["races"], ["where"]):
+            for command, *flags in (["events"], ["lanes"], ["lanes", "--svg"], ["page"], ["races"], ["where"]):
                 told = Answer(*telling_runs.answer(command, judged, text, not self.source, telling_log.text_of(log), given, is_picture=bool(flags)))
                 answer = self.ask(text, command, *flags, *words_of(given), log=file.name)
                 if answer != told:

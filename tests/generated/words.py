@@ -10,7 +10,7 @@ line of standard error and what is in the folder then have to be the same. What 
 played again; outcomes, which the program tells in an order of its own, have to be right (tests/reference/telling_outcomes.py), and so has their log,
 and what is said of them where they are held against a list.
 `--tally` tells how often each answer was given; `--only` prints the words of one case. It fails where something is answered otherwise, and where of
-500 calls or more none told outcomes, events or lanes.
+500 calls or more none told outcomes, events, lanes or a page.
 """
 
 from __future__ import annotations
@@ -42,7 +42,7 @@ from telling_words import Job, Told
 
 SECONDS = 60
 # Of so many calls some have to tell what each of these commands tells.
-MANY, ANSWERED = 500, ("outcomes", "events", "lanes")
+MANY, ANSWERED = 500, ("outcomes", "events", "lanes", "page")
 CHUNK = 50
 SHOWN = 5
 IN_STEP, AS_MANY = ((TESTS / f"answers/rows/{name}.x10").read_bytes() for name in ("in-step", "as-many"))
@@ -78,7 +78,7 @@ STRANGE = ["--", "-h", "--help", "help", "-", "", "-x", "-5", "-hx", "--module=x
 
 
 # For some commands options that are a number each.
-COUNTED = {"outcomes": ("limit", "pick"), "lanes": ("from", "to")}
+COUNTED = {"outcomes": ("limit", "pick"), "lanes": ("from", "to"), "page": ("from", "to")}
 
 
 def option(rng: random.Random, name: str, value: str) -> list[str]:

@@ -1,5 +1,5 @@
 #!/usr/bin/env python3
-"""A second telling, in Python, of what is told of a log: `replay`, `chart`, `events`, `lanes` and `races` of a whole run, and `where` of any.
+"""A second telling, in Python, of what is told of a log: `replay`, `chart`, `events`, `lanes`, `page` and `races` of a whole run, and `where` of any.
 
     python3 tests/reference/telling_runs.py events [--module] FILE LOG [--arg=N]..
     python3 tests/reference/telling_runs.py lanes [--module] [--svg] FILE LOG [--arg=N]..
@@ -15,6 +15,7 @@ import telling
 import telling_events
 import telling_lanes
 import telling_log
+import telling_page
 import telling_picture
 import telling_races
 import telling_source
@@ -25,7 +26,7 @@ from telling_lanes import WHOLE
 from telling_log import Answer, Played, Teller
 
 # What is told of whole runs, and of any log.
-OF_RUNS, WHERE = ("replay", "chart", "events", "lanes", "races"), "where"
+OF_RUNS, WHERE = ("replay", "chart", "events", "lanes", "page", "races"), "where"
 COMMANDS = (*OF_RUNS, WHERE)
 
 
@@ -37,8 +38,8 @@ def races(program: Program, played: Played) -> tuple[str, bool]:
 
 def teller(command: str, data: bytes, is_module: bool, window: range = WHOLE, is_picture: bool = False) -> Teller:
     """What a command tells of a run of this program, whose bytes are looked at where there is one."""
-    if command == "lanes":
-        draw = telling_picture.drawing if is_picture else telling_lanes.drawing
+    if command in ("lanes", "page"):
+        draw = telling_page.drawing if command == "page" else telling_picture.drawing if is_picture else telling_lanes.drawing
         return lambda played: draw(Program(data, is_module), played, window)
     of_program = {"events": telling_events.events, "races": races}
     if command in of_program:

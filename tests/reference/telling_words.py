@@ -112,6 +112,7 @@ COMMANDS: dict[str, tuple[set[str], set[str], list[str]]] = {
     "chart": ({"arg"}, {"module"}, ["FILE", "LOG"]),
     "events": ({"arg"}, {"module"}, ["FILE", "LOG"]),
     "lanes": ({"from", "to", "arg"}, {"module", "svg"}, ["FILE", "LOG"]),
+    "page": ({"from", "to", "arg"}, {"module"}, ["FILE", "LOG"]),
     "where": ({"arg"}, {"module"}, ["FILE", "LOG"]),
 }
 

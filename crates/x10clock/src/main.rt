@@ -284,6 +284,7 @@ fn on_program<R: Runtime, P: Read + Drop, O: Sink, E: Sink>(
     | Command::Chart { log: path }
     | Command::Events { log: path }
     | Command::Lanes { log: path, .. }
+    | Command::Page { log: path, .. }
     | Command::Where { log: path }
     | Command::Races { log: Some(path) }
     | Command::Expected { list: path, .. }) = job.command
@@ -352,6 +353,7 @@ fn path_of_log<'a>(command: Command<'a>) -> Option<&'a str> {
         | Command::Chart { .. }
         | Command::Events { .. }
         | Command::Lanes { .. }
+        | Command::Page { .. }
         | Command::Where { .. }
         | Command::Races { .. }
         | Command::Tally { .. }

@@ -193,25 +193,25 @@ races_line = with_rule maybe_on_log arg_option
 abbrev pub from_option : Rule
 from_option = record (count_option (codes "FROM") (codes "from")) { value_names = 1 }
 
--- the command on FILE and LOG that draws lanes, maybe from a step on
-abbrev pub lanes_from : App
-lanes_from = with_rule (on_run (codes "lanes")) from_option
+-- a command that draws the run that LOG has, maybe from a step on
+abbrev pub drawn_from : Text → App
+drawn_from name = with_rule (on_run name) from_option
 
 -- `--to STEP`
 abbrev pub to_option : Rule
 to_option = record (count_option (codes "TO") (codes "to")) { value_names = 1 }
 
 -- the same, maybe up to a step
-abbrev pub lanes_within : App
-lanes_within = with_rule lanes_from to_option
+abbrev pub drawn_within : Text → App
+drawn_within name = with_rule (drawn_from name) to_option
 
 -- `--svg`
 abbrev pub svg_flag : Rule
 svg_flag = flag (codes "svg")
 
--- the same, maybe as a picture
+-- the command that draws lanes, maybe as a picture
 abbrev pub lanes_line : App
-lanes_line = with_rule lanes_within svg_flag
+lanes_line = with_rule (drawn_within (codes "lanes")) svg_flag
 
 -- the program with a command that has to be there, and a version that it tells
 abbrev pub program : App
@@ -227,8 +227,9 @@ without_logs names =
 -- the same, and those on a log
 abbrev pub command_line : Names → App
 command_line names =
-    with_subcommand (with_subcommand (with_subcommand (with_subcommand (with_subcommand (without_logs names) (on_run (codes "replay")).top)
-    (on_run (codes "chart")).top) (on_run (codes "events")).top) lanes_line.top) (on_run (codes "where")).top
+    with_subcommand (with_subcommand (with_subcommand (with_subcommand (with_subcommand (with_subcommand (without_logs names)
+    (on_run (codes "replay")).top) (on_run (codes "chart")).top) (on_run (codes "events")).top) lanes_line.top)
+    (drawn_within (codes "page")).top) (on_run (codes "where")).top
 
 -- no argument of the command is one of its subcommands too
 abbrev pub HasNoGlobals : clap_Command → Type 0
@@ -264,9 +265,9 @@ way_value (drive.Workers w) = By w.count
 
 -- A command without where its texts lie in memory. What is explained may be a JSON value. A run has who takes its steps, and the log's path, where
 -- they were given; a tally has the first seed, and how many runs there are. Lanes have the log's path, the first step and the last, where they were
--- given, and may be a picture; races have the log's path, where it was given; the others on a log have its path. Outcomes have how many there are at
--- most, which is picked, and the path of its log; numbers of them may have no order. Where they are held against a list they have its path, how many
--- there are at most, and whether numbers of them have no order.
+-- given, and may be a picture; a page has the same steps; races have the log's path, where it was given; the others on a log have its path. Outcomes
+-- have how many there are at most, which is picked, and the path of its log; numbers of them may have no order. Where they are held against a list they
+-- have its path, how many there are at most, and whether numbers of them have no order.
 pub data Task : Type 0 where
   Check : Task
   Compile : Task
@@ -278,6 +279,7 @@ pub data Task : Type 0 where
   Chart : Text → Task
   Events : Text → Task
   Lanes : Text → Option ℕ → Option ℕ → Bool → Task
+  Page : Text → Option ℕ → Option ℕ → Task
   Where : Text → Task
   Races : Option Text → Task
   Outcomes : Option ℕ → Option ℕ → Option Text → Bool → Task
@@ -294,6 +296,7 @@ task_value (command.Replay log) = Replay log.now
 task_value (command.Chart log) = Chart log.now
 task_value (command.Events log) = Events log.now
 task_value (command.Lanes log from to svg) = Lanes log.now from to svg
+task_value (command.Page log from to) = Page log.now from to
 task_value (command.Where log) = Where log.now
 task_value (command.Races log) = Races (option_map (λ s. s.now) log)
 task_value (command.Outcomes limit pick log sets) = Outcomes limit pick (option_map (λ s. s.now) log) sets
@@ -421,6 +424,10 @@ outcomes_by given = if is_list_misplaced given then None else Some (outcomes_in 
 abbrev pub lanes_on : Text → List Row → Task
 lanes_on log given = Lanes log (count_in (codes "FROM") given) (count_in (codes "TO") given) (is_flagged (codes "svg") given)
 
+-- `page` on a log, with what else was given to it
+abbrev pub page_on : Text → List Row → Task
+page_on log given = Page log (count_in (codes "FROM") given) (count_in (codes "TO") given)
+
 -- the command of a name on a log, with what else was given to it
 abbrev pub command_on : Text → Text → List Row → Option Task
 command_on name log given =
@@ -428,7 +435,8 @@ command_on name log given =
     else (if bytes_eq name (codes "chart") then Some (Chart log)
     else (if bytes_eq name (codes "events") then Some (Events log)
     else (if bytes_eq name (codes "lanes") then Some (lanes_on log given)
-    else (if bytes_eq name (codes "where") then Some (Where log) else None))))
+    else (if bytes_eq name (codes "page") then Some (page_on log given)
+    else (if bytes_eq name (codes "where") then Some (Where log) else None)))))
 
 -- the command of a name that wants a log
 abbrev pub command_by_log : Text → List Row → Option Task

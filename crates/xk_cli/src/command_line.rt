@@ -2,7 +2,7 @@
 
 ghost use Rattle.std.specs.Prelude.{◌≡◌, [], false, Some, None, IfOk, OnOk, IfErr, IsOkAnd, option_map};
 ghost use Rattle.clap.specs.Words.{app_of, first_of, found_of, kind_of, rows_of, rule_of, subcommand_rows_of, with_subcommand};
-ghost use Rattle.xk_cli.specs.CommandLine.{FitsKind, HasNoGlobals, IsRefused, WithOrders, are_runs_misplaced, arg_option, arguments_in, asked_by, asked_in, asked_of, asked_value, by_chance, by_order, by_workers, command_by, command_by_log, command_line, command_on, count_in, count_option, crowds_by, crowds_in, drive_in, excludes_by, excludes_in, expect_option, explain_line, faults_in, flag, form_in, form_named, from_option, is_asked, is_both, is_flagged, is_list_misplaced, is_random, is_seed_alone, is_true, job_of, json_flag, lanes_from, lanes_line, lanes_within, limit_option, limited, log_choice, log_option, maybe_on_log, misplaces_by, misplaces_in, module_flag, on_either, on_file, on_log, on_run, option, order_in, order_named, order_option, outcomes_by, outcomes_in, outcomes_line, outcomes_of, pick_option, picked, place, program, races_line, repeated, run_by, run_in, run_line, runs_option, seed_in, seed_option, sets_flag, strays_by, strays_in, svg_flag, task_value, texts, to_option, way_value, with_expected, with_log, with_outcome_log, with_sets, without_logs, workers_in, workers_named, workers_option};
+ghost use Rattle.xk_cli.specs.CommandLine.{FitsKind, HasNoGlobals, IsRefused, WithOrders, are_runs_misplaced, arg_option, arguments_in, asked_by, asked_in, asked_of, asked_value, by_chance, by_order, by_workers, command_by, command_by_log, command_line, command_on, count_in, count_option, crowds_by, crowds_in, drawn_from, drawn_within, drive_in, excludes_by, excludes_in, expect_option, explain_line, faults_in, flag, form_in, form_named, from_option, is_asked, is_both, is_flagged, is_list_misplaced, is_random, is_seed_alone, is_true, job_of, json_flag, lanes_line, limit_option, limited, log_choice, log_option, maybe_on_log, misplaces_by, misplaces_in, module_flag, on_either, on_file, on_log, on_run, option, order_in, order_named, order_option, outcomes_by, outcomes_in, outcomes_line, outcomes_of, page_on, pick_option, picked, place, program, races_line, repeated, run_by, run_in, run_line, runs_option, seed_in, seed_option, sets_flag, strays_by, strays_in, svg_flag, task_value, texts, to_option, way_value, with_expected, with_log, with_outcome_log, with_sets, without_logs, workers_in, workers_named, workers_option};
 
 use crate::job::{Command, Drive, Form, Job, MOST_WORKERS, Order, Workers};
 use crate::numbers::{count_named, numbers_named};
@@ -62,12 +62,18 @@ fn line<'a>(alloc: Global) -> Result<clap::Command<'a>, AllocError>
     );
     let told = add(charts, events)?;
     let lanes = add(told, lanes_line(alloc))?;
+    let page = drawn_within(
+        alloc,
+        "page",
+        "Makes an HTML page of the run that a log has, to go through it step by step.",
+    );
+    let pages = add(lanes, page)?;
     let stands = on_run(
         alloc,
         "where",
         "Prints where each activity stands behind the steps that a log has.",
     );
-    add(lanes, stands)
+    add(pages, stands)
 }
 
 /// The command line without the commands that want a log.
@@ -262,29 +268,37 @@ fn lanes_line<'a>(alloc: Global) -> Result<clap::Command<'a>, AllocError>
     ensures shape { IfOk result (λ c. app_of c ≡ lanes_line) }
     ensures local { IfOk result HasNoGlobals }
 {
-    let command = lanes_within(alloc)?;
-    command.arg(svg_flag(alloc))
-}
-
-/// The command `lanes` without `--svg`.
-fn lanes_within<'a>(alloc: Global) -> Result<clap::Command<'a>, AllocError>
-    ensures shape { IfOk result (λ c. app_of c ≡ lanes_within) }
-    ensures local { IfOk result HasNoGlobals }
-{
-    let command = lanes_from(alloc)?;
-    command.arg(to_option(alloc))
-}
-
-/// The command `lanes` without `--to` and `--svg`.
-fn lanes_from<'a>(alloc: Global) -> Result<clap::Command<'a>, AllocError>
-    ensures shape { IfOk result (λ c. app_of c ≡ lanes_from) }
-    ensures local { IfOk result HasNoGlobals }
-{
-    let command = on_run(
+    let command = drawn_within(
         alloc,
         "lanes",
         "Draws the run that a log has, with a lane for each activity.",
     )?;
+    command.arg(svg_flag(alloc))
+}
+
+/// A command that draws the run that LOG has, maybe from a step on and up to another.
+fn drawn_within<'a>(
+    alloc: Global,
+    name: &'a str,
+    about: &'a str,
+) -> Result<clap::Command<'a>, AllocError>
+    ensures shape { IfOk result (λ c. app_of c ≡ drawn_within name.entry.now) }
+    ensures local { IfOk result HasNoGlobals }
+{
+    let command = drawn_from(alloc, name, about)?;
+    command.arg(to_option(alloc))
+}
+
+/// The same without `--to`.
+fn drawn_from<'a>(
+    alloc: Global,
+    name: &'a str,
+    about: &'a str,
+) -> Result<clap::Command<'a>, AllocError>
+    ensures shape { IfOk result (λ c. app_of c ≡ drawn_from name.entry.now) }
+    ensures local { IfOk result HasNoGlobals }
+{
+    let command = on_run(alloc, name, about)?;
     command.arg(from_option(alloc))
 }
 
@@ -685,8 +699,20 @@ fn command_on<'a>(name: &str, log: &'a str, given: &ArgMatches<'a>) -> Option<Co
             to: count_in(given, "TO"),
             svg: is_flagged(given, "svg"),
         }),
+        "page" => Some(page_on(log, given)),
         "where" => Some(Command::Where { log }),
         _ => None,
+    }
+}
+
+/// The command `page` on this log, with what was given to it.
+fn page_on<'a>(log: &'a str, given: &ArgMatches<'a>) -> Command<'a>
+    ensures { task_value result ≡ page_on log.entry.now (rows_of (found_of given.now)) }
+{
+    Command::Page {
+        log,
+        from: count_in(given, "FROM"),
+        to: count_in(given, "TO"),
     }
 }
 

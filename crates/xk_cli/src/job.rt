@@ -57,6 +57,15 @@ pub enum Command<'a> {
         /// `--svg`: as an SVG picture.
         svg: bool,
     },
+    /// `page`: make an HTML page of the run of FILE that a log has, to go through it step by step.
+    Page {
+        /// The log's path.
+        log: &'a str,
+        /// `--from`, as for `lanes`.
+        from: Option<u64>,
+        /// `--to`, as for `lanes`.
+        to: Option<u64>,
+    },
     /// `where`: print where in FILE each activity stands behind the steps that a log has.
     Where {
         /// The log's path.

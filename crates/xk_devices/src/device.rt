@@ -26,12 +26,15 @@ pub enum Failure {
 pub struct Device {
     /// What is still to be given, or taken.
     rest: &'static [u8],
+    /// A line that stands behind a beginning of the text, or behind all of it, and isn't taken yet.
+    line: &'static [u8],
     pace: Pace,
     /// Which call fails, 0 being none, and how.
     failing: u64,
     failure: Failure,
     calls: u64,
     is_begun: bool,
+    is_short: bool,
     is_other: bool,
 }
 
@@ -40,12 +43,22 @@ impl Device {
     pub fn new(text: &'static str, pace: Pace) -> Device {
         Device {
             rest: text.as_bytes(),
+            line: "".as_bytes(),
             pace,
             failing: 0,
             failure: Failure::Error,
             calls: 0,
             is_begun: false,
+            is_short: false,
             is_other: false,
+        }
+    }
+
+    /// The same, where this line stands behind a beginning of the text, which it doesn't go on.
+    pub fn with_line(self, line: &'static str) -> Device {
+        Device {
+            line: line.as_bytes(),
+            ..self
         }
     }
 
@@ -68,14 +81,24 @@ impl Device {
         !self.is_begun
     }
 
-    /// Whether just the text was moved.
+    /// Whether just the text was moved, and its line.
     pub fn is_whole(&self) -> bool {
-        self.rest.is_empty() && !self.is_other
+        self.is_at_end() && !self.is_other
     }
 
     /// Whether a beginning of the text was moved, and not all of it.
     pub fn is_cut(&self) -> bool {
-        !self.rest.is_empty() && !self.is_other
+        !self.is_at_end() && !self.is_other
+    }
+
+    /// Whether the line stands behind less than all of the text.
+    pub fn is_short(&self) -> bool {
+        self.is_short
+    }
+
+    /// Whether nothing is left to be moved.
+    fn is_at_end(&self) -> bool {
+        self.rest.is_empty() && self.line.is_empty()
     }
 
     /// How many bytes the next call moves at most.
@@ -99,6 +122,13 @@ impl Device {
         let count = count.min(self.rest.len());
         self.rest = &self.rest[count..];
     }
+
+    /// Goes on with the line.
+    fn begin_line(&mut self) {
+        self.is_short = !self.rest.is_empty();
+        self.rest = self.line;
+        self.line = "".as_bytes();
+    }
 }
 
 impl Read for Device {
@@ -113,6 +143,9 @@ impl Read for Device {
 impl Write for Device {
     fn write(&mut self, buf: &[u8]) -> io::Result<usize> {
         let count = self.next()?.min(buf.len());
+        if !self.rest.starts_with(&buf[..count]) {
+            self.begin_line();
+        }
         self.is_other = self.is_other || !self.rest.starts_with(&buf[..count]);
         self.go_on(count);
         Ok(count)

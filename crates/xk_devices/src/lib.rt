@@ -1,9 +1,11 @@
 //! Tests of what is answered between devices of which one read or write fails, each in its turn, and between such as move
-//! one byte at a time.
+//! one byte at a time; also where somebody is asked for the order of a run.
 #![tactic(auto)]
 
 #[cfg(test)]
 mod device;
+#[cfg(test)]
+mod game;
 #[cfg(test)]
 mod rows;
 #[cfg(test)]

@@ -175,6 +175,30 @@ const DRAWN: Command<'static> = Command::Lanes {
     svg: false,
 };
 
+/// The whole run, as a page.
+const PAGED: Command<'static> = Command::Page {
+    log: "log",
+    from: None,
+    to: None,
+};
+
+/// The whole run, as a picture.
+const PICTURED: Command<'static> = Command::Lanes {
+    log: "log",
+    from: None,
+    to: None,
+    svg: true,
+};
+
+/// Main prints more numbers than are drawn.
+const MANY: &str = "def main() { for (i in 1..2001) Console.OUT.println(i); }";
+
+const MANY_LOG: &str = "x10log 1\n0 4004\nend 1\n";
+
+/// What is told in the place of its picture, and of its page.
+const TOO_LARGE: &str =
+    "picture too large: 2002 rows, 1 activities; at most 2000 and 64 are drawn, and --from and --to ask for fewer rows\n";
+
 /// How things stand behind a whole run.
 const STOOD: &str = "steps 12\nact 0 has ended\nact 1 has ended\nclock 0 phase 1\n";
 
@@ -262,8 +286,17 @@ fn in_part(name: &'static str, command: Command<'static>, out: &'static str) -> 
     }
 }
 
+/// A run that is too large to be drawn.
+fn too_large(name: &'static str, command: Command<'static>) -> Row {
+    Row {
+        program: MANY,
+        log: MANY_LOG,
+        ..in_part(name, command, TOO_LARGE)
+    }
+}
+
 /// Each command, and texts, a log and a list that are refused.
-pub fn rows() -> [Row; 24] {
+pub fn rows() -> [Row; 27] {
     let by_worker = Command::Run {
         drive: Workers::new(1).map(Drive::Workers),
         log: Some("log"),
@@ -284,6 +317,8 @@ pub fn rows() -> [Row; 24] {
         done("chart", CHART, LOG, CHARTED, ""),
         done("events", Command::Events { log: "log" }, LOG, EVENTS, ""),
         done("lanes", DRAWN, LOG, LANES, ""),
+        too_large("a picture that is too large", PICTURED),
+        too_large("a page that is too large", PAGED),
         done("where", Command::Where { log: "log" }, LOG, STOOD, ""),
         done("races", Command::Races { log: None }, "", RACED, ""),
         done("tally", TALLY, "", TALLIED, ""),
@@ -293,5 +328,6 @@ pub fn rows() -> [Row; 24] {
         refused("run of itself", RUN, ITSELF, "", 1, RECURSIVE),
         log_refused("replay of a beginning", REPLAY, BEGINNING, TRUNCATED),
         log_refused("chart of another log", CHART, OTHER_LOG, NOT_ENABLED),
+        log_refused("page of another log", PAGED, OTHER_LOG, NOT_ENABLED),
     ]
 }

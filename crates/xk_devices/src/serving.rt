@@ -9,16 +9,16 @@ use xk_serve::serve;
 use xk_types::Counted;
 
 /// The line of a device that failed, and the status.
-const DEVICE: &str = "x10clock: device\n";
+pub const DEVICE: &str = "x10clock: device\n";
 
-const STATUS: u8 = 5;
+pub const STATUS: u8 = 5;
 
 /// One of the devices.
 #[derive(Clone, Copy, Debug)]
-enum Place {
+pub enum Place {
     /// Standard input, or FILE.
     Program,
-    /// LOG.
+    /// LOG, or what somebody answers who is asked.
     LogIn,
     /// Standard output.
     Out,
@@ -28,16 +28,16 @@ enum Place {
     LogOut,
 }
 
-const PACES: [Pace; 2] = [Pace::Whole, Pace::Bytes];
+pub const PACES: [Pace; 2] = [Pace::Whole, Pace::Bytes];
 
 /// The devices of a call.
 #[derive(Clone, Copy)]
-struct Devices {
-    program: Device,
-    log_in: Device,
-    out: Device,
-    err: Device,
-    log_out: Device,
+pub struct Devices {
+    pub program: Device,
+    pub log_in: Device,
+    pub out: Device,
+    pub err: Device,
+    pub log_out: Device,
 }
 
 impl Devices {
@@ -60,25 +60,35 @@ impl Devices {
             ..whole
         };
         match place {
+            Place::Err => whole.failing_at(place, call, failure),
+            Place::Program | Place::LogIn | Place::Out | Place::LogOut => {
+                told.failing_at(place, call, failure)
+            }
+        }
+    }
+
+    /// The same, where this call of one of them fails.
+    pub fn failing_at(self, place: Place, call: u64, failure: Failure) -> Devices {
+        match place {
             Place::Program => Devices {
-                program: whole.program.failing_at(call, failure),
-                ..told
+                program: self.program.failing_at(call, failure),
+                ..self
             },
             Place::LogIn => Devices {
-                log_in: whole.log_in.failing_at(call, failure),
-                ..told
+                log_in: self.log_in.failing_at(call, failure),
+                ..self
             },
             Place::Out => Devices {
-                out: whole.out.failing_at(call, failure),
-                ..told
+                out: self.out.failing_at(call, failure),
+                ..self
             },
             Place::Err => Devices {
-                err: whole.err.failing_at(call, failure),
-                ..whole
+                err: self.err.failing_at(call, failure),
+                ..self
             },
             Place::LogOut => Devices {
-                log_out: whole.log_out.failing_at(call, failure),
-                ..told
+                log_out: self.log_out.failing_at(call, failure),
+                ..self
             },
         }
     }
@@ -92,7 +102,7 @@ impl Devices {
     }
 
     /// How often a device was called.
-    fn calls(&self, place: Place) -> u64 {
+    pub fn calls(&self, place: Place) -> u64 {
         match place {
             Place::Program => self.program.calls(),
             Place::LogIn => self.log_in.calls(),
@@ -103,7 +113,7 @@ impl Devices {
     }
 
     /// Whether all was written.
-    fn is_whole(&self) -> bool {
+    pub fn is_whole(&self) -> bool {
         self.out.is_whole() && self.err.is_whole() && self.log_out.is_whole()
     }
 

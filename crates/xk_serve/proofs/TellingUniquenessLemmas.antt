@@ -14,7 +14,7 @@ use Rattle.xk_types.specs.declared.world.Entry.{Entry}
 use Rattle.xk_serve.specs.declared.picture.Picture.{Picture}
 use Rattle.xk_serve.specs.declared.picture.Picture.TheVariants as picture
 use Rattle.xk_serve.specs.Answer.{Check, Compile, Doing, Draw, Expected, Explain, IsPicture, IsTelling, Listing, Outcomes, Races, Replay, Run, Tally, Where}
-use Rattle.xk_serve.specs.Explanation.{HaveOrigins, IsByOrigins, IsListed, Tale, acceptance_told, events_told, image_told, lanes_told, races_told, where_told}
+use Rattle.xk_serve.specs.Explanation.{HaveOrigins, IsByOrigins, IsListed, Tale, acceptance_told, events_told, image_told, lanes_told, page_told, races_told, where_told}
 use Rattle.xk_cli.specs.declared.job.Order.TheVariants as order
 use Rattle.xk_serve.specs.Programs.{Gives}
 use Rattle.xk_types.specs.World.{World}
@@ -55,6 +55,7 @@ picture_once picture.Chart kind bytes m args es last a b given h k = h ∙ sym k
 picture_once picture.Events kind bytes m args es last a b given h k = by_origins_once kind bytes m (events_told bytes m args es) a b given h k
 picture_once (picture.Lanes window) kind bytes m args es last a b given h k = by_origins_once kind bytes m (lanes_told bytes window m es last) a b given h k
 picture_once (picture.Image window) kind bytes m args es last a b given h k = by_origins_once kind bytes m (image_told bytes window m es last) a b given h k
+picture_once (picture.Page window) kind bytes m args es last a b given h k = by_origins_once kind bytes m (page_told bytes window m es last) a b given h k
 picture_once picture.Races kind bytes m args es last a b given h k = by_origins_once kind bytes m (races_told bytes m args es) a b given h k
 
 pub telling_once : (what : Doing) (kind : Form) (file bytes : List ℕ) (m : ModuleValue) (args : List ℤ) (logged : List ℕ) (a b : Tale) → Gives kind bytes m

@@ -37,7 +37,7 @@ use Rattle.xk_replay.specs.Replay.{IsStoppedAt, IsUnfinished}
 use Rattle.xk_serve.specs.OrderedRun.{IsLoggedRun, IsOrderedRun, IsReplay, IsSomeRun, IsWholeRun}
 use Rattle.xk_serve.specs.Lines.{done_log, done_text, fault_line, status_of}
 use Rattle.xk_serve.specs.Programs.{Gives, IsNoModule, IsNoSource}
-use Rattle.xk_serve.specs.Explanation.{IsByOrigins, IsExplanation, IsProgramListed, Tale, acceptance_told, all_told, events_told, image_told, lanes_told, races_told, where_told}
+use Rattle.xk_serve.specs.Explanation.{IsByOrigins, IsExplanation, IsProgramListed, Tale, acceptance_told, all_told, events_told, image_told, lanes_told, page_told, races_told, where_told}
 
 -- what is to be done with a module; what is explained is a JSON value or not; a run is in an order, or by workers, and has its log kept or not; some
 -- picture is drawn of one; it is told how things stand behind a log, which races the run in the order `first` has, or how often so many runs by chance,
@@ -124,6 +124,7 @@ doing_of (command.Replay log) = Replay
 doing_of (command.Chart log) = Draw picture.Chart
 doing_of (command.Events log) = Draw picture.Events
 doing_of (command.Lanes log from to svg) = Draw (lanes_given from to svg)
+doing_of (command.Page log from to) = Draw (picture.Page (window_given from to))
 doing_of (command.Where log) = Where
 doing_of (command.Races path) = races_by (is_some path)
 doing_of (command.Tally seed runs) = Tally seed runs
@@ -214,12 +215,13 @@ ComesTo (Expected sets limit) m args logged d = IsAccepted m × IsHeldOut m args
 ComesTo _ m args logged _ = ⊥
 
 -- What is told of a run of the module that the bytes give, by their lines where they are a source text: its chart, what others see of its steps, the
--- same with a lane for each activity, as a text or as an image, or its races.
+-- same with a lane for each activity, as a text, as an image or as a page, or its races.
 abbrev pub IsPicture : Picture → Form → List ℕ → ModuleValue → List ℤ → List Entry → World → Tale → Type 0
 IsPicture picture.Chart kind bytes m args es last told = told ≡ all_told (chart_text m args es)
 IsPicture picture.Events kind bytes m args es last told = IsByOrigins kind bytes (events_told bytes m args es) told
 IsPicture (picture.Lanes window) kind bytes m args es last told = IsByOrigins kind bytes (lanes_told bytes window m es last) told
 IsPicture (picture.Image window) kind bytes m args es last told = IsByOrigins kind bytes (image_told bytes window m es last) told
+IsPicture (picture.Page window) kind bytes m args es last told = IsByOrigins kind bytes (page_told bytes window m es last) told
 IsPicture picture.Races kind bytes m args es last told = IsByOrigins kind bytes (races_told bytes m args es) told
 
 -- Where things stand behind the steps of a log, which need not be that of a whole run, is told by the lines of a source text.

@@ -25,6 +25,7 @@ use Rattle.xk_events.specs.Events.{PlacesValue, events_text, no_text}
 use Rattle.xk_lanes.specs.Lanes.{are_lanes_whole, lanes_text}
 use Rattle.xk_lanes.specs.declared.window.Window.{Window}
 use Rattle.xk_picture.specs.Picture.{is_drawn, picture_text}
+use Rattle.xk_page.specs.Page.{page_text}
 use Rattle.xk_races.specs.Races.{is_race_free}
 use Rattle.xk_races.specs.Text.{races_text}
 use Rattle.xk_where.specs.Where.{are_steps_legal, where_text}
@@ -169,6 +170,10 @@ lanes_told text window m log last origins = (lanes_text (places_in text origins)
 -- the same as an image
 abbrev pub image_told : List ℕ → Window → ModuleValue → List Entry → World → Option (List UnitOrigins) → Tale
 image_told text window m log last origins = (picture_text (places_in text origins) window m log last, is_drawn window m log last)
+
+-- the same as a page
+abbrev pub page_told : List ℕ → Window → ModuleValue → List Entry → World → Option (List UnitOrigins) → Tale
+page_told text window m log last origins = (page_text (places_in text origins) window m log last, is_drawn window m log last)
 
 -- its races
 abbrev pub races_told : List ℕ → ModuleValue → List ℤ → List Entry → Option (List UnitOrigins) → Tale

@@ -17,7 +17,7 @@ use crate::job_result::Done;
 use crate::logged_run::{run_by_workers, run_with_log, steps_of};
 use crate::ordered_run::run_in_order;
 use crate::outcome_search::{held, searched};
-use crate::picture::{Picture, drawn, lanes_given};
+use crate::picture::{Picture, drawn, lanes_given, window_given};
 use crate::program_loader::module_by;
 use crate::tally::tallied;
 use crate::whereabouts::stood;
@@ -73,6 +73,10 @@ pub(crate) fn answer<R: Threads + Wait + Sync, L: Source>(
         Command::Lanes { from, to, svg, .. } => {
             let lanes = lanes_given(from, to, svg);
             drawn(alloc, lanes, job.form, bytes, module, arguments, log_in)
+        }
+        Command::Page { from, to, .. } => {
+            let page = Picture::Page(window_given(from, to));
+            drawn(alloc, page, job.form, bytes, module, arguments, log_in)
         }
         Command::Where { .. } => stood(alloc, job.form, bytes, module, arguments, log_in),
         Command::Races { log } => {

@@ -76,6 +76,7 @@ fn said_of(alloc: Global, job: &Job<'_>, bytes: &[u8], fault: &Fault) -> Result<
         | Command::Chart { .. }
         | Command::Events { .. }
         | Command::Lanes { .. }
+        | Command::Page { .. }
         | Command::Where { .. }
         | Command::Races { .. }
         | Command::Tally { .. }

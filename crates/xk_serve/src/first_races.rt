@@ -8,11 +8,12 @@ ghost use Rattle.xk_serve.specs.Answer.{AreFirstRaces, IsNotRun, IsTelling, IsTe
 use crate::commands::runnable;
 use crate::fault::Fault;
 use crate::job_result::Done;
-use crate::logged_run::first_run;
+use crate::logged_run::ended_by;
 use crate::picture::{Tale, races_of};
 use std::alloc::{AllocError, Global};
 use xk_bounds::Verified;
 use xk_cli::Form;
+use xk_scheduler::First;
 use xk_types::Module;
 
 /// The races of the run in the order `first`, with these arguments, of the module that these bytes give, if it is accepted and main takes as many.
@@ -48,6 +49,6 @@ fn first_races(
     ensures { IfOk result (λ tale. AreFirstRaces form bytes.now verified.now arguments.now
         (tale.text.items, tale.whole)) }
 {
-    let ended = first_run(alloc, verified, arguments)?;
+    let ended = ended_by(alloc, verified, arguments, &mut First)?;
     races_of(alloc, form, bytes, &ended)
 }

@@ -28,7 +28,7 @@ pub(crate) enum Done {
         activities: u32,
         clocks: u32,
     },
-    /// `explain`, `listing`: this is told of the module; `chart`, `events`, `lanes`, `where`, `races`: of the run that the log has; `run --runs`: of
+    /// `explain`, `listing`: this is told of the module; `chart`, `events`, `lanes`, `page`, `where`, `races`: of the run that the log has; `run --runs`: of
     /// many runs.
     Told {
         text: Vec<u8>,

@@ -4,7 +4,6 @@ ghost use Rattle.std.specs.Prelude.{◌≡◌, IfOk};
 ghost use Rattle.xk_types.specs.World.{AreArguments, opening};
 ghost use Rattle.xk_scheduler.specs.Choosers.{Follows};
 ghost use Rattle.xk_scheduler.specs.WholeRuns.{IsLogThat, IsRunThat};
-ghost use Rattle.xk_cli.specs.declared.job.Order.TheVariants as order;
 ghost use Rattle.xk_serve.specs.OrderedRun.{IsLoggedRun, IsReplay};
 
 use std::alloc::{AllocError, Global};
@@ -67,23 +66,8 @@ fn log_by<C: Chooser>(
     }
 }
 
-/// The run in the order `first`, with these arguments.
-pub(crate) fn first_run<'m>(
-    alloc: Global,
-    verified: &'m Verified,
-    arguments: &[i64],
-) -> Result<Ended<'m>, AllocError>
-    requires { AreArguments verified.now arguments.now }
-    ensures same_module { IfOk result (λ e. e.module.now ≡ verified.now) }
-    ensures same_arguments { IfOk result (λ e. e.core.world.arguments ≡ arguments.now) }
-    ensures run { IfOk result (λ e. IsLoggedRun order.First verified.now arguments.now
-        e.printed.items e.core.world.steps e.log.items) }
-{
-    ended_by(alloc, verified, arguments, &mut First)
-}
-
 /// The run in which each step is taken by whom the chooser names, with its core.
-fn ended_by<'m, C: Chooser>(
+pub(crate) fn ended_by<'m, C: Chooser>(
     alloc: Global,
     verified: &'m Verified,
     arguments: &[i64],

@@ -4,9 +4,9 @@ ghost use Rattle.std.specs.Prelude.{◌≡◌, ◌≢◌, ℕ, List, true, IfOk,
 ghost use Rattle.xk_types.specs.Acceptance.{IsAccepted};
 ghost use Rattle.xk_types.specs.World.{AreArguments};
 ghost use Rattle.xk_cli.specs.Status.{status_program};
-ghost use Rattle.xk_serve.specs.Answer.{Draw, IsPicture, IsTelling, IsText, lanes_given};
+ghost use Rattle.xk_serve.specs.Answer.{Draw, IsPicture, IsTelling, IsText, lanes_given, window_given};
 ghost use Rattle.xk_serve.specs.Devices.{AgainstModule, AgainstRun};
-ghost use Rattle.xk_serve.specs.Explanation.{IsByOrigins, events_told, image_told, lanes_told, races_told};
+ghost use Rattle.xk_serve.specs.Explanation.{IsByOrigins, events_told, image_told, lanes_told, page_told, races_told};
 ghost use Rattle.xk_serve.specs.Lines.{status_of};
 
 use crate::commands::{run_again, runnable};
@@ -18,6 +18,7 @@ use xk_bounds::Verified;
 use xk_cli::Form;
 use xk_events::{module_events, source_events};
 use xk_lanes::{Window, module_lanes, source_lanes};
+use xk_page::{module_page, source_page};
 use xk_picture::{module_picture, source_picture};
 use xk_races::{module_races, source_races};
 use xk_replay::chart;
@@ -35,6 +36,8 @@ pub(crate) enum Picture {
     Lanes(Window),
     /// The same as an image.
     Image(Window),
+    /// The same as a page that goes through it step by step.
+    Page(Window),
     /// Its races.
     Races,
 }
@@ -46,23 +49,22 @@ pub(crate) struct Tale {
     pub(crate) whole: bool,
 }
 
-/// A whole answer.
-pub(crate) fn all_told(text: Vec<u8>) -> Tale
-    ensures text { result.text.items ≡ text.items }
-    ensures whole { result.whole ≡ true }
+/// The steps from one to another, each of which may be left out.
+pub(crate) fn window_given(from: Option<u64>, to: Option<u64>) -> Window
+    ensures { result ≡ window_given from to }
 {
-    Tale { text, whole: true }
+    let run = Window::whole();
+    Window {
+        first: from.unwrap_or(run.first),
+        last: to.unwrap_or(run.last),
+    }
 }
 
-/// The lanes of the steps from one to another, each of which may be left out, as a text or as an image.
+/// The lanes of these steps, as a text or as an image.
 pub(crate) fn lanes_given(from: Option<u64>, to: Option<u64>, svg: bool) -> Picture
     ensures { result ≡ lanes_given from to svg }
 {
-    let run = Window::whole();
-    let window = Window {
-        first: from.unwrap_or(run.first),
-        last: to.unwrap_or(run.last),
-    };
+    let window = window_given(from, to);
     if svg {
         return Picture::Image(window);
     }
@@ -134,10 +136,14 @@ fn picture_of(
         (tale.text.items, tale.whole)) }
 {
     match picture {
-        Picture::Chart => Ok(all_told(chart(alloc, ended)?.into_bytes())),
+        Picture::Chart => Ok(Tale {
+            text: chart(alloc, ended)?.into_bytes(),
+            whole: true,
+        }),
         Picture::Events => events_of(alloc, form, bytes, ended),
         Picture::Lanes(window) => lanes_of(alloc, form, bytes, ended, window),
         Picture::Image(window) => image_of(alloc, form, bytes, ended, window),
+        Picture::Page(window) => page_of(alloc, form, bytes, ended, window),
         Picture::Races => races_of(alloc, form, bytes, ended),
     }
 }
@@ -152,7 +158,10 @@ fn events_of(alloc: Global, form: Form, bytes: &[u8], ended: &Ended<'_>) -> Resu
         Some(origins) => source_events(alloc, bytes, origins.units(), ended)?,
         None => module_events(alloc, ended)?,
     };
-    Ok(all_told(text.into_bytes()))
+    Ok(Tale {
+        text: text.into_bytes(),
+        whole: true,
+    })
 }
 
 /// The same, with a lane for each activity, of the steps in this window.
@@ -192,6 +201,28 @@ fn image_of(
     let drawing = match origins_in(alloc, form, bytes)? {
         Some(origins) => source_picture(alloc, bytes, origins.units(), ended, window)?,
         None => module_picture(alloc, ended, window)?,
+    };
+    Ok(Tale {
+        text: drawing.text,
+        whole: drawing.whole,
+    })
+}
+
+/// The same as a page.
+fn page_of(
+    alloc: Global,
+    form: Form,
+    bytes: &[u8],
+    ended: &Ended<'_>,
+    window: Window,
+) -> Result<Tale, AllocError>
+    ensures { IfOk result (λ tale. IsByOrigins form bytes.now
+        (page_told bytes.now window ended.now.module.now ended.now.log.items
+        ended.now.core.world) (tale.text.items, tale.whole)) }
+{
+    let drawing = match origins_in(alloc, form, bytes)? {
+        Some(origins) => source_page(alloc, bytes, origins.units(), ended, window)?,
+        None => module_page(alloc, ended, window)?,
     };
     Ok(Tale {
         text: drawing.text,

@@ -13,10 +13,12 @@ returns c =
     added_shape c.on_run-events.result _ _ _ _ c.in_ok-told.ensures c.on_run-events.ensures.local c.on_run-events.ensures.shape with_chart in
     let with_lanes =
     added_shape c.lanes_line.result _ _ _ _ c.in_ok-lanes.ensures c.lanes_line.ensures.local c.lanes_line.ensures.shape with_events in
-    IfOk-weaker c.add-5.result _ _
+    let with_page =
+    added_shape c.drawn_within-page.result _ _ _ _ c.in_ok-pages.ensures c.drawn_within-page.ensures.local c.drawn_within-page.ensures.shape with_lanes in
+    IfOk-weaker c.add-6.result _ _
     (λ r h. (
       programs.0,
       programs.1,
-      added_shape c.on_run-stands.result _ _ _ _ h c.on_run-stands.ensures.local c.on_run-stands.ensures.shape with_lanes,
+      added_shape c.on_run-stands.result _ _ _ _ h c.on_run-stands.ensures.local c.on_run-stands.ensures.shape with_page,
     ))
-    c.add-5.ensures
+    c.add-6.ensures

@@ -89,6 +89,18 @@ returns-in-Lanes-clause-fault g c =
     let is = ap doing_of c.in-Lanes.is ∙ ap (λ p. Draw p) (sym c.lanes_given-lanes.ensures) in
     against_log (task_of c.args.job.now) c.args.bytes.now (g.L.Source.remaining c.args.log_in.now) _ _ _ (Draw c.lanes_given-lanes.result) c.as_slice-arguments.result.now c.drawn-in-Lanes.result is c.as_slice-arguments.ensures.value refl refl c.in_ok-module.ensures.module c.drawn-in-Lanes.ensures.fault
 
+pub returns-in-Page-clause-done : goal.returns-in-Page-clause-done
+returns-in-Page-clause-done g c =
+    let what = Draw (picture.Page c.window_given.result) in
+    let is = ap doing_of c.in-Page.is ∙ ap (λ window. Draw (picture.Page window)) (sym c.window_given.ensures) in
+    done_of_run (task_of c.args.job.now) c.args.bytes.now (g.L.Source.remaining c.args.log_in.now) _ what c.as_slice-arguments.result.now c.drawn-in-Page.result is c.as_slice-arguments.ensures.value refl c.in_ok-module.ensures.module (c.drawn-in-Page.ensures.done c.args.job.now.file.now)
+
+pub returns-in-Page-clause-fault : goal.returns-in-Page-clause-fault
+returns-in-Page-clause-fault g c =
+    let what = Draw (picture.Page c.window_given.result) in
+    let is = ap doing_of c.in-Page.is ∙ ap (λ window. Draw (picture.Page window)) (sym c.window_given.ensures) in
+    against_log (task_of c.args.job.now) c.args.bytes.now (g.L.Source.remaining c.args.log_in.now) _ _ _ what c.as_slice-arguments.result.now c.drawn-in-Page.result is c.as_slice-arguments.ensures.value refl refl c.in_ok-module.ensures.module c.drawn-in-Page.ensures.fault
+
 pub returns-in-Where-clause-done : goal.returns-in-Where-clause-done
 returns-in-Where-clause-done g c =
     done_of_run (task_of c.args.job.now) c.args.bytes.now (g.L.Source.remaining c.args.log_in.now) _ Where c.as_slice-arguments.result.now c.stood.result (ap doing_of c.in-Where.is) c.as_slice-arguments.ensures.value refl c.in_ok-module.ensures.module (c.stood.ensures.done c.args.job.now.file.now)

@@ -1,6 +1,7 @@
 use Rattle.std.proofs.Common.{subst}
 use Rattle.std.proofs.lemmas.Result.{IfOk-weaker}
 use Rattle.xk_serve.specs.Explanation.{IsByOrigins, races_told}
+use Rattle.xk_serve.proofs.OrderedRunLemmas.{log_without_state}
 use Rattle.xk_serve.proofs.first_races.first_races.Goals as goal
 
 pub returns : goal.returns
@@ -12,7 +13,7 @@ returns c =
       e.printed.items,
       e.core.world.steps,
       e.log.items,
-      is.run,
+      log_without_state (λ enabled. 0) c.args.verified.now c.args.arguments.now _ e.log.items e.printed.items e.core.world.steps is.run,
       subst (λ args. IsByOrigins c.args.form c.args.bytes.now (races_told c.args.bytes.now c.args.verified.now args e.log.items) (tale.text.items, tale.whole)) is.same_arguments
           (subst (λ m. IsByOrigins c.args.form c.args.bytes.now (races_told c.args.bytes.now m e.core.world.arguments e.log.items) (tale.text.items, tale.whole)) is.same_module h),
     ))

@@ -1,7 +1,7 @@
 use Rattle.std.proofs.Common.{◌||◌, ap₂, ◌∙◌}
 use Rattle.std.proofs.lemmas.Result.{IfOk-weaker}
 use Rattle.clap.specs.Words.{with_rule}
-use Rattle.xk_cli.proofs.command_line.lanes_within.Goals as goal
+use Rattle.xk_cli.proofs.command_line.drawn_within.Goals as goal
 
 pub returns-clause-shape : goal.returns-clause-shape
 returns-clause-shape c =
