@@ -38,7 +38,7 @@ back_front [] ys i x lt h = absurd (omega (arith, lt))
 back_front (y ∷ xs) ys zero x lt h = h
 back_front (y ∷ xs) ys (suc i) x lt h = back_front xs ys i x (omega (arith, lt)) h
 
-one_behind : {X : Type 0} (xs : List X) (y : X) (i : ℕ) (x : X) → slice_get (xs ++ y ∷ []) i ≡ Some x → (slice_get xs i ≡ Some x) ⊎ (x ≡ y)
+pub one_behind : {X : Type 0} (xs : List X) (y : X) (i : ℕ) (x : X) → slice_get (xs ++ y ∷ []) i ≡ Some x → (slice_get xs i ≡ Some x) ⊎ (x ≡ y)
 one_behind [] y zero x h = inr (same_Some x y (sym h))
 one_behind [] y (suc i) x h = absurd (none h)
   where

@@ -12,7 +12,7 @@ filler d n i = of (cases_lt i n)
     of (inl lt) = get_or-replicate n i d d lt
     of (inr ge) = get_or_past (replicate n d) i d (subst (λ k. k ≤ i) (sym (length-replicate n d)) ge)
 
-padded : {X : Type 0} (d : X) (xs : List X) (n j : ℕ) → get_or (xs ++ replicate n d) j d ≡ get_or xs j d
+pub padded : {X : Type 0} (d : X) (xs : List X) (n j : ℕ) → get_or (xs ++ replicate n d) j d ≡ get_or xs j d
 padded d xs n j = of (cases_lt j (length xs))
   where
     of : (j < length xs) ⊎ (length xs ≤ j) → get_or (xs ++ replicate n d) j d ≡ get_or xs j d

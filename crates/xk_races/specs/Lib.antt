@@ -4,4 +4,6 @@ pub mod Knowledge
 pub mod Order
 pub mod Exactness
 pub mod Races
+pub mod Accesses
+pub mod ToldPlaces
 pub mod Text

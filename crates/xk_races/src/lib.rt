@@ -1,10 +1,12 @@
 //! The races of a run: accesses of one shared number whose order nothing but the schedule says.
 #![tactic(auto)]
 
+mod accesses;
 mod deeds;
 mod knowledge;
 pub mod laws;
 mod pairs;
+mod race_list;
 mod report;
 mod rows;
 mod sights;

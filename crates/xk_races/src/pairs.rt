@@ -1,10 +1,11 @@
 //! Pairs of steps that nothing but the schedule puts in order.
 
 ghost use Rattle.std.specs.Prelude.{◌≡◌, [], if◌then◌else◌, IfOk, OnOk};
-ghost use Rattle.std.specs.List.{list_any};
 ghost use Rattle.xk_races.specs.Races.{cell_in, clash, gap_in, have_one_number, have_same_places, is_place_of, is_print, is_race, race, races_in, with_race, with_races_of};
 
+use crate::accesses::take;
 use crate::deeds::Part;
+use crate::race_list::RaceList;
 use crate::sights::{Sight, comes_before};
 use std::alloc::{AllocError, Global};
 use xk_events::RunStep;
@@ -26,7 +27,7 @@ pub struct Gap {
 }
 
 /// Whether it makes a difference which of two accesses comes first.
-fn clash(one: Event, other: Event) -> bool
+pub fn clash(one: Event, other: Event) -> bool
     ensures { result ≡ clash one other }
 {
     match one {
@@ -37,7 +38,7 @@ fn clash(one: Event, other: Event) -> bool
 }
 
 /// Which shared number a deed has to do with.
-fn cell_in(part: Part) -> u32
+pub fn cell_in(part: Part) -> u32
     ensures { result ≡ cell_in part }
 {
     match part {
@@ -69,14 +70,14 @@ fn is_race(x: &Sight, y: &Sight) -> bool
 }
 
 /// Whether two steps were taken at one instruction.
-fn is_place_of(s: &RunStep, t: &RunStep) -> bool
+pub fn is_place_of(s: &RunStep, t: &RunStep) -> bool
     ensures { result ≡ is_place_of s.now t.now }
 {
     s.unit == t.unit && s.place == t.place
 }
 
 /// Whether two races are of the same places and the same shared number.
-fn have_same_places(r: &Race, q: &Race) -> bool
+pub fn have_same_places(r: &Race, q: &Race) -> bool
     ensures { result ≡ have_same_places r.now q.now }
 {
     r.cell == q.cell
@@ -84,44 +85,24 @@ fn have_same_places(r: &Race, q: &Race) -> bool
             || is_place_of(&r.first, &q.second) && is_place_of(&r.second, &q.first))
 }
 
-/// Whether there is a race of the same places.
-fn has_same_places(list: &[Race], race: &Race) -> bool
-    ensures { result ≡ list_any (have_same_places race.now) list.now }
-{
-    list.iter().any(|r| have_same_places(race, r))
-}
-
-/// Adds a race, unless there is one of the same places.
-fn push_race(list: &mut Vec<Race>, race: Race) -> Result<(), AllocError>
-    ensures { OnOk result (list.new.items ≡ with_race race list.old.items) }
-{
-    if !has_same_places(list, &race) {
-        list.push(race)?;
-    }
-    Ok(())
-}
-
 /// Adds two accesses, if they are a race.
-fn push_if_race(list: &mut Vec<Race>, x: &Sight, y: &Sight) -> Result<(), AllocError>
-    ensures { OnOk result (list.new.items ≡ (if is_race x.now y.now
-        then with_race (race x.now y.now) list.old.items else list.old.items)) }
+fn push_if_race(list: &mut RaceList, x: &Sight, y: &Sight) -> Result<(), AllocError>
+    ensures { OnOk result (list.new ≡ (if is_race x.now y.now
+        then with_race (race x.now y.now) list.old else list.old)) }
 {
     if is_race(x, y) {
-        push_race(
-            list,
-            Race {
-                cell: cell_in(y.deed.part),
-                first: x.deed.step,
-                second: y.deed.step,
-            },
-        )?;
+        list.push(Race {
+            cell: cell_in(y.deed.part),
+            first: x.deed.step,
+            second: y.deed.step,
+        })?;
     }
     Ok(())
 }
 
 /// Adds the races of an access with these earlier ones.
-fn push_races_of(list: &mut Vec<Race>, earlier: &[Sight], y: &Sight) -> Result<(), AllocError>
-    ensures { OnOk result (list.new.items ≡ with_races_of y.now earlier.now list.old.items) }
+pub fn push_races_of(list: &mut RaceList, earlier: &[Sight], y: &Sight) -> Result<(), AllocError>
+    ensures { OnOk result (list.new ≡ with_races_of y.now earlier.now list.old) }
 {
     for x in earlier {
         push_if_race(list, x, y)?;
@@ -133,11 +114,12 @@ fn push_races_of(list: &mut Vec<Race>, earlier: &[Sight], y: &Sight) -> Result<(
 pub fn races_in(alloc: Global, sights: &[Sight]) -> Result<Vec<Race>, AllocError>
     ensures { IfOk result (λ v. v.items ≡ races_in sights.now) }
 {
-    let mut list = Vec::new(alloc);
+    let mut list = RaceList::new(alloc);
+    let mut cells = Vec::new(alloc);
     for (i, y) in sights.iter().enumerate() {
-        push_races_of(&mut list, &sights[..i], y)?;
+        take(alloc, &mut cells, &mut list, &sights[..i], y)?;
     }
-    Ok(list)
+    Ok(list.into_races())
 }
 
 fn is_print(part: Part) -> bool

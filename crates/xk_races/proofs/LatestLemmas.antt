@@ -1,0 +1,187 @@
+-- What is told by the accesses that stand for all earlier ones is what is told by all.
+use Rattle.std.proofs.Common.{◌≡◌, ◌∙◌, ℕ, zero, suc, ◌<◌, ◌≤◌, Bool, true, false, not, ◌||◌, List, [], ◌∷◌, ◌++◌, Some, None, length, replicate, slice_get, ◌⊎◌, inl, inr, refl, sym, ap, subst, arith}
+use Rattle.std.specs.Prelude.{if◌then◌else◌, nat_le, slice_set}
+use Rattle.std.specs.List.{list_any}
+use Rattle.std.proofs.lemmas.Bool.{cases_eq, and_parts, and_from, eqb-true, leb-false, lt-leb, false≢true, true≢false, not-true}
+use Rattle.std.proofs.lemmas.List.{append-nil, get_or-set_same, get_or-set_other}
+use Rattle.xk_types.specs.declared.world.Event.{Event}
+use Rattle.xk_types.specs.declared.world.Event.TheVariants as event
+use Rattle.xk_races.specs.declared.accesses.Access.{Access}
+use Rattle.xk_races.specs.declared.accesses.Detail.{Detail}
+use Rattle.xk_races.specs.declared.accesses.Detail.TheVariants.{Activity, Place}
+use Rattle.xk_races.specs.declared.accesses.Kind.{Kind}
+use Rattle.xk_races.specs.declared.accesses.Kind.TheVariants.{Read, Addition}
+use Rattle.xk_races.specs.declared.deeds.Part.{Part}
+use Rattle.xk_races.specs.declared.deeds.Part.TheVariants as part
+use Rattle.xk_races.specs.declared.pairs.Race.{Race}
+use Rattle.xk_races.specs.Lists.{number_at}
+use Rattle.xk_races.specs.Knowledge.{Sight}
+use Rattle.xk_races.specs.Races.{clash, have_one_number, have_same_places, is_place_of, is_race, race, with_race, with_races_of}
+use Rattle.xk_races.specs.Accesses.{AreAllCovered, AreCovered, Latest, access_of, covers, is_covered, is_new, is_race_of, cell_accessed, kind_of, latest_at, none_yet, race_of, rows_of}
+use Rattle.xk_races.proofs.RowLemmas.{padded}
+use Rattle.xk_races.proofs.RaceListLemmas.{one_behind}
+use Rattle.xk_races.proofs.AccessLemmas.{any_from, covers_parts, place_true}
+
+-- ---- one that stands for another is in the races of that one
+
+clash_kinds : Kind → Kind → Bool
+clash_kinds Read Read = false
+clash_kinds Addition Addition = false
+clash_kinds k l = true
+
+by_kind : (e f : Event) → clash e f ≡ clash_kinds (kind_of e) (kind_of f)
+unfolding clash_kinds
+by_kind event.Got event.Got = refl
+by_kind event.Added event.Added = refl
+by_kind event.Got f = refl
+by_kind event.Added f = refl
+by_kind e event.Got = refl
+by_kind e event.Added = refl
+by_kind e f = refl
+
+same_clash : (e f g : Event) → kind_of e ≡ kind_of f → clash f g ≡ true → clash e g ≡ true
+same_clash e f g same h = by_kind e g ∙ ap (λ k. clash_kinds k (kind_of g)) same ∙ sym (by_kind f g) ∙ h
+
+-- who doesn't know an access doesn't know a later one
+unknown : (m n k : ℕ) → m ≤ n → not (nat_le m k) ≡ true → not (nat_le n k) ≡ true
+unknown m n k le h =
+    let lt = leb-false m k (not-true (nat_le m k) h) in
+    ap not (lt-leb n k (omega (arith, lt, le)))
+
+race_kept : (d : Detail) (r x : Access) (y : Sight) → covers d r x ≡ true → is_race_of x y ≡ true → is_race_of r y ≡ true
+race_kept d r x y c h =
+    let g = covers_parts d r x c in
+    let b = and_parts (clash x.step.event y.deed.step.event) (not (nat_le x.number (number_at y.row x.step.act))) h in
+    and_from (clash r.step.event y.deed.step.event) (not (nat_le r.number (number_at y.row r.step.act)))
+    (same_clash r.step.event x.step.event y.deed.step.event g.0.kind b.0)
+    (unknown x.number r.number (number_at y.row r.step.act) g.1 (subst (λ a. not (nat_le x.number (number_at y.row a)) ≡ true) (sym g.0.act) b.1))
+
+-- ---- and at the same places, where it is of the same place
+
+any_same : {X : Type 0} (f g : X → Bool) (xs : List X) → ((x : X) → f x ≡ g x) → list_any f xs ≡ list_any g xs
+any_same f g [] h = refl
+any_same f g (x ∷ xs) h = ap (λ b. b || list_any f xs) (h x) ∙ ap (λ b. g x || b) (any_same f g xs h)
+
+same_pair : (r x : Access) (y : Sight) (q : Race) → r.step.unit ≡ x.step.unit → r.step.place ≡ x.step.place
+    → have_same_places (race_of r y) q ≡ have_same_places (race_of x y) q
+same_pair r x y q u p = rw (u, p) refl
+
+told_same : (r x : Access) (y : Sight) (list : List Race) → is_place_of r.step x.step ≡ true
+    → list_any (have_same_places (race_of r y)) list ≡ list_any (have_same_places (race_of x y)) list
+told_same r x y list h =
+    let p = place_true r.step x.step h in
+    any_same (have_same_places (race_of r y)) (have_same_places (race_of x y)) list (λ q. same_pair r x y q p.0 p.1)
+
+new_kept : (list : List Race) (y : Sight) (r x : Access) → covers Place r x ≡ true → is_new list y x ≡ true → is_new list y r ≡ true
+new_kept list y r x c h =
+    let b = and_parts (is_race_of x y) (not (list_any (have_same_places (race_of x y)) list)) h in
+    let at = (covers_parts Place r x c).0.at in
+    and_from (is_race_of r y) (not (list_any (have_same_places (race_of r y)) list)) (race_kept Place r x y c b.0)
+    (ap not (told_same r x y list at) ∙ b.1)
+
+-- ---- where nothing is added
+
+nothing_added : (y : Sight) (xs : List Sight) (list : List Race)
+    → ((p : ℕ) (x : Sight) → slice_get xs p ≡ Some x → is_race x y ≡ true → list_any (have_same_places (race x y)) list ≡ true)
+    → with_races_of y xs list ≡ list
+nothing_added y [] list h = refl
+nothing_added y (x ∷ xs) list h =
+    ap (with_races_of y xs) (of (is_race x y) refl) ∙ nothing_added y xs list (λ p z at. h (suc p) z at)
+  where
+    of : (b : Bool) → is_race x y ≡ b → (if b then with_race (race x y) list else list) ≡ list
+    of true e = ap (λ b. if b then list else list ++ race x y ∷ []) (h zero x refl e)
+    of false e = refl
+
+race_parts : (x y : Sight) → is_race x y ≡ true → (have_one_number x.deed.part y.deed.part ≡ true) × (is_race_of (access_of x) y ≡ true)
+race_parts x y h = and_parts (have_one_number x.deed.part y.deed.part) (is_race_of (access_of x) y) h
+
+-- none of those that stand for all is in a race
+pub no_race : (earlier : List Sight) (y : Sight) (l : Latest) (list : List Race) → AreCovered earlier y.deed.part l
+    → list_any (λ r. is_race_of r y) l.of_activities ≡ false → with_races_of y earlier list ≡ list
+no_race earlier y l list covered none = nothing_added y earlier list (λ p x at is. absurd (true≢false (sym (found p x at is) ∙ none)))
+  where
+    found : (p : ℕ) (x : Sight) → slice_get earlier p ≡ Some x → is_race x y ≡ true → list_any (λ r. is_race_of r y) l.of_activities ≡ true
+    found p x at is =
+        let b = race_parts x y is in
+        any_from (λ r. covers Activity r (access_of x)) (λ r. is_race_of r y) l.of_activities (λ r c. race_kept Activity r (access_of x) y c b.1)
+        (covered Activity p x at b.0)
+
+-- each race that they are in is of places that are listed
+pub none_new : (earlier : List Sight) (y : Sight) (l : Latest) (list : List Race) → AreCovered earlier y.deed.part l → l.since ≡ []
+    → list_any (is_new list y) l.of_places ≡ false → with_races_of y earlier list ≡ list
+none_new earlier y l list covered empty none =
+    nothing_added y earlier list
+    (λ p x at is. let b = race_parts x y is in of p x at b.0 b.1 (list_any (have_same_places (race x y)) list) refl)
+  where
+    rows : l.of_places ++ l.since ≡ l.of_places
+    rows = ap (λ xs. l.of_places ++ xs) empty ∙ append-nil l.of_places
+
+    of : (p : ℕ) (x : Sight) → slice_get earlier p ≡ Some x → have_one_number x.deed.part y.deed.part ≡ true → is_race_of (access_of x) y ≡ true
+        → (b : Bool) → list_any (have_same_places (race x y)) list ≡ b → b ≡ true
+    of p x at one is true e = refl
+    of p x at one is false e =
+        let new : is_new list y (access_of x) ≡ true =
+        and_from (is_race_of (access_of x) y) (not (list_any (have_same_places (race x y)) list)) is (ap not e) in
+        let there = subst (λ xs. is_covered Place xs (access_of x) ≡ true) rows (covered Place p x at one) in
+        absurd (true≢false (sym (any_from (λ r. covers Place r (access_of x)) (is_new list y) l.of_places (λ r c. new_kept list y r (access_of x) c new) there) ∙ none))
+
+-- ---- those of all shared numbers
+
+-- where those of one shared number have taken one of its accesses
+pub all_covered : (earlier : List Sight) (y : Sight) (cells : List Latest) (c : ℕ) (new : Latest) → y.deed.part ≡ part.Access c → c < length cells
+    → AreAllCovered earlier cells → AreCovered (earlier ++ y ∷ []) y.deed.part new → AreAllCovered (earlier ++ y ∷ []) (slice_set cells c new)
+all_covered earlier y cells c new is lt old covered =
+    λ k d p x at one. of k d p x at one (cases_eq k c)
+  where
+    of : (k : ℕ) (d : Detail) (p : ℕ) (x : Sight) → slice_get (earlier ++ y ∷ []) p ≡ Some x → have_one_number x.deed.part (part.Access k) ≡ true
+        → (k ≡ c) ⊎ (k ≡ c → ⊥) → is_covered d (rows_of d (latest_at (slice_set cells c new) k)) (access_of x) ≡ true
+    of k d p x at one (inl same) =
+        let there : latest_at (slice_set cells c new) k ≡ new =
+        ap (latest_at (slice_set cells c new)) same ∙ get_or-set_same cells c new none_yet lt in
+        let own = subst (λ a. have_one_number x.deed.part a ≡ true) (ap part.Access same ∙ sym is) one in
+        subst (λ l. is_covered d (rows_of d l) (access_of x) ≡ true) (sym there) (covered d p x at own)
+    of k d p x at one (inr other) = earlier_one (one_behind earlier y p x at)
+      where
+        earlier_one : (slice_get earlier p ≡ Some x) ⊎ (x ≡ y) → is_covered d (rows_of d (latest_at (slice_set cells c new) k)) (access_of x) ≡ true
+        earlier_one (inl before) =
+            subst (λ l. is_covered d (rows_of d l) (access_of x) ≡ true) (sym (get_or-set_other cells c k new none_yet other)) (old k d p x before one)
+        earlier_one (inr same) =
+            let own : have_one_number (part.Access c) (part.Access k) ≡ true =
+            subst (λ a. have_one_number a (part.Access k) ≡ true) (ap (λ (s : Sight). s.deed.part) same ∙ is) one in
+            absurd (other (sym (eqb-true c k own)))
+
+pub all_covered_grown : (earlier : List Sight) (cells : List Latest) (n : ℕ) → AreAllCovered earlier cells
+    → AreAllCovered earlier (cells ++ replicate n none_yet)
+all_covered_grown earlier cells n old =
+    λ k d p x at one. subst (λ l. is_covered d (rows_of d l) (access_of x) ≡ true) (sym (padded none_yet cells n k)) (old k d p x at one)
+
+-- where nothing was accessed
+
+not_with : (a b : Part) → cell_accessed b ≡ None → have_one_number a b ≡ true → ⊥
+not_with (part.Access s) (part.Access t) none one = absurd (is none)
+  where
+    is : Some t ≡ None → ⊥
+    is e = cc
+not_with a b none one = false≢true one
+
+not_of : (a b : Part) → cell_accessed a ≡ None → have_one_number a b ≡ true → ⊥
+not_of (part.Access s) b none one = absurd (is none)
+  where
+    is : Some s ≡ None → ⊥
+    is e = cc
+not_of a b none one = false≢true one
+
+pub not_accessed : (earlier : List Sight) (y : Sight) (list : List Race) → cell_accessed y.deed.part ≡ None → with_races_of y earlier list ≡ list
+not_accessed earlier y list none =
+    nothing_added y earlier list (λ p x at is. absurd (not_with x.deed.part y.deed.part none (race_parts x y is).0))
+
+pub all_covered_still : (earlier : List Sight) (y : Sight) (cells : List Latest) → cell_accessed y.deed.part ≡ None → AreAllCovered earlier cells
+    → AreAllCovered (earlier ++ y ∷ []) cells
+all_covered_still earlier y cells none old =
+    λ k d p x at one. of k d p x one (one_behind earlier y p x at)
+  where
+    of : (k : ℕ) (d : Detail) (p : ℕ) (x : Sight) → have_one_number x.deed.part (part.Access k) ≡ true → (slice_get earlier p ≡ Some x) ⊎ (x ≡ y)
+        → is_covered d (rows_of d (latest_at cells k)) (access_of x) ≡ true
+    of k d p x one (inl before) = old k d p x before one
+    of k d p x one (inr same) =
+        absurd (not_of y.deed.part (part.Access k) none (subst (λ (s : Sight). have_one_number s.deed.part (part.Access k) ≡ true) same one))
