@@ -14,7 +14,7 @@ use Rattle.xk_renaming.specs.Names.{all_named, exchange_of}
 use Rattle.xk_renaming.proofs.NameLaw.{squares_but_names, same_ends}
 use Rattle.xk_classes.specs.Classes.{DoCommute, AreSwapped, AreOneClass, names_along, HasNoRace}
 use Rattle.xk_classes.specs.OneRun.{GoesAsWell, IsBegun}
-use Rattle.xk_classes.proofs.SwapLemmas.{run_first}
+use Rattle.xk_renaming.proofs.ActivityNameOrderLaw.{run_first}
 use Rattle.xk_classes.proofs.ClassLemmas.{class_same, class_swap, class_on, class_behind, met_itself, met_by, met_behind, class_as_well}
 
 -- ---- to the front

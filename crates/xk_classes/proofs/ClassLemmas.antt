@@ -17,7 +17,8 @@ use Rattle.xk_renaming.proofs.NameLaw.{same_itself, same_joined, named_same, nam
 use Rattle.xk_classes.specs.Moments.{is_print, moments, is_start, starters, positions_of, started_by}
 use Rattle.xk_classes.specs.Classes.{DoCommute, AreSwapped, Turn, AreJoined, AreOneClass, names_along, name_in, IsMet, HasNeverTwo}
 use Rattle.xk_classes.specs.OneRun.{GoesAsWell}
-use Rattle.xk_classes.proofs.SwapLemmas.{Deed, Entry, deed_named, entry_named, stand_of, entry_of, entries, entries_on, event_in, events_filtered, run_first, reached_run, IsExchange, exchange}
+use Rattle.xk_renaming.proofs.ActivityNameOrderLaw.{run_first}
+use Rattle.xk_classes.proofs.SwapLemmas.{Deed, Entry, deed_named, entry_named, stand_of, entry_of, entries, entries_on, event_in, events_filtered, reached_run, IsExchange, exchange}
 use Rattle.xk_classes.proofs.ExchangeLemmas.{stays_named}
 use Rattle.xk_classes.proofs.PrintLemmas.{numbers_in, printed_are, printed_alone, numbers_named, crossed_count}
 use Rattle.xk_classes.proofs.StepEventLemmas.{grown}
@@ -83,7 +84,7 @@ met_behind m w u v a e s h g = record {
 
 -- ---- what each activity does, and what is done with some events
 
-abbrev pub by_event : (Event → Bool) → Entry → Bool
+abbrev by_event : (Event → Bool) → Entry → Bool
 by_event test x = test x.1.0
 
 abbrev pub by_taker : ℕ → Entry → Bool
@@ -253,7 +254,7 @@ module _ (m : ModuleValue) (limits : IsWithinLimits m) (ok : IsAccepted m) (w : 
         tells = λ test never. r.tells test never ∙ rest.tells test (λ v g. never v (met_by m w v s x.1 (class_swap m w s x.0 x.1 h.0) g));
       }
 
-  pub class_goes : (s t : List ℕ) (z : World) (member : AreOneClass m w s t) → run m s w ≡ Through z → GoesOn m w z s t (names_along member.between)
+  class_goes : (s t : List ℕ) (z : World) (member : AreOneClass m w s t) → run m s w ≡ Through z → GoesOn m w z s t (names_along member.between)
   class_goes s t z member legal = joined_goes member.between s t z member.joined legal
 
 -- ---- main

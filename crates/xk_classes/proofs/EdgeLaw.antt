@@ -24,7 +24,8 @@ use Rattle.xk_classes.specs.Classes.{AreJoined, AreOneClass, names_along, name_i
 use Rattle.xk_classes.specs.Edges.{StepName, turns_of, IsTaken, carried_by, instruction_of, AreApart, IsLink, IsWay, IsBefore, AreSound, AreOrdered, AreOneByOne}
 use Rattle.xk_classes.specs.OneRun.{GoesAsWell}
 use Rattle.xk_classes.proofs.StepEventLemmas.{others_stay}
-use Rattle.xk_classes.proofs.SwapLemmas.{State, stand_of, stand_named, state_stays, reached_run, Deed, Entry, deed_named, deed_of, entries, entries_first, instruction_by, instruction_in, carried_filtered, get_map, next_by_state, run_first}
+use Rattle.xk_renaming.proofs.ActivityNameOrderLaw.{run_first}
+use Rattle.xk_classes.proofs.SwapLemmas.{State, stand_of, stand_named, state_stays, reached_run, Deed, Entry, deed_named, deed_of, entries, entries_first, instruction_by, instruction_in, carried_filtered, get_map, next_by_state}
 use Rattle.xk_classes.proofs.ClassLemmas.{by_taker, deed_in, deeds, same_deeds, class_as_well}
 
 -- ---- turns

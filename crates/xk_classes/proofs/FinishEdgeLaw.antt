@@ -15,7 +15,7 @@ use Rattle.xk_types.specs.Code.{ModuleValue, IsWithinLimits}
 use Rattle.xk_types.specs.World.{Finish, Activity, World, AreArguments, opening, is_ended, instruction_at}
 use Rattle.xk_types.specs.Step.{Outcome, Blocked, Wrong, Stepped, child, onward, left, ended, arrived, none, done, innermost, governing, awaits, is_under, closing, run_at, step_by, step_of, step}
 use Rattle.xk_types.specs.Schedule.{Through, run, IsReached, is_step, is_enabled, all_ended}
-use Rattle.xk_types.proofs.ListLemmas.{get-set_same, get-set_other, get-append_left, get_inside}
+use Rattle.xk_types.proofs.ListLemmas.{get-set_same, get-set_other, get-append_left, get_inside, get_push}
 use Rattle.xk_laws.proofs.ReachabilityLemmas.{same_through, first_step, reached_sound, reached_scoped, opening_reached}
 use Rattle.xk_laws.proofs.StepFormLemmas.{step_kind}
 use Rattle.xk_laws.proofs.ScopeLemmas.FinishOwnerLemmas.{AreOwned, under_governed, under_owner, under_cases, under_above}
@@ -31,7 +31,8 @@ use Rattle.xk_classes.specs.Classes.{AreOneClass, names_along, name_in}
 use Rattle.xk_classes.specs.Edges.{StepName, turns_of, IsTaken, IsUnderFinish}
 use Rattle.xk_classes.specs.OneRun.{GoesAsWell}
 use Rattle.xk_classes.proofs.StepEventLemmas.{not_start, grown, others_stay}
-use Rattle.xk_classes.proofs.SwapLemmas.{State, stand_of, stand_named, run_first, reached_run}
+use Rattle.xk_renaming.proofs.ActivityNameOrderLaw.{run_first}
+use Rattle.xk_classes.proofs.SwapLemmas.{State, stand_of, stand_named, reached_run}
 use Rattle.xk_classes.proofs.ClassLemmas.{deeds, class_as_well}
 use Rattle.xk_classes.proofs.EdgeLaw.{turns_on, turns_same, turns_other, WasTaken, was_taken, run_behind, state_in, stands}
 use Rattle.xk_classes.proofs.StartEdgeLaw.{child_in, start_deed, turns_all, child_done}
@@ -102,10 +103,6 @@ HasChild w a Blocked = Unit {0}
 HasChild w a (Wrong c) = Unit {0}
 HasChild w a (Stepped u e) = is_start e ≡ true → (x : Activity) → slice_get w.activities a ≡ Some x → IsThere u (length w.activities) (governing a x)
 
-get_last : {X : Type 0} (xs : List X) (x : X) → slice_get (xs ++ x ∷ []) (length xs) ≡ Some x
-get_last [] x = refl
-get_last (y ∷ xs) x = get_last xs x
-
 start_child : (m : ModuleValue) (w : World) (a : ℕ) → HasChild w a (step m w a)
 start_child m w a = step_kind (HasChild w a) m w a tt (λ c. tt) (λ act found lives. record {
   closed = λ n some nobody runs h x at. absurd (true≢false (sym h));
@@ -117,7 +114,7 @@ start_child m w a = step_kind (HasChild w a) m w a tt (λ c. tt) (λ act found l
   spawned = λ t args values at goes h x there. (
     child m a act t values,
     ap (slice_get (set w.activities a (onward act) ++ child m a act t values ∷ [])) (sym (length-set w.activities a (onward act)))
-        ∙ get_last (set w.activities a (onward act)) (child m a act t values),
+        ∙ get_push (set w.activities a (onward act)) (child m a act t values),
     ap (governing a) (same_Some act x (sym found ∙ there)),
   );
 })

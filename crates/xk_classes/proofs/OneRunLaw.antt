@@ -21,13 +21,14 @@ use Rattle.xk_renaming.proofs.NameLaw.{same_cells}
 use Rattle.xk_classes.specs.Moments.{is_print, printed_by, printed_at, led_to, started_by}
 use Rattle.xk_classes.specs.Classes.{AreOneClass, names_along, HasNoRace, HasNeverTwo}
 use Rattle.xk_classes.specs.OneRun.{GoesAsWell, IsBegun, IsWholeRun, ComeToOne, gets_or_puts, AddsInUnit, AddsAtMost}
-use Rattle.xk_classes.proofs.SwapLemmas.{run_first, get_map}
+use Rattle.xk_renaming.proofs.ActivityNameOrderLaw.{run_first}
+use Rattle.xk_classes.proofs.SwapLemmas.{get_map}
 use Rattle.xk_classes.proofs.ClassLemmas.{main_stays, class_as_well, class_prints}
 use Rattle.xk_classes.proofs.ClassLaw.{every}
 use Rattle.xk_classes.proofs.EdgeLaw.{ordered_free}
 use Rattle.xk_classes.specs.Edges.{StepName, AreSound, AreOrdered}
 
-pub one_of : {X : Type 0} (P : X → Type 0) (xs : List X) (k : ℕ) (x : X) → slice_get xs k ≡ Some x → All P xs → P x
+one_of : {X : Type 0} (P : X → Type 0) (xs : List X) (k : ℕ) (x : X) → slice_get xs k ≡ Some x → All P xs → P x
 one_of P xs k x h all = subst P (get_or_from_slice_get xs k x x h) (All-get_or P xs k x (slice_get_within xs k x h) all)
 
 -- ---- whole runs

@@ -4,7 +4,7 @@ use Rattle.std.proofs.Common.{◌≡◌, ℕ, suc, zero, ◌+◌, ◌<◌, ◌�
 use Rattle.std.specs.Prelude.{slice_get}
 use Rattle.std.specs.List.{list_any}
 use Rattle.std.specs.Option.{option_map_or}
-use Rattle.std.proofs.lemmas.Bool.{and_parts, or_parts}
+use Rattle.std.proofs.lemmas.Bool.{and_parts, not-true, or_parts}
 use Rattle.std.proofs.lemmas.Option.{slice_get_within}
 use Rattle.xk_types.specs.declared.world.Standing.{Standing}
 use Rattle.xk_types.specs.declared.world.Standing.TheVariants as standing
@@ -45,10 +45,6 @@ advance_stage p standing.Open h = absurd (true≢false h)
 advance_stage p standing.Signalled h = omega arith
 advance_stage p standing.Ahead h = absurd (true≢false h)
 
-not_true : (q : Bool) → not q ≡ true → q ≡ false
-not_true true h = sym h
-not_true false h = refl
-
 -- the end of a step
 settled_stage : (now : ℕ) (c : Clock) (a : ℕ) → stage_of (settled_clock now c) a ≡ stage_of c a
 settled_stage now c a = by (is_ready c) refl
@@ -56,7 +52,7 @@ settled_stage now c a = by (is_ready c) refl
     by : (q : Bool) → is_ready c ≡ q → stage_of (cond {A = Clock} q (record { phase = c.phase + 1; last = now; standings = map advanced c.standings }) c) a ≡ stage_of c a
     by true h =
         let none : list_any is_pending c.standings ≡ false =
-        not_true (list_any is_pending c.standings) (and_parts (list_any is_signalled c.standings) (not (list_any is_pending c.standings)) h).1 in
+        not-true (list_any is_pending c.standings) (and_parts (list_any is_signalled c.standings) (not (list_any is_pending c.standings)) h).1 in
         ap (stage_by (c.phase + 1)) (get_or_map advanced c.standings a standing.Apart)
         ∙ advance_stage c.phase (standing_of c a) (none_at is_pending c.standings a standing.Apart none refl)
     by false h = refl
@@ -185,7 +181,7 @@ joined_new a n given (c ∷ cs) (suc k) wide = joined_new a n (λ j. given (suc 
 -- ---- phases
 
 -- of a clock, which never goes down
-abbrev pub phase_in : List Clock → ℕ → ℕ
+abbrev phase_in : List Clock → ℕ → ℕ
 phase_in cs k = option_map_or (λ (c : Clock). c.phase) (slice_get cs k) 0
 
 settled_phase : (now : ℕ) (c : Clock) → c.phase ≤ (settled_clock now c).phase

@@ -9,7 +9,7 @@ use Rattle.xk_types.specs.Acceptance.{IsAccepted}
 use Rattle.xk_types.specs.Code.{ModuleValue, IsWithinLimits}
 use Rattle.xk_types.specs.World.{Activity, World, instruction_at}
 use Rattle.xk_types.specs.Step.{Outcome, Blocked, Wrong, Stepped, step}
-use Rattle.xk_types.specs.Schedule.{Through, run, run_on, IsReached, events, events_on}
+use Rattle.xk_types.specs.Schedule.{Through, run, IsReached, events, events_on}
 use Rattle.xk_laws.proofs.ReachabilityLemmas.{same_through, first_step, reached_step}
 use Rattle.xk_squares.specs.Conflicts.{next_instruction}
 use Rattle.xk_squares.proofs.ChangeSquareLemmas.{found_of}
@@ -18,6 +18,7 @@ use Rattle.xk_renaming.proofs.ClockNameRunLaw.{Keeps, step_keeps}
 use Rattle.xk_renaming.proofs.NameLaw.{same_activities, named_beyond, clocks_unnamed, clock_back, go_as_one, squares_but_names}
 use Rattle.xk_renaming.proofs.NamelessLemmas.{nameless_activity, state_of, state_same}
 use Rattle.xk_renaming.proofs.ActivityNameRunLaw.{reached_full}
+use Rattle.xk_renaming.proofs.ActivityNameOrderLaw.{run_first}
 use Rattle.xk_classes.specs.Moments.{is_start}
 use Rattle.xk_classes.specs.Classes.{DoCommute}
 use Rattle.xk_classes.specs.Edges.{carried, carried_on}
@@ -42,7 +43,7 @@ abbrev pub Entry : Type 0
 Entry = ℕ × Deed
 
 -- the number of an activity that is started here
-abbrev pub child_of : World → Event → Option ℕ
+abbrev child_of : World → Event → Option ℕ
 child_of w e = cond (is_start e) (Some (length w.activities)) None
 
 abbrev pub deed_of : World → ℕ → Event → Deed
@@ -75,7 +76,7 @@ abbrev pub entry_named : List Exchange → Entry → Entry
 entry_named xs x = (all_named xs x.0, deed_named xs x.1)
 
 -- a list of what entries have, of which some pass
-pub filter_of_map : {X Y : Type 0} (g : X → Y) (p : Y → Bool) (xs : List X) → filter p (map g xs) ≡ map g (filter (λ x. p (g x)) xs)
+filter_of_map : {X Y : Type 0} (g : X → Y) (p : Y → Bool) (xs : List X) → filter p (map g xs) ≡ map g (filter (λ x. p (g x)) xs)
 filter_of_map g p [] = refl
 filter_of_map {X} {Y} g p (x ∷ xs) = ap (λ ys. cond (p (g x)) (g x ∷ ys) ys) (filter_of_map g p xs) ∙ by (p (g x))
   where
@@ -169,9 +170,6 @@ pub entries_first : (m : ModuleValue) (list : List ℕ) (w u : World) (a : ℕ) 
     → entries m (a ∷ list) w ≡ entry_of w a e ∷ entries m list u
 entries_first m list w u a e h = ap (λ o. entries_on a w o (entries m list)) h
 
-pub run_first : (m : ModuleValue) (list : List ℕ) (w u : World) (a : ℕ) (e : Event) → step m w a ≡ Stepped u e → run m (a ∷ list) w ≡ run m list u
-run_first m list w u a e h = ap (λ o. run_on w o (run m list)) h
-
 -- ---- worlds that are the same but for names
 
 -- an entry by its numbers there
@@ -197,7 +195,7 @@ pub record RunsAlike (m : ModuleValue) (xs : List Exchange) (list : List ℕ) (w
   pub same : entries m (map (all_named xs) list) v ≡ map (entry_named xs) (entries m list w)
 
 module _ (m : ModuleValue) (limits : IsWithinLimits m) (ok : IsAccepted m) where
-  pub runs_alike : (xs : List Exchange) (list : List ℕ) (w v z : World) → IsReached m w → IsReached m v → AreSameBy xs w v → AreInStep xs w v → run m list w ≡ Through z
+  runs_alike : (xs : List Exchange) (list : List ℕ) (w v z : World) → IsReached m w → IsReached m v → AreSameBy xs w v → AreInStep xs w v → run m list w ≡ Through z
       → RunsAlike m xs list w v z
   runs_alike xs [] w v z here there same step_same h = record { last = v; legal = refl; alike = subst (λ x. AreSameBy xs x v) (same_through w z h) same; same = refl }
   runs_alike xs (a ∷ list) w v z here there same step_same h =

@@ -20,7 +20,7 @@ use Rattle.xk_determinacy.proofs.TurnLemmas.{get_split}
 -- ---- lists
 
 -- it holds of each
-abbrev pub Every : {X : Type 0} → (X → Type 0) → List X → Type 0
+abbrev Every : {X : Type 0} → (X → Type 0) → List X → Type 0
 Every P xs = Each (λ i x. P x) xs
 
 every_none : {X : Type 0} (P : X → Type 0) → Every P []
@@ -92,11 +92,11 @@ at_clock _ = false
 
 module _ (m : ModuleValue) (a : ℕ) (w v : World) where
   -- the step, as deeds tell of it
-  abbrev pub of_step : Event → RunStep
+  abbrev of_step : Event → RunStep
   of_step e = run_step a w v e
 
   -- one at a clock, whatever its number
-  abbrev pub IsClockPart : Event → Deed → Type 0
+  abbrev IsClockPart : Event → Deed → Type 0
   IsClockPart e d = (d.step ≡ of_step e) × (at_clock d.part ≡ true) × Says m (of_step e) w v e 0 d.part
 
   awaited : Every (λ c. awaits w a c ≡ true) (awaiting w a)

@@ -15,14 +15,18 @@ Edges = List (StepName × StepName)
 
 -- ---- edges and ways
 
+-- where there are no edges, each has a cause
+pub no_cause : (m : ModuleValue) (w : World) (s : List ℕ) (x y : StepName) → IsEdge [] x y → IsCause m w s x y
+no_cause m w s x y h = absurd (none-some (x, y) h.1)
+
 -- an edge of one of two lists is one of both, and the other way round
-pub edge_left : (xs ys : Edges) (x y : StepName) → IsEdge xs x y → IsEdge (xs ++ ys) x y
+edge_left : (xs ys : Edges) (x y : StepName) → IsEdge xs x y → IsEdge (xs ++ ys) x y
 edge_left xs ys x y h = (h.0, get-append_left xs ys h.0 (x, y) h.1)
 
-pub edge_right : (xs ys : Edges) (x y : StepName) → IsEdge ys x y → IsEdge (xs ++ ys) x y
+edge_right : (xs ys : Edges) (x y : StepName) → IsEdge ys x y → IsEdge (xs ++ ys) x y
 edge_right xs ys x y h = (length xs + h.0, get_right xs ys h.0 ∙ h.1)
 
-pub edge_split : (xs ys : Edges) (x y : StepName) → IsEdge (xs ++ ys) x y → IsEdge xs x y ⊎ IsEdge ys x y
+edge_split : (xs ys : Edges) (x y : StepName) → IsEdge (xs ++ ys) x y → IsEdge xs x y ⊎ IsEdge ys x y
 edge_split xs ys x y h = by (get_split xs ys h.0 (x, y) h.1)
   where
     by : ((h.0 < length xs) × (slice_get xs h.0 ≡ Some (x, y))) ⊎ ((j : ℕ) × (h.0 ≡ length xs + j) × (slice_get ys j ≡ Some (x, y))) → IsEdge xs x y ⊎ IsEdge ys x y
@@ -30,7 +34,7 @@ edge_split xs ys x y h = by (get_split xs ys h.0 (x, y) h.1)
     by (inr p) = inr (p.0, p.2)
 
 -- the second list has each edge of the first
-abbrev pub HasAll : Edges → Edges → Type 0
+abbrev HasAll : Edges → Edges → Type 0
 HasAll xs ys = (x y : StepName) → IsEdge xs x y → IsEdge ys x y
 
 link_more : (xs ys : Edges) → HasAll xs ys → (x y : StepName) → IsLink xs x y → IsLink ys x y
@@ -80,7 +84,7 @@ module _ (m : ModuleValue) (w : World) (s : List ℕ) where
   pub led_own : (x y : StepName) → x.0 ≡ y.0 → x.1 < y.1 → IsLed m w s x y
   led_own x y same less = record {
     edges = [];
-    causes = λ u v h. absurd (none-some (u, v) h.1);
+    causes = no_cause m w s;
     before = record { between = []; way = inr (same, less) };
   }
 
@@ -136,7 +140,7 @@ both m w s P Q R more grows to p q = record {
 -- and edges for each number below this one give edges for all
 gather : (m : ModuleValue) (w : World) (s : List ℕ) (P : ℕ → Edges → Type 0) → ((k : ℕ) → Grows (P k)) → (n : ℕ) → ((k : ℕ) → Gathered m w s (P k))
     → Gathered m w s (λ edges. (k : ℕ) → k < n → P k edges)
-gather m w s P grows zero each = record { edges = []; causes = λ x y h. absurd (none-some (x, y) h.1); holds = λ k less. absurd (omega (arith, less)) }
+gather m w s P grows zero each = record { edges = []; causes = no_cause m w s; holds = λ k less. absurd (omega (arith, less)) }
 gather m w s P grows (suc n) each =
     both m w s (λ edges. (k : ℕ) → k < n → P k edges) (P n) (λ edges. (k : ℕ) → k < suc n → P k edges) (λ xs ys has h k less. grows k xs ys has (h k less)) (grows n)
     (λ edges h g k less. by edges h g k less (cases_lt k n)) (gather m w s P grows n each) (each n)

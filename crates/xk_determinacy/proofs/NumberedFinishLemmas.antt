@@ -5,7 +5,7 @@ use Rattle.std.specs.Prelude.{Some}
 use Rattle.xk_types.specs.World.{Finish}
 
 -- the finish around a finish, so many times
-abbrev pub up : (ℕ → ℕ) → ℕ → ℕ → ℕ
+abbrev up : (ℕ → ℕ) → ℕ → ℕ → ℕ
 up around zero n = n
 up around (suc k) n = up around k (around n)
 

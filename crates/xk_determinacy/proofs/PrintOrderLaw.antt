@@ -18,14 +18,14 @@ use Rattle.xk_types.specs.Step.{Stepped, number_in, done, none, onward, slot_at,
 use Rattle.xk_types.specs.Schedule.{Through, run, IsReached, all_ended, number_printed}
 use Rattle.xk_laws.proofs.ReachabilityLemmas.{opening_reached}
 use Rattle.xk_squares.specs.Conflicts.{next_instruction}
-use Rattle.xk_squares.proofs.StepEffect.{prints, enacted}
 use Rattle.xk_squares.proofs.ChangeSquareLemmas.{same_step, not_none, found_of}
 use Rattle.xk_squares.proofs.StartSquareLemmas.{made_world, started_world, maker}
 use Rattle.xk_squares.proofs.ViewLemmas.{Goes, IsNone, DoesAct, DoesMake, DoesStart, goes, sees_itself}
 use Rattle.xk_classes.specs.Moments.{is_print}
 use Rattle.xk_classes.specs.Classes.{HasNeverTwo}
-use Rattle.xk_classes.specs.Edges.{StepName, turns_of, IsBefore, IsEdge, IsCause, instruction_of, AreOneByOne}
+use Rattle.xk_classes.specs.Edges.{StepName, turns_of, IsBefore, IsEdge, IsCause, instruction_of, prints, AreOneByOne}
 use Rattle.xk_classes.proofs.SwapLemmas.{next_of}
+use Rattle.xk_classes.proofs.StepEventLemmas.{print_says}
 use Rattle.xk_classes.proofs.EdgeLaw.{never_two_ordered}
 use Rattle.xk_classes.proofs.PassEdgeLaw.{causes_sound}
 use Rattle.xk_races.specs.declared.deeds.Deed.{Deed}
@@ -41,7 +41,7 @@ use Rattle.xk_events.specs.declared.steps.RunStep.{RunStep}
 use Rattle.xk_events.specs.Steps.{run_step}
 use Rattle.xk_races.specs.Deeds.{deed, tell_deeds}
 use Rattle.xk_determinacy.proofs.TurnLemmas.{Turn, name_of, deeds, deed_at, turn_reached, turn_of_step, name_inside}
-use Rattle.xk_determinacy.proofs.EdgeListLemmas.{Edges, before_more, IsLed, Grows, Gathered, gather_pairs}
+use Rattle.xk_determinacy.proofs.EdgeListLemmas.{Edges, no_cause, before_more, IsLed, Grows, Gathered, gather_pairs}
 use Rattle.xk_determinacy.proofs.LinkLemmas.{says, up_led}
 use Rattle.xk_determinacy.proofs.SeenLemmas.{IsSight, sight_of}
 use Rattle.xk_determinacy.proofs.StepDeedLemmas.{HasEvent, event_at, IsDeedOf, first_deed}
@@ -114,7 +114,7 @@ module _ (T : Sight → Sight → Type 0) (on : (x y z : Sight) → T x y → T 
       by false e h = (λ is. absurd (true≢false (sym is ∙ e)), (Some x, h))
 
   -- so it is of each two prints
-  pub pairs : (o : Option Sight) (ys : List Sight) → ((i : ℕ) (y : Sight) → slice_get ys i ≡ Some y → M y) → gap_behind o ys ≡ None
+  pairs : (o : Option Sight) (ys : List Sight) → ((i : ℕ) (y : Sight) → slice_get ys i ≡ Some y → M y) → gap_behind o ys ≡ None
       → (p q : ℕ) (x y : Sight) → p < q → slice_get ys p ≡ Some x → slice_get ys q ≡ Some y → races.is_print x.deed.part ≡ true
       → races.is_print y.deed.part ≡ true → T x y
   pairs o [] all none p q x y less here there first second = absurd (none-some x here)
@@ -177,36 +177,6 @@ print_deed m limits ok w s t reached i next is =
     seen : IsPrinted t.e
     seen = event_at m limits ok t.here t.there t.act t.e reached t.takes (instr.Print form.0) (next ∙ ap Some form.1) (not_advance form.0) IsPrinted
         (λ act. printed_event t.here t.act act (slot_at act form.0))
-
--- who is seen to print stands at such an instruction
-print_says : (m : ModuleValue) (v u : World) (a : ℕ) (e : Event) → step m v a ≡ Stepped u e → is_print e ≡ true
-    → option_map_or prints (next_instruction m v a) false ≡ true
-print_says m v u a e takes is = by (goes m v v a x.0 x.0.since (sees_itself m v a x.0 x.1))
-  where
-    x : (z : Activity) × (slice_get v.activities a ≡ Some z)
-    x = found_of m v a u e takes
-
-    seen : (f : Event) → is_print f ≡ true → number_printed f ≡ None → ⊥
-    seen (event.Printed n) h g = none-some n (sym g)
-    seen event.Local h g = true≢false (sym h)
-    seen _ h g = true≢false (sym h)
-
-    at : (b : Bool) → option_map_or prints (instruction_at m x.0.frame) false ≡ b → (b ≡ false → number_printed e ≡ None)
-        → option_map_or prints (next_instruction m v a) false ≡ true
-    at true h g = ap (λ o. option_map_or prints o false) (next_of m v a x.0 x.1) ∙ h
-    at false h g = absurd (seen e is (g refl))
-
-    by : Goes m v v a x.0 x.0.since (step m v a) (step m v a) → option_map_or prints (next_instruction m v a) false ≡ true
-    by (IsNone g) = absurd (not_none (step m v a) u e takes g)
-    by (DoesAct A) =
-        let same = (same_step u (enacted v a A.next A.move A.writes) e A.e (sym takes ∙ A.here)).1 in
-        at (option_map_or prints (instruction_at m x.0.frame) false) refl (λ h. ap number_printed same ∙ A.silent h)
-    by (DoesMake M) =
-        let same = (same_step u (made_world v a (maker x.0 M.d (length v.clocks))) e event.Made (sym takes ∙ M.here)).1 in
-        absurd (true≢false (sym is ∙ ap is_print same))
-    by (DoesStart S) =
-        let same = (same_step u (started_world m v a x.0 S.unit S.values) e event.Spawned (sym takes ∙ S.here)).1 in
-        absurd (true≢false (sym is ∙ ap is_print same))
 
 -- ---- the law
 
@@ -298,9 +268,6 @@ module _ (m : ModuleValue) (args : List ℤ) (limits : IsWithinLimits m) (ok : I
       by (inl b) = inl (before_more xs ys has x y b)
       by (inr b) = inr (before_more xs ys has y x b)
 
-  no_cause : (x y : StepName) → IsEdge [] x y → IsCause m w s x y
-  no_cause x y h = absurd (none-some (x, y) h.1)
-
   pair : (x y : StepName) → Gathered m w s (InOrder x y)
   pair x y = by (cases_eq y.0 x.0) (option_map_or prints (instruction_of m s w x) false) refl (option_map_or prints (instruction_of m s w y) false) refl
     where
@@ -310,9 +277,9 @@ module _ (m : ModuleValue) (args : List ℤ) (limits : IsWithinLimits m) (ok : I
 
       by : (y.0 ≡ x.0) ⊎ (y.0 ≡ x.0 → ⊥) → (b : Bool) → option_map_or prints (instruction_of m s w x) false ≡ b → (c : Bool)
           → option_map_or prints (instruction_of m s w y) false ≡ c → Gathered m w s (InOrder x y)
-      by (inl same) b e c f = record { edges = []; causes = no_cause; holds = λ differ first second. absurd (differ same) }
-      by (inr differ) false e c f = record { edges = []; causes = no_cause; holds = λ d first second. absurd (true≢false (sym first ∙ e)) }
-      by (inr differ) true e false f = record { edges = []; causes = no_cause; holds = λ d first second. absurd (true≢false (sym second ∙ f)) }
+      by (inl same) b e c f = record { edges = []; causes = no_cause m w s; holds = λ differ first second. absurd (differ same) }
+      by (inr differ) false e c f = record { edges = []; causes = no_cause m w s; holds = λ d first second. absurd (true≢false (sym first ∙ e)) }
+      by (inr differ) true e false f = record { edges = []; causes = no_cause m w s; holds = λ d first second. absurd (true≢false (sym second ∙ f)) }
       by (inr differ) true e true f = of (print_either x y differ e f)
 
   all_prints : Gathered m w s (λ edges. (a : ℕ) → a < length z.activities → (k : ℕ) → k < length s → (b : ℕ) → b < length z.activities → (l : ℕ) → l < length s
@@ -335,5 +302,5 @@ module _ (m : ModuleValue) (args : List ℤ) (limits : IsWithinLimits m) (ok : I
   -- no two numbers could be printed at once
   pub never_two_prints : all_ended z ≡ true → HasNeverTwo is_print m w s
   never_two_prints over =
-      never_two_ordered m limits ok w z reached s legal over is_print prints (λ v u a e takes is. print_says m v u a e takes is) all_prints.edges
+      never_two_ordered m limits ok w z reached s legal over is_print prints (print_says m) all_prints.edges
       (causes_sound m args limits ok taken s z legal over all_prints.edges all_prints.causes) one_by_one

@@ -25,7 +25,7 @@ use Rattle.xk_races.specs.Races.{clash, have_one_number, is_race, races_in, has_
 use Rattle.xk_races.specs.Exactness.{Has}
 use Rattle.xk_races.proofs.RaceListLemmas.{races_are_exact}
 use Rattle.xk_determinacy.proofs.TurnLemmas.{Turn, name_of, deeds, deed_at, turn_reached, IsTurnOf, turn_of_step, name_inside}
-use Rattle.xk_determinacy.proofs.EdgeListLemmas.{Edges, before_more, IsLed, Grows, Gathered, gather_pairs}
+use Rattle.xk_determinacy.proofs.EdgeListLemmas.{Edges, no_cause, before_more, IsLed, Grows, Gathered, gather_pairs}
 use Rattle.xk_determinacy.proofs.LinkLemmas.{says, up_led}
 use Rattle.xk_determinacy.proofs.SeenLemmas.{IsSight, sight_of, sight_up}
 use Rattle.xk_determinacy.proofs.AccessLemmas.{Mode, event_of, Accesses, Sort, Does, DoesNone, sort_of, apart_none, apart_turned, apart_by, IsAccess, access_of}
@@ -191,28 +191,25 @@ module _ (m : ModuleValue) (args : List ℤ) (limits : IsWithinLimits m) (ok : I
       by (inr (inl b)) = inr (inl (before_more xs ys has x y b))
       by (inr (inr b)) = inr (inr (before_more xs ys has y x b))
 
-  no_cause : (x y : StepName) → IsEdge [] x y → IsCause m w s x y
-  no_cause x y h = absurd (none-some (x, y) h.1)
-
   pair : (x y : StepName) → Gathered m w s (InOrder x y)
   pair x y = by (cases_eq y.0 x.0)
     where
       of : AreLed x y → Gathered m w s (InOrder x y)
-      of (inl a) = record { edges = []; causes = no_cause; holds = λ differ. inl a }
+      of (inl a) = record { edges = []; causes = no_cause m w s; holds = λ differ. inl a }
       of (inr (inl l)) = record { edges = l.edges; causes = l.causes; holds = λ differ. inr (inl l.before) }
       of (inr (inr l)) = record { edges = l.edges; causes = l.causes; holds = λ differ. inr (inr l.before) }
 
       by : (y.0 ≡ x.0) ⊎ (y.0 ≡ x.0 → ⊥) → Gathered m w s (InOrder x y)
-      by (inl same) = record { edges = []; causes = no_cause; holds = λ differ. absurd (differ same) }
+      by (inl same) = record { edges = []; causes = no_cause m w s; holds = λ differ. absurd (differ same) }
       by (inr differ) = of (led x y differ)
 
   -- edges with causes that order each pair of steps that conflict
-  pub all_pairs : Gathered m w s (λ edges. (a : ℕ) → a < length z.activities → (k : ℕ) → k < length s → (b : ℕ) → b < length z.activities → (l : ℕ) → l < length s
+  all_pairs : Gathered m w s (λ edges. (a : ℕ) → a < length z.activities → (k : ℕ) → k < length s → (b : ℕ) → b < length z.activities → (l : ℕ) → l < length s
       → InOrder (a, k) (b, l) edges)
   all_pairs = gather_pairs m w s InOrder order_grows (length z.activities) (length s) pair
 
   -- they order all that conflict
-  pub ordered : AreOrdered m w s all_pairs.edges
+  ordered : AreOrdered m w s all_pairs.edges
   ordered x y differ = by (instruction_of m s w x) (instruction_of m s w y) refl refl
     where
       Either : Option Instr → Option Instr → Type 0

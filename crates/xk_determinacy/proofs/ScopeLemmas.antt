@@ -222,7 +222,7 @@ module _ (m : ModuleValue) (acts : List Activity) (a : ℕ) (act : Activity) (fo
       by o n is = ap (λ k. cond (k == 0) act.governed (finish a k)) is ∙ ap (λ q. cond q act.governed (finish a (suc n))) (some_open n)
 
 -- a step keeps finishes numbered
-pub numbered_step : (m : ModuleValue) (w u : World) (a : ℕ) (e : Event) (s : Scopes) → step m w a ≡ Stepped u e → AreNumbered (nest s w.activities)
+numbered_step : (m : ModuleValue) (w u : World) (a : ℕ) (e : Event) (s : Scopes) → step m w a ≡ Stepped u e → AreNumbered (nest s w.activities)
     → AreNumbered (nest (scopes_after (tell_deeds m a w u e) s) u.activities)
 numbered_step m w u a e s takes was =
     subst (λ q. AreNumbered (nest q u.activities)) (sym (scopes_step m a w u s e)) (by (effect_of m w u a x.0 e x.1 takes))

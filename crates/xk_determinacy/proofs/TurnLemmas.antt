@@ -13,7 +13,8 @@ use Rattle.xk_laws.proofs.ReachabilityLemmas.{same_through, first_step}
 use Rattle.xk_squares.specs.Conflicts.{next_instruction}
 use Rattle.xk_squares.proofs.ChangeSquareLemmas.{same_step, found_of}
 use Rattle.xk_classes.specs.Edges.{StepName, turns_of, IsTaken, carried_on, carried, carried_by, instruction_of}
-use Rattle.xk_classes.proofs.SwapLemmas.{run_first, reached_run}
+use Rattle.xk_renaming.proofs.ActivityNameOrderLaw.{run_first}
+use Rattle.xk_classes.proofs.SwapLemmas.{reached_run}
 use Rattle.xk_classes.proofs.EdgeLaw.{turns_on, turns_same, turns_other, run_behind}
 use Rattle.xk_classes.proofs.StepEventLemmas.{run_wider}
 use Rattle.xk_events.specs.Steps.{told_on, told}

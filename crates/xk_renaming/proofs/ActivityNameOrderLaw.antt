@@ -15,7 +15,8 @@ use Rattle.xk_renaming.proofs.ActivityNameRunLaw.{prints_of, prints_renamed, goe
 use Rattle.xk_renaming.proofs.ActivityNameStartLaw.{one_more, starts_square}
 use Rattle.xk_renaming.proofs.ActivityNameExchangeLaw.{exchanged_twice, alike_exchanged}
 
-run_first : (m : ModuleValue) (list : List ℕ) (w u : World) (a : ℕ) (e : Event) → step m w a ≡ Stepped u e → run m (a ∷ list) w ≡ run m list u
+-- a run begins with its first step, and so do its events
+pub run_first : (m : ModuleValue) (list : List ℕ) (w u : World) (a : ℕ) (e : Event) → step m w a ≡ Stepped u e → run m (a ∷ list) w ≡ run m list u
 run_first m list w u a e h = ap (λ o. run_on w o (run m list)) h
 
 events_first : (m : ModuleValue) (list : List ℕ) (w u : World) (a : ℕ) (e : Event) → step m w a ≡ Stepped u e → events m (a ∷ list) w ≡ (a, e) ∷ events m list u

@@ -232,7 +232,7 @@ module _ (m : ModuleValue) (k : ℕ) (w : World) (inside : suc k < length w.acti
   step_by_same status.Ended = refl
 
 -- each clock has a standing of both
-pub wide_of : (k : ℕ) (w : World) → suc k < length w.activities → HasAllStandings w → AreWide k w.clocks
+wide_of : (k : ℕ) (w : World) → suc k < length w.activities → HasAllStandings w → AreWide k w.clocks
 wide_of k w inside full j c at = omega (arith, inside, full j c at)
 
 pub step-swapped : (m : ModuleValue) (w : World) (k a : ℕ) → suc k < length w.activities → HasAllStandings w

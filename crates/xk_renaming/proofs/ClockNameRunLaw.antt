@@ -46,7 +46,7 @@ step_keeps m w a = step_kind (Keeps (length w.clocks)) m w a tt (λ c. tt) (λ a
 
 -- ---- a run
 
-pub run_swapped : (m : ModuleValue) (k : ℕ) (s : List ℕ) (w : World) → suc k < length w.clocks → run m s (clocks_swapped k w) ≡ course_swapped k (run m s w)
+run_swapped : (m : ModuleValue) (k : ℕ) (s : List ℕ) (w : World) → suc k < length w.clocks → run m s (clocks_swapped k w) ≡ course_swapped k (run m s w)
 run_swapped m k [] w inside = refl
 run_swapped m k (a ∷ s) w inside =
     ap (λ o. run_on (clocks_swapped k w) o (run m s)) (step_swapped m w k a inside) ∙ by (run_swapped m k s) (step m w a) (step_keeps m w a)
@@ -57,7 +57,7 @@ run_swapped m k (a ∷ s) w inside =
     by later (Wrong c) h = refl
     by later (Stepped u e) h = later u (omega arith)
 
-pub events_swapped : (m : ModuleValue) (k : ℕ) (s : List ℕ) (w : World) → suc k < length w.clocks → events m s (clocks_swapped k w) ≡ events m s w
+events_swapped : (m : ModuleValue) (k : ℕ) (s : List ℕ) (w : World) → suc k < length w.clocks → events m s (clocks_swapped k w) ≡ events m s w
 events_swapped m k [] w inside = refl
 events_swapped m k (a ∷ s) w inside =
     ap (λ o. events_on a o (events m s)) (step_swapped m w k a inside) ∙ by (events_swapped m k s) (step m w a) (step_keeps m w a)

@@ -40,11 +40,11 @@ activities_many : (x : Exchange) (w : World) → length (exchanged x w).activiti
 activities_many (OfClocks k) w = length-map w.activities _
 activities_many (OfActivities k) w = length-acts k w.activities
 
-pub clocks_all : (xs : List Exchange) (w : World) → length (all_exchanged xs w).clocks ≡ length w.clocks
+clocks_all : (xs : List Exchange) (w : World) → length (all_exchanged xs w).clocks ≡ length w.clocks
 clocks_all [] w = refl
 clocks_all (x ∷ xs) w = clocks_all xs (exchanged x w) ∙ clocks_many x w
 
-pub activities_all : (xs : List Exchange) (w : World) → length (all_exchanged xs w).activities ≡ length w.activities
+activities_all : (xs : List Exchange) (w : World) → length (all_exchanged xs w).activities ≡ length w.activities
 activities_all [] w = refl
 activities_all (x ∷ xs) w = activities_all xs (exchanged x w) ∙ activities_many x w
 
@@ -53,7 +53,7 @@ pair_more : (x : Exchange) (w v : World) → length w.clocks ≤ length v.clocks
 pair_more (OfClocks k) w v p q h = omega arith
 pair_more (OfActivities k) w v p q h = omega arith
 
-pub pairs_more : (xs : List Exchange) (w v : World) → length w.clocks ≤ length v.clocks → length w.activities ≤ length v.activities → ArePairs xs w → ArePairs xs v
+pairs_more : (xs : List Exchange) (w v : World) → length w.clocks ≤ length v.clocks → length w.activities ≤ length v.activities → ArePairs xs w → ArePairs xs v
 pairs_more [] w v p q h = tt
 pairs_more (x ∷ xs) w v p q h = (pair_more x w v p q h.0, pairs_more xs w v p q h.1)
 
@@ -85,7 +85,7 @@ activities_alike : (w v : World) → AreAlike w v → length w.activities ≡ le
 activities_alike w v h = sym (length-map w.activities plain_activity) ∙ ap (λ (z : World). length z.activities) h ∙ length-map v.activities plain_activity
 
 -- as many in both
-pub same_clocks : (xs : List Exchange) (w v : World) → AreSameBy xs w v → length w.clocks ≡ length v.clocks
+same_clocks : (xs : List Exchange) (w v : World) → AreSameBy xs w v → length w.clocks ≡ length v.clocks
 same_clocks xs w v h = sym (clocks_all xs w) ∙ clocks_alike (all_exchanged xs w) v h.alike
 
 pub same_activities : (xs : List Exchange) (w v : World) → AreSameBy xs w v → length w.activities ≡ length v.activities

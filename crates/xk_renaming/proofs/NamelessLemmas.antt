@@ -16,12 +16,12 @@ use Rattle.xk_renaming.proofs.ActivityNameWorldLemmas.{standing-swapped}
 use Rattle.xk_renaming.proofs.NameLaw.{pairs_behind, clock_named, clocks_named, full_one}
 
 -- every clock has one name
-abbrev pub nameless_value : Value → Value
+abbrev nameless_value : Value → Value
 nameless_value value.Unset = value.Unset
 nameless_value (value.Number n) = value.Number n
 nameless_value (value.Clock c) = value.Clock 0
 
-abbrev pub nameless_frame : Frame → Frame
+abbrev nameless_frame : Frame → Frame
 nameless_frame f = record f { slots = map nameless_value f.slots }
 
 -- and it isn't known which finish governs the activity, and when it passed last
@@ -33,7 +33,7 @@ abbrev pub state_of : World → ℕ → Option Activity
 state_of w a = option_map nameless_activity (slice_get w.activities a)
 
 -- which finish governs it
-abbrev pub governed_of : World → ℕ → Option Finish
+abbrev governed_of : World → ℕ → Option Finish
 governed_of w a = option_map (λ act. act.governed) (slice_get w.activities a)
 
 -- a finish by its owner's number after exchanges
@@ -151,7 +151,7 @@ governed_same xs w v a same =
 -- ---- where one stands on a clock
 
 -- on a clock, if it's there
-abbrev pub stands_at : World → ℕ → ℕ → Option Standing
+abbrev stands_at : World → ℕ → ℕ → Option Standing
 stands_at w k a = option_map (λ (c : Clock). standing_of c a) (slice_get w.clocks k)
 
 stands_one : (x : Exchange) (w : World) (k a : ℕ) → IsPair x w → HasAllStandings w → stands_at (exchanged x w) (clock_named x k) (named x a) ≡ stands_at w k a
