@@ -1,4 +1,8 @@
 -- A step that passes an `advance` is taken by one that has arrived there, and waits for no clock.
+--
+-- The forms of `xk_laws/proofs/StepFormLemmas.antt`, and the pairs of `xk_squares/proofs/StepPairLemmas.antt`, don't give it: of the event of a
+-- step that goes on they say that it is no start, no arrival and no end (`Changes`), and not that it is no pass. So this file walks over the
+-- instructions once more, for their events alone.
 use Rattle.std.proofs.Common.{◌≡◌, ℕ, zero, suc, ℤ, ◌+◌, List, [], ◌∷◌, set, Bool, true, false, true≢false, cond, Some, None, Option, refl, sym, ap, ◌∙◌, subst}
 use Rattle.std.specs.Prelude.{slice_get, option_and_then, int_le}
 use Rattle.std.specs.Int.{int_min}
