@@ -1,8 +1,8 @@
 -- A step that passes an `advance` is taken by one that has arrived there, and waits for no clock.
 --
--- The forms of `xk_laws/proofs/StepFormLemmas.antt`, and the pairs of `xk_squares/proofs/StepPairLemmas.antt`, don't give it: of the event of a
--- step that goes on they say that it is no start, no arrival and no end (`Changes`), and not that it is no pass. So this file walks over the
--- instructions once more, for their events alone.
+-- The forms of `xk_laws/proofs/StepFormLemmas.antt`, and the pairs of `xk_squares/proofs/StepPairLemmas.antt`, don't give it: of the
+-- event of a step that goes on they say that it is no start, no arrival and no end (`Changes`), and not that it is no pass. So this file
+-- walks over the instructions once more, for their events alone.
 use Rattle.std.proofs.Common.{◌≡◌, ℕ, zero, suc, ℤ, ◌+◌, List, [], ◌∷◌, set, Bool, true, false, true≢false, cond, Some, None, Option, refl, sym, ap, ◌∙◌, subst}
 use Rattle.std.specs.Prelude.{slice_get, option_and_then, int_le}
 use Rattle.std.specs.Int.{int_min}
@@ -64,7 +64,8 @@ module _ (w : World) (a : ℕ) (act : Activity) where
   on_cell None go h = tt
   on_cell (Some n) go h = h n
 
-  on_put : (o : Option Value) (d : ℕ) (x : Value) (go : Activity → Outcome) → ((next : Activity) → Has is_other (go next)) → Has is_other (put_in o act d x go)
+  on_put : (o : Option Value) (d : ℕ) (x : Value) (go : Activity → Outcome) → ((next : Activity) → Has is_other (go next))
+      → Has is_other (put_in o act d x go)
   on_put None d x go h = tt
   on_put (Some old) d x go h = h (onward (with_slots act (set act.frame.slots d x)))
 
@@ -83,7 +84,8 @@ module _ (w : World) (a : ℕ) (act : Activity) where
   on_begin : (k : ℕ) (lo : ℤ) (t : ℕ) (top : ℤ) → Has is_other (beginning w a act k lo t top)
   on_begin k lo t top = by (int_le lo top)
     where
-      by : (q : Bool) → Has is_other (cond q (writing act k (value.Number lo) (λ next. done w a next none event.Local)) (done w a (going act t) none event.Local))
+      by : (q : Bool) → Has is_other
+          (cond q (writing act k (value.Number lo) (λ next. done w a next none event.Local)) (done w a (going act t) none event.Local))
       by true = on_put (slot_at act k) k (value.Number lo) _ (λ next. refl)
       by false = refl
 
@@ -103,7 +105,8 @@ module _ (w : World) (a : ℕ) (act : Activity) where
   on_call m t args None = tt
   on_call m t args (Some u) = by (is_method u.kind)
     where
-      by : (q : Bool) → Has is_other (cond q (arguments_in w a act u.params args (λ values. done w a (called m act t values) none event.Local)) (Wrong OutOfRange))
+      by : (q : Bool) → Has is_other
+          (cond q (arguments_in w a act u.params args (λ values. done w a (called m act t values) none event.Local)) (Wrong OutOfRange))
       by true = on_arguments u.params args _ (λ values. refl)
       by false = tt
 
@@ -114,9 +117,12 @@ module _ (w : World) (a : ℕ) (act : Activity) where
   other_at : (m : ModuleValue) (i : Instr) → Has is_other (carried_out m w a act i)
   other_at m (instr.Lit d n) = on_put (slot_at act d) d _ _ (λ next. refl)
   other_at m (instr.Copy d x) = on_number (slot_at act x) _ (λ n. on_put (slot_at act d) d _ _ (λ next. refl))
-  other_at m (instr.Add d x y) = on_number (slot_at act x) _ (λ p. on_number (slot_at act y) _ (λ q. on_put (slot_at act d) d _ _ (λ next. refl)))
-  other_at m (instr.Sub d x y) = on_number (slot_at act x) _ (λ p. on_number (slot_at act y) _ (λ q. on_put (slot_at act d) d _ _ (λ next. refl)))
-  other_at m (instr.Mul d x y) = on_number (slot_at act x) _ (λ p. on_number (slot_at act y) _ (λ q. on_put (slot_at act d) d _ _ (λ next. refl)))
+  other_at m (instr.Add d x y) =
+      on_number (slot_at act x) _ (λ p. on_number (slot_at act y) _ (λ q. on_put (slot_at act d) d _ _ (λ next. refl)))
+  other_at m (instr.Sub d x y) =
+      on_number (slot_at act x) _ (λ p. on_number (slot_at act y) _ (λ q. on_put (slot_at act d) d _ _ (λ next. refl)))
+  other_at m (instr.Mul d x y) =
+      on_number (slot_at act x) _ (λ p. on_number (slot_at act y) _ (λ q. on_put (slot_at act d) d _ _ (λ next. refl)))
   other_at m (instr.Unless op x y t) = on_number (slot_at act x) _ (λ p. on_number (slot_at act y) _ (λ q. refl))
   other_at m (instr.Jump t) = refl
   other_at m (instr.For k lo hi e) = on_put (slot_at act k) k _ _ (λ next. refl)
@@ -134,13 +140,15 @@ module _ (w : World) (a : ℕ) (act : Activity) where
   other_at m instr.Advance = refl
   other_at m (instr.Call t args) = on_call m t args (slice_get m.units t)
   other_at m (instr.Spawn t args) =
-      spawning_form (λ outcome. Has is_other (outcome (finishes_of w act))) (λ c. tt) w a act m t args (slice_get m.units t) (λ u values at given. refl)
+      spawning_form (λ outcome. Has is_other (outcome (finishes_of w act))) (λ c. tt) w a act m t args (slice_get m.units t)
+      (λ u values at given. refl)
   other_at m instr.Ret = on_return act.callers
 
 -- ---- who passes
 
 -- only one that has arrived
-pub passes_arrived : (m : ModuleValue) (w u : World) (a : ℕ) (act : Activity) → step m w a ≡ Stepped u event.Passed → slice_get w.activities a ≡ Some act
+pub passes_arrived : (m : ModuleValue) (w u : World) (a : ℕ) (act : Activity) → step m w a ≡ Stepped u event.Passed
+    → slice_get w.activities a ≡ Some act
     → act.status ≡ status.Arrived
 passes_arrived m w u a act takes at = by act.status refl (sym (ap (step_of m w a) at) ∙ takes)
   where
@@ -154,10 +162,12 @@ passes_arrived m w u a act takes at = by act.status refl (sym (ap (step_of m w a
     by status.Ended is h = absurd (true≢false (sym (ap is_step h)))
 
 -- and one that has arrived takes a step only where it waits for no clock
-pub arrived_free : (m : ModuleValue) (w : World) (a : ℕ) (act : Activity) → slice_get w.activities a ≡ Some act → act.status ≡ status.Arrived → is_enabled m w a ≡ true
+pub arrived_free : (m : ModuleValue) (w : World) (a : ℕ) (act : Activity) → slice_get w.activities a ≡ Some act
+    → act.status ≡ status.Arrived → is_enabled m w a ≡ true
     → waits w a ≡ false
 arrived_free m w a act at is enabled = by (waits w a) refl (sym (ap is_step (ap (step_of m w a) at ∙ ap (step_by m w a act) is)) ∙ enabled)
   where
-    by : (q : Bool) → waits w a ≡ q → is_step (cond q Blocked (done w a (past act (w.steps + 1)) (all passed) event.Passed)) ≡ true → waits w a ≡ false
+    by : (q : Bool) → waits w a ≡ q → is_step (cond q Blocked (done w a (past act (w.steps + 1)) (all passed) event.Passed)) ≡ true
+        → waits w a ≡ false
     by true h g = absurd (true≢false (sym g))
     by false h g = h

@@ -104,7 +104,8 @@ sort_of _ = DoesNone (λ s. refl) (λ s. refl) (λ s. refl)
 -- ---- where two instructions are apart
 
 -- an instruction that accesses none conflicts with none
-pub apart_none : (o p : Option Instr) → ((s : ℕ) → does reads o s ≡ false) → ((s : ℕ) → does puts o s ≡ false) → ((s : ℕ) → does stores o s ≡ false) → AreApart o p
+pub apart_none : (o p : Option Instr) → ((s : ℕ) → does reads o s ≡ false) → ((s : ℕ) → does puts o s ≡ false)
+    → ((s : ℕ) → does stores o s ≡ false) → AreApart o p
 apart_none o p none_read none_put none_stored = record {
   second_reads = λ c h g. true≢false (sym h ∙ none_stored c);
   first_reads = λ c h g. true≢false (sym g ∙ none_read c);
@@ -114,16 +115,21 @@ apart_none o p none_read none_put none_stored = record {
 
 -- the other way round
 pub apart_turned : (o p : Option Instr) → AreApart o p → AreApart p o
-apart_turned o p a = record { second_reads = a.first_reads; first_reads = a.second_reads; first_puts = a.second_puts; second_puts = a.first_puts }
+apart_turned o p a =
+    record { second_reads = a.first_reads; first_reads = a.second_reads; first_puts = a.second_puts; second_puts = a.first_puts }
 
 -- two accesses of shared number s are so if they are both to c
 pub apart_by : (i j : Instr) (c d : ℕ) (k l : Mode) → Accesses i c k → Accesses j d l → (c ≡ d → clash (event_of k) (event_of l) ≡ false)
     → AreApart (Some i) (Some j)
 apart_by i j c d k l p q free = record {
-  second_reads = λ s h g. clashing s changes gets (reading k l) (parts (changes k) (s == c) (sym (p.stores s) ∙ h)) (parts (gets l) (s == d) (sym (q.reads s) ∙ g));
-  first_reads = λ s h g. clashing s gets changes (read k l) (parts (gets k) (s == c) (sym (p.reads s) ∙ g)) (parts (changes l) (s == d) (sym (q.stores s) ∙ h));
-  first_puts = λ s h g. clashing s sets changes (putting k l) (parts (sets k) (s == c) (sym (p.puts s) ∙ h)) (parts (changes l) (s == d) (sym (q.stores s) ∙ g));
-  second_puts = λ s h g. clashing s changes sets (put' k l) (parts (changes k) (s == c) (sym (p.stores s) ∙ g)) (parts (sets l) (s == d) (sym (q.puts s) ∙ h));
+  second_reads = λ s h g. clashing s changes gets (reading k l) (parts (changes k) (s == c) (sym (p.stores s) ∙ h))
+      (parts (gets l) (s == d) (sym (q.reads s) ∙ g));
+  first_reads = λ s h g. clashing s gets changes (read k l) (parts (gets k) (s == c) (sym (p.reads s) ∙ g))
+      (parts (changes l) (s == d) (sym (q.stores s) ∙ h));
+  first_puts = λ s h g. clashing s sets changes (putting k l) (parts (sets k) (s == c) (sym (p.puts s) ∙ h))
+      (parts (changes l) (s == d) (sym (q.stores s) ∙ g));
+  second_puts = λ s h g. clashing s changes sets (put' k l) (parts (changes k) (s == c) (sym (p.stores s) ∙ g))
+      (parts (sets l) (s == d) (sym (q.puts s) ∙ h));
 }
   where
     parts : (a b : Bool) → (a && b) ≡ true → (a ≡ true) × (b ≡ true)
@@ -159,7 +165,8 @@ apart_by i j c d k l p q free = record {
     put' Adds Gets h g = absurd (true≢false (sym g))
     put' Adds Adds h g = absurd (true≢false (sym g))
 
-    clashing : (s : ℕ) (f g : Mode → Bool) → (f k ≡ true → g l ≡ true → clash (event_of k) (event_of l) ≡ true) → (f k ≡ true) × ((s == c) ≡ true)
+    clashing : (s : ℕ) (f g : Mode → Bool) → (f k ≡ true → g l ≡ true → clash (event_of k) (event_of l) ≡ true)
+        → (f k ≡ true) × ((s == c) ≡ true)
         → (g l ≡ true) × ((s == d) ≡ true) → ⊥
     clashing s f g both x y = true≢false (sym (both x.0 y.0) ∙ free (sym (eqb-true s c x.1) ∙ eqb-true s d y.1))
 
@@ -180,7 +187,8 @@ pub record IsAccess (m : ModuleValue) (w : World) (s : List ℕ) (t : Turn m w s
   pub deed : IsDeedOf m w s t (part.Access c)
 
 -- so a step at an instruction that accesses a shared number
-pub access_of : (m : ModuleValue) (limits : IsWithinLimits m) (ok : IsAccepted m) (w : World) (s : List ℕ) (t : Turn m w s) → IsReached m t.here
+pub access_of : (m : ModuleValue) (limits : IsWithinLimits m) (ok : IsAccepted m) (w : World) (s : List ℕ) (t : Turn m w s)
+    → IsReached m t.here
     → (i : Instr) (c : ℕ) (k : Mode) → next_instruction m t.here t.act ≡ Some i → Accesses i c k → IsAccess m w s t c k
 access_of m limits ok w s t reached i c k next p = record {
   event = seen;
@@ -191,7 +199,8 @@ access_of m limits ok w s t reached i c k next p = record {
 }
   where
     seen : t.e ≡ event_of k
-    seen = event_at m limits ok t.here t.there t.act t.e reached t.takes i next (not_advance i c k p) (λ e. e ≡ event_of k) (λ act. p.event m t.here t.act act)
+    seen = event_at m limits ok t.here t.there t.act t.e reached t.takes i next (not_advance i c k p) (λ e. e ≡ event_of k)
+        (λ act. p.event m t.here t.act act)
 
     cell : cell_at m (run_step t.act t.here t.there t.e) ≡ c
     cell = cell_is m w s t i next ∙ p.cell

@@ -31,7 +31,8 @@ HasEvent P (Wrong c) = Unit {0}
 HasEvent P (Stepped u e) = P e
 
 -- A step at instruction i has an event as that instruction has, if it isn't an `advance`, whose second half is another step.
-pub event_at : (m : ModuleValue) (limits : IsWithinLimits m) (ok : IsAccepted m) (w u : World) (a : ℕ) (e : Event) → IsReached m w → step m w a ≡ Stepped u e
+pub event_at : (m : ModuleValue) (limits : IsWithinLimits m) (ok : IsAccepted m) (w u : World) (a : ℕ) (e : Event) → IsReached m w
+    → step m w a ≡ Stepped u e
     → (i : Instr) → next_instruction m w a ≡ Some i → (i ≡ instr.Advance → ⊥) → (P : Event → Type 0)
     → ((act : Activity) → HasEvent P (carried_out m w a act i)) → P e
 event_at m limits ok w u a e reached takes i next other P has =
@@ -54,7 +55,8 @@ module _ (m : ModuleValue) (w : World) (s : List ℕ) (t : Turn m w s) where
   -- the shared number of the instruction that a step stands at
   pub cell_is : (i : Instr) → next_instruction m t.here t.act ≡ Some i → cell_at m (run_step t.act t.here t.there t.e) ≡ cell_of (Some i)
   cell_is i next =
-      ap (λ (x : Activity). option_map_or (λ (unit : UnitValue). cell_of (slice_get unit.code x.frame.place)) (slice_get m.units x.frame.unit) 0)
+      ap (λ (x : Activity). option_map_or (λ (unit : UnitValue). cell_of (slice_get unit.code x.frame.place))
+      (slice_get m.units x.frame.unit) 0)
       (get_or_from_slice_get t.here.activities t.act x.0 _ x.1)
       ∙ by (slice_get m.units x.0.frame.unit) (sym (next_of m t.here t.act x.0 x.1) ∙ next)
     where
@@ -74,7 +76,8 @@ module _ (m : ModuleValue) (w : World) (s : List ℕ) (t : Turn m w s) where
     pub part : deed.part ≡ p
 
   -- the first one is
-  pub first_deed : (p : Part) → slice_get (tell_deeds m t.act t.here t.there t.e) 0 ≡ Some (deed (run_step t.act t.here t.there t.e) p) → IsDeedOf p
+  pub first_deed : (p : Part)
+      → slice_get (tell_deeds m t.act t.here t.there t.e) 0 ≡ Some (deed (run_step t.act t.here t.there t.e) p) → IsDeedOf p
   first_deed p first = record {
     number = length (deeds m t.before w);
     deed = deed (run_step t.act t.here t.there t.e) p;

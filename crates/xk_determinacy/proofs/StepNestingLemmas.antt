@@ -1,4 +1,5 @@
--- What a step does to finishes: who takes it has one more open, or one fewer, as its event says; and whom it starts is governed by the innermost.
+-- What a step does to finishes: who takes it has one more open, or one fewer, as its event says; and whom it starts is governed by the
+-- innermost.
 use Rattle.std.proofs.Common.{◌≡◌, ℕ, ℤ, zero, suc, ◌+◌, int_lt, Bool, true, false, cond, List, [], ◌∷◌, ◌++◌, length, set, Some, None, Option, refl, sym, ap, ◌∙◌, subst, arith}
 use Rattle.std.specs.Prelude.{slice_get, option_and_then, int_le}
 use Rattle.xk_types.specs.declared.instr.Instr.{Instr}
@@ -18,8 +19,8 @@ use Rattle.xk_types.specs.Step.{Outcome, Blocked, Wrong, Stepped, ClockUse, OutO
 use Rattle.xk_laws.proofs.StepFormLemmas.{spawning_form, finishes_of}
 use Rattle.xk_classes.specs.Moments.{is_start}
 
--- What a step with this event makes of the activity that takes it: it has one finish more open, or one fewer, where it stood at an end of one; or as
--- many, and it is over if it ends.
+-- What a step with this event makes of the activity that takes it: it has one finish more open, or one fewer, where it stood at an end of
+-- one; or as many, and it is over if it ends.
 abbrev pub Nests : ModuleValue → Event → Activity → Activity → Type 0
 Nests m event.Opened act next = next.opened ≡ suc act.opened
 Nests m event.Closed act next = (act.opened ≡ suc next.opened) × ((b : ℕ) × (instruction_at m act.frame ≡ Some (instr.EndFinish b)))
@@ -57,7 +58,8 @@ Has m w a act (Wrong c) = Unit {0}
 Has m w a act (Stepped u e) = Effect m w u a act e
 
 module _ (m : ModuleValue) (w : World) (a : ℕ) (act : Activity) where
-  goes : (v : World) (next : Activity) (change : ℕ → Standing → Standing) (e : Event) → v.activities ≡ w.activities → next.governed ≡ act.governed
+  goes : (v : World) (next : Activity) (change : ℕ → Standing → Standing) (e : Event) → v.activities ≡ w.activities
+      → next.governed ≡ act.governed
       → Nests m e act next → is_start e ≡ false → Has m w a act (done v a next change e)
   goes v next change e same governed nests alone =
       DoesGo (record { next = next; governed = governed; nests = nests; alone = alone; activities = ap (λ l. set l a next) same })
@@ -74,7 +76,8 @@ module _ (m : ModuleValue) (w : World) (a : ℕ) (act : Activity) where
   of_number (Some (value.Number n)) go h = h n
   of_number (Some (value.Clock c)) go h = tt
 
-  of_put : (o : Option Value) (d : ℕ) (v : Value) (go : Activity → Outcome) → Has m w a act (go (onward (with_slots act (set act.frame.slots d v))))
+  of_put : (o : Option Value) (d : ℕ) (v : Value) (go : Activity → Outcome)
+      → Has m w a act (go (onward (with_slots act (set act.frame.slots d v))))
       → Has m w a act (put_in o act d v go)
   of_put None d v go h = tt
   of_put (Some old) d v go h = h
@@ -119,10 +122,12 @@ module _ (m : ModuleValue) (w : World) (a : ℕ) (act : Activity) where
 
   of_computing : (d x y : ℕ) (f : ℤ → ℤ → ℤ)
       → Has m w a act
-      (number_in (slot_at act x) (λ p. number_in (slot_at act y) (λ q. put_in (slot_at act d) act d (value.Number (f p q)) (λ next. done w a next none event.Local))))
+      (number_in (slot_at act x) (λ p. number_in (slot_at act y)
+      (λ q. put_in (slot_at act d) act d (value.Number (f p q)) (λ next. done w a next none event.Local))))
   of_computing d x y f = of_number (slot_at act x) _ (λ p. of_number (slot_at act y) _ (λ q. of_write event.Local (λ frame. refl) refl d _))
 
-  of_either : (q : Bool) (f g : Frame) → Has m w a act (done w a (cond q (record act { frame = f }) (record act { frame = g })) none event.Local)
+  of_either : (q : Bool) (f g : Frame)
+      → Has m w a act (done w a (cond q (record act { frame = f }) (record act { frame = g })) none event.Local)
   of_either true f g = rests f act.callers none event.Local refl refl
   of_either false f g = rests g act.callers none event.Local refl refl
 
@@ -131,14 +136,16 @@ module _ (m : ModuleValue) (w : World) (a : ℕ) (act : Activity) where
     where
       by : (q : Bool)
           → Has m w a act
-          (cond q (put_in (slot_at act k) act k (value.Number lo) (λ next. done w a next none event.Local)) (done w a (going act t) none event.Local))
+          (cond q (put_in (slot_at act k) act k (value.Number lo) (λ next. done w a next none event.Local))
+          (done w a (going act t) none event.Local))
       by true = of_write event.Local (λ frame. refl) refl k (value.Number lo)
       by false = rests _ act.callers none event.Local refl refl
 
   of_turning : (b : ℕ) (o : Option Loop) → Has m w a act (turning w a act b o)
   of_turning b None = tt
   of_turning b (Some l) =
-      of_number (slot_at act l.slot) _ (λ n. of_limit l.limit l.hi _ (λ top. of_either (int_lt n top) (again act b l.slot n).frame (onward act).frame))
+      of_number (slot_at act l.slot) _
+      (λ n. of_limit l.limit l.hi _ (λ top. of_either (int_lt n top) (again act b l.slot n).frame (onward act).frame))
 
   of_closing : (b n : ℕ) → instruction_at m act.frame ≡ Some (instr.EndFinish b) → act.opened ≡ n → Has m w a act (closing w a act n)
   of_closing b zero here is = tt
@@ -152,7 +159,8 @@ module _ (m : ModuleValue) (w : World) (a : ℕ) (act : Activity) where
   of_calling t args None = tt
   of_calling t args (Some u) = by (is_method u.kind)
     where
-      by : (q : Bool) → Has m w a act (cond q (arguments_in w a act u.params args (λ values. done w a (called m act t values) none event.Local)) (Wrong OutOfRange))
+      by : (q : Bool) → Has m w a act
+          (cond q (arguments_in w a act u.params args (λ values. done w a (called m act t values) none event.Local)) (Wrong OutOfRange))
       by true = of_arguments u.params args _ (λ values. rests _ (act.frame ∷ act.callers) none event.Local refl refl)
       by false = tt
 
@@ -167,7 +175,8 @@ module _ (m : ModuleValue) (w : World) (a : ℕ) (act : Activity) where
   of_instruction (instr.Sub d x y) here = of_computing d x y _
   of_instruction (instr.Mul d x y) here = of_computing d x y _
   of_instruction (instr.Unless op x y t) here =
-      of_number (slot_at act x) _ (λ p. of_number (slot_at act y) _ (λ q. of_either (compares op p q) (onward act).frame (going act t).frame))
+      of_number (slot_at act x) _
+      (λ p. of_number (slot_at act y) _ (λ q. of_either (compares op p q) (onward act).frame (going act t).frame))
   of_instruction (instr.Jump t) here = rests _ act.callers none event.Local refl refl
   of_instruction (instr.For k lo hi e) here = of_write event.Local (λ frame. refl) refl k (value.Number lo)
   of_instruction (instr.ForTo k lo x hi e) here = of_limit (Some x) hi _ (λ top. of_beginning k lo (e + 1) top)
@@ -195,7 +204,8 @@ module _ (m : ModuleValue) (w : World) (a : ℕ) (act : Activity) where
   of_instruction (instr.Drop k) here = of_clock (slot_at act k) _ (λ c. rests _ act.callers (only c dropped) event.Dropped refl refl)
   of_instruction instr.Advance here = goes w (arrived act) (all resumed) event.Arrived refl refl refl refl
   of_instruction (instr.Call t args) here = of_calling t args (slice_get m.units t)
-  of_instruction (instr.Spawn t args) here = spawning_form (λ outcome. Has m w a act (outcome (finishes_of w act))) (λ c. tt) w a act m t args (slice_get m.units t)
+  of_instruction (instr.Spawn t args) here =
+      spawning_form (λ outcome. Has m w a act (outcome (finishes_of w act))) (λ c. tt) w a act m t args (slice_get m.units t)
       (λ u values at given. DoesStart (record {
         next = onward act;
         one = child m a act t values;
@@ -225,6 +235,7 @@ module _ (m : ModuleValue) (w : World) (a : ℕ) (act : Activity) where
   of_status status.Ended = tt
 
 -- the effect of each step
-pub effect_of : (m : ModuleValue) (w u : World) (a : ℕ) (act : Activity) (e : Event) → slice_get w.activities a ≡ Some act → step m w a ≡ Stepped u e
+pub effect_of : (m : ModuleValue) (w u : World) (a : ℕ) (act : Activity) (e : Event) → slice_get w.activities a ≡ Some act
+    → step m w a ≡ Stepped u e
     → Effect m w u a act e
 effect_of m w u a act e at takes = subst (Has m w a act) (sym (ap (step_of m w a) at) ∙ takes) (of_status m w a act act.status)
