@@ -132,6 +132,10 @@ starters_paths : (printed_at starters main_before (fresh starters) (1 ∷ []) �
     × (printed_at starters main_before (fresh starters) (0 ∷ 0 ∷ []) ≡ Some [])
 starters_paths = (refl, refl, refl, refl)
 
+-- The first one that main's first one starts is activity 3, which prints 8 once it has taken its steps.
+starters_on : printed_at starters (0 ∷ 0 ∷ 1 ∷ 2 ∷ 2 ∷ 3 ∷ 3 ∷ []) (fresh starters) (0 ∷ 0 ∷ []) ≡ Some (pos 8 ∷ [])
+starters_on = refl
+
 -- and 7 is printed once, 8 not yet
 starters_numbers : (times_printed starters main_before (fresh starters) (pos 7) ≡ 1)
     × (times_printed starters main_after (fresh starters) (pos 7) ≡ 1)

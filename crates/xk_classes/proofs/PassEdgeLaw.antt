@@ -20,7 +20,7 @@ use Rattle.xk_renaming.proofs.NamelessLemmas.{nameless_activity}
 use Rattle.xk_classes.specs.Classes.{AreJoined, AreOneClass, names_along, name_in}
 use Rattle.xk_classes.specs.Edges.{StepName, turns_of, IsTaken, IsEdge, AreSound, IsTurn, phase_of, IsPass, IsCause}
 use Rattle.xk_classes.specs.OneRun.{GoesAsWell}
-use Rattle.xk_classes.proofs.PassEventLemmas.{passes_arrived, arrived_free}
+use Rattle.xk_classes.proofs.InstructionEventLemmas.{passes_arrived, arrived_free}
 use Rattle.xk_classes.proofs.StageLemmas.{stage_at, moves_on, pending_stage, registered_stage, unsignalled_stage}
 use Rattle.xk_classes.proofs.SwapLemmas.{State, stand_of, stand_named, deed_of, reached_run}
 use Rattle.xk_classes.proofs.ClassLemmas.{deeds, class_as_well}

@@ -26,6 +26,7 @@ use Rattle.xk_classes.specs.Classes.{HasNeverTwo}
 use Rattle.xk_classes.specs.Edges.{StepName, turns_of, IsBefore, IsEdge, IsCause, instruction_of, prints, AreOneByOne}
 use Rattle.xk_classes.proofs.SwapLemmas.{next_of}
 use Rattle.xk_classes.proofs.StepEventLemmas.{print_says}
+use Rattle.xk_classes.proofs.InstructionEventLemmas.{shows}
 use Rattle.xk_classes.proofs.EdgeLaw.{never_two_ordered}
 use Rattle.xk_classes.proofs.PassEdgeLaw.{causes_sound}
 use Rattle.xk_races.specs.declared.deeds.Deed.{Deed}
@@ -44,7 +45,7 @@ use Rattle.xk_determinacy.proofs.TurnLemmas.{Turn, name_of, deeds, deed_at, turn
 use Rattle.xk_determinacy.proofs.EdgeListLemmas.{Edges, no_cause, before_more, IsLed, Grows, Gathered, gather_pairs}
 use Rattle.xk_determinacy.proofs.LinkLemmas.{says, up_led}
 use Rattle.xk_determinacy.proofs.SeenLemmas.{IsSight, sight_of}
-use Rattle.xk_determinacy.proofs.StepDeedLemmas.{HasEvent, event_at, IsDeedOf, first_deed}
+use Rattle.xk_determinacy.proofs.StepDeedLemmas.{event_at, IsDeedOf, first_deed}
 
 -- ---- the order of deeds leads on
 
@@ -160,12 +161,9 @@ print_form _ h = absurd (true≢false (sym h))
 abbrev IsPrinted : Event → Type 0
 IsPrinted e = (n : ℤ) × (e ≡ event.Printed n)
 
-printed_event : (w : World) (a : ℕ) (act : Activity) (o : Option Value)
-    → HasEvent IsPrinted (number_in o (λ n. done w a (onward act) none (event.Printed n)))
-printed_event w a act None = tt
-printed_event w a act (Some value.Unset) = tt
-printed_event w a act (Some (value.Clock c)) = tt
-printed_event w a act (Some (value.Number n)) = (n, refl)
+printed_event : (x : ℕ) (e : Event) → shows e (instr.Print x) ≡ true → IsPrinted e
+printed_event x (event.Printed n) h = (n, refl)
+printed_event x _ h = absurd (true≢false (sym h))
 
 not_advance : (x : ℕ) → instr.Print x ≡ instr.Advance → ⊥
 not_advance x h = cc
@@ -183,9 +181,8 @@ print_deed m limits ok w s t reached i next is =
     form = print_form i is
 
     seen : IsPrinted t.e
-    seen = event_at m limits ok t.here t.there t.act t.e reached t.takes (instr.Print form.0) (next ∙ ap Some form.1)
-        (not_advance form.0) IsPrinted
-        (λ act. printed_event t.here t.act act (slot_at act form.0))
+    seen = printed_event form.0 t.e
+        (event_at m limits ok t.here t.there t.act t.e reached t.takes (instr.Print form.0) (next ∙ ap Some form.1) (not_advance form.0))
 
 -- ---- the law
 
