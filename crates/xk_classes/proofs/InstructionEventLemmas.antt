@@ -157,33 +157,37 @@ module _ (j : Instr) (w : World) (a : ℕ) (act : Activity) where
       → Has j (number_in (slot_at act x) (λ p. number_in (slot_at act y) (λ q. go p q)))
   on_two x y go h = on_number (slot_at act x) _ (λ p. on_number (slot_at act y) _ (h p))
 
-  at : (m : ModuleValue) (i : Instr) → j ≡ i → Has j (carried_out m w a act i)
-  at m (instr.Lit d n) is = on_put (slot_at act d) d _ _ (λ next. ap (shows event.Local) is)
-  at m (instr.Copy d x) is = on_number (slot_at act x) _ (λ n. on_put (slot_at act d) d _ _ (λ next. ap (shows event.Local) is))
-  at m (instr.Add d x y) is = on_two x y _ (λ p q. on_put (slot_at act d) d _ _ (λ next. ap (shows event.Local) is))
-  at m (instr.Sub d x y) is = on_two x y _ (λ p q. on_put (slot_at act d) d _ _ (λ next. ap (shows event.Local) is))
-  at m (instr.Mul d x y) is = on_two x y _ (λ p q. on_put (slot_at act d) d _ _ (λ next. ap (shows event.Local) is))
-  at m (instr.Unless op x y t) is = on_two x y _ (λ p q. ap (shows event.Local) is)
-  at m (instr.Jump t) is = ap (shows event.Local) is
-  at m (instr.For k lo hi e) is = on_put (slot_at act k) k _ _ (λ next. ap (shows event.Local) is)
-  at m (instr.ForTo k lo x hi e) is = on_limit (Some x) hi _ (λ top. on_begin (ap (shows event.Local) is) k lo (e + 1) top)
-  at m (instr.Next b) is =
+  instruction_event : (m : ModuleValue) (i : Instr) → j ≡ i → Has j (carried_out m w a act i)
+  instruction_event m (instr.Lit d n) is = on_put (slot_at act d) d _ _ (λ next. ap (shows event.Local) is)
+  instruction_event m (instr.Copy d x) is =
+      on_number (slot_at act x) _ (λ n. on_put (slot_at act d) d _ _ (λ next. ap (shows event.Local) is))
+  instruction_event m (instr.Add d x y) is = on_two x y _ (λ p q. on_put (slot_at act d) d _ _ (λ next. ap (shows event.Local) is))
+  instruction_event m (instr.Sub d x y) is = on_two x y _ (λ p q. on_put (slot_at act d) d _ _ (λ next. ap (shows event.Local) is))
+  instruction_event m (instr.Mul d x y) is = on_two x y _ (λ p q. on_put (slot_at act d) d _ _ (λ next. ap (shows event.Local) is))
+  instruction_event m (instr.Unless op x y t) is = on_two x y _ (λ p q. ap (shows event.Local) is)
+  instruction_event m (instr.Jump t) is = ap (shows event.Local) is
+  instruction_event m (instr.For k lo hi e) is = on_put (slot_at act k) k _ _ (λ next. ap (shows event.Local) is)
+  instruction_event m (instr.ForTo k lo x hi e) is = on_limit (Some x) hi _ (λ top. on_begin (ap (shows event.Local) is) k lo (e + 1) top)
+  instruction_event m (instr.Next b) is =
       on_turn (ap (shows event.Local) is) b (option_and_then (loop_head b) (instruction_at m (record act.frame { place = b })))
-  at m (instr.Finish e) is = ap (shows event.Opened) is
-  at m (instr.EndFinish b) is = on_close (ap (shows event.Closed) is) act.opened
-  at m (instr.Get d c) is = on_cell (slice_get w.cells c) _ (λ n. on_put (slot_at act d) d _ _ (λ next. ap (shows event.Got) is))
-  at m (instr.Put c x) is = on_number (slot_at act x) _ (λ n. on_cell (slice_get w.cells c) _ (λ old. ap (shows event.Put) is))
-  at m (instr.AddTo c x) is = on_number (slot_at act x) _ (λ n. on_cell (slice_get w.cells c) _ (λ old. ap (shows event.Added) is))
-  at m (instr.Print x) is = on_number (slot_at act x) _ (λ n. ap (shows (event.Printed n)) is)
-  at m (instr.Make k) is = on_put (slot_at act k) k _ _ (λ next. ap (shows event.Made) is)
-  at m (instr.Resume k) is = on_clock (slot_at act k) _ (λ c. ap (shows event.Resumed) is)
-  at m (instr.Drop k) is = on_clock (slot_at act k) _ (λ c. ap (shows event.Dropped) is)
-  at m instr.Advance is = ap (shows event.Arrived) is
-  at m (instr.Call t args) is = on_call (ap (shows event.Local) is) m t args (slice_get m.units t)
-  at m (instr.Spawn t args) is =
+  instruction_event m (instr.Finish e) is = ap (shows event.Opened) is
+  instruction_event m (instr.EndFinish b) is = on_close (ap (shows event.Closed) is) act.opened
+  instruction_event m (instr.Get d c) is =
+      on_cell (slice_get w.cells c) _ (λ n. on_put (slot_at act d) d _ _ (λ next. ap (shows event.Got) is))
+  instruction_event m (instr.Put c x) is =
+      on_number (slot_at act x) _ (λ n. on_cell (slice_get w.cells c) _ (λ old. ap (shows event.Put) is))
+  instruction_event m (instr.AddTo c x) is =
+      on_number (slot_at act x) _ (λ n. on_cell (slice_get w.cells c) _ (λ old. ap (shows event.Added) is))
+  instruction_event m (instr.Print x) is = on_number (slot_at act x) _ (λ n. ap (shows (event.Printed n)) is)
+  instruction_event m (instr.Make k) is = on_put (slot_at act k) k _ _ (λ next. ap (shows event.Made) is)
+  instruction_event m (instr.Resume k) is = on_clock (slot_at act k) _ (λ c. ap (shows event.Resumed) is)
+  instruction_event m (instr.Drop k) is = on_clock (slot_at act k) _ (λ c. ap (shows event.Dropped) is)
+  instruction_event m instr.Advance is = ap (shows event.Arrived) is
+  instruction_event m (instr.Call t args) is = on_call (ap (shows event.Local) is) m t args (slice_get m.units t)
+  instruction_event m (instr.Spawn t args) is =
       spawning_form (λ outcome. Has j (outcome (finishes_of w act))) (λ c. tt) w a act m t args (slice_get m.units t)
       (λ u values at given. ap (shows event.Spawned) is)
-  at m instr.Ret is = on_return (ap (shows event.Local) is) (ap (shows event.Ended) is) act.callers
+  instruction_event m instr.Ret is = on_return (ap (shows event.Local) is) (ap (shows event.Ended) is) act.callers
 
 -- ---- steps
 
@@ -206,7 +210,7 @@ module _ (m : ModuleValue) (w u : World) (a : ℕ) (act : Activity) (e : Event) 
   -- and its step has an event of that one's.
   pub shown_at : act.status ≡ status.Running → (i : Instr) → instruction_at m act.frame ≡ Some i → shows e i ≡ true
   shown_at runs i here =
-      subst (Has i) (ap (run_at m w a act) (sym here) ∙ stepped_by status.Running runs) (at i w a act m i refl)
+      subst (Has i) (ap (run_at m w a act) (sym here) ∙ stepped_by status.Running runs) (instruction_event i w a act m i refl)
 
 -- ---- who passes
 

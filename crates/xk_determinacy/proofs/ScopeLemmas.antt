@@ -128,7 +128,7 @@ push_last (y ∷ xs) x = push_last xs x
 -- ---- one step
 
 some_open : (n : ℕ) → (suc n == 0) ≡ false
-some_open n = refl
+some_open n = ne_eqb (suc n) 0 (λ e. absurd (omega (arith, e)))
 
 module _ (m : ModuleValue) (acts : List Activity) (a : ℕ) (act : Activity) (found : slice_get acts a ≡ Some act) (s : Scopes)
     (was : AreNumbered (nest s acts)) where

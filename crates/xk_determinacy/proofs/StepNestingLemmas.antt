@@ -146,7 +146,8 @@ module _ (m : ModuleValue) (w : World) (a : ℕ) (act : Activity) (i : Instr) (h
   }
 
   effect_at : Has m w a act shown (carried_out m w a act i)
-  effect_at = instruction_form (λ outcome. Has m w a act shown (outcome (finishes_of w act))) (λ j. j ≡ i) m w a (λ c. tt) act effects i refl
+  effect_at =
+      instruction_form (λ outcome. Has m w a act shown (outcome (finishes_of w act))) (λ j. j ≡ i) m w a (λ c. tt) act effects i refl
 
 -- ---- steps
 
