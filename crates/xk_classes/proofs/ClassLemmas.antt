@@ -14,10 +14,11 @@ use Rattle.xk_types.specs.Schedule.{Through, run, IsReached, events, events_on, 
 use Rattle.xk_squares.proofs.ChangeSquareLemmas.{found_of}
 use Rattle.xk_renaming.specs.Names.{Exchange, all_named, AreSameBy, exchange_of}
 use Rattle.xk_renaming.proofs.NameLaw.{same_itself, same_joined, named_same, named_append, clocks_unnamed, clock_append}
+use Rattle.xk_renaming.proofs.ActivityNameOrderLaw.{run_first}
 use Rattle.xk_classes.specs.Moments.{is_print, moments, is_start, starters, positions_of, started_by}
 use Rattle.xk_classes.specs.Classes.{DoCommute, AreSwapped, Turn, AreJoined, AreOneClass, names_along, name_in, IsMet, HasNeverTwo}
 use Rattle.xk_classes.specs.OneRun.{GoesAsWell}
-use Rattle.xk_classes.proofs.SwapLemmas.{Deed, Entry, deed_named, entry_named, stand_of, entry_of, entries, entries_on, event_in, events_filtered, run_first, reached_run, IsExchange, exchange}
+use Rattle.xk_classes.proofs.SwapLemmas.{Deed, Entry, deed_named, entry_named, stand_of, entry_of, entries, entries_on, event_in, events_filtered, reached_run, IsExchange, exchange}
 use Rattle.xk_classes.proofs.ExchangeLemmas.{stays_named}
 use Rattle.xk_classes.proofs.PrintLemmas.{numbers_in, printed_are, printed_alone, numbers_named, crossed_count}
 use Rattle.xk_classes.proofs.StepEventLemmas.{grown}
@@ -30,7 +31,8 @@ class_same m w s t h = record { between = []; joined = h }
 pub class_swap : (m : ModuleValue) (w : World) (s : List ℕ) (xs : List Exchange) (t : List ℕ) → AreSwapped m w s xs t → AreOneClass m w s t
 class_swap m w s xs t h = record { between = (xs, t) ∷ []; joined = (h, refl) }
 
-joined_on : (m : ModuleValue) (w : World) (us vs : List Turn) (s t u : List ℕ) → AreJoined m w s us t → AreJoined m w t vs u → AreJoined m w s (us ++ vs) u
+joined_on : (m : ModuleValue) (w : World) (us vs : List Turn) (s t u : List ℕ) → AreJoined m w s us t → AreJoined m w t vs u
+    → AreJoined m w s (us ++ vs) u
 joined_on m w [] vs s t u h g = subst (λ x. AreJoined m w x vs u) (sym h) g
 joined_on m w (x ∷ us) vs s t u h g = (h.0, joined_on m w us vs x.1 t u h.1 g)
 
@@ -39,7 +41,8 @@ class_on m w s t u h g = record { between = h.between ++ g.between; joined = joi
 
 -- ---- a step in front
 
-swap_behind : (m : ModuleValue) (w u : World) (a : ℕ) (e : Event) → step m w a ≡ Stepped u e → (s : List ℕ) (xs : List Exchange) (t : List ℕ) → AreSwapped m u s xs t
+swap_behind : (m : ModuleValue) (w u : World) (a : ℕ) (e : Event) → step m w a ≡ Stepped u e
+    → (s : List ℕ) (xs : List Exchange) (t : List ℕ) → AreSwapped m u s xs t
     → AreSwapped m w (a ∷ s) xs (a ∷ t)
 swap_behind m w u a e h s xs t x = record {
   before = a ∷ x.before;
@@ -57,12 +60,14 @@ swap_behind m w u a e h s xs t x = record {
 abbrev behind : ℕ → Turn → Turn
 behind a x = (x.0, a ∷ x.1)
 
-joined_behind : (m : ModuleValue) (w u : World) (a : ℕ) (e : Event) → step m w a ≡ Stepped u e → (us : List Turn) (s t : List ℕ) → AreJoined m u s us t
+joined_behind : (m : ModuleValue) (w u : World) (a : ℕ) (e : Event) → step m w a ≡ Stepped u e → (us : List Turn) (s t : List ℕ)
+    → AreJoined m u s us t
     → AreJoined m w (a ∷ s) (map (behind a) us) (a ∷ t)
 joined_behind m w u a e h [] s t g = ap (λ l. a ∷ l) g
 joined_behind m w u a e h (x ∷ us) s t g = (swap_behind m w u a e h s x.0 x.1 g.0, joined_behind m w u a e h us x.1 t g.1)
 
-pub class_behind : (m : ModuleValue) (w u : World) (a : ℕ) (e : Event) → step m w a ≡ Stepped u e → (s t : List ℕ) → AreOneClass m u s t → AreOneClass m w (a ∷ s) (a ∷ t)
+pub class_behind : (m : ModuleValue) (w u : World) (a : ℕ) (e : Event) → step m w a ≡ Stepped u e → (s t : List ℕ) → AreOneClass m u s t
+    → AreOneClass m w (a ∷ s) (a ∷ t)
 class_behind m w u a e h s t g = record { between = map (behind a) g.between; joined = joined_behind m w u a e h g.between s t g.joined }
 
 -- ---- worlds to which a class comes
@@ -71,9 +76,11 @@ pub met_itself : (m : ModuleValue) (w : World) (s : List ℕ) → IsMet m w s w
 met_itself m w s = record { before = []; after = s; member = class_same m w s s refl; leads = refl }
 
 pub met_by : (m : ModuleValue) (w v : World) (s t : List ℕ) → AreOneClass m w s t → IsMet m w t v → IsMet m w s v
-met_by m w v s t h g = record { before = g.before; after = g.after; member = class_on m w s t (g.before ++ g.after) h g.member; leads = g.leads }
+met_by m w v s t h g =
+    record { before = g.before; after = g.after; member = class_on m w s t (g.before ++ g.after) h g.member; leads = g.leads }
 
-pub met_behind : (m : ModuleValue) (w u v : World) (a : ℕ) (e : Event) (s : List ℕ) → step m w a ≡ Stepped u e → IsMet m u s v → IsMet m w (a ∷ s) v
+pub met_behind : (m : ModuleValue) (w u v : World) (a : ℕ) (e : Event) (s : List ℕ) → step m w a ≡ Stepped u e → IsMet m u s v
+    → IsMet m w (a ∷ s) v
 met_behind m w u v a e s h g = record {
   before = a ∷ g.before;
   after = g.after;
@@ -83,7 +90,7 @@ met_behind m w u v a e s h g = record {
 
 -- ---- what each activity does, and what is done with some events
 
-abbrev pub by_event : (Event → Bool) → Entry → Bool
+abbrev by_event : (Event → Bool) → Entry → Bool
 by_event test x = test x.1.0
 
 abbrev pub by_taker : ℕ → Entry → Bool
@@ -128,19 +135,22 @@ named_events test xs (x ∷ es) = by (test x.1.0) (named_events test xs es)
     named = named_entries (by_event test) xs es
 
     by : (q : Bool) → map only_event named ≡ map only_event (filter (by_event test) es)
-        → map only_event (cond q (entry_named xs x ∷ named) named) ≡ map only_event (cond q (x ∷ filter (by_event test) es) (filter (by_event test) es))
+        → map only_event (cond q (entry_named xs x ∷ named) named)
+        ≡ map only_event (cond q (x ∷ filter (by_event test) es) (filter (by_event test) es))
     by true h = ap (λ ds. x.1.0 ∷ ds) h
     by false h = h
 
 -- numbers twice exchanged
-child_on : (xs ys : List Exchange) (o : Option ℕ) → option_map (all_named ys) (option_map (all_named xs) o) ≡ option_map (all_named (xs ++ ys)) o
+child_on : (xs ys : List Exchange) (o : Option ℕ)
+    → option_map (all_named ys) (option_map (all_named xs) o) ≡ option_map (all_named (xs ++ ys)) o
 child_on xs ys None = refl
 child_on xs ys (Some n) = ap (λ k. Some k) (sym (named_append xs ys n))
 
 deeds_on : (xs ys : List Exchange) (ds : List Deed) → map (deed_named ys) (map (deed_named xs) ds) ≡ map (deed_named (xs ++ ys)) ds
 deeds_on xs ys [] = refl
 deeds_on xs ys (d ∷ ds) =
-    let stage : (k : ℕ) → d.1.1 (clocks_unnamed xs (clocks_unnamed ys k)) ≡ d.1.1 (clocks_unnamed (xs ++ ys) k) = λ k. ap d.1.1 (sym (clock_append xs ys k)) in
+    let stage : (k : ℕ) → d.1.1 (clocks_unnamed xs (clocks_unnamed ys k)) ≡ d.1.1 (clocks_unnamed (xs ++ ys) k) =
+    λ k. ap d.1.1 (sym (clock_append xs ys k)) in
     λ i. (d.0, (d.1.0, λ k. stage k i), child_on xs ys d.2 i) ∷ deeds_on xs ys ds i
 
 deeds_same : (ds : List Deed) → map (deed_named []) ds ≡ ds
@@ -166,8 +176,8 @@ crossed p front back x y h =
 
 -- ---- what all schedules of a class have in common
 
--- by these exchanges the other schedule is legal, leads to a world that is the same, each activity does the same in it, as many numbers that pass are
--- printed, and where no two steps with such events could be taken at once, they are taken in one order
+-- by these exchanges the other schedule is legal, leads to a world that is the same, each activity does the same in it, as many numbers
+-- that pass are printed, and where no two steps with such events could be taken at once, they are taken in one order
 pub record GoesOn (m : ModuleValue) (w z : World) (s t : List ℕ) (xs : List Exchange) : Type 0 where
   pub last : World
   pub legal : run m t w ≡ Through last
@@ -179,7 +189,8 @@ pub record GoesOn (m : ModuleValue) (w z : World) (s t : List ℕ) (xs : List Ex
 
 module _ (m : ModuleValue) (limits : IsWithinLimits m) (ok : IsAccepted m) (w : World) (reached : IsReached m w) where
   -- one swap
-  swapped_goes : (s : List ℕ) (xs : List Exchange) (t : List ℕ) (z : World) → AreSwapped m w s xs t → run m s w ≡ Through z → GoesOn m w z s t xs
+  swapped_goes : (s : List ℕ) (xs : List Exchange) (t : List ℕ) (z : World) → AreSwapped m w s xs t → run m s w ≡ Through z
+      → GoesOn m w z s t xs
   swapped_goes s xs t z k legal = subst (λ ys. GoesOn m w z s t ys) (sym k.exchanges) (record {
     last = r.last;
     legal = ap (λ l. run m l w) other ∙ r.legal;
@@ -187,17 +198,21 @@ module _ (m : ModuleValue) (limits : IsWithinLimits m) (ok : IsAccepted m) (w : 
     does = λ a.
         ap (λ l. deeds m l w (f a)) other ∙ ap (λ es. map deed_in (filter (by_taker (f a)) es)) r.other
         ∙ named_deeds names a (r.front ++ y ∷ x ∷ r.back)
-        ∙ ap (λ es. map (deed_named names) (map deed_in es)) (crossed (by_taker a) r.front r.back y x (λ h g. c.differ (eqb-true k.second a h ∙ sym (eqb-true k.first a g))))
-        ∙ sym (ap (λ l. map (deed_named names) (deeds m l w a)) k.this ∙ ap (λ es. map (deed_named names) (map deed_in (filter (by_taker a) es))) r.this);
+        ∙ ap (λ es. map (deed_named names) (map deed_in es))
+        (crossed (by_taker a) r.front r.back y x (λ h g. c.differ (eqb-true k.second a h ∙ sym (eqb-true k.first a g))))
+        ∙ sym (ap (λ l. map (deed_named names) (deeds m l w a)) k.this
+        ∙ ap (λ es. map (deed_named names) (map deed_in (filter (by_taker a) es))) r.this);
     counts = λ p.
         ap (λ l. count_by p (numbers_in (entries m l w))) k.this ∙ ap (λ es. count_by p (numbers_in es)) r.this
         ∙ crossed_count p r.front r.back x y ∙ sym (ap (count_by p) (numbers_named names (r.front ++ y ∷ x ∷ r.back)))
         ∙ sym (ap (λ l. count_by p (numbers_in (entries m l w))) other ∙ ap (λ es. count_by p (numbers_in es)) r.other);
     tells = λ test never.
-        ap (λ l. map only_event (filter (by_event test) (entries m l w))) k.this ∙ ap (λ es. map only_event (filter (by_event test) es)) r.this
+        ap (λ l. map only_event (filter (by_event test) (entries m l w))) k.this
+        ∙ ap (λ es. map only_event (filter (by_event test) es)) r.this
         ∙ ap (map only_event) (crossed (by_event test) r.front r.back x y
         (never k.here met k.first k.second c.differ c.first_world c.second_world c.first_event c.second_event c.first_steps c.second_steps))
-        ∙ sym (ap (λ l. map only_event (filter (by_event test) (entries m l w))) other ∙ ap (λ es. map only_event (filter (by_event test) es)) r.other
+        ∙ sym (ap (λ l. map only_event (filter (by_event test) (entries m l w))) other
+        ∙ ap (λ es. map only_event (filter (by_event test) es)) r.other
         ∙ named_events test names (r.front ++ y ∷ x ∷ r.back));
   })
     where
@@ -230,7 +245,8 @@ module _ (m : ModuleValue) (limits : IsWithinLimits m) (ok : IsAccepted m) (w : 
         leads = k.leads;
       }
 
-  joined_goes : (us : List Turn) (s t : List ℕ) (z : World) → AreJoined m w s us t → run m s w ≡ Through z → GoesOn m w z s t (names_along us)
+  joined_goes : (us : List Turn) (s t : List ℕ) (z : World) → AreJoined m w s us t → run m s w ≡ Through z
+      → GoesOn m w z s t (names_along us)
   joined_goes [] s t z h legal = record {
     last = z;
     legal = ap (λ l. run m l w) (sym h) ∙ legal;
@@ -253,13 +269,15 @@ module _ (m : ModuleValue) (limits : IsWithinLimits m) (ok : IsAccepted m) (w : 
         tells = λ test never. r.tells test never ∙ rest.tells test (λ v g. never v (met_by m w v s x.1 (class_swap m w s x.0 x.1 h.0) g));
       }
 
-  pub class_goes : (s t : List ℕ) (z : World) (member : AreOneClass m w s t) → run m s w ≡ Through z → GoesOn m w z s t (names_along member.between)
+  class_goes : (s t : List ℕ) (z : World) (member : AreOneClass m w s t) → run m s w ≡ Through z
+      → GoesOn m w z s t (names_along member.between)
   class_goes s t z member legal = joined_goes member.between s t z member.joined legal
 
 -- ---- main
 
 module _ (m : ModuleValue) (limits : IsWithinLimits m) (ok : IsAccepted m) (w : World) (reached : IsReached m w) where
-  main_joined : (us : List Turn) (s t : List ℕ) (z : World) → AreJoined m w s us t → run m s w ≡ Through z → all_named (names_along us) 0 ≡ 0
+  main_joined : (us : List Turn) (s t : List ℕ) (z : World) → AreJoined m w s us t → run m s w ≡ Through z
+      → all_named (names_along us) 0 ≡ 0
   main_joined [] s t z h legal = refl
   main_joined (x ∷ us) s t z h legal =
       let k : AreSwapped m w s x.0 x.1 = h.0 in
@@ -268,7 +286,8 @@ module _ (m : ModuleValue) (limits : IsWithinLimits m) (ok : IsAccepted m) (w : 
       let inside : k.first < length k.here.activities = slice_get_within k.here.activities k.first a.0 a.1 in
       let r : GoesOn m w z s x.1 x.0 = swapped_goes m limits ok w reached s x.0 x.1 z k legal in
       named_append x.0 (names_along us) 0
-      ∙ ap (all_named (names_along us)) (ap (λ ys. all_named ys 0) k.exchanges ∙ stays_named m limits ok k.here k.first k.second k.commute there 0 (omega arith))
+      ∙ ap (all_named (names_along us))
+      (ap (λ ys. all_named ys 0) k.exchanges ∙ stays_named m limits ok k.here k.first k.second k.commute there 0 (omega arith))
       ∙ main_joined us x.1 t r.last h.1 r.legal
 
   -- main keeps its number
@@ -278,7 +297,8 @@ module _ (m : ModuleValue) (limits : IsWithinLimits m) (ok : IsAccepted m) (w : 
 -- ---- by events alone
 
 moments_are : (m : ModuleValue) (list : List ℕ) (w : World) (a : ℕ) → moments m list w a ≡ map (λ (d : Deed). d.0) (deeds m list w a)
-moments_are m list w a = ap (map (λ (p : ℕ × Event). p.1)) (events_filtered (λ x. x.0 == a) m list w) ∙ by (filter (by_taker a) (entries m list w))
+moments_are m list w a = ap (map (λ (p : ℕ × Event). p.1)) (events_filtered (λ x. x.0 == a) m list w)
+    ∙ by (filter (by_taker a) (entries m list w))
   where
     by : (es : List Entry) → map (λ (p : ℕ × Event). p.1) (map event_in es) ≡ map (λ (d : Deed). d.0) (map deed_in es)
     by [] = refl
@@ -319,7 +339,8 @@ started_are m (b ∷ list) w a = by (step m w b) (λ u e h. grown m w u b e h) (
     begun : World → List (ℕ × Event)
     begun u = filter (λ (p : ℕ × Event). is_start p.1) (events m list u)
 
-    goes_on : (u : World) (k : ℕ) → length u.activities ≡ k → started_by m list u a ≡ children (deeds m list u a) → after u k ≡ children (map deed_in (own u))
+    goes_on : (u : World) (k : ℕ) → length u.activities ≡ k → started_by m list u a ≡ children (deeds m list u a)
+        → after u k ≡ children (map deed_in (own u))
     goes_on u k many rest = ap (after u) (sym many) ∙ rest
 
     one_more : (u : World) (e : Event) (r : Bool) → after u (suc n) ≡ children (map deed_in (own u))
@@ -332,7 +353,8 @@ started_are m (b ∷ list) w a = by (step m w b) (λ u e h. grown m w u b e h) (
     no_more u e true h = h
     no_more u e false h = h
 
-    by_start : (u : World) (e : Event) (q : Bool) → length u.activities ≡ n + cond q 1 0 → started_by m list u a ≡ children (deeds m list u a)
+    by_start : (u : World) (e : Event) (q : Bool) → length u.activities ≡ n + cond q 1 0
+        → started_by m list u a ≡ children (deeds m list u a)
         → positions_of a n (map (λ (p : ℕ × Event). p.0) (cond q ((b, e) ∷ begun u) (begun u)))
         ≡ children (map deed_in (cond (b == a) ((b, (e, stand_of w b, cond q (Some n) None)) ∷ own u) (own u)))
     by_start u e true many rest = one_more u e (b == a) (goes_on u (suc n) (omega arith) rest)
@@ -366,12 +388,14 @@ module _ (m : ModuleValue) (limits : IsWithinLimits m) (ok : IsAccepted m) (w z 
     starts = λ a.
         ap (map (name_in member)) (started_are m s w a) ∙ children_named (names_along member.between) (deeds m s w a)
         ∙ ap children (sym (goes.does a)) ∙ sym (started_are m t w (name_in member a));
-    numbers = λ n. ap (count_by (int_eq n)) (printed_are m s w) ∙ goes.counts (int_eq n) ∙ sym (ap (count_by (int_eq n)) (printed_are m t w));
+    numbers = λ n. ap (count_by (int_eq n)) (printed_are m s w) ∙ goes.counts (int_eq n)
+        ∙ sym (ap (count_by (int_eq n)) (printed_are m t w));
   }
 
   pub class_prints : HasNeverTwo is_print m w s → printed m s w ≡ printed m t w
   class_prints never =
-      printed_alone m s w ∙ by_events (filter (by_event is_print) (entries m s w)) ∙ ap (filter_map number_printed) (goes.tells is_print never)
+      printed_alone m s w ∙ by_events (filter (by_event is_print) (entries m s w))
+      ∙ ap (filter_map number_printed) (goes.tells is_print never)
       ∙ sym (printed_alone m t w ∙ by_events (filter (by_event is_print) (entries m t w)))
     where
       by_events : (es : List Entry) → numbers_in es ≡ filter_map number_printed (map only_event es)

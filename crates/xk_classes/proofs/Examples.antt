@@ -1,5 +1,5 @@
--- Two schedules of one class, two starts in either order, edges of a start, of a finish and of a clock, and why a race is looked for in the whole
--- class: by evaluation.
+-- Two schedules of one class, two starts in either order, edges of a start, of a finish and of a clock, and why a race is looked for in
+-- the whole class: by evaluation.
 use Rattle.std.proofs.Common.{◌≡◌, ℕ, zero, suc, pos, ◌==◌, Bool, true, false, not, ◌&&◌, ◌||◌, List, [], ◌∷◌, map, get_or, Some, None, refl, arith, inl, inr}
 use Rattle.std.proofs.lemmas.List.Elements.{All-cons, All-nil, All-from_recursion}
 use Rattle.xk_types.specs.declared.instr.Instr.TheVariants as instr
@@ -52,7 +52,8 @@ sum_kinds (suc unit) s (suc at) = kind.Number ∷ []
 
 sum_accepted : IsAccepted sum
 unfolding Rattle.xk_types.specs.Bound.total_within Rattle.xk_types.specs.Bound.chain_within
-sum_accepted = accepted_by sum sum_kinds refl refl (record { steps = omega arith; activities = omega arith; clocks = omega arith; stack = omega arith })
+sum_accepted = accepted_by sum sum_kinds refl refl
+    (record { steps = omega arith; activities = omega arith; clocks = omega arith; stack = omega arith })
 
 sum_limits : IsWithinLimits sum
 sum_limits = record {
@@ -60,16 +61,27 @@ sum_limits = record {
   units = omega arith;
   shared = omega arith;
   each = All-cons IsUnitWithinLimits adder (helper ∷ [])
-      (record { slots = omega arith; params = omega arith; code = omega arith; arguments = All-from_recursion HasFewArguments adder.code (omega arith) })
+      (record {
+        slots = omega arith;
+        params = omega arith;
+        code = omega arith;
+        arguments = All-from_recursion HasFewArguments adder.code (omega arith);
+      })
       (All-cons IsUnitWithinLimits helper []
-      (record { slots = omega arith; params = omega arith; code = omega arith; arguments = All-from_recursion HasFewArguments helper.code (omega arith) })
+      (record {
+        slots = omega arith;
+        params = omega arith;
+        code = omega arith;
+        arguments = All-from_recursion HasFewArguments helper.code (omega arith);
+      })
       (All-nil IsUnitWithinLimits));
 }
 
 sum_adds : AddsAtMost sum
 sum_adds =
     All-cons AddsInUnit adder (helper ∷ []) (All-from_recursion (λ i. gets_or_puts i ≡ false) adder.code (refl, (refl, (refl, (refl, tt)))))
-    (All-cons AddsInUnit helper [] (All-from_recursion (λ i. gets_or_puts i ≡ false) helper.code (refl, (refl, (refl, (refl, tt))))) (All-nil AddsInUnit))
+    (All-cons AddsInUnit helper [] (All-from_recursion (λ i. gets_or_puts i ≡ false) helper.code (refl, (refl, (refl, (refl, tt)))))
+    (All-nil AddsInUnit))
 
 -- main comes first, and main comes last
 abbrev main_first : List ℕ
@@ -89,7 +101,8 @@ abbrev starters : ModuleValue
 starters = record {
   shared = [];
   units = main_with 0 (instr.Spawn 1 [] ∷ instr.Spawn 2 [] ∷ instr.Ret ∷ []) ∷ body_with [] 0 (instr.Spawn 3 [] ∷ instr.Ret ∷ [])
-      ∷ body_with [] 1 (instr.Lit 0 (pos 7) ∷ instr.Print 0 ∷ instr.Ret ∷ []) ∷ body_with [] 1 (instr.Lit 0 (pos 8) ∷ instr.Print 0 ∷ instr.Ret ∷ []) ∷ [];
+      ∷ body_with [] 1 (instr.Lit 0 (pos 7) ∷ instr.Print 0 ∷ instr.Ret ∷ [])
+      ∷ body_with [] 1 (instr.Lit 0 (pos 8) ∷ instr.Print 0 ∷ instr.Ret ∷ []) ∷ [];
 }
 
 -- who comes first starts activity 2, and who comes last starts activity 3
@@ -99,24 +112,33 @@ main_before = 0 ∷ 0 ∷ 1 ∷ 2 ∷ 2 ∷ []
 abbrev main_after : List ℕ
 main_after = 0 ∷ 1 ∷ 0 ∷ 3 ∷ 3 ∷ []
 
-starters_print : (printed_by starters main_before (fresh starters) 2 ≡ pos 7 ∷ []) × (printed_by starters main_after (fresh starters) 2 ≡ [])
+starters_print : (printed_by starters main_before (fresh starters) 2 ≡ pos 7 ∷ [])
+    × (printed_by starters main_after (fresh starters) 2 ≡ [])
     × (printed_by starters main_after (fresh starters) (all_named (OfActivities 2 ∷ []) 2) ≡ pos 7 ∷ [])
 starters_print = (refl, refl, refl)
 
 -- By their numbers there main starts the same activities in both orders, and so does activity 1.
-starters_start : (started_by starters main_before (fresh starters) 0 ≡ 1 ∷ 2 ∷ []) × (started_by starters main_after (fresh starters) 0 ≡ 1 ∷ 3 ∷ [])
+starters_start : (started_by starters main_before (fresh starters) 0 ≡ 1 ∷ 2 ∷ [])
+    × (started_by starters main_after (fresh starters) 0 ≡ 1 ∷ 3 ∷ [])
     × (map (all_named (OfActivities 2 ∷ [])) (1 ∷ 2 ∷ []) ≡ 1 ∷ 3 ∷ [])
     × (started_by starters main_before (fresh starters) 1 ≡ 3 ∷ []) × (started_by starters main_after (fresh starters) 1 ≡ 2 ∷ [])
     × (map (all_named (OfActivities 2 ∷ [])) (3 ∷ []) ≡ 2 ∷ [])
 starters_start = (refl, refl, refl, refl, refl, refl)
 
 -- The second one that main starts prints 7 in both; and there is no third.
-starters_paths : (printed_at starters main_before (fresh starters) (1 ∷ []) ≡ Some (pos 7 ∷ [])) × (printed_at starters main_after (fresh starters) (1 ∷ []) ≡ Some (pos 7 ∷ []))
-    × (printed_at starters main_before (fresh starters) (2 ∷ []) ≡ None) × (printed_at starters main_before (fresh starters) (0 ∷ 0 ∷ []) ≡ Some [])
+starters_paths : (printed_at starters main_before (fresh starters) (1 ∷ []) ≡ Some (pos 7 ∷ []))
+    × (printed_at starters main_after (fresh starters) (1 ∷ []) ≡ Some (pos 7 ∷ []))
+    × (printed_at starters main_before (fresh starters) (2 ∷ []) ≡ None)
+    × (printed_at starters main_before (fresh starters) (0 ∷ 0 ∷ []) ≡ Some [])
 starters_paths = (refl, refl, refl, refl)
 
+-- The first one that main's first one starts is activity 3, which prints 8 once it has taken its steps.
+starters_on : printed_at starters (0 ∷ 0 ∷ 1 ∷ 2 ∷ 2 ∷ 3 ∷ 3 ∷ []) (fresh starters) (0 ∷ 0 ∷ []) ≡ Some (pos 8 ∷ [])
+starters_on = refl
+
 -- and 7 is printed once, 8 not yet
-starters_numbers : (times_printed starters main_before (fresh starters) (pos 7) ≡ 1) × (times_printed starters main_after (fresh starters) (pos 7) ≡ 1)
+starters_numbers : (times_printed starters main_before (fresh starters) (pos 7) ≡ 1)
+    × (times_printed starters main_after (fresh starters) (pos 7) ≡ 1)
     × (times_printed starters main_before (fresh starters) (pos 8) ≡ 0)
 starters_numbers = (refl, refl, refl)
 
@@ -125,7 +147,8 @@ starters_numbers = (refl, refl, refl)
 abbrev late : ModuleValue
 late = record {
   shared = pos 0 ∷ [];
-  units = main_with 0 (instr.Spawn 1 [] ∷ instr.Spawn 2 [] ∷ instr.Ret ∷ []) ∷ body_with [] 1 (instr.Lit 0 (pos 5) ∷ instr.Put 0 0 ∷ instr.Ret ∷ [])
+  units = main_with 0 (instr.Spawn 1 [] ∷ instr.Spawn 2 [] ∷ instr.Ret ∷ [])
+      ∷ body_with [] 1 (instr.Lit 0 (pos 5) ∷ instr.Put 0 0 ∷ instr.Ret ∷ [])
       ∷ body_with [] 0 (instr.Spawn 3 [] ∷ instr.Ret ∷ []) ∷ body_with [] 1 (instr.Get 0 0 ∷ instr.Print 0 ∷ instr.Ret ∷ []) ∷ [];
 }
 
@@ -276,7 +299,8 @@ phased_before = record { between = (1, 1) ∷ []; way = (inl (0, refl), inr (ref
 abbrev resumes_first : ModuleValue
 resumes_first = record {
   shared = pos 0 ∷ [];
-  units = main_with 2 (instr.Make 0 ∷ instr.Spawn 1 (0 ∷ []) ∷ instr.Lit 1 (pos 5) ∷ instr.Resume 0 ∷ instr.Put 0 1 ∷ instr.Advance ∷ instr.Ret ∷ [])
+  units = main_with 2
+      (instr.Make 0 ∷ instr.Spawn 1 (0 ∷ []) ∷ instr.Lit 1 (pos 5) ∷ instr.Resume 0 ∷ instr.Put 0 1 ∷ instr.Advance ∷ instr.Ret ∷ [])
       ∷ body_with (param.Clock ∷ []) 2 (instr.Advance ∷ instr.Get 1 0 ∷ instr.Print 1 ∷ instr.Ret ∷ []) ∷ [];
 }
 
@@ -288,6 +312,8 @@ resumed_early : (is_enabled resumes_first passes_early 1 ≡ true) × (stores_ne
 resumed_early = (refl, refl)
 
 -- though it may come behind it: main is registered before the `put`, but has signalled, so that this is no such edge
-resumed_late : (standing_on (last resumes_first (0 ∷ 0 ∷ 0 ∷ 0 ∷ [])) 0 0 ≡ standing.Signalled) × (phase_of (last resumes_first (0 ∷ 0 ∷ 0 ∷ 0 ∷ [])) 0 ≡ 0)
-    × (phase_of (last resumes_first (0 ∷ 0 ∷ 0 ∷ 0 ∷ 0 ∷ 1 ∷ [])) 0 ≡ 1) × (is_enabled resumes_first (last resumes_first (0 ∷ 0 ∷ 0 ∷ 0 ∷ 0 ∷ 1 ∷ [])) 1 ≡ true)
+resumed_late : (standing_on (last resumes_first (0 ∷ 0 ∷ 0 ∷ 0 ∷ [])) 0 0 ≡ standing.Signalled)
+    × (phase_of (last resumes_first (0 ∷ 0 ∷ 0 ∷ 0 ∷ [])) 0 ≡ 0)
+    × (phase_of (last resumes_first (0 ∷ 0 ∷ 0 ∷ 0 ∷ 0 ∷ 1 ∷ [])) 0 ≡ 1)
+    × (is_enabled resumes_first (last resumes_first (0 ∷ 0 ∷ 0 ∷ 0 ∷ 0 ∷ 1 ∷ [])) 1 ≡ true)
 resumed_late = (refl, refl, refl, refl)

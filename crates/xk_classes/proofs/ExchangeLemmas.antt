@@ -64,7 +64,8 @@ module _ (m : ModuleValue) (limits : IsWithinLimits m) (ok : IsAccepted m) where
 
         by : (x y : Bool) → (makes_next m w a && makes_next m w b) ≡ x → (starts_next m w a && starts_next m w b) ≡ y
             → Exchanges (cond x (OfClocks (length w.clocks) ∷ []) (cond y (OfActivities (length w.activities) ∷ []) []))
-        by true y hx hy = inr ((λ p q. not_both (next_instruction m w a) (and_parts (makes_next m w a) (makes_next m w b) hx).0 (says_first p)), (λ j. refl))
+        by true y hx hy = inr
+            ((λ p q. not_both (next_instruction m w a) (and_parts (makes_next m w a) (makes_next m w b) hx).0 (says_first p)), (λ j. refl))
         by false true hx hy =
             let p = and_parts (starts_next m w a) (starts_next m w b) hy in
             inl (
@@ -98,10 +99,12 @@ module _ (m : ModuleValue) (limits : IsWithinLimits m) (ok : IsAccepted m) where
     pub number_second : is_start c.second_event ≡ true → length w.activities ≡ all_named xs (length u.activities)
     number_second h = by xs exchanges (is_start c.first_event) refl (grown m w u a c.first_event c.first_steps)
       where
-        by : (ys : List Exchange) → Exchanges ys → (q : Bool) → is_start c.first_event ≡ q → length u.activities ≡ length w.activities + cond q 1 0
+        by : (ys : List Exchange) → Exchanges ys → (q : Bool) → is_start c.first_event ≡ q
+            → length u.activities ≡ length w.activities + cond q 1 0
             → length w.activities ≡ all_named ys (length u.activities)
         by ys (inl p) true g k =
-            sym (renamed_second (length w.activities)) ∙ ap (renamed (length w.activities)) (omega arith) ∙ sym (ap (λ zs. all_named zs (length u.activities)) p.2)
+            sym (renamed_second (length w.activities)) ∙ ap (renamed (length w.activities)) (omega arith)
+            ∙ sym (ap (λ zs. all_named zs (length u.activities)) p.2)
         by ys (inl p) false g k = absurd (true≢false (sym p.0 ∙ g))
         by ys (inr p) true g k = absurd (p.0 g h)
         by ys (inr p) false g k = let r = p.1 (length u.activities) in omega arith
@@ -109,7 +112,8 @@ module _ (m : ModuleValue) (limits : IsWithinLimits m) (ok : IsAccepted m) where
     pub number_first : is_start c.first_event ≡ true → length v.activities ≡ all_named xs (length w.activities)
     number_first h = by xs exchanges (is_start c.second_event) refl (grown m w v b c.second_event c.second_steps)
       where
-        by : (ys : List Exchange) → Exchanges ys → (q : Bool) → is_start c.second_event ≡ q → length v.activities ≡ length w.activities + cond q 1 0
+        by : (ys : List Exchange) → Exchanges ys → (q : Bool) → is_start c.second_event ≡ q
+            → length v.activities ≡ length w.activities + cond q 1 0
             → length v.activities ≡ all_named ys (length w.activities)
         by ys (inl p) true g k =
             let one : length v.activities ≡ suc (length w.activities) = omega arith in
@@ -122,7 +126,8 @@ module _ (m : ModuleValue) (limits : IsWithinLimits m) (ok : IsAccepted m) where
     pub far : (z : World) → length z.clocks ≤ length w.clocks → (k d : ℕ) → stage_at z (clocks_named xs k) d ≡ stage_at z k d
     far z h k d = by (makes_next m w a && makes_next m w b) (starts_next m w a && starts_next m w b)
       where
-        by : (x y : Bool) → stage_at z (clocks_named (cond x (OfClocks (length w.clocks) ∷ []) (cond y (OfActivities (length w.activities) ∷ []) [])) k) d ≡ stage_at z k d
+        by : (x y : Bool) → stage_at z (clocks_named
+            (cond x (OfClocks (length w.clocks) ∷ []) (cond y (OfActivities (length w.activities) ∷ []) [])) k) d ≡ stage_at z k d
         by true y = far_one (length w.clocks) z.clocks h k d
         by false true = refl
         by false false = refl
@@ -130,7 +135,8 @@ module _ (m : ModuleValue) (limits : IsWithinLimits m) (ok : IsAccepted m) where
     pub far_back : (z : World) → length z.clocks ≤ length w.clocks → (k d : ℕ) → stage_at z (clocks_unnamed xs k) d ≡ stage_at z k d
     far_back z h k d = by (makes_next m w a && makes_next m w b) (starts_next m w a && starts_next m w b)
       where
-        by : (x y : Bool) → stage_at z (clocks_unnamed (cond x (OfClocks (length w.clocks) ∷ []) (cond y (OfActivities (length w.activities) ∷ []) [])) k) d ≡ stage_at z k d
+        by : (x y : Bool) → stage_at z (clocks_unnamed
+            (cond x (OfClocks (length w.clocks) ∷ []) (cond y (OfActivities (length w.activities) ∷ []) [])) k) d ≡ stage_at z k d
         by true y = far_one (length w.clocks) z.clocks h k d
         by false true = refl
         by false false = refl

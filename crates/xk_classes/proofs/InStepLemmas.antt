@@ -1,5 +1,5 @@
--- Worlds in step: by their numbers there all activities have come as far on all clocks. Steps of one activity from worlds that are the same but for names
--- and in step lead to such worlds, and so do two steps that commute, in either order.
+-- Worlds in step: by their numbers there all activities have come as far on all clocks. Steps of one activity from worlds that are the
+-- same but for names and in step lead to such worlds, and so do two steps that commute, in either order.
 use Rattle.std.proofs.Common.{◌≡◌, ℕ, ◌+◌, ◌<◌, ◌≤◌, inl, inr, Bool, true, false, cond, length, List, Option, Some, None, option_map, refl, sym, ap, ◌∙◌, subst, arith, eqb-true, eq-eqb}
 use Rattle.std.specs.Prelude.{slice_get}
 use Rattle.std.specs.Option.{option_map_or}
@@ -39,7 +39,8 @@ record StandsAlike (o q : Option Clock) (a b : ℕ) : Type 0 where
   this : option_map_or (λ (c : Clock). stage_of c a) o 0 ≡ stage_by one st
   that : option_map_or (λ (c : Clock). stage_of c b) q 0 ≡ stage_by other st
 
-stands_alike : (o q : Option Clock) (a b : ℕ) → option_map (λ (c : Clock). standing_of c b) q ≡ option_map (λ (c : Clock). standing_of c a) o → StandsAlike o q a b
+stands_alike : (o q : Option Clock) (a b : ℕ)
+    → option_map (λ (c : Clock). standing_of c b) q ≡ option_map (λ (c : Clock). standing_of c a) o → StandsAlike o q a b
 stands_alike None None a b h = record { one = 0; other = 0; st = standing.Apart; this = refl; that = refl }
 stands_alike None (Some d) a b h = absurd (none-some (standing_of d b) (sym h))
 stands_alike (Some c) None a b h = absurd (none-some (standing_of c a) h)
@@ -59,16 +60,20 @@ module _ (m : ModuleValue) (limits : IsWithinLimits m) (ok : IsAccepted m) where
   -- so those that came there from one stage have come as far
   module _ (xs : List Exchange) (w v : World) (k a s : ℕ) (reached : IsReached m w) (same : AreSameBy xs w v) where
     alike : StandsAlike (slice_get w.clocks k) (slice_get v.clocks (clocks_named xs k)) a (all_named xs a)
-    alike = stands_alike (slice_get w.clocks k) (slice_get v.clocks (clocks_named xs k)) a (all_named xs a) (stands_same m xs w v k a (reached_full m w limits ok reached) same)
+    alike = stands_alike (slice_get w.clocks k) (slice_get v.clocks (clocks_named xs k)) a (all_named xs a)
+        (stands_same m xs w v k a (reached_full m w limits ok reached) same)
 
-    next_same : GoesFrom s (stage_at w k a) → GoesFrom s (stage_at v (clocks_named xs k) (all_named xs a)) → stage_at w k a ≡ stage_at v (clocks_named xs k) (all_named xs a)
+    next_same : GoesFrom s (stage_at w k a) → GoesFrom s (stage_at v (clocks_named xs k) (all_named xs a))
+        → stage_at w k a ≡ stage_at v (clocks_named xs k) (all_named xs a)
     next_same h g =
-        alike.this ∙ same_next s alike.one alike.other alike.st (subst (GoesFrom s) alike.this h) (subst (GoesFrom s) alike.that g) ∙ sym alike.that
+        alike.this ∙ same_next s alike.one alike.other alike.st (subst (GoesFrom s) alike.this h) (subst (GoesFrom s) alike.that g)
+        ∙ sym alike.that
 
     given_same : IsGivenFrom s (stage_at w k a)
         → IsGivenFrom s (stage_at v (clocks_named xs k) (all_named xs a)) → stage_at w k a ≡ stage_at v (clocks_named xs k) (all_named xs a)
     given_same h g =
-        alike.this ∙ same_given s alike.one alike.other alike.st (subst (IsGivenFrom s) alike.this h) (subst (IsGivenFrom s) alike.that g) ∙ sym alike.that
+        alike.this ∙ same_given s alike.one alike.other alike.st (subst (IsGivenFrom s) alike.this h) (subst (IsGivenFrom s) alike.that g)
+        ∙ sym alike.that
 
   -- who is there behind a step was there, or was started
   newcomer : (w u : World) (a : ℕ) (e : Event) → step m w a ≡ Stepped u e → (b : ℕ) → length w.activities ≤ b → b < length u.activities
@@ -81,7 +86,8 @@ module _ (m : ModuleValue) (limits : IsWithinLimits m) (ok : IsAccepted m) where
 
   -- ---- the same step
 
-  pub steps_in_step : (xs : List Exchange) (w v u z : World) (a : ℕ) (e : Event) → IsReached m w → IsReached m v → AreSameBy xs w v → AreInStep xs w v
+  pub steps_in_step : (xs : List Exchange) (w v u z : World) (a : ℕ) (e : Event) → IsReached m w → IsReached m v → AreSameBy xs w v
+      → AreInStep xs w v
       → step m w a ≡ Stepped u e → step m v (all_named xs a) ≡ Stepped z e → AreSameBy xs u z → AreInStep xs u z
   steps_in_step xs w v u z a e here there same step_same hu hz after k b less = elim (same_or_not b a) [
     | inl is ↦ subst (λ d. stage_at u k d ≡ stage_at z (clocks_named xs k) (all_named xs d)) (sym is) own
@@ -112,16 +118,19 @@ module _ (m : ModuleValue) (limits : IsWithinLimits m) (ok : IsAccepted m) where
 
       own : stage_at u k a ≡ stage_at z (clocks_named xs k) (all_named xs a)
       own = next_same xs u z k a (stage_at w k a) next after (one.own k)
-          (subst (λ s. GoesFrom s (stage_at z (clocks_named xs k) (all_named xs a))) (sym (step_same k a inside)) (other.own (clocks_named xs k)))
+          (subst (λ s. GoesFrom s (stage_at z (clocks_named xs k) (all_named xs a))) (sym (step_same k a inside))
+          (other.own (clocks_named xs k)))
 
       child : is_start e ≡ true → stage_at u k (length w.activities) ≡ stage_at z (clocks_named xs k) (all_named xs (length w.activities))
       child h = given_same xs u z k (length w.activities) (stage_at w k a) next after (one.child k h)
           (subst (λ d. IsGivenFrom (stage_at w k a) (stage_at z (clocks_named xs k) d)) many
-          (subst (λ s. IsGivenFrom s (stage_at z (clocks_named xs k) (length v.activities))) (sym (step_same k a inside)) (other.child (clocks_named xs k) h)))
+          (subst (λ s. IsGivenFrom s (stage_at z (clocks_named xs k) (length v.activities))) (sym (step_same k a inside))
+          (other.child (clocks_named xs k) h)))
 
   -- ---- two steps, in either order
 
-  module _ (w x y : World) (a b : ℕ) (c : DoCommute m w a b) (reached : IsReached m w) (hx : step m c.second_world a ≡ Stepped x c.first_event)
+  module _ (w x y : World) (a b : ℕ) (c : DoCommute m w a b) (reached : IsReached m w)
+      (hx : step m c.second_world a ≡ Stepped x c.first_event)
       (hy : step m c.first_world b ≡ Stepped y c.second_event) (same : AreSameBy (exchange_of m w a b) y x) where
     abbrev xs : List Exchange
     xs = exchange_of m w a b
@@ -172,14 +181,16 @@ module _ (m : ModuleValue) (limits : IsWithinLimits m) (ok : IsAccepted m) where
     stays d h = stays_named m limits ok w a b c reached d h
 
     -- of one that was there
-    as_far : (k d : ℕ) → d < length w.activities → stage_at y k d ≡ stage_at x (clocks_named xs k) d → stage_at y k d ≡ stage_at x (clocks_named xs k) (all_named xs d)
+    as_far : (k d : ℕ) → d < length w.activities → stage_at y k d ≡ stage_at x (clocks_named xs k) d
+        → stage_at y k d ≡ stage_at x (clocks_named xs k) (all_named xs d)
     as_far k d h g = g ∙ ap (stage_at x (clocks_named xs k)) (sym (stays d h))
 
     own_first : (k : ℕ) → stage_at y k a ≡ stage_at x (clocks_named xs k) (all_named xs a)
     own_first k = next_same xs y x k a (stage_at w k a) reached_y same
         (subst (GoesFrom (stage_at w k a)) (sym (to_y.others k a (omega (arith, first, wide_u)) turned)) (to_u.own k))
         (subst (λ d. GoesFrom (stage_at w k a) (stage_at x (clocks_named xs k) d)) (sym (stays a first))
-        (subst (λ s. GoesFrom s (stage_at x (clocks_named xs k) a)) (to_v.others (clocks_named xs k) a first turned ∙ there k a) (to_x.own (clocks_named xs k))))
+        (subst (λ s. GoesFrom s (stage_at x (clocks_named xs k) a)) (to_v.others (clocks_named xs k) a first turned ∙ there k a)
+        (to_x.own (clocks_named xs k))))
 
     own_second : (k : ℕ) → stage_at y k b ≡ stage_at x (clocks_named xs k) (all_named xs b)
     own_second k = next_same xs y x k b (stage_at w k b) reached_y same
@@ -188,24 +199,31 @@ module _ (m : ModuleValue) (limits : IsWithinLimits m) (ok : IsAccepted m) where
         (subst (GoesFrom (stage_at w k b)) (sym (to_x.others (clocks_named xs k) b (omega (arith, second, wide_v)) c.differ))
         (subst (λ s. GoesFrom s (stage_at v (clocks_named xs k) b)) (there k b) (to_v.own (clocks_named xs k)))))
 
-    others : (k d : ℕ) → d < length w.activities → (d ≡ a → ⊥) → (d ≡ b → ⊥) → stage_at y k d ≡ stage_at x (clocks_named xs k) (all_named xs d)
+    others : (k d : ℕ) → d < length w.activities → (d ≡ a → ⊥) → (d ≡ b → ⊥)
+        → stage_at y k d ≡ stage_at x (clocks_named xs k) (all_named xs d)
     others k d less no_first no_second = as_far k d less
         (to_y.others k d (omega (arith, less, wide_u)) no_second ∙ to_u.others k d less no_first
-        ∙ sym (to_x.others (clocks_named xs k) d (omega (arith, less, wide_v)) no_first ∙ to_v.others (clocks_named xs k) d less no_second ∙ there k d))
+        ∙ sym (to_x.others (clocks_named xs k) d (omega (arith, less, wide_v)) no_first
+        ∙ to_v.others (clocks_named xs k) d less no_second ∙ there k d))
 
-    child_first : (k : ℕ) → is_start c.first_event ≡ true → stage_at y k (length w.activities) ≡ stage_at x (clocks_named xs k) (all_named xs (length w.activities))
+    child_first : (k : ℕ) → is_start c.first_event ≡ true
+        → stage_at y k (length w.activities) ≡ stage_at x (clocks_named xs k) (all_named xs (length w.activities))
     child_first k h =
-        let more : length u.activities ≡ length w.activities + 1 = grown m w u a c.first_event c.first_steps ∙ ap (λ q. length w.activities + cond q 1 0) h in
+        let more : length u.activities ≡ length w.activities + 1 = grown m w u a c.first_event c.first_steps
+        ∙ ap (λ q. length w.activities + cond q 1 0) h in
         let new : length w.activities ≡ b → ⊥ = λ is. omega (arith, second, is) in
         given_same xs y x k (length w.activities) (stage_at w k a) reached_y same
         (subst (IsGivenFrom (stage_at w k a)) (sym (to_y.others k (length w.activities) (omega arith) new)) (to_u.child k h))
         (subst (λ d. IsGivenFrom (stage_at w k a) (stage_at x (clocks_named xs k) d)) (number_first m limits ok w a b c reached h)
-        (subst (λ s. IsGivenFrom s (stage_at x (clocks_named xs k) (length v.activities))) (to_v.others (clocks_named xs k) a first turned ∙ there k a)
+        (subst (λ s. IsGivenFrom s (stage_at x (clocks_named xs k) (length v.activities)))
+        (to_v.others (clocks_named xs k) a first turned ∙ there k a)
         (to_x.child (clocks_named xs k) h)))
 
-    child_second : (k : ℕ) → is_start c.second_event ≡ true → stage_at y k (length u.activities) ≡ stage_at x (clocks_named xs k) (all_named xs (length u.activities))
+    child_second : (k : ℕ) → is_start c.second_event ≡ true
+        → stage_at y k (length u.activities) ≡ stage_at x (clocks_named xs k) (all_named xs (length u.activities))
     child_second k h =
-        let more : length v.activities ≡ length w.activities + 1 = grown m w v b c.second_event c.second_steps ∙ ap (λ q. length w.activities + cond q 1 0) h in
+        let more : length v.activities ≡ length w.activities + 1 = grown m w v b c.second_event c.second_steps
+        ∙ ap (λ q. length w.activities + cond q 1 0) h in
         let new : length w.activities ≡ a → ⊥ = λ is. omega (arith, first, is) in
         given_same xs y x k (length u.activities) (stage_at w k b) reached_y same
         (subst (λ s. IsGivenFrom s (stage_at y k (length u.activities))) (to_u.others k b second c.differ) (to_y.child k h))

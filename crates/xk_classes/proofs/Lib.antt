@@ -2,7 +2,7 @@ pub mod StepEventLemmas
 pub mod StageLemmas
 pub mod ExchangeLemmas
 pub mod InStepLemmas
-pub mod PassEventLemmas
+pub mod InstructionEventLemmas
 pub mod SwapLemmas
 pub mod PrintLemmas
 pub mod ClassLemmas

@@ -18,22 +18,24 @@ use Rattle.xk_squares.specs.Conflicts.{reads, puts, next_instruction, AreConflic
 use Rattle.xk_squares.proofs.ExplorationLaw.{nobody_steps}
 use Rattle.xk_renaming.specs.Names.{all_named}
 use Rattle.xk_renaming.proofs.NameLaw.{same_cells}
+use Rattle.xk_renaming.proofs.ActivityNameOrderLaw.{run_first}
 use Rattle.xk_classes.specs.Moments.{is_print, printed_by, printed_at, led_to, started_by}
 use Rattle.xk_classes.specs.Classes.{AreOneClass, names_along, HasNoRace, HasNeverTwo}
 use Rattle.xk_classes.specs.OneRun.{GoesAsWell, IsBegun, IsWholeRun, ComeToOne, gets_or_puts, AddsInUnit, AddsAtMost}
-use Rattle.xk_classes.proofs.SwapLemmas.{run_first, get_map}
+use Rattle.xk_classes.proofs.SwapLemmas.{get_map}
 use Rattle.xk_classes.proofs.ClassLemmas.{main_stays, class_as_well, class_prints}
 use Rattle.xk_classes.proofs.ClassLaw.{every}
 use Rattle.xk_classes.proofs.EdgeLaw.{ordered_free}
 use Rattle.xk_classes.specs.Edges.{StepName, AreSound, AreOrdered}
 
-pub one_of : {X : Type 0} (P : X → Type 0) (xs : List X) (k : ℕ) (x : X) → slice_get xs k ≡ Some x → All P xs → P x
+one_of : {X : Type 0} (P : X → Type 0) (xs : List X) (k : ℕ) (x : X) → slice_get xs k ≡ Some x → All P xs → P x
 one_of P xs k x h all = subst P (get_or_from_slice_get xs k x x h) (All-get_or P xs k x (slice_get_within xs k x h) all)
 
 -- ---- whole runs
 
 -- nothing follows where all have ended
-run_on_ended : (m : ModuleValue) (t rest : List ℕ) (w y z : World) → run m t w ≡ Through y → all_ended y ≡ true → run m (t ++ rest) w ≡ Through z → rest ≡ []
+run_on_ended : (m : ModuleValue) (t rest : List ℕ) (w y z : World) → run m t w ≡ Through y → all_ended y ≡ true
+    → run m (t ++ rest) w ≡ Through z → rest ≡ []
 run_on_ended m [] [] w y z h ended g = refl
 run_on_ended m [] (a ∷ rest) w y z h ended g =
     let x = first_step w z (step m w a) (run m rest) g in
@@ -44,7 +46,8 @@ run_on_ended m (a ∷ t) rest w y z h ended g =
 
 -- ---- who is who by a path
 
-module _ (m : ModuleValue) (w : World) (s t : List ℕ) (f : ℕ → ℕ) (starts : (a : ℕ) → map f (started_by m s w a) ≡ started_by m t w (f a)) where
+module _ (m : ModuleValue) (w : World) (s t : List ℕ) (f : ℕ → ℕ)
+    (starts : (a : ℕ) → map f (started_by m s w a) ≡ started_by m t w (f a)) where
   -- where starts go by these numbers, so do paths
   path_leads : (a : ℕ) (path : List ℕ) → option_map f (led_to m s w a path) ≡ led_to m t w (f a) path
   path_leads a [] = refl
@@ -58,7 +61,8 @@ module _ (m : ModuleValue) (w : World) (s t : List ℕ) (f : ℕ → ℕ) (start
       by (Some b) h = h b
 
   -- and so what is printed there
-  path_prints : f 0 ≡ 0 → ((a : ℕ) → printed_by m s w a ≡ printed_by m t w (f a)) → (path : List ℕ) → printed_at m s w path ≡ printed_at m t w path
+  path_prints : f 0 ≡ 0 → ((a : ℕ) → printed_by m s w a ≡ printed_by m t w (f a)) → (path : List ℕ)
+      → printed_at m s w path ≡ printed_at m t w path
   path_prints main prints path =
       by (led_to m s w 0 path) ∙ ap (option_map (printed_by m t w)) (path_leads 0 path ∙ ap (λ a. led_to m t w a path) main)
     where
@@ -75,14 +79,17 @@ module _ (m : ModuleValue) (args : List ℤ) (limits : IsWithinLimits m) (ok : I
   pub same : (s t : List ℕ) (z : World) → run m s w ≡ Through z → (member : AreOneClass m w s t) → GoesAsWell m w s t member z
   same s t z legal member = class_as_well m limits ok w z (opening_reached m args taken) s t member legal
 
-  pub prints : (s t : List ℕ) (z : World) → run m s w ≡ Through z → AreOneClass m w s t → HasNeverTwo is_print m w s → printed m s w ≡ printed m t w
+  pub prints : (s t : List ℕ) (z : World) → run m s w ≡ Through z → AreOneClass m w s t → HasNeverTwo is_print m w s
+      → printed m s w ≡ printed m t w
   prints s t z legal member never = class_prints m limits ok w z (opening_reached m args taken) s t member legal never
 
   pub begun : (s t : List ℕ) (z y : World) → IsWholeRun m args s z → HasNoRace m w s → run m t w ≡ Through y → IsBegun m w s t
   begun s t z y one free goes = every m limits ok t s w y z (opening_reached m args taken) one.legal one.ended free goes
 
-  pub ordered_run : (s : List ℕ) (z : World) (edges : List (StepName × StepName)) → IsWholeRun m args s z → AreSound m w s edges → AreOrdered m w s edges → HasNoRace m w s
-  ordered_run s z edges one sound ordered = ordered_free m limits ok w z (opening_reached m args taken) s one.legal one.ended edges sound ordered
+  pub ordered_run : (s : List ℕ) (z : World) (edges : List (StepName × StepName)) → IsWholeRun m args s z → AreSound m w s edges
+      → AreOrdered m w s edges → HasNoRace m w s
+  ordered_run s z edges one sound ordered =
+      ordered_free m limits ok w z (opening_reached m args taken) s one.legal one.ended edges sound ordered
 
   -- a whole run with which a schedule of a class begins is one of the class
   whole_member : (s t : List ℕ) (z y : World) → IsWholeRun m args s z → IsWholeRun m args t y → IsBegun m w s t → AreOneClass m w s t
@@ -91,25 +98,30 @@ module _ (m : ModuleValue) (args : List ℤ) (limits : IsWithinLimits m) (ok : I
       let none : begun.rest ≡ [] = run_on_ended m t begun.rest w y g.last other.legal other.ended g.legal in
       subst (AreOneClass m w s) (ap (λ l. t ++ l) none ∙ append-nil t) begun.member
 
-  come_to_one : (s t : List ℕ) (z y : World) → IsWholeRun m args s z → IsWholeRun m args t y → AreOneClass m w s t → ComeToOne m args s t z y
+  come_to_one : (s t : List ℕ) (z y : World) → IsWholeRun m args s z → IsWholeRun m args t y → AreOneClass m w s t
+      → ComeToOne m args s t z y
   come_to_one s t z y one other member =
       let g : GoesAsWell m w s t member z = same s t z one.legal member in
       record {
         names = names_along member.between;
         main = main_stays m limits ok w (opening_reached m args taken) s t z member one.legal;
-        cells = same_cells (names_along member.between) z g.last g.alike ∙ ap (λ (x : World). x.cells) (same_through g.last y (sym g.legal ∙ other.legal));
+        cells = same_cells (names_along member.between) z g.last g.alike
+            ∙ ap (λ (x : World). x.cells) (same_through g.last y (sym g.legal ∙ other.legal));
         starts = λ a. g.starts a;
         prints = λ a. ap (filter_map number_printed) (g.same a);
         paths = path_prints m w s t (all_named (names_along member.between)) g.starts
-            (main_stays m limits ok w (opening_reached m args taken) s t z member one.legal) (λ a. ap (filter_map number_printed) (g.same a));
+            (main_stays m limits ok w (opening_reached m args taken) s t z member one.legal)
+            (λ a. ap (filter_map number_printed) (g.same a));
         numbers = λ n. g.numbers n;
       }
 
   pub one_every : (s t : List ℕ) (z y : World) → IsWholeRun m args s z → HasNoRace m w s → IsWholeRun m args t y → ComeToOne m args s t z y
   one_every s t z y one free other = come_to_one s t z y one other (whole_member s t z y one other (begun s t z y one free other.legal))
 
-  pub one_prints : (s t : List ℕ) (z y : World) → IsWholeRun m args s z → HasNoRace m w s → HasNeverTwo is_print m w s → IsWholeRun m args t y → printed m s w ≡ printed m t w
-  one_prints s t z y one free never other = prints s t z one.legal (whole_member s t z y one other (begun s t z y one free other.legal)) never
+  pub one_prints : (s t : List ℕ) (z y : World) → IsWholeRun m args s z → HasNoRace m w s → HasNeverTwo is_print m w s
+      → IsWholeRun m args t y → printed m s w ≡ printed m t w
+  one_prints s t z y one free never other =
+      prints s t z one.legal (whole_member s t z y one other (begun s t z y one free other.legal)) never
 
 -- ---- modules that add to shared numbers at most
 
@@ -128,7 +140,8 @@ next_adds m adds w a i h = of_act (slice_get w.activities a) h
     of_code : (u : UnitValue) (at : ℕ) (is : AddsInUnit u) → slice_get u.code at ≡ Some i → gets_or_puts i ≡ false
     of_code u at is g = one_of (λ j. gets_or_puts j ≡ false) u.code at i g is
 
-    of_unit : (at : ℕ) (o : Option UnitValue) → ((u : UnitValue) → o ≡ Some u → AddsInUnit u) → option_and_then (λ (u : UnitValue). slice_get u.code at) o ≡ Some i
+    of_unit : (at : ℕ) (o : Option UnitValue) → ((u : UnitValue) → o ≡ Some u → AddsInUnit u)
+        → option_and_then (λ (u : UnitValue). slice_get u.code at) o ≡ Some i
         → gets_or_puts i ≡ false
     of_unit at None is g = absurd (none-some i g)
     of_unit at (Some u) is g = of_code u at (is u refl) g

@@ -1,6 +1,6 @@
--- A pass comes after what its activity waited for: an edge that is sound. For who passes in a phase has come as far on the clock in each schedule of the
--- class, and so has who was waited for, when it takes that step. Before the pass the clock has advanced in each of them, and it never goes back: so one
--- that took the step later would have come further.
+-- A pass comes after what its activity waited for: an edge that is sound. For who passes in a phase has come as far on the clock in each
+-- schedule of the class, and so has who was waited for, when it takes that step. Before the pass the clock has advanced in each of them,
+-- and it never goes back: so one that took the step later would have come further.
 use Rattle.std.proofs.Common.{◌≡◌, ℕ, ℤ, suc, ◌+◌, ◌-◌, ◌<◌, ◌≤◌, inl, inr, true, false, cond, List, [], ◌∷◌, ◌++◌, Some, option_map, refl, sym, ap, ◌∙◌, subst, append_assoc, eq-eqb, arith}
 use Rattle.std.specs.Prelude.{slice_get}
 use Rattle.std.proofs.lemmas.Bool.{cases_lt}
@@ -20,7 +20,7 @@ use Rattle.xk_renaming.proofs.NamelessLemmas.{nameless_activity}
 use Rattle.xk_classes.specs.Classes.{AreJoined, AreOneClass, names_along, name_in}
 use Rattle.xk_classes.specs.Edges.{StepName, turns_of, IsTaken, IsEdge, AreSound, IsTurn, phase_of, IsPass, IsCause}
 use Rattle.xk_classes.specs.OneRun.{GoesAsWell}
-use Rattle.xk_classes.proofs.PassEventLemmas.{passes_arrived, arrived_free}
+use Rattle.xk_classes.proofs.InstructionEventLemmas.{passes_arrived, arrived_free}
 use Rattle.xk_classes.proofs.StageLemmas.{stage_at, moves_on, pending_stage, registered_stage, unsignalled_stage}
 use Rattle.xk_classes.proofs.SwapLemmas.{State, stand_of, stand_named, deed_of, reached_run}
 use Rattle.xk_classes.proofs.ClassLemmas.{deeds, class_as_well}
@@ -29,7 +29,8 @@ use Rattle.xk_classes.proofs.StartEdgeLaw.{turns_all, start_taken}
 use Rattle.xk_classes.proofs.FinishEdgeLaw.{under_taken}
 
 -- no clock goes back
-phases_rise : (m : ModuleValue) → IsWithinLimits m → IsAccepted m → (list : List ℕ) (w v : World) (k : ℕ) → IsReached m w → run m list w ≡ Through v
+phases_rise : (m : ModuleValue) → IsWithinLimits m → IsAccepted m → (list : List ℕ) (w v : World) (k : ℕ) → IsReached m w
+    → run m list w ≡ Through v
     → phase_of w k ≤ phase_of v k
 phases_rise m limits ok [] w v k reached legal = subst (λ z. phase_of w k ≤ phase_of z k) (same_through w v legal) (omega arith)
 phases_rise m limits ok (d ∷ list) w v k reached legal =
@@ -38,7 +39,8 @@ phases_rise m limits ok (d ∷ list) w v k reached legal =
     let rest : phase_of x.0 k ≤ phase_of v k = phases_rise m limits ok list x.0 v k (reached_step m w x.0 d x.1 reached x.2) x.3 in
     omega arith
 
-module _ (m : ModuleValue) (args : List ℤ) (limits : IsWithinLimits m) (ok : IsAccepted m) (taken : AreArguments m args) (s : List ℕ) (z : World)
+module _ (m : ModuleValue) (args : List ℤ) (limits : IsWithinLimits m) (ok : IsAccepted m) (taken : AreArguments m args)
+    (s : List ℕ) (z : World)
     (legal : run m s (opening m args) ≡ Through z) (over : all_ended z ≡ true) where
   abbrev w : World
   w = opening m args
@@ -52,21 +54,27 @@ module _ (m : ModuleValue) (args : List ℤ) (limits : IsWithinLimits m) (ok : I
       let rest : run m (x.0 ∷ t.after) t.here ≡ Through z =
       sym (run_behind m t.before (x.0 ∷ t.after) w t.here t.leads) ∙ ap (λ l. run m l w) (sym t.whole) ∙ legal in
       let u = first_step t.here z (step m t.here x.0) (run m t.after) rest in
-      ap (λ k. state_in (slice_get (deeds m s w x.0) k)) (sym t.turn) ∙ ap (λ l. state_in (slice_get (deeds m l w x.0) (turns_of x.0 t.before))) t.whole
-      ∙ ap state_in (at_turn m t.before (x.0 ∷ t.after) w t.here x.0 t.leads) ∙ ap (λ l. state_in (slice_get l 0)) (by_first m t.after t.here u.0 x.0 u.1 x.0 u.2)
-      ∙ ap (λ q. state_in (slice_get (cond q (deed_of t.here x.0 u.1 ∷ deeds m t.after u.0 x.0) (deeds m t.after u.0 x.0)) 0)) (eq-eqb x.0 x.0 refl)
+      ap (λ k. state_in (slice_get (deeds m s w x.0) k)) (sym t.turn)
+      ∙ ap (λ l. state_in (slice_get (deeds m l w x.0) (turns_of x.0 t.before))) t.whole
+      ∙ ap state_in (at_turn m t.before (x.0 ∷ t.after) w t.here x.0 t.leads)
+      ∙ ap (λ l. state_in (slice_get l 0)) (by_first m t.after t.here u.0 x.0 u.1 x.0 u.2)
+      ∙ ap (λ q. state_in (slice_get (cond q (deed_of t.here x.0 u.1 ∷ deeds m t.after u.0 x.0) (deeds m t.after u.0 x.0)) 0))
+      (eq-eqb x.0 x.0 refl)
 
   -- it stands so in the whole class, by the numbers there
-  same_turn : (x : StepName) (t : IsTurn m w s x) (before after : List ℕ) (v : World) (member : AreOneClass m w s (before ++ after)) → run m before w ≡ Through v
+  same_turn : (x : StepName) (t : IsTurn m w s x) (before after : List ℕ) (v : World) (member : AreOneClass m w s (before ++ after))
+      → run m before w ≡ Through v
       → turns_of (name_in member x.0) before ≡ x.1 → is_enabled m v (name_in member x.0) ≡ true
       → stand_named (names_along member.between) (stand_of t.here x.0) ≡ stand_of v (name_in member x.0)
   same_turn x t before after v member leads turn enabled =
       let xs : List Exchange = names_along member.between in
       same_Some (stand_named xs (stand_of t.here x.0)) (stand_of v (name_in member x.0))
-      (sym (ap (option_map (stand_named xs)) (turn_stands x t)) ∙ ap (λ k. option_map (stand_named xs) (state_in (slice_get (deeds m s w x.0) k))) (sym turn)
+      (sym (ap (option_map (stand_named xs)) (turn_stands x t))
+      ∙ ap (λ k. option_map (stand_named xs) (state_in (slice_get (deeds m s w x.0) k))) (sym turn)
       ∙ stands m limits ok w z reached s legal over before after v member leads x.0 enabled)
 
-  module _ (x y : StepName) (f : IsPass m w s x y) (before after : List ℕ) (v : World) (member : AreOneClass m w s (before ++ after)) (leads : run m before w ≡ Through v)
+  module _ (x y : StepName) (f : IsPass m w s x y) (before after : List ℕ) (v : World) (member : AreOneClass m w s (before ++ after))
+      (leads : run m before w ≡ Through v)
       (turn : turns_of (name_in member y.0) before ≡ y.1) (enabled : is_enabled m v (name_in member y.0) ≡ true) where
     abbrev xs : List Exchange
     xs = names_along member.between
@@ -76,7 +84,8 @@ module _ (m : ModuleValue) (args : List ℤ) (limits : IsWithinLimits m) (ok : I
     clock = clocks_named xs f.clock
 
     -- who stands so is at the same stage on the clock
-    same_stage : (u r : World) (a : ℕ) → stand_named xs (stand_of u a) ≡ stand_of r (name_in member a) → stage_at u f.clock a ≡ stage_at r clock (name_in member a)
+    same_stage : (u r : World) (a : ℕ) → stand_named xs (stand_of u a) ≡ stand_of r (name_in member a)
+        → stage_at u f.clock a ≡ stage_at r clock (name_in member a)
     same_stage u r a h = ap (λ k. stage_at u k a) (sym (clock_there xs f.clock)) ∙ ap (λ (st : State). st.1 clock) h
 
     same_pass : stand_named xs (stand_of f.second.here y.0) ≡ stand_of v (name_in member y.0)
@@ -91,7 +100,8 @@ module _ (m : ModuleValue) (args : List ℤ) (limits : IsWithinLimits m) (ok : I
         let both : nameless_activity a.0 ≡ nameless_activity b.0 =
         same_Some (nameless_activity a.0) (nameless_activity b.0)
         (sym (ap (option_map nameless_activity) a.1) ∙ ap (λ (t : State). t.0) same_pass ∙ ap (option_map nameless_activity) b.1) in
-        let arrived : b.0.status ≡ status.Arrived = sym (ap (λ (t : Activity). t.status) both) ∙ passes_arrived m f.second.here f.there y.0 a.0 f.passes a.1 in
+        let arrived : b.0.status ≡ status.Arrived = sym (ap (λ (t : Activity). t.status) both)
+        ∙ passes_arrived m f.second.here f.there y.0 a.0 f.passes a.1 in
         arrived_free m v (name_in member y.0) b.0 b.1 arrived enabled
 
     -- so the clock has advanced as far
@@ -100,7 +110,8 @@ module _ (m : ModuleValue) (args : List ℤ) (limits : IsWithinLimits m) (ok : I
         let same : stage_at f.second.here f.clock y.0 ≡ stage_at v clock (name_in member y.0) = same_stage f.second.here v y.0 same_pass in
         let least = (pending_stage f.second.here.clocks f.clock y.0 f.awaited).0 in
         let most = unsignalled_stage v.clocks clock (name_in member y.0) free in
-        half (phase_of f.second.here f.clock) (phase_of v clock) (stage_at f.second.here f.clock y.0) (stage_at v clock (name_in member y.0)) same least most
+        half (phase_of f.second.here f.clock) (phase_of v clock) (stage_at f.second.here f.clock y.0)
+        (stage_at v clock (name_in member y.0)) same least most
       where
         half : (p q a b : ℕ) → a ≡ b → suc (p + p) ≤ a → b ≤ suc (suc (q + q)) → p ≤ q
         half p q a b h g k = omega arith
@@ -117,7 +128,8 @@ module _ (m : ModuleValue) (args : List ℤ) (limits : IsWithinLimits m) (ok : I
         let named = f.first.turn in
         let k : ℕ = x.1 - turns_of c before in
         let r : WasTaken m v after c k = was_taken m after v g.last c k rest (omega arith) in
-        let whole : before ++ after ≡ (before ++ r.front) ++ (c ∷ r.back) = ap (λ l. before ++ l) r.whole ∙ sym (append_assoc before r.front (c ∷ r.back)) in
+        let whole : before ++ after ≡ (before ++ r.front) ++ (c ∷ r.back) = ap (λ l. before ++ l) r.whole
+        ∙ sym (append_assoc before r.front (c ∷ r.back)) in
         let same_class : AreOneClass m w s ((before ++ r.front) ++ (c ∷ r.back)) =
         record { between = member.between; joined = subst (AreJoined m w s member.between) whole member.joined } in
         let there : run m (before ++ r.front) w ≡ Through r.here = run_behind m before r.front w v leads ∙ r.leads in
@@ -127,8 +139,10 @@ module _ (m : ModuleValue) (args : List ℤ) (limits : IsWithinLimits m) (ok : I
         let stage : stage_at f.first.here f.clock x.0 ≡ stage_at r.here clock c = same_stage f.first.here r.here x.0 same in
         let rise = phases_rise m limits ok r.front v r.here clock (reached_run m before w v reached leads) r.leads in
         let p = pending_stage f.first.here.clocks f.clock x.0 f.pending in
-        let least = registered_stage r.here.clocks clock c (some_stage (stage_at f.first.here f.clock x.0) (stage_at r.here clock c) stage (omega (arith, p.0))) in
-        half (phase_of v clock) (phase_of r.here clock) (phase_of f.first.here f.clock) (stage_at f.first.here f.clock x.0) (stage_at r.here clock c) rise stage p.1 least
+        let least = registered_stage r.here.clocks clock c
+        (some_stage (stage_at f.first.here f.clock x.0) (stage_at r.here clock c) stage (omega (arith, p.0))) in
+        half (phase_of v clock) (phase_of r.here clock) (phase_of f.first.here f.clock) (stage_at f.first.here f.clock x.0)
+        (stage_at r.here clock c) rise stage p.1 least
       where
         some_stage : (a b : ℕ) → a ≡ b → 0 < a → 0 < b
         some_stage a b h g = omega arith

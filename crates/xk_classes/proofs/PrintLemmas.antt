@@ -51,7 +51,8 @@ printed_are m list w =
     left_out (λ e. not (is_local e)) local_silent (events m list w) ∙ ap numbers_of (events_are m list w) ∙ numbers_are (entries m list w)
 
 -- by its prints alone
-pub printed_alone : (m : ModuleValue) (list : List ℕ) (w : World) → printed m list w ≡ numbers_in (filter (λ x. is_print x.1.0) (entries m list w))
+pub printed_alone : (m : ModuleValue) (list : List ℕ) (w : World)
+    → printed m list w ≡ numbers_in (filter (λ x. is_print x.1.0) (entries m list w))
 printed_alone m list w =
     left_out (λ e. not (is_local e)) local_silent (events m list w) ∙ sym (left_out is_print other_silent (events m list w))
     ∙ ap numbers_of (events_filtered (λ x. is_print x.1) m list w) ∙ numbers_are (filter (λ x. is_print x.1.0) (entries m list w))
@@ -71,14 +72,17 @@ crossed_more : (p : ℤ → Bool) (n : ℕ) (front back : List Entry) (x y : Ent
     → with_more p n (numbers_in (front ++ x ∷ y ∷ back)) ≡ with_more p n (numbers_in (front ++ y ∷ x ∷ back))
 crossed_more p n [] back x y = by (number_printed x.1.0) (number_printed y.1.0)
   where
-    by : (o r : Option ℤ) → with_more p n (cons_option o (cons_option r (numbers_in back))) ≡ with_more p n (cons_option r (cons_option o (numbers_in back)))
+    by : (o r : Option ℤ)
+        → with_more p n (cons_option o (cons_option r (numbers_in back))) ≡ with_more p n (cons_option r (cons_option o (numbers_in back)))
     by None r = refl
     by (Some i) None = refl
     by (Some i) (Some j) = ap (λ k. with_more p k (numbers_in back)) (omega arith)
 crossed_more p n (z ∷ front) back x y = by (number_printed z.1.0) (λ k. crossed_more p k front back x y)
   where
-    by : (o : Option ℤ) → ((k : ℕ) → with_more p k (numbers_in (front ++ x ∷ y ∷ back)) ≡ with_more p k (numbers_in (front ++ y ∷ x ∷ back)))
-        → with_more p n (cons_option o (numbers_in (front ++ x ∷ y ∷ back))) ≡ with_more p n (cons_option o (numbers_in (front ++ y ∷ x ∷ back)))
+    by : (o : Option ℤ)
+        → ((k : ℕ) → with_more p k (numbers_in (front ++ x ∷ y ∷ back)) ≡ with_more p k (numbers_in (front ++ y ∷ x ∷ back)))
+        → with_more p n (cons_option o (numbers_in (front ++ x ∷ y ∷ back)))
+        ≡ with_more p n (cons_option o (numbers_in (front ++ y ∷ x ∷ back)))
     by None h = h n
     by (Some i) h = h (n + cond (p i) 1 0)
 

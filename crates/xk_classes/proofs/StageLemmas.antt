@@ -1,10 +1,11 @@
--- How far an activity has come on a clock: to signal in a phase is one stage, to pass from it the next. An advance changes nobody's stage, nor does a
--- step of another; and a step of one's own goes on by a stage at most. So, other than phases, stages are the same in all schedules of a class.
+-- How far an activity has come on a clock: to signal in a phase is one stage, to pass from it the next. An advance changes nobody's
+-- stage, nor does a step of another; and a step of one's own goes on by a stage at most. So, other than phases, stages are the same in
+-- all schedules of a class.
 use Rattle.std.proofs.Common.{◌≡◌, ℕ, suc, zero, ◌+◌, ◌<◌, ◌≤◌, ◌==◌, not, ◌⊎◌, inl, inr, Bool, true, false, true≢false, cond, List, [], ◌∷◌, ◌++◌, map, length, Option, Some, None, refl, sym, ap, ◌∙◌, subst, arith, length-set}
 use Rattle.std.specs.Prelude.{slice_get}
 use Rattle.std.specs.List.{list_any}
 use Rattle.std.specs.Option.{option_map_or}
-use Rattle.std.proofs.lemmas.Bool.{and_parts, or_parts}
+use Rattle.std.proofs.lemmas.Bool.{and_parts, not-true, or_parts}
 use Rattle.std.proofs.lemmas.Option.{slice_get_within}
 use Rattle.xk_types.specs.declared.world.Standing.{Standing}
 use Rattle.xk_types.specs.declared.world.Standing.TheVariants as standing
@@ -29,7 +30,8 @@ use Rattle.xk_classes.proofs.StepEventLemmas.{grown}
 
 -- ---- one clock
 
--- The stage of one that stands so on a clock in this phase: 0 if it isn't registered. Ahead is the stage behind the signal of the phase before.
+-- The stage of one that stands so on a clock in this phase: 0 if it isn't registered. Ahead is the stage behind the signal of the phase
+-- before.
 abbrev pub stage_by : ℕ → Standing → ℕ
 stage_by p standing.Apart = 0
 stage_by p standing.Ahead = suc (p + p)
@@ -45,18 +47,16 @@ advance_stage p standing.Open h = absurd (true≢false h)
 advance_stage p standing.Signalled h = omega arith
 advance_stage p standing.Ahead h = absurd (true≢false h)
 
-not_true : (q : Bool) → not q ≡ true → q ≡ false
-not_true true h = sym h
-not_true false h = refl
-
 -- the end of a step
 settled_stage : (now : ℕ) (c : Clock) (a : ℕ) → stage_of (settled_clock now c) a ≡ stage_of c a
 settled_stage now c a = by (is_ready c) refl
   where
-    by : (q : Bool) → is_ready c ≡ q → stage_of (cond {A = Clock} q (record { phase = c.phase + 1; last = now; standings = map advanced c.standings }) c) a ≡ stage_of c a
+    by : (q : Bool) → is_ready c ≡ q → stage_of
+        (cond {A = Clock} q (record { phase = c.phase + 1; last = now; standings = map advanced c.standings }) c) a ≡ stage_of c a
     by true h =
         let none : list_any is_pending c.standings ≡ false =
-        not_true (list_any is_pending c.standings) (and_parts (list_any is_signalled c.standings) (not (list_any is_pending c.standings)) h).1 in
+        not-true (list_any is_pending c.standings)
+        (and_parts (list_any is_signalled c.standings) (not (list_any is_pending c.standings)) h).1 in
         ap (stage_by (c.phase + 1)) (get_or_map advanced c.standings a standing.Apart)
         ∙ advance_stage c.phase (standing_of c a) (none_at is_pending c.standings a standing.Apart none refl)
     by false h = refl
@@ -81,7 +81,8 @@ passed_stage p standing.Open = stays_there (stage_by p standing.Open)
 passed_stage p standing.Signalled = stays_there (stage_by p standing.Signalled)
 passed_stage p standing.Ahead = inr (inr (omega arith, omega arith, omega arith))
 
-only_stage : (c : ℕ) (f : Standing → Standing) → ((p : ℕ) (s : Standing) → GoesFrom (stage_by p s) (stage_by p (f s))) → (k p : ℕ) (s : Standing)
+only_stage : (c : ℕ) (f : Standing → Standing) → ((p : ℕ) (s : Standing) → GoesFrom (stage_by p s) (stage_by p (f s)))
+    → (k p : ℕ) (s : Standing)
     → GoesFrom (stage_by p s) (stage_by p (cond (k == c) (f s) s))
 only_stage c f h k p s = by (k == c)
   where
@@ -109,11 +110,14 @@ same_parity r s p q t u some a b (inr (inr h)) (inr (inr k)) = let x = h.1 in le
 pub same_next : (s p q : ℕ) (st : Standing) → GoesFrom s (stage_by p st) → GoesFrom s (stage_by q st) → stage_by p st ≡ stage_by q st
 same_next s p q standing.Apart h g = refl
 same_next s p q standing.Open h g =
-    ap (λ n. stage_by n standing.Open) (same_parity 2 s p q (stage_by p standing.Open) (stage_by q standing.Open) (omega arith) (omega arith) (omega arith) h g)
+    ap (λ n. stage_by n standing.Open)
+    (same_parity 2 s p q (stage_by p standing.Open) (stage_by q standing.Open) (omega arith) (omega arith) (omega arith) h g)
 same_next s p q standing.Signalled h g =
-    ap (λ n. stage_by n standing.Signalled) (same_parity 3 s p q (stage_by p standing.Signalled) (stage_by q standing.Signalled) (omega arith) (omega arith) (omega arith) h g)
+    ap (λ n. stage_by n standing.Signalled)
+    (same_parity 3 s p q (stage_by p standing.Signalled) (stage_by q standing.Signalled) (omega arith) (omega arith) (omega arith) h g)
 same_next s p q standing.Ahead h g =
-    ap (λ n. stage_by n standing.Ahead) (same_parity 1 s p q (stage_by p standing.Ahead) (stage_by q standing.Ahead) (omega arith) (omega arith) (omega arith) h g)
+    ap (λ n. stage_by n standing.Ahead)
+    (same_parity 1 s p q (stage_by p standing.Ahead) (stage_by q standing.Ahead) (omega arith) (omega arith) (omega arith) h g)
 
 -- a child is apart, or at its starter's stage
 abbrev pub IsGivenFrom : ℕ → ℕ → Type 0
@@ -127,7 +131,8 @@ some_given s t u a b (inr h) (inr g) = h ∙ sym g
 pub same_given : (s p q : ℕ) (st : Standing) → IsGivenFrom s (stage_by p st) → IsGivenFrom s (stage_by q st) → stage_by p st ≡ stage_by q st
 same_given s p q standing.Apart h g = refl
 same_given s p q standing.Open h g = some_given s (stage_by p standing.Open) (stage_by q standing.Open) (omega arith) (omega arith) h g
-same_given s p q standing.Signalled h g = some_given s (stage_by p standing.Signalled) (stage_by q standing.Signalled) (omega arith) (omega arith) h g
+same_given s p q standing.Signalled h g =
+    some_given s (stage_by p standing.Signalled) (stage_by q standing.Signalled) (omega arith) (omega arith) h g
 same_given s p q standing.Ahead h g = some_given s (stage_by p standing.Ahead) (stage_by q standing.Ahead) (omega arith) (omega arith) h g
 
 -- ---- all clocks
@@ -141,7 +146,8 @@ settled_in now [] k a = refl
 settled_in now (c ∷ cs) zero a = settled_stage now c a
 settled_in now (c ∷ cs) (suc k) a = settled_in now cs k a
 
-moved_other : (a b : ℕ) (f : ℕ → Standing → Standing) (cs : List Clock) (k : ℕ) → (b ≡ a → ⊥) → stage_in (moved a f cs) k b ≡ stage_in cs k b
+moved_other : (a b : ℕ) (f : ℕ → Standing → Standing) (cs : List Clock) (k : ℕ) → (b ≡ a → ⊥)
+    → stage_in (moved a f cs) k b ≡ stage_in cs k b
 moved_other a b f [] k differs = refl
 moved_other a b f (c ∷ cs) zero differs = ap (stage_by c.phase) (stand_other a b (f 0) c differs)
 moved_other a b f (c ∷ cs) (suc k) differs = moved_other a b (λ j. f (suc j)) cs k differs
@@ -150,11 +156,13 @@ moved_own : (a : ℕ) (f : ℕ → Standing → Standing) (cs : List Clock) (k :
     → ((j p : ℕ) (s : Standing) → GoesFrom (stage_by p s) (stage_by p (f j s))) → GoesFrom (stage_in cs k a) (stage_in (moved a f cs) k a)
 moved_own a f [] k inside all = inl refl
 moved_own a f (c ∷ cs) zero inside each =
-    subst (λ s. GoesFrom (stage_of c a) (stage_by c.phase s)) (sym (stand_same a (f 0) c (inside 0 c refl))) (each 0 c.phase (standing_of c a))
+    subst (λ s. GoesFrom (stage_of c a) (stage_by c.phase s)) (sym (stand_same a (f 0) c (inside 0 c refl)))
+    (each 0 c.phase (standing_of c a))
 moved_own a f (c ∷ cs) (suc k) inside each = moved_own a (λ j. f (suc j)) cs k (λ j x at. inside (suc j) x at) (λ j. each (suc j))
 
 -- where a clock is made
-pushed_other : (cs : List Clock) (new : Clock) (k b : ℕ) → standing_of new b ≡ standing.Apart → stage_in (cs ++ new ∷ []) k b ≡ stage_in cs k b
+pushed_other : (cs : List Clock) (new : Clock) (k b : ℕ) → standing_of new b ≡ standing.Apart
+    → stage_in (cs ++ new ∷ []) k b ≡ stage_in cs k b
 pushed_other [] new zero b apart = ap (stage_by new.phase) apart
 pushed_other [] new (suc k) b apart = refl
 pushed_other (c ∷ cs) new zero b apart = refl
@@ -167,7 +175,8 @@ pushed_own (c ∷ cs) new zero a opens = stays_there (stage_of c a)
 pushed_own (c ∷ cs) new (suc k) a opens = pushed_own cs new k a opens
 
 -- where an activity is started
-joined_old : (a b : ℕ) (given : ℕ → Bool) (cs : List Clock) (k : ℕ) → Each (λ j (c : Clock). b < length c.standings) cs → stage_in (joined a given cs) k b ≡ stage_in cs k b
+joined_old : (a b : ℕ) (given : ℕ → Bool) (cs : List Clock) (k : ℕ) → Each (λ j (c : Clock). b < length c.standings) cs
+    → stage_in (joined a given cs) k b ≡ stage_in cs k b
 joined_old a b given [] k inside = refl
 joined_old a b given (c ∷ cs) zero inside = ap (stage_by c.phase) (stand_joined_old a b (given 0) c (inside 0 c refl))
 joined_old a b given (c ∷ cs) (suc k) inside = joined_old a b (λ j. given (suc j)) cs k (λ j x at. inside (suc j) x at)
@@ -175,7 +184,8 @@ joined_old a b given (c ∷ cs) (suc k) inside = joined_old a b (λ j. given (su
 joined_new : (a n : ℕ) (given : ℕ → Bool) (cs : List Clock) (k : ℕ) → Each (λ j (c : Clock). length c.standings ≡ n) cs
     → IsGivenFrom (stage_in cs k a) (stage_in (joined a given cs) k n)
 joined_new a n given [] k wide = inl refl
-joined_new a n given (c ∷ cs) zero wide = subst (λ s. IsGivenFrom (stage_of c a) (stage_by c.phase s)) (sym (stand_joined_new a n (given 0) c (wide 0 c refl))) (by (given 0))
+joined_new a n given (c ∷ cs) zero wide =
+    subst (λ s. IsGivenFrom (stage_of c a) (stage_by c.phase s)) (sym (stand_joined_new a n (given 0) c (wide 0 c refl))) (by (given 0))
   where
     by : (q : Bool) → IsGivenFrom (stage_of c a) (stage_by c.phase (cond q (standing_of c a) standing.Apart))
     by true = inr refl
@@ -185,17 +195,19 @@ joined_new a n given (c ∷ cs) (suc k) wide = joined_new a n (λ j. given (suc 
 -- ---- phases
 
 -- of a clock, which never goes down
-abbrev pub phase_in : List Clock → ℕ → ℕ
+abbrev phase_in : List Clock → ℕ → ℕ
 phase_in cs k = option_map_or (λ (c : Clock). c.phase) (slice_get cs k) 0
 
 settled_phase : (now : ℕ) (c : Clock) → c.phase ≤ (settled_clock now c).phase
 settled_phase now c = by (is_ready c)
   where
-    by : (q : Bool) → c.phase ≤ (cond {A = Clock} q (record { phase = c.phase + 1; last = now; standings = map advanced c.standings }) c).phase
+    by : (q : Bool)
+        → c.phase ≤ (cond {A = Clock} q (record { phase = c.phase + 1; last = now; standings = map advanced c.standings }) c).phase
     by true = omega arith
     by false = omega arith
 
-moved_phase : (now a : ℕ) (f : ℕ → Standing → Standing) (cs : List Clock) (k : ℕ) → phase_in cs k ≤ phase_in (map (settled_clock now) (moved a f cs)) k
+moved_phase : (now a : ℕ) (f : ℕ → Standing → Standing) (cs : List Clock) (k : ℕ)
+    → phase_in cs k ≤ phase_in (map (settled_clock now) (moved a f cs)) k
 moved_phase now a f [] k = omega arith
 moved_phase now a f (c ∷ cs) zero = settled_phase now (moved_on a (f 0) c)
 moved_phase now a f (c ∷ cs) (suc k) = moved_phase now a (λ j. f (suc j)) cs k
@@ -205,7 +217,8 @@ pushed_phase now [] new k = omega arith
 pushed_phase now (c ∷ cs) new zero = settled_phase now c
 pushed_phase now (c ∷ cs) new (suc k) = pushed_phase now cs new k
 
-joined_phase : (now a : ℕ) (given : ℕ → Bool) (cs : List Clock) (k : ℕ) → phase_in cs k ≤ phase_in (map (settled_clock now) (joined a given cs)) k
+joined_phase : (now a : ℕ) (given : ℕ → Bool) (cs : List Clock) (k : ℕ)
+    → phase_in cs k ≤ phase_in (map (settled_clock now) (joined a given cs)) k
 joined_phase now a given [] k = omega arith
 joined_phase now a given (c ∷ cs) zero = settled_phase now (joined_on a (given 0) c)
 joined_phase now a given (c ∷ cs) (suc k) = joined_phase now a (λ j. given (suc j)) cs k
@@ -244,16 +257,20 @@ module _ (m : ModuleValue) (limits : IsWithinLimits m) (ok : IsAccepted m) where
 
       -- one more activity is one that was started
       many : is_start e ≡ true → length u.activities ≡ length w.activities → ⊥
-      many h same = let n : length u.activities ≡ length w.activities + 1 = grown m w u a e takes ∙ ap (λ q. length w.activities + cond q 1 0) h in omega arith
+      many h same = let n : length u.activities ≡ length w.activities + 1 = grown m w u a e takes
+          ∙ ap (λ q. length w.activities + cond q 1 0) h in omega arith
 
       by : Goes m w w a x.0 x.0.since (step m w a) (step m w a) → MovesOn w u a e
       by (IsNone g) = absurd (not_none (step m w a) u e takes g)
       by (DoesAct A) =
-          let us : u ≡ enacted w a A.next A.move A.writes = (same_step u (enacted w a A.next A.move A.writes) e A.e (sym takes ∙ A.here)).0 in
+          let us : u ≡ enacted w a A.next A.move A.writes =
+          (same_step u (enacted w a A.next A.move A.writes) e A.e (sym takes ∙ A.here)).0 in
           let f : ℕ → Standing → Standing = change_by A.move in
           record {
-            others = λ k b less differs. ap (λ (z : World). stage_at z k b) us ∙ settled_in now (moved a f w.clocks) k b ∙ moved_other a b f w.clocks k differs;
-            own = λ k. subst (λ t. GoesFrom (stage_at w k a) t) (sym (ap (λ (z : World). stage_at z k a) us ∙ settled_in now (moved a f w.clocks) k a))
+            others = λ k b less differs. ap (λ (z : World). stage_at z k b) us ∙ settled_in now (moved a f w.clocks) k b
+                ∙ moved_other a b f w.clocks k differs;
+            own = λ k. subst (λ t. GoesFrom (stage_at w k a) t)
+                (sym (ap (λ (z : World). stage_at z k a) us ∙ settled_in now (moved a f w.clocks) k a))
                 (moved_own a f w.clocks k (inside a there) (move_stage A.move));
             child = λ k h. absurd (many h (ap (λ (z : World). length z.activities) us ∙ length-set w.activities a A.next));
             phases = λ k. subst (λ (z : World). phase_of w k ≤ phase_of z k) (sym us) (moved_phase now a f w.clocks k);
@@ -265,18 +282,22 @@ module _ (m : ModuleValue) (limits : IsWithinLimits m) (ok : IsAccepted m) where
           record {
             others = λ k b less differs. ap (λ (z : World). stage_at z k b) us ∙ settled_in now (w.clocks ++ new ∷ []) k b
                 ∙ pushed_other w.clocks new k b (new_other (length w.activities) a b differs);
-            own = λ k. subst (λ t. GoesFrom (stage_at w k a) t) (sym (ap (λ (z : World). stage_at z k a) us ∙ settled_in now (w.clocks ++ new ∷ []) k a))
+            own = λ k. subst (λ t. GoesFrom (stage_at w k a) t)
+                (sym (ap (λ (z : World). stage_at z k a) us ∙ settled_in now (w.clocks ++ new ∷ []) k a))
                 (pushed_own w.clocks new k a (ap (stage_by 0) (new_same (length w.activities) a there)));
             child = λ k h. absurd (many h (ap (λ (z : World). length z.activities) us ∙ length-set w.activities a next));
             phases = λ k. subst (λ (z : World). phase_of w k ≤ phase_of z k) (sym us) (pushed_phase now w.clocks new k);
           }
       by (DoesStart S) =
-          let us : u ≡ started_world m w a x.0 S.unit S.values = (same_step u (started_world m w a x.0 S.unit S.values) e event.Spawned (sym takes ∙ S.here)).0 in
+          let us : u ≡ started_world m w a x.0 S.unit S.values =
+          (same_step u (started_world m w a x.0 S.unit S.values) e event.Spawned (sym takes ∙ S.here)).0 in
           let cs : List Clock = joined a (is_given S.values) w.clocks in
           record {
-            others = λ k b less differs. ap (λ (z : World). stage_at z k b) us ∙ settled_in now cs k b ∙ joined_old a b (is_given S.values) w.clocks k (inside b less);
+            others = λ k b less differs. ap (λ (z : World). stage_at z k b) us ∙ settled_in now cs k b
+                ∙ joined_old a b (is_given S.values) w.clocks k (inside b less);
             own = λ k. subst (λ t. GoesFrom (stage_at w k a) t)
-                (sym (ap (λ (z : World). stage_at z k a) us ∙ settled_in now cs k a ∙ joined_old a a (is_given S.values) w.clocks k (inside a there)))
+                (sym (ap (λ (z : World). stage_at z k a) us ∙ settled_in now cs k a
+                ∙ joined_old a a (is_given S.values) w.clocks k (inside a there)))
                 (stays_there (stage_at w k a));
             child = λ k h. subst (λ t. IsGivenFrom (stage_at w k a) t)
                 (sym (ap (λ (z : World). stage_at z k (length w.activities)) us ∙ settled_in now cs k (length w.activities)))
@@ -287,7 +308,8 @@ module _ (m : ModuleValue) (limits : IsWithinLimits m) (ok : IsAccepted m) where
 -- ---- where one stands, by its stage
 
 -- one that is registered and not signalled has its stage in this phase
-pub pending_stage : (cs : List Clock) (k a : ℕ) → is_pending (option_map_or (λ (c : Clock). standing_of c a) (slice_get cs k) standing.Apart) ≡ true
+pub pending_stage : (cs : List Clock) (k a : ℕ)
+    → is_pending (option_map_or (λ (c : Clock). standing_of c a) (slice_get cs k) standing.Apart) ≡ true
     → (suc (phase_in cs k + phase_in cs k) ≤ stage_in cs k a) × (stage_in cs k a ≤ suc (suc (phase_in cs k + phase_in cs k)))
 pending_stage cs k a h = of (slice_get cs k) h
   where
@@ -298,8 +320,10 @@ pending_stage cs k a h = of (slice_get cs k) h
     by p standing.Ahead g = (omega arith, omega arith)
 
     of : (o : Option Clock) → is_pending (option_map_or (λ (c : Clock). standing_of c a) o standing.Apart) ≡ true
-        → (suc (option_map_or (λ (c : Clock). c.phase) o 0 + option_map_or (λ (c : Clock). c.phase) o 0) ≤ option_map_or (λ (c : Clock). stage_of c a) o 0)
-        × (option_map_or (λ (c : Clock). stage_of c a) o 0 ≤ suc (suc (option_map_or (λ (c : Clock). c.phase) o 0 + option_map_or (λ (c : Clock). c.phase) o 0)))
+        → (suc (option_map_or (λ (c : Clock). c.phase) o 0 + option_map_or (λ (c : Clock). c.phase) o 0) ≤ option_map_or
+        (λ (c : Clock). stage_of c a) o 0)
+        × (option_map_or (λ (c : Clock). stage_of c a) o 0 ≤ suc
+        (suc (option_map_or (λ (c : Clock). c.phase) o 0 + option_map_or (λ (c : Clock). c.phase) o 0)))
     of None g = absurd (true≢false (sym g))
     of (Some c) g = by c.phase (standing_of c a) g
 
@@ -314,7 +338,8 @@ registered_stage cs k a h = of (slice_get cs k) h
     by p standing.Ahead g = omega arith
 
     of : (o : Option Clock) → 0 < option_map_or (λ (c : Clock). stage_of c a) o 0
-        → suc (option_map_or (λ (c : Clock). c.phase) o 0 + option_map_or (λ (c : Clock). c.phase) o 0) ≤ option_map_or (λ (c : Clock). stage_of c a) o 0
+        → suc (option_map_or (λ (c : Clock). c.phase) o 0 + option_map_or (λ (c : Clock). c.phase) o 0) ≤ option_map_or
+        (λ (c : Clock). stage_of c a) o 0
     of None g = absurd (omega arith)
     of (Some c) g = by c.phase (standing_of c a) g
 
@@ -322,7 +347,8 @@ registered_stage cs k a h = of (slice_get cs k) h
 pub unsignalled_stage : (cs : List Clock) (k a : ℕ) → list_any (λ (c : Clock). is_signalled (standing_of c a)) cs ≡ false
     → stage_in cs k a ≤ suc (suc (phase_in cs k + phase_in cs k))
 unsignalled_stage [] k a h = omega arith
-unsignalled_stage (c ∷ cs) zero a h = by c.phase (standing_of c a) (or_parts (is_signalled (standing_of c a)) (list_any (λ (d : Clock). is_signalled (standing_of d a)) cs) h).0
+unsignalled_stage (c ∷ cs) zero a h = by c.phase (standing_of c a)
+    (or_parts (is_signalled (standing_of c a)) (list_any (λ (d : Clock). is_signalled (standing_of d a)) cs) h).0
   where
     by : (p : ℕ) (s : Standing) → is_signalled s ≡ false → stage_by p s ≤ suc (suc (p + p))
     by p standing.Apart g = omega arith

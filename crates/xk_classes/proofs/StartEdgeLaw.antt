@@ -1,5 +1,5 @@
--- The start of an activity comes before its first step: in each schedule of a class who takes that step starts, by their numbers there, the same
--- activity with it; and who is there was started before.
+-- The start of an activity comes before its first step: in each schedule of a class who takes that step starts, by their numbers there,
+-- the same activity with it; and who is there was started before.
 use Rattle.std.proofs.Common.{◌≡◌, ℕ, zero, suc, ◌+◌, ◌-◌, ◌<◌, ◌≤◌, ◌==◌, ◌⊎◌, inl, inr, Bool, true, false, cond, List, [], ◌∷◌, ◌++◌, length, Option, Some, None, option_map, refl, sym, ap, ◌∙◌, arith, eq-eqb}
 use Rattle.std.specs.Prelude.{slice_get}
 use Rattle.std.proofs.lemmas.Bool.{cases_lt}
@@ -38,7 +38,8 @@ late_child : (m : ModuleValue) (list : List ℕ) (v z : World) (a j c : ℕ) →
 late_child m [] v z a j c h is = absurd (none-some c is)
 late_child m (d ∷ list) v z a j c h is =
     let x = first_step v z (step m v d) (run m list) h in
-    by x.0 x.1 (wider m v x.0 d x.1 x.2) (d == a) (is_start x.1) j (sym (ap (λ l. child_in (slice_get l j)) (by_first m list v x.0 d x.1 a x.2)) ∙ is)
+    by x.0 x.1 (wider m v x.0 d x.1 x.2) (d == a) (is_start x.1) j
+    (sym (ap (λ l. child_in (slice_get l j)) (by_first m list v x.0 d x.1 a x.2)) ∙ is)
     (λ k g. late_child m list x.0 z a k c x.3 g)
   where
     plain_deed : Event → Bool → Deed
@@ -64,7 +65,8 @@ early_child m (d ∷ list) v z a j c h is =
     plain_deed : Event → Bool → Deed
     plain_deed e r = (e, stand_of v d, cond r (Some (length v.activities)) None)
 
-    by : (u : World) (e : Event) → length u.activities ≤ length z.activities → (q r : Bool) → length u.activities ≡ length v.activities + cond r 1 0 → (j : ℕ)
+    by : (u : World) (e : Event) → length u.activities ≤ length z.activities → (q r : Bool)
+        → length u.activities ≡ length v.activities + cond r 1 0 → (j : ℕ)
         → child_in (slice_get (cond q (plain_deed e r ∷ deeds m list u a) (deeds m list u a)) j) ≡ Some c
         → ((k : ℕ) → child_in (slice_get (deeds m list u a) k) ≡ Some c → c < length z.activities) → c < length z.activities
     by u e wide true true more zero g later = let n = same_Some (length v.activities) c g in omega arith
@@ -83,14 +85,16 @@ start_deed m before after w here there a e leads takes starts =
     ∙ ap (λ q. child_in (slice_get (cond q (deed_of here a e ∷ deeds m after there a) (deeds m after there a)) 0)) (eq-eqb a a refl)
     ∙ ap (λ q. cond q (Some (length here.activities)) None) starts
 
-module _ (m : ModuleValue) (limits : IsWithinLimits m) (ok : IsAccepted m) (w z : World) (reached : IsReached m w) (s : List ℕ) (legal : run m s w ≡ Through z)
+module _ (m : ModuleValue) (limits : IsWithinLimits m) (ok : IsAccepted m) (w z : World) (reached : IsReached m w) (s : List ℕ)
+    (legal : run m s w ≡ Through z)
     (before after : List ℕ) (v : World) (member : AreOneClass m w s (before ++ after)) (leads : run m before w ≡ Through v) where
   -- all that one takes, before and after
   pub turns_all : (c : ℕ) → turns_of c s ≡ turns_of (name_in member c) before + turns_of (name_in member c) after
   turns_all c =
       let g : GoesAsWell m w s (before ++ after) member z = class_as_well m limits ok w z reached s (before ++ after) member legal in
       sym (turns_done m s w z c legal) ∙ sym (length-map (deeds m s w c) (deed_named (names_along member.between)))
-      ∙ ap length (sym (same_deeds m limits ok w z reached s (before ++ after) member legal c)) ∙ turns_done m (before ++ after) w g.last (name_in member c) g.legal
+      ∙ ap length (sym (same_deeds m limits ok w z reached s (before ++ after) member legal c))
+      ∙ turns_done m (before ++ after) w g.last (name_in member c) g.legal
       ∙ turns_on (name_in member c) before after
 
   -- the child of a deed, by its number there
@@ -100,12 +104,14 @@ module _ (m : ModuleValue) (limits : IsWithinLimits m) (ok : IsAccepted m) (w z 
       ap (λ l. child_in (slice_get l k)) (same_deeds m limits ok w z reached s (before ++ after) member legal a)
       ∙ ap child_in (get_map (deed_named (names_along member.between)) (deeds m s w a) k) ∙ by (slice_get (deeds m s w a) k) is
     where
-      by : (o : Option Deed) → child_in o ≡ Some c → child_in (option_map (deed_named (names_along member.between)) o) ≡ Some (name_in member c)
+      by : (o : Option Deed) → child_in o ≡ Some c
+          → child_in (option_map (deed_named (names_along member.between)) o) ≡ Some (name_in member c)
       by None h = absurd (none-some c h)
       by (Some d) h = ap (option_map (all_named (names_along member.between))) h
 
   -- if that deed is done there, the child is there
-  pub child_done : (a k c : ℕ) → child_in (slice_get (deeds m s w a) k) ≡ Some c → k < turns_of (name_in member a) before → name_in member c < length v.activities
+  pub child_done : (a k c : ℕ) → child_in (slice_get (deeds m s w a) k) ≡ Some c → k < turns_of (name_in member a) before
+      → name_in member c < length v.activities
   child_done a k c is less =
       early_child m before w v (name_in member a) k (name_in member c) leads
       (sym (ap (λ l. child_in (slice_get l k)) (done_on m before after w v (name_in member a) leads)
@@ -114,7 +120,8 @@ module _ (m : ModuleValue) (limits : IsWithinLimits m) (ok : IsAccepted m) (w z 
       ∙ child_there a k c is)
 
   -- and if the child is there, that deed is done
-  done_child : (a k c : ℕ) → child_in (slice_get (deeds m s w a) k) ≡ Some c → name_in member c < length v.activities → k < turns_of (name_in member a) before
+  done_child : (a k c : ℕ) → child_in (slice_get (deeds m s w a) k) ≡ Some c → name_in member c < length v.activities
+      → k < turns_of (name_in member a) before
   done_child a k c is inside = by (cases_lt k n)
     where
       n : ℕ
@@ -127,18 +134,22 @@ module _ (m : ModuleValue) (limits : IsWithinLimits m) (ok : IsAccepted m) (w z 
       late j e = late_child m after v g.last (name_in member a) j (name_in member c) (sym (run_behind m before after w v leads) ∙ g.legal)
           (sym (ap child_in (ap (slice_get (deeds m (before ++ after) w (name_in member a))) e
           ∙ ap (λ l. slice_get l (n + j)) (done_on m before after w v (name_in member a) leads)
-          ∙ get_back (deeds m before w (name_in member a)) (deeds m after v (name_in member a)) n j (turns_done m before w v (name_in member a) leads)))
+          ∙ get_back (deeds m before w (name_in member a)) (deeds m after v (name_in member a)) n j
+          (turns_done m before w v (name_in member a) leads)))
           ∙ child_there a k c is)
 
       by : (k < n) ⊎ (n ≤ k) → k < n
       by (inl h) = h
       by (inr h) = let l = late (k - n) (omega arith) in absurd (omega arith)
 
-  pub start_taken : (x y : StepName) → IsStart m w s x y → is_enabled m v (name_in member y.0) ≡ true → IsTaken before (name_in member x.0, x.1)
+  pub start_taken : (x y : StepName) → IsStart m w s x y → is_enabled m v (name_in member y.0) ≡ true
+      → IsTaken before (name_in member x.0, x.1)
   start_taken x y start enabled =
       let u = enabled_step (step m v (name_in member y.0)) enabled in
       let there = found_of m v (name_in member y.0) u.0 u.1 u.2 in
       done_child x.0 x.1 y.0
-      (ap (λ l. child_in (slice_get (deeds m l w x.0) x.1)) start.whole ∙ ap (λ k. child_in (slice_get (deeds m (start.before ++ x.0 ∷ start.after) w x.0) k)) (sym start.turn)
-      ∙ start_deed m start.before start.after w start.here start.there x.0 event.Spawned start.leads start.starts refl ∙ ap (λ n. Some n) (sym start.child))
+      (ap (λ l. child_in (slice_get (deeds m l w x.0) x.1)) start.whole
+      ∙ ap (λ k. child_in (slice_get (deeds m (start.before ++ x.0 ∷ start.after) w x.0) k)) (sym start.turn)
+      ∙ start_deed m start.before start.after w start.here start.there x.0 event.Spawned start.leads start.starts refl
+      ∙ ap (λ n. Some n) (sym start.child))
       (slice_get_within v.activities (name_in member y.0) there.0 there.1)

@@ -1,5 +1,5 @@
--- A start brings one activity more, and no other step does; a step leaves all other activities as they are; and who prints stands at an instruction
--- that prints.
+-- A start brings one activity more, and no other step does; a step leaves all other activities as they are; and who prints stands at an
+-- instruction that prints.
 use Rattle.std.proofs.Common.{◌≡◌, ℕ, ◌+◌, ◌≤◌, Bool, true, false, true≢false, cond, [], ◌∷◌, List, set, Some, None, length, refl, sym, ap, ◌∙◌, subst, arith, length-set}
 use Rattle.std.specs.Prelude.{slice_get, option_and_then}
 use Rattle.std.specs.Option.{option_map_or}
@@ -37,7 +37,8 @@ Grows w Blocked = Unit {0}
 Grows w (Wrong c) = Unit {0}
 Grows w (Stepped u e) = length u.activities ≡ length w.activities + cond (is_start e) 1 0
 
-pub grown : (m : ModuleValue) (w u : World) (a : ℕ) (e : Event) → step m w a ≡ Stepped u e → length u.activities ≡ length w.activities + cond (is_start e) 1 0
+pub grown : (m : ModuleValue) (w u : World) (a : ℕ) (e : Event) → step m w a ≡ Stepped u e
+    → length u.activities ≡ length w.activities + cond (is_start e) 1 0
 grown m w u a e h = subst (Grows w) h (step_kind (Grows w) m w a tt (λ c. tt) (λ act found lives. record {
   closed = λ n some nobody runs. kept (left act n);
   over = λ here none. kept (ended act);
@@ -46,7 +47,8 @@ grown m w u a e h = subst (Grows w) h (step_kind (Grows w) m w a tt (λ c. tt) (
   made = λ next goes. kept next;
   stored = λ s n f goes quiet. kept (onward act) ∙ ap (λ q. length w.activities + cond q 1 0) (sym (not_start f quiet));
   spawned = λ t args values at goes.
-      (let p = length_push (set w.activities a (onward act)) (child m a act t values) in let q = length-set w.activities a (onward act) in omega arith);
+      (let p = length_push (set w.activities a (onward act)) (child m a act t values) in
+      let q = length-set w.activities a (onward act) in omega arith);
 }))
   where
     kept : (next : Activity) → length (set w.activities a next) ≡ length w.activities + 0
@@ -66,7 +68,8 @@ run_wider m (d ∷ list) w v h =
 
 -- ---- others
 
-pub others_stay : (m : ModuleValue) (w u : World) (a b : ℕ) (e : Event) (act : Activity) → step m w a ≡ Stepped u e → (b ≡ a → ⊥) → slice_get w.activities b ≡ Some act
+pub others_stay : (m : ModuleValue) (w u : World) (a b : ℕ) (e : Event) (act : Activity) → step m w a ≡ Stepped u e → (b ≡ a → ⊥)
+    → slice_get w.activities b ≡ Some act
     → slice_get u.activities b ≡ Some act
 others_stay m w u a b e act h differs at = by (goes m w w a x.0 x.0.since (sees_itself m w a x.0 x.1))
   where
@@ -79,16 +82,21 @@ others_stay m w u a b e act h differs at = by (goes m w w a x.0 x.0.since (sees_
         ap (λ (z : World). slice_get z.activities b) (same_step u (enacted w a A.next A.move A.writes) e A.e (sym h ∙ A.here)).0
         ∙ get-set_other w.activities a b A.next differs ∙ at
     by (DoesMake M) =
-        ap (λ (z : World). slice_get z.activities b) (same_step u (made_world w a (maker x.0 M.d (length w.clocks))) e event.Made (sym h ∙ M.here)).0
+        ap (λ (z : World). slice_get z.activities b)
+        (same_step u (made_world w a (maker x.0 M.d (length w.clocks))) e event.Made (sym h ∙ M.here)).0
         ∙ get-set_other w.activities a b (maker x.0 M.d (length w.clocks)) differs ∙ at
     by (DoesStart S) =
-        ap (λ (z : World). slice_get z.activities b) (same_step u (started_world m w a x.0 S.unit S.values) e event.Spawned (sym h ∙ S.here)).0
-        ∙ get-append_left (set w.activities a (onward x.0)) (child m a x.0 S.unit S.values ∷ []) b act (get-set_other w.activities a b (onward x.0) differs ∙ at)
+        ap (λ (z : World). slice_get z.activities b)
+        (same_step u (started_world m w a x.0 S.unit S.values) e event.Spawned (sym h ∙ S.here)).0
+        ∙ get-append_left (set w.activities a (onward x.0)) (child m a x.0 S.unit S.values ∷ []) b act
+        (get-set_other w.activities a b (onward x.0) differs ∙ at)
 
 -- ---- prints
 
-pub print_says : (m : ModuleValue) (w u : World) (a : ℕ) (e : Event) → step m w a ≡ Stepped u e → is_print e ≡ true → option_map_or prints (next_instruction m w a) false ≡ true
-print_says m w u a e h is = by (option_map_or prints (next_instruction m w a) false) refl (goes m w w a x.0 x.0.since (sees_itself m w a x.0 x.1))
+pub print_says : (m : ModuleValue) (w u : World) (a : ℕ) (e : Event) → step m w a ≡ Stepped u e → is_print e ≡ true
+    → option_map_or prints (next_instruction m w a) false ≡ true
+print_says m w u a e h is =
+    by (option_map_or prints (next_instruction m w a) false) refl (goes m w w a x.0 x.0.since (sees_itself m w a x.0 x.1))
   where
     x : (z : Activity) × (slice_get w.activities a ≡ Some z)
     x = found_of m w a u e h
@@ -100,10 +108,14 @@ print_says m w u a e h is = by (option_map_or prints (next_instruction m w a) fa
     silent (event.Printed n) g q = none-some n (sym q)
     silent _ g q = true≢false (sym g)
 
-    by : (b : Bool) → option_map_or prints (next_instruction m w a) false ≡ b → Goes m w w a x.0 x.0.since (step m w a) (step m w a) → b ≡ true
+    by : (b : Bool) → option_map_or prints (next_instruction m w a) false ≡ b
+        → Goes m w w a x.0 x.0.since (step m w a) (step m w a) → b ≡ true
     by true g G = refl
     by false g (IsNone n) = absurd (not_none (step m w a) u e h n)
-    by false g (DoesAct A) = absurd (silent e is (ap number_printed (same_step u (enacted w a A.next A.move A.writes) e A.e (sym h ∙ A.here)).1
+    by false g (DoesAct A) =
+        absurd (silent e is (ap number_printed (same_step u (enacted w a A.next A.move A.writes) e A.e (sym h ∙ A.here)).1
         ∙ A.silent (sym (ap (λ o. option_map_or prints o false) here) ∙ g)))
-    by false g (DoesMake M) = absurd (true≢false (sym is ∙ ap is_print (same_step u (made_world w a (maker x.0 M.d (length w.clocks))) e event.Made (sym h ∙ M.here)).1))
-    by false g (DoesStart S) = absurd (true≢false (sym is ∙ ap is_print (same_step u (started_world m w a x.0 S.unit S.values) e event.Spawned (sym h ∙ S.here)).1))
+    by false g (DoesMake M) = absurd
+        (true≢false (sym is ∙ ap is_print (same_step u (made_world w a (maker x.0 M.d (length w.clocks))) e event.Made (sym h ∙ M.here)).1))
+    by false g (DoesStart S) = absurd
+        (true≢false (sym is ∙ ap is_print (same_step u (started_world m w a x.0 S.unit S.values) e event.Spawned (sym h ∙ S.here)).1))

@@ -20,8 +20,8 @@ pub record DoCommute (m : ModuleValue) (w : World) (a b : ℕ) : Type 0 where
   pub second_steps : step m w b ≡ Stepped second_world second_event
   pub apart : AreConflictFree m w a b
 
--- Of two schedules from world w, the second has two neighbours of the first in the other order, whose steps commute where the first comes to
--- them; what follows names activities as that order has them, by these exchanges.
+-- Of two schedules from world w, the second has two neighbours of the first in the other order, whose steps commute where the first
+-- comes to them; what follows names activities as that order has them, by these exchanges.
 pub record AreSwapped (m : ModuleValue) (w : World) (s : List ℕ) (names : List Exchange) (t : List ℕ) : Type 0 where
   pub before : List ℕ
   pub first : ℕ
@@ -64,12 +64,13 @@ pub record IsMet (m : ModuleValue) (w : World) (s : List ℕ) (v : World) : Type
   pub member : AreOneClass m w s (before ++ after)
   pub leads : run m before w ≡ Through v
 
--- No schedule of the class of s comes to a world where two activities can take steps that conflict on a shared number. (To look along s alone
--- isn't enough: proofs/Examples.antt.)
+-- No schedule of the class of s comes to a world where two activities can take steps that conflict on a shared number. (To look along s
+-- alone isn't enough: proofs/Examples.antt.)
 abbrev pub HasNoRace : ModuleValue → World → List ℕ → Type 0
-HasNoRace m w s = (v : World) → IsMet m w s v → (a b : ℕ) → (b ≡ a → ⊥) → is_enabled m v a ≡ true → is_enabled m v b ≡ true → AreConflictFree m v a b
+HasNoRace m w s = (v : World) → IsMet m w s v → (a b : ℕ) → (b ≡ a → ⊥)
+    → is_enabled m v a ≡ true → is_enabled m v b ≡ true → AreConflictFree m v a b
 
--- no schedule of the class of s comes to a world where two activities can take steps both of which have such an event
+-- No schedule of the class of s comes to a world where two activities can take steps both of whose events pass the test.
 abbrev pub HasNeverTwo : (Event → Bool) → ModuleValue → World → List ℕ → Type 0
 HasNeverTwo test m w s = (v : World) → IsMet m w s v → (a b : ℕ) → (b ≡ a → ⊥) → (x y : World) (e f : Event)
     → step m v a ≡ Stepped x e → step m v b ≡ Stepped y f → test e ≡ true → test f ≡ true → ⊥

@@ -1,8 +1,9 @@
 -- What orders the steps of a run in each schedule of its class.
 --
--- X10 Language Specification 2.4: an activity begins when it is started (chapter Activities, Spawning an activity); a finish waits for the end of
--- all that were started under it (chapter Activities, Finish); who advances waits until all that are registered on its clocks have resumed them or
--- have left (chapter Clocks, Advancing clocks). That these come before one another whatever the order of other steps is what we prove.
+-- X10 Language Specification 2.4: `async S` starts an activity that runs S (chapter Activities, Spawning an activity); a finish waits for
+-- the end of all that were started under it (Activities, Finish); who advances waits until all that are registered on its clocks have
+-- resumed them, or left them (chapter Clocks, Advancing clocks). That the one comes before the other in each schedule of a class, whatever
+-- the order of other steps, is what the laws say.
 use Rattle.std.specs.Prelude.{◌≡◌, ℕ, ◌<◌, ◌==◌, ◌⊎◌, Bool, true, false, List, [], ◌∷◌, ◌++◌, length, map, filter, slice_get, Option, Some, option_and_then}
 use Rattle.std.specs.Option.{option_map_or}
 use Rattle.xk_types.specs.declared.instr.Instr.{Instr}
@@ -20,8 +21,8 @@ use Rattle.xk_classes.specs.Classes.{AreOneClass, name_in}
 
 -- ---- steps by name
 
--- A step is named by who takes it, and by how many steps that one took before: so it has the same name in each schedule of a class, but for the
--- activity's number there.
+-- A step is named by who takes it, and by how many steps that one took before: so it has the same name in each schedule of a class, but
+-- for the activity's number there.
 abbrev pub StepName : Type 0
 StepName = ℕ × ℕ
 
@@ -33,12 +34,13 @@ turns_of a list = length (filter (λ b. b == a) list)
 abbrev pub IsTaken : List ℕ → StepName → Type 0
 IsTaken list x = x.1 < turns_of x.0 list
 
--- who takes each step, and the instruction that it carries out
+-- behind a step: this entry, and those of the rest; nothing behind one that can't be taken
 abbrev pub carried_on : ℕ × Option Instr → Outcome → (World → List (ℕ × Option Instr)) → List (ℕ × Option Instr)
 carried_on entry Blocked go = []
 carried_on entry (Wrong c) go = []
 carried_on entry (Stepped next e) go = entry ∷ go next
 
+-- who takes each step, and the instruction that it carries out
 abbrev pub carried : ModuleValue → List ℕ → World → List (ℕ × Option Instr)
 carried m [] w = []
 carried m (a ∷ list) w = carried_on (a, next_instruction m w a) (step m w a) (carried m list)
@@ -53,6 +55,7 @@ instruction_of m list w x = option_and_then (λ i. i) (slice_get (carried_by m l
 
 -- ---- what they do to shared numbers
 
+-- the instruction, if there is one, does so to shared number c
 abbrev pub does : (Instr → ℕ → Bool) → Option Instr → ℕ → Bool
 does test o c = option_map_or (λ i. test i c) o false
 
@@ -65,11 +68,11 @@ pub record AreApart (o p : Option Instr) : Type 0 where
 
 -- ---- edges
 
--- it is one of these edges, each from a step to a later one
+-- one of these edges leads from step x to step y
 abbrev pub IsEdge : List (StepName × StepName) → StepName → StepName → Type 0
 IsEdge edges x y = (k : ℕ) × (slice_get edges k ≡ Some (x, y))
 
--- an edge leads from one step to the other, or one activity takes them in this order
+-- an edge leads from step x to step y, or one activity takes both, x first
 abbrev pub IsLink : List (StepName × StepName) → StepName → StepName → Type 0
 IsLink edges x y = IsEdge edges x y ⊎ ((x.0 ≡ y.0) × (x.1 < y.1))
 
@@ -78,14 +81,16 @@ abbrev pub IsWay : List (StepName × StepName) → StepName → List StepName �
 IsWay edges x [] y = IsLink edges x y
 IsWay edges x (z ∷ zs) y = IsLink edges x z × IsWay edges z zs y
 
--- step x is before y, by edges and by the order of each activity's own steps
+-- step x is before step y, by edges and by the order of each activity's own steps
 pub record IsBefore (edges : List (StepName × StepName)) (x y : StepName) : Type 0 where
   pub between : List StepName
   pub way : IsWay edges x between y
 
--- Edges are sound if no schedule of the class of s comes to a world where the second step of an edge could be taken and the first one wasn't.
+-- Edges are sound if no schedule of the class of s comes to a world where the second step of an edge could be taken and the first one
+-- wasn't.
 abbrev pub AreSound : ModuleValue → World → List ℕ → List (StepName × StepName) → Type 0
-AreSound m w s edges = (x y : StepName) → IsEdge edges x y → (before after : List ℕ) (v : World) (member : AreOneClass m w s (before ++ after))
+AreSound m w s edges = (x y : StepName) → IsEdge edges x y
+    → (before after : List ℕ) (v : World) (member : AreOneClass m w s (before ++ after))
     → run m before w ≡ Through v → turns_of (name_in member y.0) before ≡ y.1 → is_enabled m v (name_in member y.0) ≡ true
     → IsTaken before (name_in member x.0, x.1)
 
@@ -104,7 +109,7 @@ abbrev pub prints : Instr → Bool
 prints (instr.Print x) = true
 prints _ = false
 
--- step x of the schedule starts an activity, and y is the first one that this takes
+-- Step x of the schedule starts an activity, and y is the first step that this one takes.
 pub record IsStart (m : ModuleValue) (w : World) (s : List ℕ) (x y : StepName) : Type 0 where
   pub before : List ℕ
   pub after : List ℕ
@@ -117,7 +122,7 @@ pub record IsStart (m : ModuleValue) (w : World) (s : List ℕ) (x y : StepName)
   pub child : y.0 ≡ length here.activities
   pub first : y.1 ≡ 0
 
--- step x of the schedule is taken by an activity under the finish that step y closes
+-- Step x of the schedule is taken by an activity under the finish that step y ends.
 pub record IsUnderFinish (m : ModuleValue) (w : World) (s : List ℕ) (x y : StepName) : Type 0 where
   pub before : List ℕ
   pub after : List ℕ
@@ -146,15 +151,16 @@ pub record IsTurn (m : ModuleValue) (w : World) (s : List ℕ) (x : StepName) : 
   pub leads : run m before w ≡ Through here
   pub turn : turns_of x.0 before ≡ x.1
 
--- where activity a stands on clock c; the clock's phase
+-- where activity a stands on clock c
 abbrev pub standing_on : World → ℕ → ℕ → Standing
 standing_on w a c = option_map_or (λ k. standing_of k a) (slice_get w.clocks c) standing.Apart
 
+-- the phase of clock c
 abbrev pub phase_of : World → ℕ → ℕ
 phase_of w c = option_map_or (λ k. k.phase) (slice_get w.clocks c) 0
 
--- Step y passes a clock that has advanced since step x, before which it waited for the activity that takes x: that one was registered, and hadn't
--- signalled.
+-- Step y passes an `advance` of an activity that is on a clock, which has advanced since step x. Where x was taken the clock still waited
+-- for the activity that takes x: that one was registered, and hadn't signalled.
 pub record IsPass (m : ModuleValue) (w : World) (s : List ℕ) (x y : StepName) : Type 0 where
   pub first : IsTurn m w s x
   pub second : IsTurn m w s y
@@ -165,6 +171,6 @@ pub record IsPass (m : ModuleValue) (w : World) (s : List ℕ) (x y : StepName) 
   pub awaited : is_pending (standing_on second.here y.0 clock) ≡ true
   pub advanced : phase_of first.here clock < phase_of second.here clock
 
--- what an edge stands for: a start, a finish, or a clock that was waited for
+-- what an edge may stand for: a start, the end of a finish, or an `advance`
 abbrev pub IsCause : ModuleValue → World → List ℕ → StepName → StepName → Type 0
 IsCause m w s x y = (IsStart m w s x y ⊎ IsUnderFinish m w s x y) ⊎ IsPass m w s x y

@@ -39,13 +39,13 @@ abbrev pub positions_of : ℕ → ℕ → List ℕ → List ℕ
 positions_of a n [] = []
 positions_of a n (b ∷ bs) = if b == a then n ∷ positions_of a (suc n) bs else positions_of a (suc n) bs
 
--- The activities that activity a starts, in their order. The first one that anybody starts has the number that comes after those of the activities
--- that there are, and each further one the next.
+-- The activities that activity a starts, in their order. The first one that anybody starts has the number that comes after those of the
+-- activities that there are, and each further one the next.
 abbrev pub started_by : ModuleValue → List ℕ → World → ℕ → List ℕ
 started_by m list w a = positions_of a (length w.activities) (starters m list w)
 
--- the activity to which a path leads from activity a, if it leads to one: its first number says which one of those that a starts, counted from 0,
--- and the rest of it leads on from there
+-- The activity to which a path leads from activity a, if it leads to one: its first number says which one of those that a starts, counted
+-- from 0, and the rest of it leads on from there.
 abbrev pub led_to : ModuleValue → List ℕ → World → ℕ → List ℕ → Option ℕ
 led_to m list w a [] = Some a
 led_to m list w a (k ∷ path) = option_and_then (λ b. led_to m list w b path) (slice_get (started_by m list w a) k)

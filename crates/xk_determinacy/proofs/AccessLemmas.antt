@@ -1,27 +1,24 @@
 -- Which instructions access shared numbers, and where two conflict; and that a step at such an instruction is told of as that access.
 use Rattle.std.proofs.Common.{◌≡◌, ℕ, ℤ, ◌==◌, ◌&&◌, Bool, true, false, true≢false, List, Some, None, Option, refl, sym, ap, ◌∙◌, subst, eqb-true, eq-eqb}
 use Rattle.std.specs.Prelude.{slice_get}
-use Rattle.std.specs.Int.{w64, int_wrapping_add}
 use Rattle.std.proofs.lemmas.Bool.{and_parts}
 use Rattle.xk_types.specs.declared.instr.Instr.{Instr}
 use Rattle.xk_types.specs.declared.instr.Instr.TheVariants as instr
-use Rattle.xk_types.specs.declared.world.Value.{Value}
-use Rattle.xk_types.specs.declared.world.Value.TheVariants as value
 use Rattle.xk_types.specs.declared.world.Event.{Event}
 use Rattle.xk_types.specs.declared.world.Event.TheVariants as event
 use Rattle.xk_types.specs.Acceptance.{IsAccepted}
 use Rattle.xk_types.specs.Code.{ModuleValue, IsWithinLimits}
 use Rattle.xk_types.specs.World.{Activity, World}
-use Rattle.xk_types.specs.Step.{slot_at, number_in, cell_in, put_in, done, none, stored, carried_out}
 use Rattle.xk_types.specs.Schedule.{IsReached}
 use Rattle.xk_squares.specs.Conflicts.{reads, puts, stores, next_instruction}
 use Rattle.xk_classes.specs.Edges.{AreApart, does}
+use Rattle.xk_classes.proofs.InstructionEventLemmas.{shows}
 use Rattle.xk_events.specs.Steps.{run_step}
 use Rattle.xk_races.specs.declared.deeds.Part.TheVariants as part
 use Rattle.xk_races.specs.Deeds.{cell_of, cell_at, deed, tell_deeds}
 use Rattle.xk_races.specs.Races.{clash}
 use Rattle.xk_determinacy.proofs.TurnLemmas.{Turn}
-use Rattle.xk_determinacy.proofs.StepDeedLemmas.{HasEvent, event_at, cell_is, IsDeedOf, first_deed}
+use Rattle.xk_determinacy.proofs.StepDeedLemmas.{event_at, cell_is, IsDeedOf, first_deed}
 
 -- ---- kinds of accesses
 
@@ -55,26 +52,25 @@ pub record Accesses (i : Instr) (c : ℕ) (k : Mode) : Type 0 where
   pub puts : (s : ℕ) → puts i s ≡ (sets k && (s == c))
   pub stores : (s : ℕ) → stores i s ≡ (changes k && (s == c))
   pub cell : cell_of (Some i) ≡ c
-  pub event : (m : ModuleValue) (w : World) (a : ℕ) (act : Activity) → HasEvent (λ e. e ≡ event_of k) (carried_out m w a act i)
+  pub event : (e : Event) → shows e i ≡ true → e ≡ event_of k
 
 -- it does, or accesses none
 pub data Sort (i : Instr) : Type 0 where
   Does : (c : ℕ) (k : Mode) → Accesses i c k → Sort i
   DoesNone : ((s : ℕ) → reads i s ≡ false) → ((s : ℕ) → puts i s ≡ false) → ((s : ℕ) → stores i s ≡ false) → Sort i
 
-get_event : (w : World) (a : ℕ) (act : Activity) (d : ℕ) (o : Option ℤ) (q : Option Value)
-    → HasEvent (λ e. e ≡ event.Got) (cell_in o (λ n. put_in q act d (value.Number n) (λ next. done w a next none event.Got)))
-get_event w a act d None q = tt
-get_event w a act d (Some n) None = tt
-get_event w a act d (Some n) (Some old) = refl
+-- what steps at these three have for events
+got : (d c : ℕ) (e : Event) → shows e (instr.Get d c) ≡ true → e ≡ event.Got
+got d c event.Got h = refl
+got d c _ h = absurd (true≢false (sym h))
 
-stored_event : (w : World) (a : ℕ) (act : Activity) (s : ℕ) (e : Event) (f : ℤ → ℤ → ℤ) (o : Option Value) (q : Option ℤ)
-    → HasEvent (λ g. g ≡ e) (number_in o (λ n. cell_in q (λ old. stored w a act s (f old n) e)))
-stored_event w a act s e f None q = tt
-stored_event w a act s e f (Some value.Unset) q = tt
-stored_event w a act s e f (Some (value.Clock c)) q = tt
-stored_event w a act s e f (Some (value.Number n)) None = tt
-stored_event w a act s e f (Some (value.Number n)) (Some old) = refl
+put : (c x : ℕ) (e : Event) → shows e (instr.Put c x) ≡ true → e ≡ event.Put
+put c x event.Put h = refl
+put c x _ h = absurd (true≢false (sym h))
+
+added : (c x : ℕ) (e : Event) → shows e (instr.AddTo c x) ≡ true → e ≡ event.Added
+added c x event.Added h = refl
+added c x _ h = absurd (true≢false (sym h))
 
 -- each instruction is of one sort
 pub sort_of : (i : Instr) → Sort i
@@ -83,28 +79,29 @@ sort_of (instr.Get d c) = Does c Gets (record {
   puts = λ s. refl;
   stores = λ s. refl;
   cell = refl;
-  event = λ m w a act. get_event w a act d (slice_get w.cells c) (slot_at act d);
+  event = got d c;
 })
 sort_of (instr.Put c x) = Does c Puts (record {
   reads = λ s. refl;
   puts = λ s. refl;
   stores = λ s. refl;
   cell = refl;
-  event = λ m w a act. stored_event w a act c event.Put (λ old n. n) (slot_at act x) (slice_get w.cells c);
+  event = put c x;
 })
 sort_of (instr.AddTo c x) = Does c Adds (record {
   reads = λ s. refl;
   puts = λ s. refl;
   stores = λ s. refl;
   cell = refl;
-  event = λ m w a act. stored_event w a act c event.Added (int_wrapping_add w64) (slot_at act x) (slice_get w.cells c);
+  event = added c x;
 })
 sort_of _ = DoesNone (λ s. refl) (λ s. refl) (λ s. refl)
 
 -- ---- where two instructions are apart
 
 -- an instruction that accesses none conflicts with none
-pub apart_none : (o p : Option Instr) → ((s : ℕ) → does reads o s ≡ false) → ((s : ℕ) → does puts o s ≡ false) → ((s : ℕ) → does stores o s ≡ false) → AreApart o p
+pub apart_none : (o p : Option Instr) → ((s : ℕ) → does reads o s ≡ false) → ((s : ℕ) → does puts o s ≡ false)
+    → ((s : ℕ) → does stores o s ≡ false) → AreApart o p
 apart_none o p none_read none_put none_stored = record {
   second_reads = λ c h g. true≢false (sym h ∙ none_stored c);
   first_reads = λ c h g. true≢false (sym g ∙ none_read c);
@@ -114,16 +111,21 @@ apart_none o p none_read none_put none_stored = record {
 
 -- the other way round
 pub apart_turned : (o p : Option Instr) → AreApart o p → AreApart p o
-apart_turned o p a = record { second_reads = a.first_reads; first_reads = a.second_reads; first_puts = a.second_puts; second_puts = a.first_puts }
+apart_turned o p a =
+    record { second_reads = a.first_reads; first_reads = a.second_reads; first_puts = a.second_puts; second_puts = a.first_puts }
 
 -- two accesses of shared number s are so if they are both to c
 pub apart_by : (i j : Instr) (c d : ℕ) (k l : Mode) → Accesses i c k → Accesses j d l → (c ≡ d → clash (event_of k) (event_of l) ≡ false)
     → AreApart (Some i) (Some j)
 apart_by i j c d k l p q free = record {
-  second_reads = λ s h g. clashing s changes gets (reading k l) (parts (changes k) (s == c) (sym (p.stores s) ∙ h)) (parts (gets l) (s == d) (sym (q.reads s) ∙ g));
-  first_reads = λ s h g. clashing s gets changes (read k l) (parts (gets k) (s == c) (sym (p.reads s) ∙ g)) (parts (changes l) (s == d) (sym (q.stores s) ∙ h));
-  first_puts = λ s h g. clashing s sets changes (putting k l) (parts (sets k) (s == c) (sym (p.puts s) ∙ h)) (parts (changes l) (s == d) (sym (q.stores s) ∙ g));
-  second_puts = λ s h g. clashing s changes sets (put' k l) (parts (changes k) (s == c) (sym (p.stores s) ∙ g)) (parts (sets l) (s == d) (sym (q.puts s) ∙ h));
+  second_reads = λ s h g. clashing s changes gets (reading k l) (parts (changes k) (s == c) (sym (p.stores s) ∙ h))
+      (parts (gets l) (s == d) (sym (q.reads s) ∙ g));
+  first_reads = λ s h g. clashing s gets changes (read k l) (parts (gets k) (s == c) (sym (p.reads s) ∙ g))
+      (parts (changes l) (s == d) (sym (q.stores s) ∙ h));
+  first_puts = λ s h g. clashing s sets changes (putting k l) (parts (sets k) (s == c) (sym (p.puts s) ∙ h))
+      (parts (changes l) (s == d) (sym (q.stores s) ∙ g));
+  second_puts = λ s h g. clashing s changes sets (put' k l) (parts (changes k) (s == c) (sym (p.stores s) ∙ g))
+      (parts (sets l) (s == d) (sym (q.puts s) ∙ h));
 }
   where
     parts : (a b : Bool) → (a && b) ≡ true → (a ≡ true) × (b ≡ true)
@@ -159,7 +161,8 @@ apart_by i j c d k l p q free = record {
     put' Adds Gets h g = absurd (true≢false (sym g))
     put' Adds Adds h g = absurd (true≢false (sym g))
 
-    clashing : (s : ℕ) (f g : Mode → Bool) → (f k ≡ true → g l ≡ true → clash (event_of k) (event_of l) ≡ true) → (f k ≡ true) × ((s == c) ≡ true)
+    clashing : (s : ℕ) (f g : Mode → Bool) → (f k ≡ true → g l ≡ true → clash (event_of k) (event_of l) ≡ true)
+        → (f k ≡ true) × ((s == c) ≡ true)
         → (g l ≡ true) × ((s == d) ≡ true) → ⊥
     clashing s f g both x y = true≢false (sym (both x.0 y.0) ∙ free (sym (eqb-true s c x.1) ∙ eqb-true s d y.1))
 
@@ -180,7 +183,8 @@ pub record IsAccess (m : ModuleValue) (w : World) (s : List ℕ) (t : Turn m w s
   pub deed : IsDeedOf m w s t (part.Access c)
 
 -- so a step at an instruction that accesses a shared number
-pub access_of : (m : ModuleValue) (limits : IsWithinLimits m) (ok : IsAccepted m) (w : World) (s : List ℕ) (t : Turn m w s) → IsReached m t.here
+pub access_of : (m : ModuleValue) (limits : IsWithinLimits m) (ok : IsAccepted m) (w : World) (s : List ℕ) (t : Turn m w s)
+    → IsReached m t.here
     → (i : Instr) (c : ℕ) (k : Mode) → next_instruction m t.here t.act ≡ Some i → Accesses i c k → IsAccess m w s t c k
 access_of m limits ok w s t reached i c k next p = record {
   event = seen;
@@ -191,7 +195,7 @@ access_of m limits ok w s t reached i c k next p = record {
 }
   where
     seen : t.e ≡ event_of k
-    seen = event_at m limits ok t.here t.there t.act t.e reached t.takes i next (not_advance i c k p) (λ e. e ≡ event_of k) (λ act. p.event m t.here t.act act)
+    seen = p.event t.e (event_at m limits ok t.here t.there t.act t.e reached t.takes i next (not_advance i c k p))
 
     cell : cell_at m (run_step t.act t.here t.there t.e) ≡ c
     cell = cell_is m w s t i next ∙ p.cell

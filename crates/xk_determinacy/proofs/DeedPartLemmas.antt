@@ -20,7 +20,7 @@ use Rattle.xk_determinacy.proofs.TurnLemmas.{get_split}
 -- ---- lists
 
 -- it holds of each
-abbrev pub Every : {X : Type 0} → (X → Type 0) → List X → Type 0
+abbrev Every : {X : Type 0} → (X → Type 0) → List X → Type 0
 Every P xs = Each (λ i x. P x) xs
 
 every_none : {X : Type 0} (P : X → Type 0) → Every P []
@@ -40,7 +40,8 @@ every_append P xs ys p q i x h = by (get_split xs ys i x h)
     by (inl a) = p i x a.1
     by (inr a) = q a.0 x a.2
 
-every_flat : {X Y : Type 0} (Q : X → Type 0) (P : Y → Type 0) (f : X → List Y) (xs : List X) → Every Q xs → ((x : X) → Q x → Every P (f x)) → Every P (flat_map f xs)
+every_flat : {X Y : Type 0} (Q : X → Type 0) (P : Y → Type 0) (f : X → List Y) (xs : List X) → Every Q xs → ((x : X) → Q x → Every P (f x))
+    → Every P (flat_map f xs)
 every_flat Q P f [] q p = every_none P
 every_flat Q P f (x ∷ xs) q p = every_append P (f x) (flat_map f xs) (p x (q 0 x refl)) (every_flat Q P f xs (λ i y at. q (suc i) y at) p)
 
@@ -56,7 +57,8 @@ every_filter : (test : ℕ → Bool) (xs : List ℕ) → Every (λ x. test x ≡
 every_filter test [] = every_none (λ x. test x ≡ true)
 every_filter test (x ∷ xs) = by (test x) refl (every_filter test xs)
   where
-    by : (b : Bool) → test x ≡ b → Every (λ y. test y ≡ true) (filter test xs) → Every (λ y. test y ≡ true) (if b then x ∷ filter test xs else filter test xs)
+    by : (b : Bool) → test x ≡ b → Every (λ y. test y ≡ true) (filter test xs)
+        → Every (λ y. test y ≡ true) (if b then x ∷ filter test xs else filter test xs)
     by true e rest zero y h = ap test (sym (same_Some x y h)) ∙ e
     by true e rest (suc i) y h = rest i y h
     by false e rest i y h = rest i y h
@@ -68,8 +70,9 @@ abbrev pub is_pass : Event → Bool
 is_pass event.Passed = true
 is_pass _ = false
 
--- What a part says of the step of activity a from world w to world v with this event, of which it is number i: a start is of the next activity; who
--- signals or passes a clock was awaited there; a clock that advances was seen to; and an end, a close or an access stands first.
+-- What a part says of the step of activity a from world w to world v with this event, of which it is number i: a start is of the next
+-- activity; who signals or passes a clock was awaited there; a clock that advances was seen to; and an end, a close or an access stands
+-- first.
 abbrev pub Says : ModuleValue → RunStep → World → World → Event → ℕ → Part → Type 0
 Says m s w v e i (part.Start b) = (e ≡ event.Spawned) × (b ≡ length w.activities)
 Says m s w v e i (part.Signal c) = awaits w s.act c ≡ true
@@ -92,11 +95,11 @@ at_clock _ = false
 
 module _ (m : ModuleValue) (a : ℕ) (w v : World) where
   -- the step, as deeds tell of it
-  abbrev pub of_step : Event → RunStep
+  abbrev of_step : Event → RunStep
   of_step e = run_step a w v e
 
   -- one at a clock, whatever its number
-  abbrev pub IsClockPart : Event → Deed → Type 0
+  abbrev IsClockPart : Event → Deed → Type 0
   IsClockPart e d = (d.step ≡ of_step e) × (at_clock d.part ≡ true) × Says m (of_step e) w v e 0 d.part
 
   awaited : Every (λ c. awaits w a c ≡ true) (awaiting w a)
@@ -104,7 +107,8 @@ module _ (m : ModuleValue) (a : ℕ) (w v : World) where
       (λ k. every_if (λ c. awaits w a c ≡ true) (awaits w a k) k (λ e. e))
 
   signals_parts : (e : Event) → is_pass e ≡ false → Every (IsClockPart e) (signals v (of_step e) (awaiting w a))
-  signals_parts e not_pass = every_append (IsClockPart e) (flat_map (signal v (of_step e)) (awaiting w a)) (flat_map (advance (of_step e)) (advanced_now v))
+  signals_parts e not_pass =
+      every_append (IsClockPart e) (flat_map (signal v (of_step e)) (awaiting w a)) (flat_map (advance (of_step e)) (advanced_now v))
       (every_flat (λ c. awaits w a c ≡ true) (IsClockPart e) (signal v (of_step e)) (awaiting w a) awaited
       (λ c is. every_if (IsClockPart e) (gives_way v a c) (deed (of_step e) (part.Signal c)) (λ h. (refl, refl, is))))
       (every_flat (λ c. has_advanced v c ≡ true) (IsClockPart e) (advance (of_step e)) (advanced_now v) (every_filter (has_advanced v) _)
@@ -115,7 +119,8 @@ module _ (m : ModuleValue) (a : ℕ) (w v : World) where
   clock_parts event.Resumed = signals_parts event.Resumed refl
   clock_parts event.Dropped = signals_parts event.Dropped refl
   clock_parts event.Arrived = signals_parts event.Arrived refl
-  clock_parts event.Passed = every_flat (λ c. awaits w a c ≡ true) (IsClockPart event.Passed) (pass (of_step event.Passed)) (awaiting w a) awaited
+  clock_parts event.Passed =
+      every_flat (λ c. awaits w a c ≡ true) (IsClockPart event.Passed) (pass (of_step event.Passed)) (awaiting w a) awaited
       (λ c is. every_one (IsClockPart event.Passed) (deed (of_step event.Passed) (part.Pass c)) (refl, refl, (refl, is)))
   clock_parts event.Ended = signals_parts event.Ended refl
   clock_parts event.Local = every_none (IsClockPart event.Local)

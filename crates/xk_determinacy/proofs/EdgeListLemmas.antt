@@ -15,22 +15,27 @@ Edges = List (StepName × StepName)
 
 -- ---- edges and ways
 
+-- where there are no edges, each has a cause
+pub no_cause : (m : ModuleValue) (w : World) (s : List ℕ) (x y : StepName) → IsEdge [] x y → IsCause m w s x y
+no_cause m w s x y h = absurd (none-some (x, y) h.1)
+
 -- an edge of one of two lists is one of both, and the other way round
-pub edge_left : (xs ys : Edges) (x y : StepName) → IsEdge xs x y → IsEdge (xs ++ ys) x y
+edge_left : (xs ys : Edges) (x y : StepName) → IsEdge xs x y → IsEdge (xs ++ ys) x y
 edge_left xs ys x y h = (h.0, get-append_left xs ys h.0 (x, y) h.1)
 
-pub edge_right : (xs ys : Edges) (x y : StepName) → IsEdge ys x y → IsEdge (xs ++ ys) x y
+edge_right : (xs ys : Edges) (x y : StepName) → IsEdge ys x y → IsEdge (xs ++ ys) x y
 edge_right xs ys x y h = (length xs + h.0, get_right xs ys h.0 ∙ h.1)
 
-pub edge_split : (xs ys : Edges) (x y : StepName) → IsEdge (xs ++ ys) x y → IsEdge xs x y ⊎ IsEdge ys x y
+edge_split : (xs ys : Edges) (x y : StepName) → IsEdge (xs ++ ys) x y → IsEdge xs x y ⊎ IsEdge ys x y
 edge_split xs ys x y h = by (get_split xs ys h.0 (x, y) h.1)
   where
-    by : ((h.0 < length xs) × (slice_get xs h.0 ≡ Some (x, y))) ⊎ ((j : ℕ) × (h.0 ≡ length xs + j) × (slice_get ys j ≡ Some (x, y))) → IsEdge xs x y ⊎ IsEdge ys x y
+    by : ((h.0 < length xs) × (slice_get xs h.0 ≡ Some (x, y))) ⊎ ((j : ℕ) × (h.0 ≡ length xs + j) × (slice_get ys j ≡ Some (x, y)))
+        → IsEdge xs x y ⊎ IsEdge ys x y
     by (inl p) = inl (h.0, p.1)
     by (inr p) = inr (p.0, p.2)
 
 -- the second list has each edge of the first
-abbrev pub HasAll : Edges → Edges → Type 0
+abbrev HasAll : Edges → Edges → Type 0
 HasAll xs ys = (x y : StepName) → IsEdge xs x y → IsEdge ys x y
 
 link_more : (xs ys : Edges) → HasAll xs ys → (x y : StepName) → IsLink xs x y → IsLink ys x y
@@ -41,7 +46,8 @@ way_more : (xs ys : Edges) → HasAll xs ys → (x : StepName) (zs : List StepNa
 way_more xs ys has x [] y way = link_more xs ys has x y way
 way_more xs ys has x (z ∷ zs) y way = (link_more xs ys has x z way.0, way_more xs ys has z zs y way.1)
 
-way_on : (xs : Edges) (x : StepName) (zs : List StepName) (y : StepName) (us : List StepName) (v : StepName) → IsWay xs x zs y → IsWay xs y us v
+way_on : (xs : Edges) (x : StepName) (zs : List StepName) (y : StepName) (us : List StepName) (v : StepName) → IsWay xs x zs y
+    → IsWay xs y us v
     → IsWay xs x (zs ++ y ∷ us) v
 way_on xs x [] y us v way rest = (way, rest)
 way_on xs x (z ∷ zs) y us v way rest = (way.0, way_on xs z zs y us v way.1 rest)
@@ -80,7 +86,7 @@ module _ (m : ModuleValue) (w : World) (s : List ℕ) where
   pub led_own : (x y : StepName) → x.0 ≡ y.0 → x.1 < y.1 → IsLed m w s x y
   led_own x y same less = record {
     edges = [];
-    causes = λ u v h. absurd (none-some (u, v) h.1);
+    causes = no_cause m w s;
     before = record { between = []; way = inr (same, less) };
   }
 
@@ -120,7 +126,8 @@ abbrev pub Grows : (Edges → Type 0) → Type 0
 Grows P = (xs ys : Edges) → HasAll xs ys → P xs → P ys
 
 -- edges for two give edges for both
-both : (m : ModuleValue) (w : World) (s : List ℕ) (P Q R : Edges → Type 0) → Grows P → Grows Q → ((edges : Edges) → P edges → Q edges → R edges)
+both : (m : ModuleValue) (w : World) (s : List ℕ) (P Q R : Edges → Type 0) → Grows P → Grows Q
+    → ((edges : Edges) → P edges → Q edges → R edges)
     → Gathered m w s P → Gathered m w s Q → Gathered m w s R
 both m w s P Q R more grows to p q = record {
   edges = p.edges ++ q.edges;
@@ -134,11 +141,13 @@ both m w s P Q R more grows to p q = record {
     of x y (inr h) = q.causes x y h
 
 -- and edges for each number below this one give edges for all
-gather : (m : ModuleValue) (w : World) (s : List ℕ) (P : ℕ → Edges → Type 0) → ((k : ℕ) → Grows (P k)) → (n : ℕ) → ((k : ℕ) → Gathered m w s (P k))
+gather : (m : ModuleValue) (w : World) (s : List ℕ) (P : ℕ → Edges → Type 0) → ((k : ℕ) → Grows (P k)) → (n : ℕ)
+    → ((k : ℕ) → Gathered m w s (P k))
     → Gathered m w s (λ edges. (k : ℕ) → k < n → P k edges)
-gather m w s P grows zero each = record { edges = []; causes = λ x y h. absurd (none-some (x, y) h.1); holds = λ k less. absurd (omega (arith, less)) }
+gather m w s P grows zero each = record { edges = []; causes = no_cause m w s; holds = λ k less. absurd (omega (arith, less)) }
 gather m w s P grows (suc n) each =
-    both m w s (λ edges. (k : ℕ) → k < n → P k edges) (P n) (λ edges. (k : ℕ) → k < suc n → P k edges) (λ xs ys has h k less. grows k xs ys has (h k less)) (grows n)
+    both m w s (λ edges. (k : ℕ) → k < n → P k edges) (P n) (λ edges. (k : ℕ) → k < suc n → P k edges)
+    (λ xs ys has h k less. grows k xs ys has (h k less)) (grows n)
     (λ edges h g k less. by edges h g k less (cases_lt k n)) (gather m w s P grows n each) (each n)
   where
     by : (edges : Edges) → ((k : ℕ) → k < n → P k edges) → P n edges → (k : ℕ) → k < suc n → (k < n) ⊎ (n ≤ k) → P k edges
@@ -146,7 +155,8 @@ gather m w s P grows (suc n) each =
     by edges h g k less (inr upper) = let is : n ≡ k = omega (arith, less, upper) in subst (λ j. P j edges) is g
 
 -- so edges for each pair of steps give edges for all pairs of those with such names
-pub gather_pairs : (m : ModuleValue) (w : World) (s : List ℕ) (P : StepName → StepName → Edges → Type 0) → ((x y : StepName) → Grows (P x y)) → (acts turns : ℕ)
+pub gather_pairs : (m : ModuleValue) (w : World) (s : List ℕ) (P : StepName → StepName → Edges → Type 0)
+    → ((x y : StepName) → Grows (P x y)) → (acts turns : ℕ)
     → ((x y : StepName) → Gathered m w s (P x y))
     → Gathered m w s (λ edges. (a : ℕ) → a < acts → (k : ℕ) → k < turns → (b : ℕ) → b < acts → (l : ℕ) → l < turns → P (a, k) (b, l) edges)
 gather_pairs m w s P grows acts turns each =

@@ -37,7 +37,8 @@ log_of list = map one_step_of list
 
 abbrev reader : UnitValue
 reader = main_with 2
-    (instr.Make 0 ∷ instr.Spawn 1 (0 ∷ []) ∷ instr.Finish 4 ∷ instr.Spawn 2 [] ∷ instr.EndFinish 2 ∷ instr.Get 1 1 ∷ instr.Print 1 ∷ instr.Advance
+    (instr.Make 0 ∷ instr.Spawn 1 (0 ∷ []) ∷ instr.Finish 4 ∷ instr.Spawn 2 [] ∷ instr.EndFinish 2 ∷ instr.Get 1 1
+    ∷ instr.Print 1 ∷ instr.Advance
     ∷ instr.Get 1 0 ∷ instr.Print 1 ∷ instr.Ret ∷ [])
 
 abbrev clocked : UnitValue
@@ -72,7 +73,8 @@ meeting_kinds (suc (suc unit)) = number_kinds
 
 meeting_accepted : IsAccepted meeting
 unfolding Rattle.xk_types.specs.Bound.total_within Rattle.xk_types.specs.Bound.chain_within
-meeting_accepted = accepted_by meeting meeting_kinds refl refl (record { steps = omega arith; activities = omega arith; clocks = omega arith; stack = omega arith })
+meeting_accepted = accepted_by meeting meeting_kinds refl refl
+    (record { steps = omega arith; activities = omega arith; clocks = omega arith; stack = omega arith })
 
 meeting_limits : IsWithinLimits meeting
 meeting_limits = record {
@@ -80,11 +82,26 @@ meeting_limits = record {
   units = omega arith;
   shared = omega arith;
   each = All-cons IsUnitWithinLimits reader (clocked ∷ awaited ∷ [])
-      (record { slots = omega arith; params = omega arith; code = omega arith; arguments = All-from_recursion HasFewArguments reader.code (omega arith) })
+      (record {
+        slots = omega arith;
+        params = omega arith;
+        code = omega arith;
+        arguments = All-from_recursion HasFewArguments reader.code (omega arith);
+      })
       (All-cons IsUnitWithinLimits clocked (awaited ∷ [])
-      (record { slots = omega arith; params = omega arith; code = omega arith; arguments = All-from_recursion HasFewArguments clocked.code (omega arith) })
+      (record {
+        slots = omega arith;
+        params = omega arith;
+        code = omega arith;
+        arguments = All-from_recursion HasFewArguments clocked.code (omega arith);
+      })
       (All-cons IsUnitWithinLimits awaited []
-      (record { slots = omega arith; params = omega arith; code = omega arith; arguments = All-from_recursion HasFewArguments awaited.code (omega arith) })
+      (record {
+        slots = omega arith;
+        params = omega arith;
+        code = omega arith;
+        arguments = All-from_recursion HasFewArguments awaited.code (omega arith);
+      })
       (All-nil IsUnitWithinLimits)));
 }
 
@@ -115,7 +132,8 @@ met_prints = refl
 -- so every run by which all have ended prints 7 and 5
 meeting_prints : (t : List ℕ) (y : World) → IsWholeRun meeting [] t y → printed meeting t (fresh meeting) ≡ pos 7 ∷ pos 5 ∷ []
 meeting_prints t y other =
-    sym (prints_every meeting [] meeting_limits meeting_accepted refl (log_of met) (last meeting met) met_whole met_free met_ordered t y other)
+    sym (prints_every meeting [] meeting_limits meeting_accepted refl (log_of met)
+    (last meeting met) met_whole met_free met_ordered t y other)
     ∙ met_prints
 
 -- ---- main starts one that writes a number, and reads it: a race, whoever comes first
@@ -127,7 +145,8 @@ racing = record {
       ∷ body_with [] 1 (instr.Lit 0 (pos 5) ∷ instr.Put 0 0 ∷ instr.Ret ∷ []) ∷ [];
 }
 
-racing_told : (is_race_free racing [] (log_of (0 ∷ 1 ∷ 1 ∷ 1 ∷ 0 ∷ 0 ∷ 0 ∷ [])) ≡ false) × (is_race_free racing [] (log_of (0 ∷ 0 ∷ 0 ∷ 0 ∷ 1 ∷ 1 ∷ 1 ∷ [])) ≡ false)
+racing_told : (is_race_free racing [] (log_of (0 ∷ 1 ∷ 1 ∷ 1 ∷ 0 ∷ 0 ∷ 0 ∷ [])) ≡ false)
+    × (is_race_free racing [] (log_of (0 ∷ 0 ∷ 0 ∷ 0 ∷ 1 ∷ 1 ∷ 1 ∷ [])) ≡ false)
 racing_told = (refl, refl)
 
 -- A run that hasn't ended says nothing: none is told of this one, where both could come next.

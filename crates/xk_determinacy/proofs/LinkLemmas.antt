@@ -49,7 +49,8 @@ take_front xs ys k is = ap (λ n. take n (xs ++ ys)) is ∙ by xs
 awaited_pending : (w : World) (a c : ℕ) → awaits w a c ≡ true → is_pending (standing_on w a c) ≡ true
 awaited_pending w a c h =
     by (slice_get w.clocks c)
-    (and_parts (nat_lt a (length w.activities)) (option_map_or (λ (k : Clock). is_pending (standing_of k a)) (slice_get w.clocks c) false) h).1
+    (and_parts (nat_lt a (length w.activities))
+    (option_map_or (λ (k : Clock). is_pending (standing_of k a)) (slice_get w.clocks c) false) h).1
   where
     by : (o : Option Clock) → option_map_or (λ (k : Clock). is_pending (standing_of k a)) o false ≡ true
         → is_pending (option_map_or (λ (k : Clock). standing_of k a) o standing.Apart) ≡ true
@@ -58,7 +59,8 @@ awaited_pending w a c h =
 
 -- ---- deeds
 
-module _ (m : ModuleValue) (args : List ℤ) (limits : IsWithinLimits m) (ok : IsAccepted m) (taken : AreArguments m args) (s : List ℕ) (z : World)
+module _ (m : ModuleValue) (args : List ℤ) (limits : IsWithinLimits m) (ok : IsAccepted m) (taken : AreArguments m args)
+    (s : List ℕ) (z : World)
     (legal : run m s (opening m args) ≡ Through z) where
   abbrev w : World
   w = opening m args
@@ -73,7 +75,8 @@ module _ (m : ModuleValue) (args : List ℤ) (limits : IsWithinLimits m) (ok : I
   start = nothing_known.scopes
 
   -- what a deed says of its turn
-  pub says : (t : Turn m w s) (k : ℕ) (d : Deed) (r : IsToldOf m w s t k d) → IsPart m (run_step t.act t.here t.there t.e) t.here t.there t.e r.offset d
+  pub says : (t : Turn m w s) (k : ℕ) (d : Deed) (r : IsToldOf m w s t k d)
+      → IsPart m (run_step t.act t.here t.there t.e) t.here t.there t.e r.offset d
   says t k d r = parts_of m t.act t.here t.there t.e r.offset d r.among
 
   whose : (t : Turn m w s) (k : ℕ) (d : Deed) → IsToldOf m w s t k d → d.step.act ≡ t.act
@@ -113,7 +116,8 @@ module _ (m : ModuleValue) (args : List ℤ) (limits : IsWithinLimits m) (ok : I
 
       by : (n : ℕ) → turns_of u.act u.before ≡ n → UpTo m w s (name_of t) (name_of u)
       by zero e = inr (subst (λ n. IsLed m w s (name_of t) (u.act, n)) (sym e) first)
-      by (suc n) e = inr (led_through m w s (name_of t) (u.act, 0) (name_of u) first (led_own m w s (u.act, 0) (name_of u) refl (omega (arith, e))))
+      by (suc n) e =
+          inr (led_through m w s (name_of t) (u.act, 0) (name_of u) first (led_own m w s (u.act, 0) (name_of u) refl (omega (arith, e))))
 
   -- ---- a pass
 
@@ -122,11 +126,13 @@ module _ (m : ModuleValue) (args : List ℤ) (limits : IsWithinLimits m) (ok : I
 
   phase_between : (t u : Turn m w s) (c : ℕ) → IsEarlier m w s t u ⊎ AreOne m w s t u → phase_of t.here c ≤ phase_of u.here c
   phase_between t u c (inl e) =
-      phase_grows m (t.act ∷ e.0) t.here u.here c (sym (run_behind m t.before (t.act ∷ e.0) w t.here t.leads) ∙ ap (λ l. run m l w) (sym e.1) ∙ u.leads)
+      phase_grows m (t.act ∷ e.0) t.here u.here c
+      (sym (run_behind m t.before (t.act ∷ e.0) w t.here t.leads) ∙ ap (λ l. run m l w) (sym e.1) ∙ u.leads)
   phase_between t u c (inr o) = let same = ap (λ (v : World). phase_of v c) (one_here m w s t u o) in omega (arith, same)
 
   pass_led : (t v u : Turn m w s) (c : ℕ) → IsEarlier m w s t v ⊎ AreOne m w s t v → IsEarlier m w s v u → awaits t.here t.act c ≡ true
-      → option_map_or (λ (k : Clock). k.last == v.there.steps) (slice_get v.there.clocks c) false ≡ true → u.e ≡ event.Passed → awaits u.here u.act c ≡ true
+      → option_map_or (λ (k : Clock). k.last == v.there.steps) (slice_get v.there.clocks c) false ≡ true → u.e ≡ event.Passed
+      → awaits u.here u.act c ≡ true
       → IsLed m w s (name_of t) (name_of u)
   pass_led t v u c first second signals advances is waits = led_cause m w s (name_of t) (name_of u) (inr (record {
     first = turn_of t;
@@ -148,11 +154,13 @@ module _ (m : ModuleValue) (args : List ℤ) (limits : IsWithinLimits m) (ok : I
   abbrev scopes_at : Turn m w s → Scopes
   scopes_at t = scopes_after (deeds m t.before w) start
 
-  finish_is : (t : Turn m w s) (k : ℕ) (d : Deed) (r : IsToldOf m w s t k d) → r.offset ≡ 0 → (a : ℕ) → finish_at ds k a ≡ number_at (scopes_at t).within a
+  finish_is : (t : Turn m w s) (k : ℕ) (d : Deed) (r : IsToldOf m w s t k d) → r.offset ≡ 0 → (a : ℕ)
+      → finish_at ds k a ≡ number_at (scopes_at t).within a
   finish_is t k d r first a =
       ap (λ l. number_at (scopes_after l start).within a)
       (ap (take k) (deeds_around m w s t)
-      ∙ take_front (deeds m t.before w) (tell_deeds m t.act t.here t.there t.e ++ deeds m t.after t.there) k (let n = r.number in omega (arith, n, first)))
+      ∙ take_front (deeds m t.before w) (tell_deeds m t.act t.here t.there t.e ++ deeds m t.after t.there) k
+      (let n = r.number in omega (arith, n, first)))
 
   -- who ended earlier is still in the finish in which it ended
   module _ (t u : Turn m w s) (ends : t.e ≡ event.Ended) (e : IsEarlier m w s t u) where
@@ -175,12 +183,14 @@ module _ (m : ModuleValue) (args : List ℤ) (limits : IsWithinLimits m) (ok : I
             ∙ scopes_append (tell_deeds m t.act t.here t.there t.e) (deeds m e.0 t.there) (scopes_at t)
 
         still : scopes_after (tell_deeds m t.act t.here t.there t.e) (scopes_at t) ≡ scopes_at t
-        still = ap (λ f. scopes_after (tell_deeds m t.act t.here t.there f) (scopes_at t)) ends ∙ scopes_step m t.act t.here t.there (scopes_at t) event.Ended
+        still = ap (λ f. scopes_after (tell_deeds m t.act t.here t.there f) (scopes_at t)) ends
+            ∙ scopes_step m t.act t.here t.there (scopes_at t) event.Ended
 
         by : Effect m t.here t.there t.act x.0 t.e → IsOver
         by (DoesGo g) =
             let nests : Nests m event.Ended x.0 g.next = subst (λ f. Nests m f x.0 g.next) ends g.nests in
-            let r = ended_stays m e.0 t.there u.here (scopes_after (tell_deeds m t.act t.here t.there t.e) (scopes_at t)) t.act g.next (run_between m w s t u e)
+            let r = ended_stays m e.0 t.there u.here (scopes_after (tell_deeds m t.act t.here t.there t.e) (scopes_at t)) t.act g.next
+            (run_between m w s t u e)
             (ap (λ l. slice_get l t.act) g.activities ∙ get-set_same t.here.activities t.act x.0 g.next x.1) nests.1 in (
               g.next,
               r.0,
@@ -212,7 +222,8 @@ module _ (m : ModuleValue) (args : List ℤ) (limits : IsWithinLimits m) (ok : I
       owned k act at o own = ((reached_scoped m limits ok u.here (turn_reached m w s u reached)).activities k act at).owner o own
 
       -- it has none open itself, or it would be the one that closes
-      base_is : (n : ℕ) → opened_in acts t.act ≡ n → 0 < opened_in acts u.act → number_at (scopes_at u).within u.act ≡ base (nest (scopes_at u) acts) t.act
+      base_is : (n : ℕ) → opened_in acts t.act ≡ n → 0 < opened_in acts u.act
+          → number_at (scopes_at u).within u.act ≡ base (nest (scopes_at u) acts) t.act
       base_is zero none some = sym same ∙ sym x.3 ∙ sym (ap (λ k. number (nest (scopes_at u) acts) t.act k) none)
       base_is (suc n) more some =
           let r = numbered.own t.act u.act 0 0 (omega (arith, more)) some (x.3 ∙ same) in
@@ -223,7 +234,8 @@ module _ (m : ModuleValue) (args : List ℤ) (limits : IsWithinLimits m) (ok : I
           let nests : Nests m event.Closed y.0 g.next = subst (λ f. Nests m f y.0 g.next) closes g.nests in
           let open' : opened_in acts u.act ≡ y.0.opened = ap (λ o. option_map_or (λ (v : Activity). v.opened) o 0) y.1 in
           let some : 0 < opened_in acts u.act = (let n = nests.0 in omega (arith, open', n)) in
-          let governs = numbered.governs t.act u.act 0 (slice_get_within acts t.act x.0 x.1) some (base_is (opened_in acts t.act) refl some) in
+          let governs =
+          numbered.governs t.act u.act 0 (slice_get_within acts t.act x.0 x.1) some (base_is (opened_in acts t.act) refl some) in
           let depth : opened_in acts u.act - 0 ≡ y.0.opened = omega (arith, open') in
           let governed : x.0.governed ≡ innermost u.act y.0 =
           sym (ap (λ o. option_map_or (λ (v : Activity). v.governed) o root) x.1) ∙ governs ∙ ap (finish u.act) depth in
@@ -262,7 +274,8 @@ module _ (m : ModuleValue) (args : List ℤ) (limits : IsWithinLimits m) (ok : I
   same_deed : (t : Turn m w s) (k : ℕ) (c d : Deed) → IsAt ds k c → IsToldOf m w s t k d → c ≡ d
   same_deed t k c d at r = same_Some c d (sym at ∙ deed_at m w s t k d r)
 
-  reason_up : (t u : Turn m w s) (k j : ℕ) (d e : Deed) → IsToldOf m w s t k d → IsToldOf m w s u j e → Reason ds k j e → UpTo m w s (name_of t) (name_of u)
+  reason_up : (t u : Turn m w s) (k j : ℕ) (d e : Deed) → IsToldOf m w s t k d → IsToldOf m w s u j e → Reason ds k j e
+      → UpTo m w s (name_of t) (name_of u)
   reason_up t u k j d e p q (Own h) = by h.3
     where
       is : h.1 ≡ d
@@ -270,7 +283,8 @@ module _ (m : ModuleValue) (args : List ℤ) (limits : IsWithinLimits m) (ok : I
 
       by : (h.1.step.act ≡ e.step.act) ⊎ (h.1.part ≡ part.Start e.step.act) → UpTo m w s (name_of t) (name_of u)
       by (inl same) =
-          own_up t u (in_order m w s t u k j d e p q h.0) (sym (whose t k d p) ∙ ap (λ (c : Deed). c.step.act) (sym is) ∙ same ∙ whose u j e q)
+          own_up t u (in_order m w s t u k j d e p q h.0)
+          (sym (whose t k d p) ∙ ap (λ (c : Deed). c.step.act) (sym is) ∙ same ∙ whose u j e q)
       by (inr starts) =
           let g = says_so t k d p (part.Start e.step.act) (ap (λ (c : Deed). c.part) (sym is) ∙ starts) in
           start_up t u g.0 (sym (whose u j e q) ∙ g.1)
@@ -285,12 +299,14 @@ module _ (m : ModuleValue) (args : List ℤ) (limits : IsWithinLimits m) (ok : I
       by : (v : Turn m w s) × IsToldOf m w s v h.0 h.2 → UpTo m w s (name_of t) (name_of u)
       by (v, r) = behind (in_order m w s v u h.0 j h.2 e r q h.1)
         where
-          middle : (option_map_or (λ (x : Clock). x.last == v.there.steps) (slice_get v.there.clocks c) false ≡ true) × (is_pass v.e ≡ false)
+          middle : (option_map_or (λ (x : Clock). x.last == v.there.steps) (slice_get v.there.clocks c) false ≡ true)
+              × (is_pass v.e ≡ false)
           middle = says_so v h.0 h.2 r (part.Advance c) h.4
 
           behind : IsEarlier m w s v u ⊎ AreOne m w s v u → UpTo m w s (name_of t) (name_of u)
           behind (inl later) = inr (pass_led t v u c (in_order m w s t v k h.0 d h.2 p r signal.0) later
-              (says_so t k d p (part.Signal c) (ap (λ (x : Deed). x.part) (sym (same_deed t k signal.1 d signal.2 p)) ∙ signal.3)) middle.0 last.0 last.1)
+              (says_so t k d p (part.Signal c)
+              (ap (λ (x : Deed). x.part) (sym (same_deed t k signal.1 d signal.2 p)) ∙ signal.3)) middle.0 last.0 last.1)
           behind (inr one) = absurd (true≢false (sym (ap is_pass (one_event m w s v u one ∙ last.0)) ∙ middle.1))
   reason_up t u k j d e p q (Closed closes h) = by (in_order m w s t u k j d e p q h.0)
     where
@@ -312,7 +328,8 @@ module _ (m : ModuleValue) (args : List ℤ) (limits : IsWithinLimits m) (ok : I
           not_both : event.Ended ≡ event.Closed → ⊥
           not_both g = cc
 
-  edge_up : (t u : Turn m w s) (k j : ℕ) (d e : Deed) → IsToldOf m w s t k d → IsToldOf m w s u j e → Edge ds k j → UpTo m w s (name_of t) (name_of u)
+  edge_up : (t u : Turn m w s) (k j : ℕ) (d e : Deed) → IsToldOf m w s t k d → IsToldOf m w s u j e → Edge ds k j
+      → UpTo m w s (name_of t) (name_of u)
   edge_up t u k j d e p q edge = reason_up t u k j d e p q (subst (Reason ds k j) (same_deed u j edge.0 e edge.1 q) edge.2)
 
   leads_up : (ks : List ℕ) (t u : Turn m w s) (i j : ℕ) (d e : Deed) → IsToldOf m w s t i d → IsToldOf m w s u j e → Leads ds i ks j

@@ -5,7 +5,7 @@ use Rattle.std.specs.Prelude.{Some}
 use Rattle.xk_types.specs.World.{Finish}
 
 -- the finish around a finish, so many times
-abbrev pub up : (ℕ → ℕ) → ℕ → ℕ → ℕ
+abbrev up : (ℕ → ℕ) → ℕ → ℕ → ℕ
 up around zero n = n
 up around (suc k) n = up around k (around n)
 
@@ -13,8 +13,8 @@ up around (suc k) n = up around k (around n)
 abbrev pub finish : ℕ → ℕ → Finish
 finish a d = record { owner = Some a; depth = d }
 
--- Which finish each activity is in, and which one is around each; how many each activity has open, and what governs it; how many finishes there
--- are by number, and how many activities.
+-- Which finish each activity is in, and which one is around each; how many each activity has open, and what governs it; how many finishes
+-- there are by number, and how many activities.
 pub record Nest : Type 0 where
   pub within : ℕ → ℕ
   pub around : ℕ → ℕ
@@ -43,7 +43,8 @@ up_below : (around : ℕ → ℕ) (count : ℕ) → ((n : ℕ) → around n < co
 up_below around count wraps zero n less = less
 up_below around count wraps (suc k) n less = up_below around count wraps k (around n) (wraps n)
 
-up_same : (p q : ℕ → ℕ) (count : ℕ) → ((n : ℕ) → p n < count) → ((n : ℕ) → n < count → q n ≡ p n) → (k n : ℕ) → n < count → up q k n ≡ up p k n
+up_same : (p q : ℕ → ℕ) (count : ℕ) → ((n : ℕ) → p n < count) → ((n : ℕ) → n < count → q n ≡ p n) → (k n : ℕ) → n < count
+    → up q k n ≡ up p k n
 up_same p q count wraps same zero n less = refl
 up_same p q count wraps same (suc k) n less = ap (up q k) (same n less) ∙ up_same p q count wraps same k (p n) (wraps n)
 
@@ -183,7 +184,13 @@ module _ (s t : Nest) (a : ℕ) (was : AreNumbered s) (c : Closes s t a) where
       by : (b ≡ a) ⊎ (b ≡ a → ⊥) → WasOpen s t b k ⊎ IsNew s t a b k
       by (inl is) =
           let n : s.opened b ≡ suc (t.opened b) = subst (λ d. s.opened d ≡ suc (t.opened d)) (sym is) c.fewer in
-          inl (suc k, omega (arith, less, n), subst (λ d. number t d k ≡ number s d (suc k)) (sym is) (own_closed k), omega (arith, n), less)
+          inl (
+            suc k,
+            omega (arith, less, n),
+            subst (λ d. number t d k ≡ number s d (suc k)) (sym is) (own_closed k),
+            omega (arith, n),
+            less,
+          )
       by (inr differs) =
           let n : t.opened b ≡ s.opened b = c.opened b differs in
           inl (k, omega (arith, less, n), other_kept b k differs, omega (arith, n), less)
@@ -240,7 +247,8 @@ module _ (s t : Nest) (a : ℕ) (was : AreNumbered s) (c : Begins s t a) where
   begins_own b d k l less other one =
       let p = no_child b k less in
       let q = no_child d l other in
-      was.own b d k l (subst (λ n. k < n) (c.opened b p) less) (subst (λ n. l < n) (c.opened d q) other) (sym (still b k p) ∙ one ∙ still d l q)
+      was.own b d k l (subst (λ n. k < n) (c.opened b p) less) (subst (λ n. l < n) (c.opened d q) other)
+      (sym (still b k p) ∙ one ∙ still d l q)
 
   begins_governs : (x b k : ℕ) → x < t.activities → k < t.opened b → number t b k ≡ base t x → t.governed x ≡ finish b (t.opened b - k)
   begins_governs x b k inside less one = by (cases_eq x s.activities)
@@ -260,7 +268,8 @@ module _ (s t : Nest) (a : ℕ) (was : AreNumbered s) (c : Begins s t a) where
           (sym (still b k p) ∙ one ∙ ap (base t) is ∙ ap (number t s.activities) c.none ∙ c.goes ∙ sym (ap (number s a) e))
           ∙ ap (λ i. finish b (i - k)) (sym n)
       child is (suc o) e =
-          let r = was.own b a k 0 within (omega (arith, e)) (sym (still b k p) ∙ one ∙ ap (base t) is ∙ ap (number t s.activities) c.none ∙ c.goes) in
+          let r = was.own b a k 0 within (omega (arith, e))
+          (sym (still b k p) ∙ one ∙ ap (base t) is ∙ ap (number t s.activities) c.none ∙ c.goes) in
           let d : suc o ≡ t.opened b - k = (let i = ap s.opened r.0 in let j = r.1 in omega (arith, i, j, e, n)) in
           ap t.governed is ∙ c.inner o e ∙ ap (λ i. finish i (suc o)) (sym r.0) ∙ ap (finish b) d
 
@@ -309,7 +318,8 @@ kept_numbered s t was c = record {
   where
     numbers : (b k : ℕ) → number t b k ≡ number s b k
     numbers b k =
-        ap (up t.around k) (c.within b) ∙ up_same s.around t.around s.finishes was.around (λ n less. c.around n) k (s.within b) (was.within b)
+        ap (up t.around k) (c.within b)
+        ∙ up_same s.around t.around s.finishes was.around (λ n less. c.around n) k (s.within b) (was.within b)
 
     open' : (b k : ℕ) → k < t.opened b → WasOpen s t b k ⊎ IsNew s t 0 b k
     open' b k less = let n = c.opened b in inl (k, omega (arith, less, n), numbers b k, omega (arith, n), less)

@@ -68,7 +68,8 @@ settled_marks now [] c = record { grows = omega arith; advances = λ h g. absurd
 settled_marks now (k ∷ ds) zero = by (is_ready k)
   where
     by : (b : Bool)
-        → IsSettled (k ∷ ds) (cond b (record { phase = k.phase + 1; last = now; standings = map advanced k.standings }) k ∷ map (settled_clock now) ds) now zero
+        → IsSettled (k ∷ ds) (cond b (record { phase = k.phase + 1; last = now; standings = map advanced k.standings }) k
+        ∷ map (settled_clock now) ds) now zero
     by true = record { grows = omega arith; advances = λ h g. omega arith }
     by false = record { grows = omega arith; advances = λ h g. absurd (omega (arith, h, g)) }
 settled_marks now (k ∷ ds) (suc c) = let r = settled_marks now ds c in record { grows = r.grows; advances = r.advances }
@@ -92,7 +93,8 @@ phase_marks cs c = by (slice_get cs c)
     by None = refl
     by (Some k) = refl
 
-goes_up : (w u : World) (c : ℕ) (ds : List Clock) → IsAsBefore w.clocks ds c → u.clocks ≡ map (settled_clock (w.steps + 1)) ds → u.steps ≡ w.steps + 1 → GoesUp w u c
+goes_up : (w u : World) (c : ℕ) (ds : List Clock) → IsAsBefore w.clocks ds c → u.clocks ≡ map (settled_clock (w.steps + 1)) ds
+    → u.steps ≡ w.steps + 1 → GoesUp w u c
 goes_up w u c ds near clocks steps = record {
   grows = (let g = s.grows in omega (arith, g, first, second, near.phase));
   advances = λ old now.
@@ -109,9 +111,11 @@ goes_up w u c ds near clocks steps = record {
     second : phase_of u c ≡ phase_by (at_clock (map (settled_clock (w.steps + 1)) ds) c)
     second = phase_marks u.clocks c ∙ ap (λ cs. phase_by (at_clock cs c)) clocks
 
-moved_up : (w u : World) (a c : ℕ) (change : ℕ → Standing → Standing) → u.clocks ≡ map (settled_clock (w.steps + 1)) (moved a change w.clocks)
+moved_up : (w u : World) (a c : ℕ) (change : ℕ → Standing → Standing)
+    → u.clocks ≡ map (settled_clock (w.steps + 1)) (moved a change w.clocks)
     → u.steps ≡ w.steps + 1 → GoesUp w u c
-moved_up w u a c change = goes_up w u c (moved a change w.clocks) (as_before w.clocks (moved a change w.clocks) c (moved_marks a change w.clocks c))
+moved_up w u a c change =
+    goes_up w u c (moved a change w.clocks) (as_before w.clocks (moved a change w.clocks) c (moved_marks a change w.clocks c))
 
 go_up : (m : ModuleValue) (w : World) (a c : ℕ) → GoUp w c (step m w a)
 go_up m w a c = step_kind (GoUp w c) m w a tt (λ d. tt) (λ act found lives. record {
@@ -142,14 +146,17 @@ phase_grows m (a ∷ list) w v c h =
 
 -- where a clock is seen to have advanced in a step, its phase has grown by that
 pub phase_advances : (m : ModuleValue) (w u : World) (a c : ℕ) (e : Event) → step m w a ≡ Stepped u e
-    → ((k : Clock) → slice_get w.clocks c ≡ Some k → k.last ≤ w.steps) → option_map_or (λ (k : Clock). k.last == u.steps) (slice_get u.clocks c) false ≡ true
+    → ((k : Clock) → slice_get w.clocks c ≡ Some k → k.last ≤ w.steps)
+    → option_map_or (λ (k : Clock). k.last == u.steps) (slice_get u.clocks c) false ≡ true
     → phase_of w c < phase_of u c
-phase_advances m w u a c e takes old now = (step_up m w u a c e takes).advances (before (slice_get w.clocks c) refl) (behind (slice_get u.clocks c) refl now)
+phase_advances m w u a c e takes old now =
+    (step_up m w u a c e takes).advances (before (slice_get w.clocks c) refl) (behind (slice_get u.clocks c) refl now)
   where
     before : (o : Option Clock) → slice_get w.clocks c ≡ o → last_by (option_map marks o) ≤ w.steps
     before None is = omega arith
     before (Some k) is = old k is
 
-    behind : (o : Option Clock) → slice_get u.clocks c ≡ o → option_map_or (λ (k : Clock). k.last == u.steps) o false ≡ true → last_by (option_map marks o) ≡ u.steps
+    behind : (o : Option Clock) → slice_get u.clocks c ≡ o → option_map_or (λ (k : Clock). k.last == u.steps) o false ≡ true
+        → last_by (option_map marks o) ≡ u.steps
     behind None is h = absurd (true≢false (sym h))
     behind (Some k) is h = eqb-true k.last u.steps h

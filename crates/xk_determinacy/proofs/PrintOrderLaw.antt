@@ -1,5 +1,5 @@
--- Where the prints of a run are told to be in one order, no two numbers could be printed at once in any schedule of its class: so each of them prints
--- the same list.
+-- Where the prints of a run are told to be in one order, no two numbers could be printed at once in any schedule of its class: so each of
+-- them prints the same list.
 use Rattle.std.proofs.Common.{◌≡◌, ◌∙◌, ℕ, ℤ, zero, suc, ◌<◌, ◌≤◌, ◌⊎◌, inl, inr, Bool, true, false, true≢false, List, [], ◌∷◌, ◌++◌, length, Some, None, Option, refl, sym, ap, subst, arith}
 use Rattle.std.specs.Prelude.{slice_get, pred, if◌then◌else◌}
 use Rattle.std.specs.Option.{option_map_or}
@@ -18,14 +18,15 @@ use Rattle.xk_types.specs.Step.{Stepped, number_in, done, none, onward, slot_at,
 use Rattle.xk_types.specs.Schedule.{Through, run, IsReached, all_ended, number_printed}
 use Rattle.xk_laws.proofs.ReachabilityLemmas.{opening_reached}
 use Rattle.xk_squares.specs.Conflicts.{next_instruction}
-use Rattle.xk_squares.proofs.StepEffect.{prints, enacted}
 use Rattle.xk_squares.proofs.ChangeSquareLemmas.{same_step, not_none, found_of}
 use Rattle.xk_squares.proofs.StartSquareLemmas.{made_world, started_world, maker}
 use Rattle.xk_squares.proofs.ViewLemmas.{Goes, IsNone, DoesAct, DoesMake, DoesStart, goes, sees_itself}
 use Rattle.xk_classes.specs.Moments.{is_print}
 use Rattle.xk_classes.specs.Classes.{HasNeverTwo}
-use Rattle.xk_classes.specs.Edges.{StepName, turns_of, IsBefore, IsEdge, IsCause, instruction_of, AreOneByOne}
+use Rattle.xk_classes.specs.Edges.{StepName, turns_of, IsBefore, IsEdge, IsCause, instruction_of, prints, AreOneByOne}
 use Rattle.xk_classes.proofs.SwapLemmas.{next_of}
+use Rattle.xk_classes.proofs.StepEventLemmas.{print_says}
+use Rattle.xk_classes.proofs.InstructionEventLemmas.{shows}
 use Rattle.xk_classes.proofs.EdgeLaw.{never_two_ordered}
 use Rattle.xk_classes.proofs.PassEdgeLaw.{causes_sound}
 use Rattle.xk_races.specs.declared.deeds.Deed.{Deed}
@@ -41,10 +42,10 @@ use Rattle.xk_events.specs.declared.steps.RunStep.{RunStep}
 use Rattle.xk_events.specs.Steps.{run_step}
 use Rattle.xk_races.specs.Deeds.{deed, tell_deeds}
 use Rattle.xk_determinacy.proofs.TurnLemmas.{Turn, name_of, deeds, deed_at, turn_reached, turn_of_step, name_inside}
-use Rattle.xk_determinacy.proofs.EdgeListLemmas.{Edges, before_more, IsLed, Grows, Gathered, gather_pairs}
+use Rattle.xk_determinacy.proofs.EdgeListLemmas.{Edges, no_cause, before_more, IsLed, Grows, Gathered, gather_pairs}
 use Rattle.xk_determinacy.proofs.LinkLemmas.{says, up_led}
 use Rattle.xk_determinacy.proofs.SeenLemmas.{IsSight, sight_of}
-use Rattle.xk_determinacy.proofs.StepDeedLemmas.{HasEvent, event_at, IsDeedOf, first_deed}
+use Rattle.xk_determinacy.proofs.StepDeedLemmas.{event_at, IsDeedOf, first_deed}
 
 -- ---- the order of deeds leads on
 
@@ -79,7 +80,8 @@ module _ (T : Sight → Sight → Type 0) (on : (x y z : Sight) → T x y → T 
   in_order x y ys true h = (refl, h)
   in_order x y ys false h = absurd (none-some (record { first = x.deed.step; second = y.deed.step }) (sym h))
 
-  chain : (x : Sight) → M x → (ys : List Sight) → AllAre ys → gap_behind (Some x) ys ≡ None → (i : ℕ) (y : Sight) → slice_get ys i ≡ Some y → IsPrint y → T x y
+  chain : (x : Sight) → M x → (ys : List Sight) → AllAre ys → gap_behind (Some x) ys ≡ None → (i : ℕ) (y : Sight) → slice_get ys i ≡ Some y
+      → IsPrint y → T x y
   chain x mx [] all none i y at is = absurd (none-some y at)
   chain x mx (z ∷ ys) all none i y at is =
       by (races.is_print z.deed.part) refl none i at (λ mz h j g. chain z mz ys (λ k v found. all (suc k) v found) h j y g is)
@@ -94,7 +96,8 @@ module _ (T : Sight → Sight → Type 0) (on : (x y z : Sight) → T x y → T 
       by true e h (suc j) g from_z from_x =
           let o = in_order x z ys (comes_before x z) h in
           on x z y (tells x z mx (all 0 z refl) o.0) (from_z (all 0 z refl) o.1 j g)
-      by false e h zero g from_z from_x = absurd (true≢false (sym is ∙ ap (λ (v : Sight). races.is_print v.deed.part) (sym (same_Some z y g)) ∙ e))
+      by false e h zero g from_z from_x =
+          absurd (true≢false (sym is ∙ ap (λ (v : Sight). races.is_print v.deed.part) (sym (same_Some z y g)) ∙ e))
       by false e h (suc j) g from_z from_x = from_x h j g
 
   -- what is left behind a sight
@@ -114,7 +117,7 @@ module _ (T : Sight → Sight → Type 0) (on : (x y z : Sight) → T x y → T 
       by false e h = (λ is. absurd (true≢false (sym is ∙ e)), (Some x, h))
 
   -- so it is of each two prints
-  pub pairs : (o : Option Sight) (ys : List Sight) → ((i : ℕ) (y : Sight) → slice_get ys i ≡ Some y → M y) → gap_behind o ys ≡ None
+  pairs : (o : Option Sight) (ys : List Sight) → ((i : ℕ) (y : Sight) → slice_get ys i ≡ Some y → M y) → gap_behind o ys ≡ None
       → (p q : ℕ) (x y : Sight) → p < q → slice_get ys p ≡ Some x → slice_get ys q ≡ Some y → races.is_print x.deed.part ≡ true
       → races.is_print y.deed.part ≡ true → T x y
   pairs o [] all none p q x y less here there first second = absurd (none-some x here)
@@ -129,14 +132,17 @@ module _ (T : Sight → Sight → Type 0) (on : (x y z : Sight) → T x y → T 
       pairs r.0 ys (λ k v found. all (suc k) v found) r.1 p q x y (omega (arith, less)) here there first second
 
 -- two prints of a run without a gap
-prints_up : (ds : List Deed) → gap_in (sights_of ds) ≡ None → (k j : ℕ) (d e : Deed) (x : IsSight ds k d) (y : IsSight ds j e) → x.place < y.place
+prints_up : (ds : List Deed) → gap_in (sights_of ds) ≡ None → (k j : ℕ) (d e : Deed) (x : IsSight ds k d) (y : IsSight ds j e)
+    → x.place < y.place
     → d.part ≡ part.Print → e.part ≡ part.Print → IsUpTo ds k j
 prints_up ds none k j d e x y less first second =
     subst (λ n. IsUpTo ds n j) (ap pred x.number) (subst (λ n. IsUpTo ds (pred x.sight.number) n) (ap pred y.number)
     (pairs AreUpTo (λ a b c. up_on ds (pred a.number) (pred b.number) (pred c.number)) Seen
-    (λ a b p q before. (order_is_exact ds).sound p.0 q.0 a b p.1 q.1 before) None (sights_of ds) (λ i v at. (i, at)) none x.place y.place x.sight y.sight less
+    (λ a b p q before. (order_is_exact ds).sound p.0 q.0 a b p.1 q.1 before) None (sights_of ds)
+    (λ i v at. (i, at)) none x.place y.place x.sight y.sight less
     x.there y.there
-    (ap (λ (c : Deed). races.is_print c.part) x.deed ∙ ap races.is_print first) (ap (λ (c : Deed). races.is_print c.part) y.deed ∙ ap races.is_print second)))
+    (ap (λ (c : Deed). races.is_print c.part) x.deed ∙ ap races.is_print first)
+    (ap (λ (c : Deed). races.is_print c.part) y.deed ∙ ap races.is_print second)))
   where
     AreUpTo : Sight → Sight → Type 0
     AreUpTo a b = IsUpTo ds (pred a.number) (pred b.number)
@@ -155,62 +161,33 @@ print_form _ h = absurd (true≢false (sym h))
 abbrev IsPrinted : Event → Type 0
 IsPrinted e = (n : ℤ) × (e ≡ event.Printed n)
 
-printed_event : (w : World) (a : ℕ) (act : Activity) (o : Option Value) → HasEvent IsPrinted (number_in o (λ n. done w a (onward act) none (event.Printed n)))
-printed_event w a act None = tt
-printed_event w a act (Some value.Unset) = tt
-printed_event w a act (Some (value.Clock c)) = tt
-printed_event w a act (Some (value.Number n)) = (n, refl)
+printed_event : (x : ℕ) (e : Event) → shows e (instr.Print x) ≡ true → IsPrinted e
+printed_event x (event.Printed n) h = (n, refl)
+printed_event x _ h = absurd (true≢false (sym h))
 
 not_advance : (x : ℕ) → instr.Print x ≡ instr.Advance → ⊥
 not_advance x h = cc
 
 -- such a step is told of as a print
-print_deed : (m : ModuleValue) (limits : IsWithinLimits m) (ok : IsAccepted m) (w : World) (s : List ℕ) (t : Turn m w s) → IsReached m t.here
+print_deed : (m : ModuleValue) (limits : IsWithinLimits m) (ok : IsAccepted m) (w : World) (s : List ℕ) (t : Turn m w s)
+    → IsReached m t.here
     → (i : Instr) → next_instruction m t.here t.act ≡ Some i → prints i ≡ true → IsDeedOf m w s t part.Print
 print_deed m limits ok w s t reached i next is =
     first_deed m w s t part.Print
-    (ap (λ f. slice_get (tell_deeds m t.act t.here t.there f) 0) seen.1 ∙ ap (λ f. Some (deed (run_step t.act t.here t.there f) part.Print)) (sym seen.1))
+    (ap (λ f. slice_get (tell_deeds m t.act t.here t.there f) 0) seen.1
+    ∙ ap (λ f. Some (deed (run_step t.act t.here t.there f) part.Print)) (sym seen.1))
   where
     form : (x : ℕ) × (i ≡ instr.Print x)
     form = print_form i is
 
     seen : IsPrinted t.e
-    seen = event_at m limits ok t.here t.there t.act t.e reached t.takes (instr.Print form.0) (next ∙ ap Some form.1) (not_advance form.0) IsPrinted
-        (λ act. printed_event t.here t.act act (slot_at act form.0))
-
--- who is seen to print stands at such an instruction
-print_says : (m : ModuleValue) (v u : World) (a : ℕ) (e : Event) → step m v a ≡ Stepped u e → is_print e ≡ true
-    → option_map_or prints (next_instruction m v a) false ≡ true
-print_says m v u a e takes is = by (goes m v v a x.0 x.0.since (sees_itself m v a x.0 x.1))
-  where
-    x : (z : Activity) × (slice_get v.activities a ≡ Some z)
-    x = found_of m v a u e takes
-
-    seen : (f : Event) → is_print f ≡ true → number_printed f ≡ None → ⊥
-    seen (event.Printed n) h g = none-some n (sym g)
-    seen event.Local h g = true≢false (sym h)
-    seen _ h g = true≢false (sym h)
-
-    at : (b : Bool) → option_map_or prints (instruction_at m x.0.frame) false ≡ b → (b ≡ false → number_printed e ≡ None)
-        → option_map_or prints (next_instruction m v a) false ≡ true
-    at true h g = ap (λ o. option_map_or prints o false) (next_of m v a x.0 x.1) ∙ h
-    at false h g = absurd (seen e is (g refl))
-
-    by : Goes m v v a x.0 x.0.since (step m v a) (step m v a) → option_map_or prints (next_instruction m v a) false ≡ true
-    by (IsNone g) = absurd (not_none (step m v a) u e takes g)
-    by (DoesAct A) =
-        let same = (same_step u (enacted v a A.next A.move A.writes) e A.e (sym takes ∙ A.here)).1 in
-        at (option_map_or prints (instruction_at m x.0.frame) false) refl (λ h. ap number_printed same ∙ A.silent h)
-    by (DoesMake M) =
-        let same = (same_step u (made_world v a (maker x.0 M.d (length v.clocks))) e event.Made (sym takes ∙ M.here)).1 in
-        absurd (true≢false (sym is ∙ ap is_print same))
-    by (DoesStart S) =
-        let same = (same_step u (started_world m v a x.0 S.unit S.values) e event.Spawned (sym takes ∙ S.here)).1 in
-        absurd (true≢false (sym is ∙ ap is_print same))
+    seen = printed_event form.0 t.e
+        (event_at m limits ok t.here t.there t.act t.e reached t.takes (instr.Print form.0) (next ∙ ap Some form.1) (not_advance form.0))
 
 -- ---- the law
 
-module _ (m : ModuleValue) (args : List ℤ) (limits : IsWithinLimits m) (ok : IsAccepted m) (taken : AreArguments m args) (s : List ℕ) (z : World)
+module _ (m : ModuleValue) (args : List ℤ) (limits : IsWithinLimits m) (ok : IsAccepted m) (taken : AreArguments m args)
+    (s : List ℕ) (z : World)
     (legal : run m s (opening m args) ≡ Through z) (none' : gap_in (sights_of (deeds m s (opening m args))) ≡ None) where
   abbrev w : World
   w = opening m args
@@ -241,18 +218,22 @@ module _ (m : ModuleValue) (args : List ℤ) (limits : IsWithinLimits m) (ok : I
           record {
             turn = r.turn;
             name = ap (λ b. (b, turns_of b r.turn.before)) r.who ∙ ap (λ k. (x.0, k)) r.many;
-            deed = print_deed m limits ok w s r.turn (turn_reached m w s r.turn reached) i (ap (next_instruction m r.turn.here) r.who ∙ sym r.next) h;
+            deed = print_deed m limits ok w s r.turn (turn_reached m w s r.turn reached) i
+                (ap (next_instruction m r.turn.here) r.who ∙ sym r.next) h;
           }
 
   sight_at : (x : StepName) (p : IsPrintTurn x) → IsSight ds p.deed.number p.deed.deed
-  sight_at x p = sight_of ds p.deed.number p.deed.deed (deed_at m w s p.turn p.deed.number p.deed.deed p.deed.told) (ap is_sight p.deed.part)
+  sight_at x p =
+      sight_of ds p.deed.number p.deed.deed (deed_at m w s p.turn p.deed.number p.deed.deed p.deed.told) (ap is_sight p.deed.part)
 
   act_at : (x : StepName) (p : IsPrintTurn x) → (sight_at x p).sight.deed.step.act ≡ x.0
   act_at x p =
       ap (λ (d : Deed). d.step.act) (sight_at x p).deed
-      ∙ ap (λ (r : RunStep). r.act) (says m args limits ok taken s z legal p.turn p.deed.number p.deed.deed p.deed.told).0 ∙ ap (λ (n : StepName). n.0) p.name
+      ∙ ap (λ (r : RunStep). r.act) (says m args limits ok taken s z legal p.turn p.deed.number p.deed.deed p.deed.told).0
+      ∙ ap (λ (n : StepName). n.0) p.name
 
-  print_led : (x y : StepName) (p : IsPrintTurn x) (q : IsPrintTurn y) → (y.0 ≡ x.0 → ⊥) → (sight_at x p).place < (sight_at y q).place → IsLed m w s x y
+  print_led : (x y : StepName) (p : IsPrintTurn x) (q : IsPrintTurn y) → (y.0 ≡ x.0 → ⊥) → (sight_at x p).place < (sight_at y q).place
+      → IsLed m w s x y
   print_led x y p q differ less =
       subst (λ a. IsLed m w s a y) p.name (subst (λ b. IsLed m w s (name_of p.turn) b) q.name
       (up_led m args limits ok taken s z legal p.turn q.turn p.deed.number q.deed.number p.deed.deed q.deed.deed p.deed.told q.deed.told
@@ -298,11 +279,9 @@ module _ (m : ModuleValue) (args : List ℤ) (limits : IsWithinLimits m) (ok : I
       by (inl b) = inl (before_more xs ys has x y b)
       by (inr b) = inr (before_more xs ys has y x b)
 
-  no_cause : (x y : StepName) → IsEdge [] x y → IsCause m w s x y
-  no_cause x y h = absurd (none-some (x, y) h.1)
-
   pair : (x y : StepName) → Gathered m w s (InOrder x y)
-  pair x y = by (cases_eq y.0 x.0) (option_map_or prints (instruction_of m s w x) false) refl (option_map_or prints (instruction_of m s w y) false) refl
+  pair x y = by (cases_eq y.0 x.0) (option_map_or prints (instruction_of m s w x) false) refl
+      (option_map_or prints (instruction_of m s w y) false) refl
     where
       of : IsLed m w s x y ⊎ IsLed m w s y x → Gathered m w s (InOrder x y)
       of (inl l) = record { edges = l.edges; causes = l.causes; holds = λ differ first second. inl l.before }
@@ -310,19 +289,23 @@ module _ (m : ModuleValue) (args : List ℤ) (limits : IsWithinLimits m) (ok : I
 
       by : (y.0 ≡ x.0) ⊎ (y.0 ≡ x.0 → ⊥) → (b : Bool) → option_map_or prints (instruction_of m s w x) false ≡ b → (c : Bool)
           → option_map_or prints (instruction_of m s w y) false ≡ c → Gathered m w s (InOrder x y)
-      by (inl same) b e c f = record { edges = []; causes = no_cause; holds = λ differ first second. absurd (differ same) }
-      by (inr differ) false e c f = record { edges = []; causes = no_cause; holds = λ d first second. absurd (true≢false (sym first ∙ e)) }
-      by (inr differ) true e false f = record { edges = []; causes = no_cause; holds = λ d first second. absurd (true≢false (sym second ∙ f)) }
+      by (inl same) b e c f = record { edges = []; causes = no_cause m w s; holds = λ differ first second. absurd (differ same) }
+      by (inr differ) false e c f =
+          record { edges = []; causes = no_cause m w s; holds = λ d first second. absurd (true≢false (sym first ∙ e)) }
+      by (inr differ) true e false f =
+          record { edges = []; causes = no_cause m w s; holds = λ d first second. absurd (true≢false (sym second ∙ f)) }
       by (inr differ) true e true f = of (print_either x y differ e f)
 
-  all_prints : Gathered m w s (λ edges. (a : ℕ) → a < length z.activities → (k : ℕ) → k < length s → (b : ℕ) → b < length z.activities → (l : ℕ) → l < length s
+  all_prints : Gathered m w s
+      (λ edges. (a : ℕ) → a < length z.activities → (k : ℕ) → k < length s → (b : ℕ) → b < length z.activities → (l : ℕ) → l < length s
       → InOrder (a, k) (b, l) edges)
   all_prints = gather_pairs m w s InOrder order_grows (length z.activities) (length s) pair
 
   inside : (x : StepName) → DoesPrint x → (x.0 < length z.activities) × (x.1 < length s)
   inside x is = by (instruction_of m s w x) refl is
     where
-      by : (o : Option Instr) → instruction_of m s w x ≡ o → option_map_or prints o false ≡ true → (x.0 < length z.activities) × (x.1 < length s)
+      by : (o : Option Instr) → instruction_of m s w x ≡ o → option_map_or prints o false ≡ true
+          → (x.0 < length z.activities) × (x.1 < length s)
       by None here h = absurd (true≢false (sym h))
       by (Some i) here h = name_inside m s w z x i legal here
 
@@ -335,5 +318,5 @@ module _ (m : ModuleValue) (args : List ℤ) (limits : IsWithinLimits m) (ok : I
   -- no two numbers could be printed at once
   pub never_two_prints : all_ended z ≡ true → HasNeverTwo is_print m w s
   never_two_prints over =
-      never_two_ordered m limits ok w z reached s legal over is_print prints (λ v u a e takes is. print_says m v u a e takes is) all_prints.edges
+      never_two_ordered m limits ok w z reached s legal over is_print prints (print_says m) all_prints.edges
       (causes_sound m args limits ok taken s z legal over all_prints.edges all_prints.causes) one_by_one

@@ -39,7 +39,8 @@ scopes_append [] ys s = refl
 scopes_append (d ∷ xs) ys s = scopes_append xs ys (scoped d.step.act d.part s)
 
 -- a deed at a clock leaves everybody where they are
-scopes_still : (ds : List Deed) (s : Scopes) → ((i : ℕ) (d : Deed) → slice_get ds i ≡ Some d → (a : ℕ) (q : Scopes) → scoped a d.part q ≡ q) → scopes_after ds s ≡ s
+scopes_still : (ds : List Deed) (s : Scopes) → ((i : ℕ) (d : Deed) → slice_get ds i ≡ Some d → (a : ℕ) (q : Scopes) → scoped a d.part q ≡ q)
+    → scopes_after ds s ≡ s
 scopes_still [] s still = refl
 scopes_still (d ∷ ds) s still = ap (scopes_after ds) (still 0 d refl d.step.act s) ∙ scopes_still ds s (λ i e at. still (suc i) e at)
 
@@ -103,7 +104,8 @@ nest s acts = record {
 }
 
 -- what is read of each activity stays, where it does of the one that changes
-set_kept : {X : Type 0} (f : Activity → X) (d : X) (acts : List Activity) (a b : ℕ) (act next : Activity) → slice_get acts a ≡ Some act → f next ≡ f act
+set_kept : {X : Type 0} (f : Activity → X) (d : X) (acts : List Activity) (a b : ℕ) (act next : Activity) → slice_get acts a ≡ Some act
+    → f next ≡ f act
     → option_map_or f (slice_get (set acts a next) b) d ≡ option_map_or f (slice_get acts b) d
 set_kept f d acts a b act next found same = by (cases_eq b a)
   where
@@ -128,7 +130,8 @@ push_last (y ∷ xs) x = push_last xs x
 some_open : (n : ℕ) → (suc n == 0) ≡ false
 some_open n = ne_eqb (suc n) 0 (λ e. absurd (omega (arith, e)))
 
-module _ (m : ModuleValue) (acts : List Activity) (a : ℕ) (act : Activity) (found : slice_get acts a ≡ Some act) (s : Scopes) (was : AreNumbered (nest s acts)) where
+module _ (m : ModuleValue) (acts : List Activity) (a : ℕ) (act : Activity) (found : slice_get acts a ≡ Some act) (s : Scopes)
+    (was : AreNumbered (nest s acts)) where
   own_opened : opened_in acts a ≡ act.opened
   own_opened = ap (λ o. option_map_or (λ (x : Activity). x.opened) o 0) found
 
@@ -151,7 +154,8 @@ module _ (m : ModuleValue) (acts : List Activity) (a : ℕ) (act : Activity) (fo
     activities = length-set acts a next;
   })
 
-  opens : (next : Activity) → next.governed ≡ act.governed → next.opened ≡ suc act.opened → AreNumbered (nest (scope_opened a s) (set acts a next))
+  opens : (next : Activity) → next.governed ≡ act.governed → next.opened ≡ suc act.opened
+      → AreNumbered (nest (scope_opened a s) (set acts a next))
   opens next governed opened = opened_numbered (nest s acts) (nest (scope_opened a s) (set acts a next)) a was (record {
     known = slice_get_within acts a act found;
     goes = with_at_same 0 s.within a (length s.around);
@@ -165,7 +169,8 @@ module _ (m : ModuleValue) (acts : List Activity) (a : ℕ) (act : Activity) (fo
     activities = length-set acts a next;
   })
 
-  closes : (next : Activity) → next.governed ≡ act.governed → act.opened ≡ suc next.opened → AreNumbered (nest (scope_closed a s) (set acts a next))
+  closes : (next : Activity) → next.governed ≡ act.governed → act.opened ≡ suc next.opened
+      → AreNumbered (nest (scope_closed a s) (set acts a next))
   closes next governed opened = closed_numbered (nest s acts) (nest (scope_closed a s) (set acts a next)) a was (record {
     goes = with_at_same 0 s.within a (number_at s.around (number_at s.within a));
     others = λ b differs. with_at_other 0 s.within a b (number_at s.around (number_at s.within a)) differs;
@@ -193,12 +198,14 @@ module _ (m : ModuleValue) (acts : List Activity) (a : ℕ) (act : Activity) (fo
       ap (λ o. option_map_or f o d) (get-push_other (set acts a next) one b (λ e. differs (e ∙ length-set acts a next)))
       ∙ set_kept f d acts a b act next found same
 
-  push_new : {X : Type 0} (f : Activity → X) (d : X) (next one : Activity) → option_map_or f (slice_get (set acts a next ++ one ∷ []) (length acts)) d ≡ f one
+  push_new : {X : Type 0} (f : Activity → X) (d : X) (next one : Activity)
+      → option_map_or f (slice_get (set acts a next ++ one ∷ []) (length acts)) d ≡ f one
   push_new f d next one =
       ap (λ o. option_map_or f o d)
       (ap (slice_get (set acts a next ++ one ∷ [])) (sym (length-set acts a next)) ∙ get_push (set acts a next) one)
 
-  beginning : (next one : Activity) → next.governed ≡ act.governed → next.opened ≡ act.opened → one.opened ≡ 0 → one.governed ≡ governing a act
+  beginning : (next one : Activity) → next.governed ≡ act.governed → next.opened ≡ act.opened → one.opened ≡ 0
+      → one.governed ≡ governing a act
       → AreNumbered (nest (scopes_by a (length acts) event.Spawned s) (set acts a next ++ one ∷ []))
   beginning next one governed opened none under =
       begun_numbered (nest s acts) (nest (scopes_by a (length acts) event.Spawned s) (set acts a next ++ one ∷ [])) a was (record {
@@ -208,7 +215,8 @@ module _ (m : ModuleValue) (acts : List Activity) (a : ℕ) (act : Activity) (fo
         around = λ n. refl;
         none = push_new (λ (x : Activity). x.opened) 0 next one ∙ none;
         opened = λ b differs. push_kept (λ (x : Activity). x.opened) 0 next one opened b differs;
-        outer = λ zero'. push_new (λ (x : Activity). x.governed) root next one ∙ under ∙ ap (λ n. cond (n == 0) act.governed (finish a n)) (sym own_opened ∙ zero')
+        outer = λ zero'. push_new (λ (x : Activity). x.governed) root next one ∙ under
+            ∙ ap (λ n. cond (n == 0) act.governed (finish a n)) (sym own_opened ∙ zero')
             ∙ sym (ap (λ o. option_map_or (λ (x : Activity). x.governed) o root) found)
             ∙ ap (λ n. governed_in acts a) zero';
         inner = λ n some. push_new (λ (x : Activity). x.governed) root next one ∙ under
@@ -222,7 +230,8 @@ module _ (m : ModuleValue) (acts : List Activity) (a : ℕ) (act : Activity) (fo
       by o n is = ap (λ k. cond (k == 0) act.governed (finish a k)) is ∙ ap (λ q. cond q act.governed (finish a (suc n))) (some_open n)
 
 -- a step keeps finishes numbered
-pub numbered_step : (m : ModuleValue) (w u : World) (a : ℕ) (e : Event) (s : Scopes) → step m w a ≡ Stepped u e → AreNumbered (nest s w.activities)
+numbered_step : (m : ModuleValue) (w u : World) (a : ℕ) (e : Event) (s : Scopes) → step m w a ≡ Stepped u e
+    → AreNumbered (nest s w.activities)
     → AreNumbered (nest (scopes_after (tell_deeds m a w u e) s) u.activities)
 numbered_step m w u a e s takes was =
     subst (λ q. AreNumbered (nest q u.activities)) (sym (scopes_step m a w u s e)) (by (effect_of m w u a x.0 e x.1 takes))
@@ -242,13 +251,15 @@ numbered_step m w u a e s takes was =
 -- ---- a run
 
 -- and so does each one of a run
-pub numbered_run : (m : ModuleValue) (list : List ℕ) (w v : World) (s : Scopes) → run m list w ≡ Through v → AreNumbered (nest s w.activities)
+pub numbered_run : (m : ModuleValue) (list : List ℕ) (w v : World) (s : Scopes) → run m list w ≡ Through v
+    → AreNumbered (nest s w.activities)
     → AreNumbered (nest (scopes_after (deeds m list w) s) v.activities)
 numbered_run m [] w v s h was = subst (λ (z : World). AreNumbered (nest s z.activities)) (same_through w v h) was
 numbered_run m (a ∷ list) w v s h was =
     let x = first_step w v (step m w a) (run m list) h in
     subst (λ q. AreNumbered (nest q v.activities))
-    (sym (ap (λ ds. scopes_after ds s) (deeds_first m list w x.0 a x.1 x.2) ∙ scopes_append (tell_deeds m a w x.0 x.1) (deeds m list x.0) s))
+    (sym (ap (λ ds. scopes_after ds s) (deeds_first m list w x.0 a x.1 x.2)
+    ∙ scopes_append (tell_deeds m a w x.0 x.1) (deeds m list x.0) s))
     (numbered_run m list x.0 v (scopes_after (tell_deeds m a w x.0 x.1) s) x.3 (numbered_step m w x.0 a x.1 s x.2 was))
 
 -- in the opening world they are
@@ -272,7 +283,8 @@ opening_numbered m args = record {
 -- ---- who has ended
 
 -- stays behind a step as it is, in the finish that it is in
-step_over : (m : ModuleValue) (w u : World) (a x : ℕ) (e : Event) (s : Scopes) (act : Activity) → step m w a ≡ Stepped u e → slice_get w.activities x ≡ Some act
+step_over : (m : ModuleValue) (w u : World) (a x : ℕ) (e : Event) (s : Scopes) (act : Activity) → step m w a ≡ Stepped u e
+    → slice_get w.activities x ≡ Some act
     → is_ended act.status ≡ true
     → (slice_get u.activities x ≡ Some act) × (number_at (scopes_after (tell_deeds m a w u e) s).within x ≡ number_at s.within x)
 step_over m w u a x e s act takes at over =

@@ -32,14 +32,17 @@ sight_from known n (e ∷ es) zero d at h = by (is_sight e.part) refl
     is = same_Some e d at
 
     by : (b : Bool) → is_sight e.part ≡ b
-        → IsSightFrom ((if b then sight (suc n) e (after (suc n) e known) ∷ [] else []) ++ sights_from (after (suc n) e known) (suc n) es) (n + zero) d
+        → IsSightFrom ((if b then sight (suc n) e (after (suc n) e known) ∷ [] else [])
+        ++ sights_from (after (suc n) e known) (suc n) es) (n + zero) d
     by true g = record { place = 0; seen = sight (suc n) e (after (suc n) e known); there = refl; number = omega arith; same = is }
     by false g = absurd (true≢false (sym h ∙ ap (λ (c : Deed). is_sight c.part) (sym is) ∙ g))
 sight_from known n (e ∷ es) (suc k) d at h = by (is_sight e.part) (sight_from (after (suc n) e known) (suc n) es k d at h)
   where
     by : (b : Bool) → IsSightFrom (sights_from (after (suc n) e known) (suc n) es) (suc n + k) d
-        → IsSightFrom ((if b then sight (suc n) e (after (suc n) e known) ∷ [] else []) ++ sights_from (after (suc n) e known) (suc n) es) (n + suc k) d
-    by true r = record { place = suc r.place; seen = r.seen; there = r.there; number = (let i = r.number in omega (arith, i)); same = r.same }
+        → IsSightFrom ((if b then sight (suc n) e (after (suc n) e known) ∷ [] else [])
+        ++ sights_from (after (suc n) e known) (suc n) es) (n + suc k) d
+    by true r =
+        record { place = suc r.place; seen = r.seen; there = r.there; number = (let i = r.number in omega (arith, i)); same = r.same }
     by false r = record { place = r.place; seen = r.seen; there = r.there; number = (let i = r.number in omega (arith, i)); same = r.same }
 
 -- each access and each print is seen
@@ -49,7 +52,8 @@ sight_of ds k d at h =
     record { place = r.place; sight = r.seen; there = r.there; number = (let i = r.number in omega (arith, i)); deed = r.same }
 
 -- of two of which the one is told to come before the other, it does, or they are one
-pub sight_up : (ds : List Deed) (k j : ℕ) (d e : Deed) (x : IsSight ds k d) (y : IsSight ds j e) → comes_before x.sight y.sight ≡ true → IsUpTo ds k j
+pub sight_up : (ds : List Deed) (k j : ℕ) (d e : Deed) (x : IsSight ds k d) (y : IsSight ds j e)
+    → comes_before x.sight y.sight ≡ true → IsUpTo ds k j
 sight_up ds k j d e x y before =
     subst (λ i. (i ≡ j) ⊎ Before ds i j) (ap pred x.number)
     (subst (λ i. (pred x.sight.number ≡ i) ⊎ Before ds (pred x.sight.number) i) (ap pred y.number)

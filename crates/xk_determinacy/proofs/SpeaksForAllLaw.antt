@@ -14,7 +14,8 @@ use Rattle.xk_races.specs.Races.{gap_in, is_race_free, sights_of_run}
 use Rattle.xk_determinacy.proofs.RaceFreeLaw.{free_run}
 use Rattle.xk_determinacy.proofs.PrintOrderLaw.{never_two_prints}
 
-module _ (m : ModuleValue) (args : List ℤ) (limits : IsWithinLimits m) (ok : IsAccepted m) (taken : AreArguments m args) (log : List Entry) (z : World)
+module _ (m : ModuleValue) (args : List ℤ) (limits : IsWithinLimits m) (ok : IsAccepted m) (taken : AreArguments m args)
+    (log : List Entry) (z : World)
     (one : IsWholeRun m args (schedule_of log) z) (free : is_race_free m args log ≡ true) where
   -- its class has no race
   pub no_race : HasNoRace m (opening m args) (schedule_of log)

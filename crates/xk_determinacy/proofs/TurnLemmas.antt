@@ -12,8 +12,9 @@ use Rattle.xk_types.proofs.ListLemmas.{get-append_left}
 use Rattle.xk_laws.proofs.ReachabilityLemmas.{same_through, first_step}
 use Rattle.xk_squares.specs.Conflicts.{next_instruction}
 use Rattle.xk_squares.proofs.ChangeSquareLemmas.{same_step, found_of}
+use Rattle.xk_renaming.proofs.ActivityNameOrderLaw.{run_first}
 use Rattle.xk_classes.specs.Edges.{StepName, turns_of, IsTaken, carried_on, carried, carried_by, instruction_of}
-use Rattle.xk_classes.proofs.SwapLemmas.{run_first, reached_run}
+use Rattle.xk_classes.proofs.SwapLemmas.{reached_run}
 use Rattle.xk_classes.proofs.EdgeLaw.{turns_on, turns_same, turns_other, run_behind}
 use Rattle.xk_classes.proofs.StepEventLemmas.{run_wider}
 use Rattle.xk_events.specs.Steps.{told_on, told}
@@ -34,14 +35,16 @@ get_split (y ∷ xs) ys zero x h = inl (omega arith, h)
 get_split (y ∷ xs) ys (suc k) x h = by (get_split xs ys k x h)
   where
     by : ((k < length xs) × (slice_get xs k ≡ Some x)) ⊎ ((j : ℕ) × (k ≡ length xs + j) × (slice_get ys j ≡ Some x))
-        → ((suc k < length (y ∷ xs)) × (slice_get (y ∷ xs) (suc k) ≡ Some x)) ⊎ ((j : ℕ) × (suc k ≡ length (y ∷ xs) + j) × (slice_get ys j ≡ Some x))
+        → ((suc k < length (y ∷ xs)) × (slice_get (y ∷ xs) (suc k) ≡ Some x))
+        ⊎ ((j : ℕ) × (suc k ≡ length (y ∷ xs) + j) × (slice_get ys j ≡ Some x))
     by (inl p) = let less = p.0 in inl (omega (arith, less), p.1)
     by (inr p) = let e = p.1 in inr (p.0, omega (arith, e), p.2)
 
 -- what stands behind the first list
 pub get_right : {X : Type 0} (xs ys : List X) (k : ℕ) → slice_get (xs ++ ys) (length xs + k) ≡ slice_get ys k
 get_right [] ys k = let e : 0 + k ≡ k = omega arith in ap (slice_get ys) e
-get_right (x ∷ xs) ys k = let e : suc (length xs) + k ≡ suc (length xs + k) = omega arith in ap (slice_get (x ∷ (xs ++ ys))) e ∙ get_right xs ys k
+get_right (x ∷ xs) ys k = let e : suc (length xs) + k ≡ suc (length xs + k) = omega arith in ap (slice_get (x ∷ (xs ++ ys))) e
+    ∙ get_right xs ys k
 
 -- one list, cut at an element in two ways
 data Cut (xs us : List ℕ) (a b : ℕ) : Type 0 where
@@ -110,7 +113,8 @@ pub told_at : (m : ModuleValue) (s : List ℕ) (w z : World) → run m s w ≡ T
     → (t : Turn m w s) × IsToldOf m w s t k d
 told_at m [] w z legal k d at = absurd (none-some d at)
 told_at m (a ∷ s) w z legal k d at =
-    by (get_split front (deeds m s x.0) k d (subst (λ l. slice_get l k ≡ Some d) (deeds_first m s w x.0 a x.1 x.2) at)) (told_at m s x.0 z x.3)
+    by (get_split front (deeds m s x.0) k d (subst (λ l. slice_get l k ≡ Some d) (deeds_first m s w x.0 a x.1 x.2) at))
+    (told_at m s x.0 z x.3)
   where
     x : (u : World) × (e : Event) × (step m w a ≡ Stepped u e) × (run m s u ≡ Through z)
     x = first_step w z (step m w a) (run m s) legal
@@ -121,7 +125,8 @@ told_at m (a ∷ s) w z legal k d at =
     turn : Turn m w (a ∷ s)
     turn = record { before = []; after = s; act = a; here = w; there = x.0; e = x.1; whole = refl; leads = refl; takes = x.2 }
 
-    behind : (j : ℕ) → k ≡ length front + j → (t : Turn m x.0 s) × IsToldOf m x.0 s t j d → (t : Turn m w (a ∷ s)) × IsToldOf m w (a ∷ s) t k d
+    behind : (j : ℕ) → k ≡ length front + j → (t : Turn m x.0 s) × IsToldOf m x.0 s t j d
+        → (t : Turn m w (a ∷ s)) × IsToldOf m w (a ∷ s) t k d
     behind j is (t, r) = (
       record {
         before = a ∷ t.before;
@@ -151,7 +156,8 @@ told_at m (a ∷ s) w z legal k d at =
 
 module _ (m : ModuleValue) (w : World) (s : List ℕ) where
   -- the deeds before a turn, its own, and those behind it
-  pub deeds_around : (t : Turn m w s) → deeds m s w ≡ deeds m t.before w ++ (tell_deeds m t.act t.here t.there t.e ++ deeds m t.after t.there)
+  pub deeds_around : (t : Turn m w s)
+      → deeds m s w ≡ deeds m t.before w ++ (tell_deeds m t.act t.here t.there t.e ++ deeds m t.after t.there)
   deeds_around t =
       ap (λ l. deeds m l w) t.whole ∙ deeds_run m t.before (t.act ∷ t.after) w t.here t.leads
       ∙ ap (λ l. deeds m t.before w ++ l) (deeds_first m t.after t.here t.there t.act t.e t.takes)
@@ -159,7 +165,8 @@ module _ (m : ModuleValue) (w : World) (s : List ℕ) where
   -- the deed that is told of it stands among those of the run
   pub deed_at : (t : Turn m w s) (k : ℕ) (d : Deed) → IsToldOf m w s t k d → slice_get (deeds m s w) k ≡ Some d
   deed_at t k d r =
-      ap (λ l. slice_get l k) (deeds_around t) ∙ ap (slice_get (deeds m t.before w ++ (tell_deeds m t.act t.here t.there t.e ++ deeds m t.after t.there))) r.number
+      ap (λ l. slice_get l k) (deeds_around t)
+      ∙ ap (slice_get (deeds m t.before w ++ (tell_deeds m t.act t.here t.there t.e ++ deeds m t.after t.there))) r.number
       ∙ get_right (deeds m t.before w) (tell_deeds m t.act t.here t.there t.e ++ deeds m t.after t.there) r.offset
       ∙ get-append_left (tell_deeds m t.act t.here t.there t.e) (deeds m t.after t.there) r.offset d r.among
 
@@ -176,14 +183,16 @@ module _ (m : ModuleValue) (w : World) (s : List ℕ) where
   -- a run from the earlier one to the later one
   pub run_between : (t u : Turn m w s) (e : IsEarlier t u) → run m e.0 t.there ≡ Through u.here
   run_between t u e =
-      sym (run_first m e.0 t.here t.there t.act t.e t.takes) ∙ sym (run_behind m t.before (t.act ∷ e.0) w t.here t.leads) ∙ ap (λ l. run m l w) (sym e.1) ∙ u.leads
+      sym (run_first m e.0 t.here t.there t.act t.e t.takes) ∙ sym (run_behind m t.before (t.act ∷ e.0) w t.here t.leads)
+      ∙ ap (λ l. run m l w) (sym e.1) ∙ u.leads
 
   -- one turn is taken in one world, is seen to do one thing, and has one name
   pub one_here : (t u : Turn m w s) → AreOne t u → t.here ≡ u.here
   one_here t u o = same_through t.here u.here (sym t.leads ∙ ap (λ l. run m l w) o.0 ∙ u.leads)
 
   pub one_event : (t u : Turn m w s) → AreOne t u → t.e ≡ u.e
-  one_event t u o = (same_step t.there u.there t.e u.e (sym t.takes ∙ ap (step m t.here) o.1 ∙ ap (λ v. step m v u.act) (one_here t u o) ∙ u.takes)).1
+  one_event t u o =
+      (same_step t.there u.there t.e u.e (sym t.takes ∙ ap (step m t.here) o.1 ∙ ap (λ v. step m v u.act) (one_here t u o) ∙ u.takes)).1
 
   pub one_name : (t u : Turn m w s) → AreOne t u → name_of t ≡ name_of u
   one_name t u o = ap (λ a. (a, turns_of a t.before)) o.1 ∙ ap (λ l. (u.act, turns_of u.act l)) o.0
@@ -222,7 +231,8 @@ module _ (m : ModuleValue) (w : World) (s : List ℕ) where
       omega (arith, l, n, i, a, b)
 
   -- of two deeds, the later one is told of the same turn or of a later one
-  pub in_order : (t u : Turn m w s) (k j : ℕ) (d e : Deed) → IsToldOf m w s t k d → IsToldOf m w s u j e → k < j → IsEarlier t u ⊎ AreOne t u
+  pub in_order : (t u : Turn m w s) (k j : ℕ) (d e : Deed) → IsToldOf m w s t k d → IsToldOf m w s u j e → k < j
+      → IsEarlier t u ⊎ AreOne t u
   in_order t u k j d e p q less = by (cut_of t.before t.after u.before u.after t.act u.act (sym t.whole ∙ u.whole))
     where
       by : Cut t.before u.before t.act u.act → IsEarlier t u ⊎ AreOne t u
@@ -245,12 +255,14 @@ second_of p = p.1
 abbrev is_by : ℕ → ℕ × Option Instr → Bool
 is_by a p = p.0 == a
 
-turn_at : (m : ModuleValue) (s : List ℕ) (w z : World) (a k : ℕ) (o : Option Instr) → run m s w ≡ Through z → slice_get (carried_by m s w a) k ≡ Some o
+turn_at : (m : ModuleValue) (s : List ℕ) (w z : World) (a k : ℕ) (o : Option Instr) → run m s w ≡ Through z
+    → slice_get (carried_by m s w a) k ≡ Some o
     → IsTurnOf m w s a k o
 turn_at m [] w z a k o legal at = absurd (none-some o at)
 turn_at m (d ∷ s) w z a k o legal at =
     by (d == a) refl k
-    (subst (λ l. slice_get (map second_of (filter (is_by a) l)) k ≡ Some o) (ap (λ q. carried_on (d, next_instruction m w d) q (carried m s)) x.2) at)
+    (subst (λ l. slice_get (map second_of (filter (is_by a) l)) k ≡ Some o)
+    (ap (λ q. carried_on (d, next_instruction m w d) q (carried m s)) x.2) at)
     (λ j h. turn_at m s x.0 z a j o x.3 h)
   where
     x : (u : World) × (e : Event) × (step m w d ≡ Stepped u e) × (run m s u ≡ Through z)
@@ -275,7 +287,8 @@ turn_at m (d ∷ s) w z a k o legal at =
     }
 
     by : (q : Bool) → (d == a) ≡ q → (k : ℕ)
-        → slice_get (map second_of (cond q ((d, next_instruction m w d) ∷ filter (is_by a) (carried m s x.0)) (filter (is_by a) (carried m s x.0)))) k ≡ Some o
+        → slice_get (map second_of
+        (cond q ((d, next_instruction m w d) ∷ filter (is_by a) (carried m s x.0)) (filter (is_by a) (carried m s x.0)))) k ≡ Some o
         → ((j : ℕ) → slice_get (carried_by m s x.0 a) j ≡ Some o → IsTurnOf m x.0 s a j o) → IsTurnOf m w (d ∷ s) a k o
     by true e zero h rest = record {
       turn = record { before = []; after = s; act = d; here = w; there = x.0; e = x.1; whole = refl; leads = refl; takes = x.2 };
@@ -287,7 +300,8 @@ turn_at m (d ∷ s) w z a k o legal at =
     by false e k h rest = let r = rest k h in behind k k r (turns_other a d r.turn.before e ∙ r.many)
 
 -- the turn of a step that carries out instruction i
-pub turn_of_step : (m : ModuleValue) (s : List ℕ) (w z : World) (x : StepName) (i : Instr) → run m s w ≡ Through z → instruction_of m s w x ≡ Some i
+pub turn_of_step : (m : ModuleValue) (s : List ℕ) (w z : World) (x : StepName) (i : Instr) → run m s w ≡ Through z
+    → instruction_of m s w x ≡ Some i
     → IsTurnOf m w s x.0 x.1 (Some i)
 turn_of_step m s w z x i legal is = turn_at m s w z x.0 x.1 (Some i) legal (by (slice_get (carried_by m s w x.0) x.1) is)
   where
@@ -305,7 +319,8 @@ turns_le a (b ∷ s) = by (b == a) (turns_le a s)
     by false h = omega (arith, h)
 
 -- a step of the schedule is of an activity that there is at the end, which has taken fewer before than there are
-pub name_inside : (m : ModuleValue) (s : List ℕ) (w z : World) (x : StepName) (i : Instr) → run m s w ≡ Through z → instruction_of m s w x ≡ Some i
+pub name_inside : (m : ModuleValue) (s : List ℕ) (w z : World) (x : StepName) (i : Instr) → run m s w ≡ Through z
+    → instruction_of m s w x ≡ Some i
     → (x.0 < length z.activities) × (x.1 < length s)
 name_inside m s w z x i legal is =
     let r = turn_of_step m s w z x i legal is in
@@ -317,4 +332,5 @@ name_inside m s w z x i legal is =
     let who = r.who in
     let many = r.many in
     let few = turns_le x.0 t.before in
-    let long = ap length t.whole ∙ length-append t.before (t.act ∷ t.after) in (omega (arith, here, grown, who), omega (arith, many, few, long))
+    let long = ap length t.whole ∙ length-append t.before (t.act ∷ t.after) in
+    (omega (arith, here, grown, who), omega (arith, many, few, long))

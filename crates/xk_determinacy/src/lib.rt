@@ -19,8 +19,8 @@ ghost use Rattle.xk_types.specs.declared.world.Entry.{Entry};
 pub fn one_speaks_for_all()
     ensures no_race { (m : ModuleValue) (args : List ℤ) (log : List Entry) (z : World)
         → IsWithinLimits m → IsAccepted m → AreArguments m args
-        → IsWholeRun m args (schedule_of log) z → is_race_free m args log ≡ true
-        → HasNoRace m (opening m args) (schedule_of log) }
+        → IsWholeRun m args (schedule_of log) z
+        → is_race_free m args log ≡ true → HasNoRace m (opening m args) (schedule_of log) }
     ensures every { (m : ModuleValue) (args : List ℤ) (log : List Entry) (t : List ℕ) (z y : World)
         → IsWithinLimits m → IsAccepted m → AreArguments m args
         → IsWholeRun m args (schedule_of log) z → is_race_free m args log ≡ true

@@ -15,10 +15,11 @@ use Rattle.xk_types.proofs.Examples.Notation.{fresh, main_with, body_with, modul
 use Rattle.xk_squares.specs.PlainWorlds.{plain}
 use Rattle.xk_renaming.specs.ActivityNames.{activities_swapped, outcome_renamed}
 
--- ---- main and activity 1 stand at the end of a finish, under that of main activity 1, and under that of 1 activity 2, which stands at a `resume`
+-- ---- main and activity 1 stand at the end of a finish; under main's is activity 1, under that of 1 activity 2, at a `resume`
 
 abbrev code : ModuleValue
-code = module_with (main_with 0 (instr.EndFinish 0 ∷ []) ∷ body_with [] 0 (instr.EndFinish 0 ∷ []) ∷ body_with (param.Clock ∷ []) 1 (instr.Resume 0 ∷ []) ∷ [])
+code = module_with (main_with 0 (instr.EndFinish 0 ∷ []) ∷ body_with [] 0 (instr.EndFinish 0 ∷ [])
+    ∷ body_with (param.Clock ∷ []) 1 (instr.Resume 0 ∷ []) ∷ [])
 
 abbrev runs : ℕ → List Value → ℕ → Finish → Activity
 runs unit slots opened governed = record {
@@ -32,15 +33,16 @@ runs unit slots opened governed = record {
 
 -- in the order of these, with a clock on which they stand so
 abbrev world : List Activity → List Standing → World
-world acts stands = record { activities = acts; clocks = record { phase = 0; last = 0; standings = stands } ∷ []; cells = []; steps = 0; arguments = [] }
+world acts stands =
+    record { activities = acts; clocks = record { phase = 0; last = 0; standings = stands } ∷ []; cells = []; steps = 0; arguments = [] }
 
 -- the finish that an activity has open
 abbrev finish_of : ℕ → Finish
 finish_of a = record { owner = Some a; depth = 1 }
 
 abbrev three : World
-three = world
-    (runs 0 [] 1 root ∷ runs 1 [] 1 (finish_of 0) ∷ runs 2 (value.Clock 0 ∷ []) 0 (finish_of 1) ∷ [])
+three =
+    world (runs 0 [] 1 root ∷ runs 1 [] 1 (finish_of 0) ∷ runs 2 (value.Clock 0 ∷ []) 0 (finish_of 1) ∷ [])
     (standing.Apart ∷ standing.Signalled ∷ standing.Open ∷ [])
 
 -- activities 1 and 2 have each other's number
@@ -71,8 +73,8 @@ waits = refl
 
 -- and wouldn't, if the finish that governs it were still that of the number 1
 abbrev same_owners : World
-same_owners = world
-    (runs 0 [] 1 root ∷ runs 2 (value.Clock 0 ∷ []) 0 (finish_of 1) ∷ runs 1 [] 1 (finish_of 0) ∷ [])
+same_owners =
+    world (runs 0 [] 1 root ∷ runs 2 (value.Clock 0 ∷ []) 0 (finish_of 1) ∷ runs 1 [] 1 (finish_of 0) ∷ [])
     (standing.Apart ∷ standing.Open ∷ standing.Signalled ∷ [])
 
 wouldn't_wait : is_enabled code same_owners 2 ≡ true
@@ -87,7 +89,8 @@ nobody = refl
 
 -- a clock on which activity 1 stands and activity 0 doesn't, but nobody after it: there the exchange of 1 and 2 takes away where 1 stands
 abbrev narrow : World
-narrow = world (runs 0 [] 1 root ∷ runs 2 (value.Clock 0 ∷ []) 0 root ∷ runs 2 (value.Clock 0 ∷ []) 0 root ∷ []) (standing.Apart ∷ standing.Open ∷ [])
+narrow = world (runs 0 [] 1 root ∷ runs 2 (value.Clock 0 ∷ []) 0 root ∷ runs 2 (value.Clock 0 ∷ []) 0 root ∷ [])
+    (standing.Apart ∷ standing.Open ∷ [])
 
 stood : is_enabled code narrow 1 ≡ true
 stood = refl
@@ -98,8 +101,9 @@ lost = refl
 -- ---- main and activity 1 start one each: of unit 2, and of unit 3
 
 abbrev starters : ModuleValue
-starters = module_with
-    (main_with 0 (instr.Spawn 1 [] ∷ instr.Spawn 2 [] ∷ []) ∷ body_with [] 0 (instr.Spawn 3 [] ∷ []) ∷ body_with [] 0 [] ∷ body_with [] 0 [] ∷ [])
+starters =
+    module_with (main_with 0 (instr.Spawn 1 [] ∷ instr.Spawn 2 [] ∷ []) ∷ body_with [] 0 (instr.Spawn 3 [] ∷ []) ∷ body_with [] 0 []
+    ∷ body_with [] 0 [] ∷ [])
 
 -- the world that a run comes to, or stops in
 abbrev last : Course → World

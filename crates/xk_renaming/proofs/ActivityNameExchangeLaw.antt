@@ -25,14 +25,16 @@ clocks_twice k (c ∷ cs) = rw (swapped_twice k c.standings, clocks_twice k cs)
 
 pub exchanged_twice : (k : ℕ) (w : World) → activities_swapped k (activities_swapped k w) ≡ w
 exchanged_twice k w =
-    let acts : map (governed_renamed k) (neighbours_swapped k (map (governed_renamed k) (neighbours_swapped k w.activities))) ≡ w.activities =
+    let acts : map (governed_renamed k) (neighbours_swapped k (map (governed_renamed k) (neighbours_swapped k w.activities)))
+    ≡ w.activities =
     sym (ap (map (governed_renamed k)) (map-swapped (governed_renamed k) k (neighbours_swapped k w.activities)))
     ∙ governed_twice k (neighbours_swapped k (neighbours_swapped k w.activities)) ∙ swapped_twice k w.activities in
     λ i. record w { activities = acts i; clocks = clocks_twice k w.clocks i }
 
 -- ---- worlds that are alike
 
-plain_governed : (k : ℕ) (xs : List Activity) → map plain_activity (map (governed_renamed k) xs) ≡ map (governed_renamed k) (map plain_activity xs)
+plain_governed : (k : ℕ) (xs : List Activity)
+    → map plain_activity (map (governed_renamed k) xs) ≡ map (governed_renamed k) (map plain_activity xs)
 plain_governed k [] = refl
 plain_governed k (x ∷ xs) = ap (λ zs. plain_activity (governed_renamed k x) ∷ zs) (plain_governed k xs)
 
@@ -53,13 +55,16 @@ alike_exchanged k w v alike = plain_exchanged k w ∙ ap (activities_swapped k) 
 -- ---- what stays
 
 ended_governed : (k : ℕ) (xs : List Activity)
-    → list_all (λ (act : Activity). is_ended act.status) (map (governed_renamed k) xs) ≡ list_all (λ (act : Activity). is_ended act.status) xs
+    → list_all (λ (act : Activity). is_ended act.status) (map (governed_renamed k) xs)
+    ≡ list_all (λ (act : Activity). is_ended act.status) xs
 ended_governed k [] = refl
 ended_governed k (x ∷ xs) = ap (λ p. is_ended x.status && p) (ended_governed k xs)
 
 pub ended_exchanged : (k : ℕ) (w : World) → all_ended (activities_swapped k w) ≡ all_ended w
-ended_exchanged k w = ended_governed k (neighbours_swapped k w.activities) ∙ all-swapped (λ (act : Activity). is_ended act.status) k w.activities
+ended_exchanged k w = ended_governed k (neighbours_swapped k w.activities)
+    ∙ all-swapped (λ (act : Activity). is_ended act.status) k w.activities
 
 pub full_exchanged : (k : ℕ) (w : World) → HasAllStandings w → HasAllStandings (activities_swapped k w)
-full_exchanged k w full = each_map (clock_swapped k) (λ j (c : Clock). length c.standings ≡ length (activities_swapped k w).activities) w.clocks
+full_exchanged k w full =
+    each_map (clock_swapped k) (λ j (c : Clock). length c.standings ≡ length (activities_swapped k w).activities) w.clocks
     (λ j c at. length-swapped k c.standings ∙ full j c at ∙ sym (length-acts k w.activities))

@@ -46,7 +46,8 @@ replicate-swapped zero (suc zero) x = refl
 replicate-swapped zero (suc (suc n)) x = refl
 replicate-swapped (suc k) (suc n) x = ap (λ zs. x ∷ zs) (replicate-swapped k n x)
 
-pub get-swapped : {X : Type 0} (k : ℕ) (xs : List X) (a : ℕ) → suc k < length xs → slice_get (neighbours_swapped k xs) (renamed k a) ≡ slice_get xs a
+pub get-swapped : {X : Type 0} (k : ℕ) (xs : List X) (a : ℕ) → suc k < length xs
+    → slice_get (neighbours_swapped k xs) (renamed k a) ≡ slice_get xs a
 get-swapped k [] a h = absurd (omega arith)
 get-swapped zero (x ∷ []) a h = absurd (omega arith)
 get-swapped zero (x ∷ y ∷ xs) zero h = refl
@@ -55,7 +56,8 @@ get-swapped zero (x ∷ y ∷ xs) (suc (suc a)) h = refl
 get-swapped (suc k) (x ∷ xs) zero h = refl
 get-swapped (suc k) (x ∷ xs) (suc a) h = get-swapped k xs a (omega arith)
 
-pub get_or-swapped : {X : Type 0} (k : ℕ) (xs : List X) (a : ℕ) (d : X) → suc k < length xs → get_or (neighbours_swapped k xs) (renamed k a) d ≡ get_or xs a d
+pub get_or-swapped : {X : Type 0} (k : ℕ) (xs : List X) (a : ℕ) (d : X) → suc k < length xs
+    → get_or (neighbours_swapped k xs) (renamed k a) d ≡ get_or xs a d
 get_or-swapped k [] a d h = absurd (omega arith)
 get_or-swapped zero (x ∷ []) a d h = absurd (omega arith)
 get_or-swapped zero (x ∷ y ∷ xs) zero d h = refl
@@ -75,14 +77,16 @@ set-swapped (suc k) (x ∷ xs) zero z h = refl
 set-swapped (suc k) (x ∷ xs) (suc a) z h = ap (λ zs. x ∷ zs) (set-swapped k xs a z (omega arith))
 
 -- what stands behind both stays
-pub append-swapped : {X : Type 0} (k : ℕ) (xs ys : List X) → suc k < length xs → neighbours_swapped k (xs ++ ys) ≡ neighbours_swapped k xs ++ ys
+pub append-swapped : {X : Type 0} (k : ℕ) (xs ys : List X) → suc k < length xs
+    → neighbours_swapped k (xs ++ ys) ≡ neighbours_swapped k xs ++ ys
 append-swapped k [] ys h = absurd (omega arith)
 append-swapped zero (x ∷ []) ys h = absurd (omega arith)
 append-swapped zero (x ∷ y ∷ xs) ys h = refl
 append-swapped (suc k) (x ∷ xs) ys h = ap (λ zs. x ∷ zs) (append-swapped k xs ys (omega arith))
 
 -- two that were pushed
-pub pushed-swapped : {X : Type 0} (xs : List X) (x y : X) → neighbours_swapped (length xs) ((xs ++ x ∷ []) ++ y ∷ []) ≡ (xs ++ y ∷ []) ++ x ∷ []
+pub pushed-swapped : {X : Type 0} (xs : List X) (x y : X)
+    → neighbours_swapped (length xs) ((xs ++ x ∷ []) ++ y ∷ []) ≡ (xs ++ y ∷ []) ++ x ∷ []
 pushed-swapped [] x y = refl
 pushed-swapped (z ∷ xs) x y = ap (λ zs. z ∷ zs) (pushed-swapped xs x y)
 

@@ -15,10 +15,13 @@ use Rattle.xk_renaming.proofs.ActivityNameRunLaw.{prints_of, prints_renamed, goe
 use Rattle.xk_renaming.proofs.ActivityNameStartLaw.{one_more, starts_square}
 use Rattle.xk_renaming.proofs.ActivityNameExchangeLaw.{exchanged_twice, alike_exchanged}
 
-run_first : (m : ModuleValue) (list : List ℕ) (w u : World) (a : ℕ) (e : Event) → step m w a ≡ Stepped u e → run m (a ∷ list) w ≡ run m list u
+-- a run begins with its first step, and so do its events
+pub run_first : (m : ModuleValue) (list : List ℕ) (w u : World) (a : ℕ) (e : Event) → step m w a ≡ Stepped u e
+    → run m (a ∷ list) w ≡ run m list u
 run_first m list w u a e h = ap (λ o. run_on w o (run m list)) h
 
-events_first : (m : ModuleValue) (list : List ℕ) (w u : World) (a : ℕ) (e : Event) → step m w a ≡ Stepped u e → events m (a ∷ list) w ≡ (a, e) ∷ events m list u
+events_first : (m : ModuleValue) (list : List ℕ) (w u : World) (a : ℕ) (e : Event) → step m w a ≡ Stepped u e
+    → events m (a ∷ list) w ≡ (a, e) ∷ events m list u
 events_first m list w u a e h = ap (λ o. events_on a o (events m list)) h
 
 -- a schedule goes alike from worlds that are alike
@@ -42,7 +45,8 @@ runs_alike m (a ∷ list) w v z alike h =
     }
 
 pub either_order : (m : ModuleValue) (w : World) → IsWithinLimits m → IsAccepted m → IsReached m w → (a b : ℕ) → (b ≡ a → ⊥) → (u v : World)
-    → step m w a ≡ Stepped u event.Spawned → step m w b ≡ Stepped v event.Spawned → (s : List ℕ) (z : World) → run m (a ∷ b ∷ s) w ≡ Through z
+    → step m w a ≡ Stepped u event.Spawned → step m w b ≡ Stepped v event.Spawned → (s : List ℕ) (z : World)
+    → run m (a ∷ b ∷ s) w ≡ Through z
     → GoesInEitherOrder m w a b s z
 either_order m w limits ok reached a b differs u v hu hv s z h = record {
   last = r.last;
@@ -60,7 +64,8 @@ either_order m w limits ok reached a b differs u v hu hv s z h = record {
     t : List ℕ
     t = map (renamed n) s
 
-    q : (x : World) × (y : World) × (step m v a ≡ Stepped x event.Spawned) × (step m u b ≡ Stepped y event.Spawned) × AreAlike (activities_swapped n x) y
+    q : (x : World) × (y : World) × (step m v a ≡ Stepped x event.Spawned) × (step m u b ≡ Stepped y event.Spawned)
+        × AreAlike (activities_swapped n x) y
     q = starts_square m w limits ok reached a b differs u v hu hv
 
     x : World
@@ -94,4 +99,5 @@ either_order m w limits ok reached a b differs u v hu hv s z h = record {
 
     two : events m (b ∷ a ∷ t) w ≡ (b, event.Spawned) ∷ (a, event.Spawned) ∷ map (entry_renamed n) (events m s y)
     two = events_first m (a ∷ t) w v b event.Spawned hv
-        ∙ ap (λ es. (b, event.Spawned) ∷ es) (events_first m t v x a event.Spawned q.2 ∙ ap (λ es. (a, event.Spawned) ∷ es) (r.same ∙ g.events))
+        ∙ ap (λ es. (b, event.Spawned) ∷ es)
+        (events_first m t v x a event.Spawned q.2 ∙ ap (λ es. (a, event.Spawned) ∷ es) (r.same ∙ g.events))

@@ -37,12 +37,14 @@ module _ (w : World) (a : ℕ) (full : HasAllStandings w) where
   settled_keeps acts cs cells e more each = (
     more,
     each_map (settled_clock (w.steps + 1)) (λ j (c : Clock). length c.standings ≡ length acts) cs
-        (λ j c at. settled_cases (w.steps + 1) c (λ (x : Clock). length x.standings ≡ length acts) (λ h. length-map c.standings advanced ∙ each j c at)
+        (λ j c at. settled_cases (w.steps + 1) c (λ (x : Clock). length x.standings ≡ length acts)
+        (λ h. length-map c.standings advanced ∙ each j c at)
         (λ h. each j c at)),
   )
 
   done_keeps : (next : Activity) (change : ℕ → Standing → Standing) (e : Event) (cells : List ℤ)
-      → Keeps (length w.activities) (Stepped (settled (record w { activities = set w.activities a next; clocks = moved a change w.clocks; cells = cells })) e)
+      → Keeps (length w.activities)
+      (Stepped (settled (record w { activities = set w.activities a next; clocks = moved a change w.clocks; cells = cells })) e)
   done_keeps next change e cells =
       let many : length (set w.activities a next) ≡ length w.activities = length-set w.activities a next in
       settled_keeps (set w.activities a next) (moved a change w.clocks) cells e (omega (arith, many))
@@ -57,7 +59,8 @@ module _ (w : World) (a : ℕ) (full : HasAllStandings w) where
       (each_push (λ j (c : Clock). length c.standings ≡ length (set w.activities a next)) w.clocks new (λ j c at. full j c at ∙ sym many)
       (new_width (length w.activities) a ∙ sym many))
 
-  spawned_keeps : (m : ModuleValue) (act : Activity) (unit : ℕ) (values : List Value) → Keeps (length w.activities) (spawned m w a act unit values)
+  spawned_keeps : (m : ModuleValue) (act : Activity) (unit : ℕ) (values : List Value)
+      → Keeps (length w.activities) (spawned m w a act unit values)
   spawned_keeps m act unit values =
       let acts : List Activity = set w.activities a (onward act) ++ child m a act unit values ∷ [] in
       let many : length acts ≡ suc (length w.activities) =
@@ -94,7 +97,8 @@ prints_renamed k [] = refl
 prints_renamed k (p ∷ es) = by (not (is_local p.1)) (prints_renamed k es)
   where
     by : (b : Bool) → prints_of (map (entry_renamed k) es) ≡ prints_of es
-        → filter_map (λ p. number_printed p.1) (cond b (entry_renamed k p ∷ seen_of (map (entry_renamed k) es)) (seen_of (map (entry_renamed k) es)))
+        → filter_map (λ p. number_printed p.1)
+        (cond b (entry_renamed k p ∷ seen_of (map (entry_renamed k) es)) (seen_of (map (entry_renamed k) es)))
         ≡ filter_map (λ p. number_printed p.1) (cond b (p ∷ seen_of es) (seen_of es))
     by true h = ap (cons_option (number_printed p.1)) h
     by false h = h
@@ -109,15 +113,18 @@ goes m w k [] inside full = (refl, refl)
 goes m w k (a ∷ list) inside full = rw (step-swapped m w k a inside full) (by (step m w a) (step_keeps w a full m) (λ u. goes m u k list))
   where
     by : (o : Outcome) → Keeps (length w.activities) o → ((u : World) → suc k < length u.activities → HasAllStandings u → Goes m u k list)
-        → (run_on (activities_swapped k w) (outcome_renamed k o) (run m (map (renamed k) list)) ≡ course_renamed k (run_on w o (run m list)))
-        × (events_on (renamed k a) (outcome_renamed k o) (events m (map (renamed k) list)) ≡ map (entry_renamed k) (events_on a o (events m list)))
+        → (run_on (activities_swapped k w) (outcome_renamed k o) (run m (map (renamed k) list))
+        ≡ course_renamed k (run_on w o (run m list)))
+        × (events_on (renamed k a) (outcome_renamed k o) (events m (map (renamed k) list))
+        ≡ map (entry_renamed k) (events_on a o (events m list)))
     by Blocked keeps later = (refl, refl)
     by (Wrong c) keeps later = (refl, refl)
     by (Stepped u e) keeps later =
         let rest : Goes m u k list = later u (omega (arith, inside, keeps.0)) keeps.1 in
         (rest.0, ap (λ es. (renamed k a, e) ∷ es) rest.1)
 
-pub goes_renamed : (m : ModuleValue) (w : World) (k : ℕ) (list : List ℕ) → suc k < length w.activities → HasAllStandings w → GoesRenamed m w k list
+pub goes_renamed : (m : ModuleValue) (w : World) (k : ℕ) (list : List ℕ) → suc k < length w.activities → HasAllStandings w
+    → GoesRenamed m w k list
 goes_renamed m w k list inside full =
     let both : Goes m w k list = goes m w k list inside full in
     record {

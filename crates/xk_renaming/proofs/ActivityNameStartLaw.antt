@@ -61,7 +61,8 @@ starting m w a = step_kind (λ o. (u : World) → o ≡ Stepped u event.Spawned 
       done = λ next change e on quiet rests u h. other _ u e h (not_started e quiet);
       made = λ next on u h. other _ u event.Made h refl;
       stored = λ s n e on quiet u h. other _ u e h (not_started e quiet);
-      spawned = λ t args values at on u h. record { act = act; found = found; unit = t; args = args; values = values; next = at; here = refl };
+      spawned =
+          λ t args values at on u h. record { act = act; found = found; unit = t; args = args; values = values; next = at; here = refl };
     })
   where
     not_started : (e : Event) → starts_or_arrives e ≡ false → is_spawned e ≡ false
@@ -72,11 +73,14 @@ starting m w a = step_kind (λ o. (u : World) → o ≡ Stepped u event.Spawned 
     other v u e h g = absurd (true≢false (sym (ap is_spawned (same_step v u e event.Spawned h).1) ∙ g))
 
 -- then there is one activity more
-pub one_more : (m : ModuleValue) (w u : World) (a : ℕ) → step m w a ≡ Stepped u event.Spawned → length u.activities ≡ suc (length w.activities)
+pub one_more : (m : ModuleValue) (w u : World) (a : ℕ) → step m w a ≡ Stepped u event.Spawned
+    → length u.activities ≡ suc (length w.activities)
 one_more m w u a h =
     let s : IsStarting m w a (step m w a) = starting m w a u h in
-    ap (λ (z : World). length z.activities) (same_step u (started_world m w a s.act s.unit s.values) event.Spawned event.Spawned (sym h ∙ s.here)).0
-    ∙ length_push (set w.activities a (onward s.act)) (child m a s.act s.unit s.values) ∙ ap (λ n. n + 1) (length-set w.activities a (onward s.act)) ∙ omega arith
+    ap (λ (z : World). length z.activities)
+    (same_step u (started_world m w a s.act s.unit s.values) event.Spawned event.Spawned (sym h ∙ s.here)).0
+    ∙ length_push (set w.activities a (onward s.act)) (child m a s.act s.unit s.values)
+    ∙ ap (λ n. n + 1) (length-set w.activities a (onward s.act)) ∙ omega arith
 
 -- such an instruction has to do with no shared number
 starts_apart : (m : ModuleValue) (w : World) (a b : ℕ) → IsStarting m w a (step m w a) → AreConflictFree m w a b
@@ -95,8 +99,10 @@ only_starts : (m : ModuleValue) (w v u : World) (a : ℕ) (act : Activity) (t : 
     → Goes m w v a act t (step m w a) (step m v a) → Starts m w v a act t (step m w a) (step m v a)
 only_starts m w v u a act t h (IsNone g) = absurd (not_none (step m w a) u event.Spawned h g)
 only_starts m w v u a act t h (DoesAct A) =
-    let same : u ≡ enacted w a A.next A.move A.writes = (same_step u (enacted w a A.next A.move A.writes) event.Spawned A.e (sym h ∙ A.here)).0 in
-    let many : length u.activities ≡ length w.activities = ap (λ (z : World). length z.activities) same ∙ length-set w.activities a A.next in
+    let same : u ≡ enacted w a A.next A.move A.writes =
+    (same_step u (enacted w a A.next A.move A.writes) event.Spawned A.e (sym h ∙ A.here)).0 in
+    let many : length u.activities ≡ length w.activities = ap (λ (z : World). length z.activities) same
+    ∙ length-set w.activities a A.next in
     absurd (omega (arith, many, one_more m w u a h))
 only_starts m w v u a act t h (DoesMake M) =
     let next : Activity = maker act M.d (length w.clocks) in
@@ -138,7 +144,8 @@ given_on c x d = cond x (standing_of c d) standing.Apart
 module _ (n : ℕ) (c : Clock) (width : length c.standings ≡ n) (still : settle c.standings ≡ c.standings) where
   -- two starts: those who are started stand behind the others
   started_twice : (k o a b : ℕ) (one two : Bool) → a < n
-      → (settled_clock k (joined_on a one (settled_clock o (joined_on b two c)))).standings ≡ (c.standings ++ given_on c two b ∷ []) ++ given_on c one a ∷ []
+      → (settled_clock k (joined_on a one (settled_clock o (joined_on b two c)))).standings
+      ≡ (c.standings ++ given_on c two b ∷ []) ++ given_on c one a ∷ []
   started_twice k o a b one two inside =
       settled_standings k (joined_on a one (settled_clock o (joined_on b two c)))
       ∙ ap (λ zs. settle (join_of a one zs)) (settled_standings o (joined_on b two c))
@@ -168,13 +175,18 @@ clocks_both k o p q n a b one two (c ∷ cs) inside within width still =
     let first : plain_clock (settled_clock k (joined_on a (one 0) (settled_clock o (joined_on b (two 0) c))))
     ≡ plain_clock (clock_swapped n (settled_clock p (joined_on b (two 0) (settled_clock q (joined_on a (one 0) c))))) =
     clock_both n c (width 0 c refl) (still 0 c refl) k o p q a b (one 0) (two 0) inside within in
-    let rest : map plain_clock (map (settled_clock k) (joined a (λ j. one (suc j)) (map (settled_clock o) (joined b (λ j. two (suc j)) cs))))
-    ≡ map plain_clock (map (clock_swapped n) (map (settled_clock p) (joined b (λ j. two (suc j)) (map (settled_clock q) (joined a (λ j. one (suc j)) cs))))) =
-    clocks_both k o p q n a b (λ j. one (suc j)) (λ j. two (suc j)) cs inside within (λ j x at. width (suc j) x at) (λ j x at. still (suc j) x at) in
+    let rest : map plain_clock
+    (map (settled_clock k) (joined a (λ j. one (suc j)) (map (settled_clock o) (joined b (λ j. two (suc j)) cs))))
+    ≡ map plain_clock (map (clock_swapped n)
+    (map (settled_clock p) (joined b (λ j. two (suc j)) (map (settled_clock q) (joined a (λ j. one (suc j)) cs))))) =
+    clocks_both k o p q n a b (λ j. one (suc j)) (λ j. two (suc j)) cs inside within (λ j x at. width (suc j) x at)
+    (λ j x at. still (suc j) x at) in
     λ i. first i ∷ rest i
 
-module _ (m : ModuleValue) (w : World) (a b : ℕ) (x y : Activity) (found : slice_get w.activities a ≡ Some x) (known : slice_get w.activities b ≡ Some y) (differs : b ≡ a → ⊥)
-    (still : Each (λ k (c : Clock). settle c.standings ≡ c.standings) w.clocks) (width : Each (λ k (c : Clock). length c.standings ≡ length w.activities) w.clocks)
+module _ (m : ModuleValue) (w : World) (a b : ℕ) (x y : Activity) (found : slice_get w.activities a ≡ Some x)
+    (known : slice_get w.activities b ≡ Some y) (differs : b ≡ a → ⊥)
+    (still : Each (λ k (c : Clock). settle c.standings ≡ c.standings) w.clocks)
+    (width : Each (λ k (c : Clock). length c.standings ≡ length w.activities) w.clocks)
     (owned : AreOwned w.activities) where
   abbrev n : ℕ
   n = length w.activities
@@ -222,7 +234,8 @@ module _ (m : ModuleValue) (w : World) (a b : ℕ) (x y : Activity) (found : sli
     AreBelow acts = Each (λ j (z : Activity). IsBelow n z.governed) acts
 
     a_below : AreBelow (set w.activities a (onward x))
-    a_below = each_set (λ j (z : Activity). IsBelow n z.governed) w.activities a x (onward x) found (below a x found) (λ j z ne at. below j z at)
+    a_below =
+        each_set (λ j (z : Activity). IsBelow n z.governed) w.activities a x (onward x) found (below a x found) (λ j z ne at. below j z at)
 
     first_below : AreBelow a_first
     first_below = each_set (λ j (z : Activity). IsBelow n z.governed) (set w.activities a (onward x)) b y (onward (aged y t))
@@ -231,12 +244,15 @@ module _ (m : ModuleValue) (w : World) (a b : ℕ) (x y : Activity) (found : sli
     -- all, where a is first, the new ones in each other's place: they keep their owners
     all_below : AreBelow ((a_first ++ theirs_then ∷ []) ++ ours ∷ [])
     all_below = each_push (λ j (z : Activity). IsBelow n z.governed) (a_first ++ theirs_then ∷ []) ours
-        (each_push (λ j (z : Activity). IsBelow n z.governed) a_first theirs_then first_below (governing_below n b y within (below b y known)))
+        (each_push (λ j (z : Activity). IsBelow n z.governed) a_first theirs_then first_below
+        (governing_below n b y within (below b y known)))
         (governing_below n a x inside (below a x found))
 
-    exchanged : acts_swapped n (set (set w.activities a (onward x) ++ ours ∷ []) b (onward (aged y t)) ++ theirs_then ∷ []) ≡ (a_first ++ theirs_then ∷ []) ++ ours ∷ []
+    exchanged : acts_swapped n (set (set w.activities a (onward x) ++ ours ∷ []) b (onward (aged y t)) ++ theirs_then ∷ [])
+        ≡ (a_first ++ theirs_then ∷ []) ++ ours ∷ []
     exchanged =
-        ap (λ zs. acts_swapped n (zs ++ theirs_then ∷ [])) (set_push (set w.activities a (onward x)) b (onward (aged y t)) ours (omega (arith, within, a_many)))
+        ap (λ zs. acts_swapped n (zs ++ theirs_then ∷ []))
+        (set_push (set w.activities a (onward x)) b (onward (aged y t)) ours (omega (arith, within, a_many)))
         ∙ ap (λ k. map (governed_renamed n) (neighbours_swapped k ((a_first ++ ours ∷ []) ++ theirs_then ∷ []))) (sym many)
         ∙ ap (map (governed_renamed n)) (pushed-swapped a_first ours theirs_then)
         ∙ kept_all n ((a_first ++ theirs_then ∷ []) ++ ours ∷ []) all_below
@@ -251,13 +267,15 @@ module _ (m : ModuleValue) (w : World) (a b : ℕ) (x y : Activity) (found : sli
 
     pushed_plain : (acts : List Activity) (p q : Activity)
         → map plain_activity ((acts ++ p ∷ []) ++ q ∷ []) ≡ (map plain_activity acts ++ plain_activity p ∷ []) ++ plain_activity q ∷ []
-    pushed_plain acts p q = map_push plain_activity (acts ++ p ∷ []) q ∙ ap (λ zs. zs ++ plain_activity q ∷ []) (map_push plain_activity acts p)
+    pushed_plain acts p q = map_push plain_activity (acts ++ p ∷ []) q
+        ∙ ap (λ zs. zs ++ plain_activity q ∷ []) (map_push plain_activity acts p)
 
     acts_both : map plain_activity (set (set w.activities b (onward y) ++ theirs ∷ []) a (onward (aged x s)) ++ ours_then ∷ [])
         ≡ map plain_activity (acts_swapped n (set (set w.activities a (onward x) ++ ours ∷ []) b (onward (aged y t)) ++ theirs_then ∷ []))
     acts_both =
         ap (λ zs. map plain_activity (zs ++ ours_then ∷ []))
-        (set_push (set w.activities b (onward y)) a (onward (aged x s)) theirs (omega (arith, inside, length-set w.activities b (onward y))))
+        (set_push (set w.activities b (onward y)) a (onward (aged x s)) theirs
+        (omega (arith, inside, length-set w.activities b (onward y))))
         ∙ pushed_plain b_first theirs ours_then ∙ ap (λ zs. (zs ++ plain_activity theirs ∷ []) ++ plain_activity ours ∷ []) same_others
         ∙ sym (ap (map plain_activity) exchanged ∙ pushed_plain a_first theirs_then ours)
 
@@ -267,12 +285,14 @@ module _ (m : ModuleValue) (w : World) (a b : ℕ) (x y : Activity) (found : sli
         let first : World = started_world m (started_world m w b y two those) a (aged x s) one these in
         let second : World = started_world m (started_world m w a x one these) b (aged y t) two those in
         same_plain first (activities_swapped n second) acts_both
-        (clocks_both (w.steps + 1 + 1) (w.steps + 1) (w.steps + 1 + 1) (w.steps + 1) n a b (is_given these) (is_given those) w.clocks inside within width still)
+        (clocks_both (w.steps + 1 + 1) (w.steps + 1) (w.steps + 1 + 1) (w.steps + 1) n a b (is_given these)
+        (is_given those) w.clocks inside within width still)
         refl refl
 
 -- ---- worlds that are reached
 
-pub starts_square : (m : ModuleValue) (w : World) → IsWithinLimits m → IsAccepted m → IsReached m w → (a b : ℕ) → (b ≡ a → ⊥) → IsSquareOfStarts m w a b
+pub starts_square : (m : ModuleValue) (w : World) → IsWithinLimits m → IsAccepted m → IsReached m w → (a b : ℕ) → (b ≡ a → ⊥)
+    → IsSquareOfStarts m w a b
 starts_square m w limits ok reached a b differs u v hu hv = (
   p,
   q,
@@ -313,7 +333,8 @@ starts_square m w limits ok reached a b differs u v hu hv = (
 
     T : Starts m w u b y y.since (step m w b) (step m u b)
     T = only_starts m w u v b y y.since hv
-        (goes m w u b y y.since (reached_sees m w limits ok reached b a (λ e. differs (sym e)) (starts_apart m w b a B) y B.found u event.Spawned hu))
+        (goes m w u b y y.since
+        (reached_sees m w limits ok reached b a (λ e. differs (sym e)) (starts_apart m w b a B) y B.found u event.Spawned hu))
 
     us : u ≡ started_world m w a x S.unit S.values
     us = (same_step u (started_world m w a x S.unit S.values) event.Spawned event.Spawned (sym hu ∙ S.here)).0

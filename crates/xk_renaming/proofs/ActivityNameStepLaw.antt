@@ -23,7 +23,8 @@ use Rattle.xk_squares.proofs.ListLemmas.{map_push}
 use Rattle.xk_renaming.specs.ActivityNames.{renamed, governed_renamed, clock_swapped, activities_swapped, outcome_renamed, HasAllStandings}
 use Rattle.xk_renaming.proofs.ActivityNameWorldLemmas.{standing-swapped, settled-swapped, AreWide, moved-swapped, joined-swapped, new-swapped, waits-swapped, acts_swapped, length-acts, act-swapped, set_act-swapped, push_act-swapped, child-renamed, awaits-swapped}
 
-module _ (m : ModuleValue) (k : ℕ) (w : World) (inside : suc k < length w.activities) (wide : AreWide k w.clocks) (a : ℕ) (act : Activity) where
+module _ (m : ModuleValue) (k : ℕ) (w : World) (inside : suc k < length w.activities) (wide : AreWide k w.clocks) (a : ℕ)
+    (act : Activity) where
   -- the world with the numbers changed, the activity's other number, and the activity there
   abbrev v : World
   v = activities_swapped k w
@@ -40,7 +41,8 @@ module _ (m : ModuleValue) (k : ℕ) (w : World) (inside : suc k < length w.acti
 
   -- ---- operands
 
-  number_same : (o : Option Value) (go later : ℤ → Outcome) → ((n : ℤ) → AreSame (go n) (later n)) → AreSame (number_in o go) (number_in o later)
+  number_same : (o : Option Value) (go later : ℤ → Outcome) → ((n : ℤ) → AreSame (go n) (later n))
+      → AreSame (number_in o go) (number_in o later)
   number_same None go later h = refl
   number_same (Some value.Unset) go later h = refl
   number_same (Some (value.Number n)) go later h = h n
@@ -55,7 +57,8 @@ module _ (m : ModuleValue) (k : ℕ) (w : World) (inside : suc k < length w.acti
       by true = h
       by false = refl
 
-  clock_same : (o : Option Value) (go later : ℕ → Outcome) → ((c : ℕ) → AreSame (go c) (later c)) → AreSame (clock_in w a o go) (clock_in v b o later)
+  clock_same : (o : Option Value) (go later : ℕ → Outcome) → ((c : ℕ) → AreSame (go c) (later c))
+      → AreSame (clock_in w a o go) (clock_in v b o later)
   clock_same None go later h = refl
   clock_same (Some value.Unset) go later h = refl
   clock_same (Some (value.Number n)) go later h = refl
@@ -66,36 +69,44 @@ module _ (m : ModuleValue) (k : ℕ) (w : World) (inside : suc k < length w.acti
   cell_same None go later h = refl
   cell_same (Some n) go later h = h n
 
-  put_same : (o : Option Value) (d : ℕ) (x : Value) (go later : Activity → Outcome) → ((next : Activity) → AreSame (go next) (later (governed_renamed k next)))
+  put_same : (o : Option Value) (d : ℕ) (x : Value) (go later : Activity → Outcome)
+      → ((next : Activity) → AreSame (go next) (later (governed_renamed k next)))
       → AreSame (put_in o act d x go) (put_in o there d x later)
   put_same None d x go later h = refl
   put_same (Some old) d x go later h = h (onward (with_slots act (set act.frame.slots d x)))
 
-  arguments_same : (ps : List ParamKind) (xs : List ℕ) (go later : List Value → Outcome) → ((values : List Value) → AreSame (go values) (later values))
+  arguments_same : (ps : List ParamKind) (xs : List ℕ) (go later : List Value → Outcome)
+      → ((values : List Value) → AreSame (go values) (later values))
       → AreSame (arguments_in w a act ps xs go) (arguments_in v b there ps xs later)
   arguments_same [] [] go later h = h []
   arguments_same [] (x ∷ xs) go later h = refl
   arguments_same (p ∷ ps) [] go later h = refl
-  arguments_same (param.Number ∷ ps) (x ∷ xs) go later h = number_same (slot_at act x) _ _ (λ n. arguments_same ps xs _ _ (λ values. h (value.Number n ∷ values)))
-  arguments_same (param.Clock ∷ ps) (x ∷ xs) go later h = clock_same (slot_at act x) _ _ (λ c. arguments_same ps xs _ _ (λ values. h (value.Clock c ∷ values)))
+  arguments_same (param.Number ∷ ps) (x ∷ xs) go later h =
+      number_same (slot_at act x) _ _ (λ n. arguments_same ps xs _ _ (λ values. h (value.Number n ∷ values)))
+  arguments_same (param.Clock ∷ ps) (x ∷ xs) go later h =
+      clock_same (slot_at act x) _ _ (λ c. arguments_same ps xs _ _ (λ values. h (value.Clock c ∷ values)))
 
   -- ---- what changes
 
   -- the end of a step, by the activities, clocks and shared numbers before it
-  settled_same : (acts others : List Activity) (cs ds : List Clock) (cells : List ℤ) (e : Event) → others ≡ acts_swapped k acts → ds ≡ map (clock_swapped k) cs
+  settled_same : (acts others : List Activity) (cs ds : List Clock) (cells : List ℤ) (e : Event) → others ≡ acts_swapped k acts
+      → ds ≡ map (clock_swapped k) cs
       → AreSame (Stepped (settled (record w { activities = acts; clocks = cs; cells = cells })) e)
       (Stepped (settled (record w { activities = others; clocks = ds; cells = cells })) e)
   settled_same acts others cs ds cells e p q =
       ap (λ z. Stepped z e)
-      (ap settled (λ i. record w { activities = p i; clocks = q i; cells = cells }) ∙ settled-swapped k (record w { activities = acts; clocks = cs; cells = cells }))
+      (ap settled (λ i. record w { activities = p i; clocks = q i; cells = cells })
+      ∙ settled-swapped k (record w { activities = acts; clocks = cs; cells = cells }))
 
   -- with these shared numbers
   stored_same : (cells : List ℤ) (next : Activity) (change : ℕ → Standing → Standing) (e : Event)
       → AreSame (done (record w { cells = cells }) a next change e) (done (record v { cells = cells }) b (governed_renamed k next) change e)
-  stored_same cells next change e = settled_same (set w.activities a next) (set v.activities b (governed_renamed k next)) (moved a change w.clocks) (moved b change v.clocks)
+  stored_same cells next change e = settled_same (set w.activities a next) (set v.activities b (governed_renamed k next))
+      (moved a change w.clocks) (moved b change v.clocks)
       cells e (set_act-swapped k w.activities a next inside) (moved-swapped k a change w.clocks wide)
 
-  done_same : (next : Activity) (change : ℕ → Standing → Standing) (e : Event) → AreSame (done w a next change e) (done v b (governed_renamed k next) change e)
+  done_same : (next : Activity) (change : ℕ → Standing → Standing) (e : Event)
+      → AreSame (done w a next change e) (done v b (governed_renamed k next) change e)
   done_same next change e = stored_same w.cells next change e
 
   made_same : (next : Activity) → AreSame (made w a next) (made v b (governed_renamed k next))
@@ -104,7 +115,8 @@ module _ (m : ModuleValue) (k : ℕ) (w : World) (inside : suc k < length w.acti
       let there : Clock = new_clock (length v.activities) b in
       settled_same (set w.activities a next) (set v.activities b (governed_renamed k next)) (w.clocks ++ new ∷ []) (v.clocks ++ there ∷ [])
       w.cells event.Made (set_act-swapped k w.activities a next inside)
-      (ap (λ c. map (clock_swapped k) w.clocks ++ c ∷ []) (ap (λ n. new_clock n b) (length-acts k w.activities) ∙ new-swapped k (length w.activities) a inside)
+      (ap (λ c. map (clock_swapped k) w.clocks ++ c ∷ [])
+      (ap (λ n. new_clock n b) (length-acts k w.activities) ∙ new-swapped k (length w.activities) a inside)
       ∙ sym (map_push (clock_swapped k) w.clocks new))
 
   spawned_same : (t : ℕ) (values : List Value) → AreSame (spawned m w a act t values) (spawned m v b there t values)
@@ -121,15 +133,18 @@ module _ (m : ModuleValue) (k : ℕ) (w : World) (inside : suc k < length w.acti
   -- ---- instructions
 
   write_same : (d : ℕ) (x : Value) (e : Event)
-      → AreSame (put_in (slot_at act d) act d x (λ next. done w a next none e)) (put_in (slot_at act d) there d x (λ next. done v b next none e))
+      → AreSame (put_in (slot_at act d) act d x (λ next. done w a next none e))
+      (put_in (slot_at act d) there d x (λ next. done v b next none e))
   write_same d x e = put_same (slot_at act d) d x _ _ (λ next. done_same next none e)
 
   computing_same : (g : ℤ → ℤ → ℤ) (d x y : ℕ) → AreSame (computing w a act g d x y) (computing v b there g d x y)
-  computing_same g d x y = number_same (slot_at act x) _ _ (λ p. number_same (slot_at act y) _ _ (λ q. write_same d (value.Number (g p q)) event.Local))
+  computing_same g d x y =
+      number_same (slot_at act x) _ _ (λ p. number_same (slot_at act y) _ _ (λ q. write_same d (value.Number (g p q)) event.Local))
 
   -- one way or the other
   either_same : (p : Bool) (one other : Activity)
-      → AreSame (done w a (cond p one other) none event.Local) (done v b (cond p (governed_renamed k one) (governed_renamed k other)) none event.Local)
+      → AreSame (done w a (cond p one other) none event.Local)
+      (done v b (cond p (governed_renamed k one) (governed_renamed k other)) none event.Local)
   either_same true one other = done_same one none event.Local
   either_same false one other = done_same other none event.Local
 
@@ -141,8 +156,10 @@ module _ (m : ModuleValue) (k : ℕ) (w : World) (inside : suc k < length w.acti
   beginning_same : (d : ℕ) (lo : ℤ) (t : ℕ) (top : ℤ) → AreSame (beginning w a act d lo t top) (beginning v b there d lo t top)
   beginning_same d lo t top = by (int_le lo top)
     where
-      by : (p : Bool) → AreSame (cond p (put_in (slot_at act d) act d (value.Number lo) (λ next. done w a next none event.Local)) (done w a (going act t) none event.Local))
-          (cond p (put_in (slot_at act d) there d (value.Number lo) (λ next. done v b next none event.Local)) (done v b (going there t) none event.Local))
+      by : (p : Bool) → AreSame (cond p (put_in (slot_at act d) act d (value.Number lo) (λ next. done w a next none event.Local))
+          (done w a (going act t) none event.Local))
+          (cond p (put_in (slot_at act d) there d (value.Number lo) (λ next. done v b next none event.Local))
+          (done v b (going there t) none event.Local))
       by true = write_same d (value.Number lo) event.Local
       by false = done_same (going act t) none event.Local
 
@@ -155,7 +172,8 @@ module _ (m : ModuleValue) (k : ℕ) (w : World) (inside : suc k < length w.acti
   calling_same t args None = refl
   calling_same t args (Some u) = by (is_method u.kind)
     where
-      by : (p : Bool) → AreSame (cond p (arguments_in w a act u.params args (λ values. done w a (called m act t values) none event.Local)) (Wrong OutOfRange))
+      by : (p : Bool) → AreSame
+          (cond p (arguments_in w a act u.params args (λ values. done w a (called m act t values) none event.Local)) (Wrong OutOfRange))
           (cond p (arguments_in v b there u.params args (λ values. done v b (called m there t values) none event.Local)) (Wrong OutOfRange))
       by true = arguments_same u.params args _ _ (λ values. done_same (called m act t values) none event.Local)
       by false = refl
@@ -177,7 +195,8 @@ module _ (m : ModuleValue) (k : ℕ) (w : World) (inside : suc k < length w.acti
   closing_same zero = refl
   closing_same (suc n) = rw (awaits-swapped k w.activities inside (innermost a act)) (by (awaits w.activities (innermost a act)))
     where
-      by : (p : Bool) → AreSame (cond p Blocked (done w a (left act n) none event.Closed)) (cond p Blocked (done v b (left there n) none event.Closed))
+      by : (p : Bool)
+          → AreSame (cond p Blocked (done w a (left act n) none event.Closed)) (cond p Blocked (done v b (left there n) none event.Closed))
       by true = refl
       by false = done_same (left act n) none event.Closed
 
@@ -192,7 +211,8 @@ module _ (m : ModuleValue) (k : ℕ) (w : World) (inside : suc k < length w.acti
   put_cell : (c x : ℕ) (g : ℤ → ℤ → ℤ) (e : Event)
       → AreSame (number_in (slot_at act x) (λ n. cell_in (slice_get w.cells c) (λ old. stored w a act c (g old n) e)))
       (number_in (slot_at act x) (λ n. cell_in (slice_get w.cells c) (λ old. stored v b there c (g old n) e)))
-  put_cell c x g e = number_same (slot_at act x) _ _ (λ n. cell_same (slice_get w.cells c) _ _ (λ old. stored_same (set w.cells c (g old n)) (onward act) none e))
+  put_cell c x g e = number_same (slot_at act x) _ _
+      (λ n. cell_same (slice_get w.cells c) _ _ (λ old. stored_same (set w.cells c (g old n)) (onward act) none e))
 
   instruction_same : (i : Instr) → AreSame (carried_out m w a act i) (carried_out m v b there i)
   instruction_same (instr.Lit d n) = write_same d (value.Number n) event.Local
@@ -212,7 +232,8 @@ module _ (m : ModuleValue) (k : ℕ) (w : World) (inside : suc k < length w.acti
   instruction_same (instr.Put c x) = put_cell c x (λ old n. n) event.Put
   instruction_same (instr.AddTo c x) = put_cell c x (int_wrapping_add w64) event.Added
   instruction_same (instr.Print x) = number_same (slot_at act x) _ _ (λ n. done_same (onward act) none (event.Printed n))
-  instruction_same (instr.Make d) = rw (length-map w.clocks (clock_swapped k)) (put_same (slot_at act d) d (value.Clock (length w.clocks)) _ _ made_same)
+  instruction_same (instr.Make d) =
+      rw (length-map w.clocks (clock_swapped k)) (put_same (slot_at act d) d (value.Clock (length w.clocks)) _ _ made_same)
   instruction_same (instr.Resume x) = clock_same (slot_at act x) _ _ (λ c. done_same (onward act) (only c resumed) event.Resumed)
   instruction_same (instr.Drop x) = clock_same (slot_at act x) _ _ (λ c. done_same (onward act) (only c dropped) event.Dropped)
   instruction_same instr.Advance = done_same (arrived act) (all resumed) event.Arrived
@@ -232,21 +253,23 @@ module _ (m : ModuleValue) (k : ℕ) (w : World) (inside : suc k < length w.acti
   step_by_same status.Ended = refl
 
 -- each clock has a standing of both
-pub wide_of : (k : ℕ) (w : World) → suc k < length w.activities → HasAllStandings w → AreWide k w.clocks
+wide_of : (k : ℕ) (w : World) → suc k < length w.activities → HasAllStandings w → AreWide k w.clocks
 wide_of k w inside full j c at = omega (arith, inside, full j c at)
 
 pub step-swapped : (m : ModuleValue) (w : World) (k a : ℕ) → suc k < length w.activities → HasAllStandings w
     → step m (activities_swapped k w) (renamed k a) ≡ outcome_renamed k (step m w a)
 step-swapped m w k a inside full = rw (act-swapped k w.activities a inside) (by (slice_get w.activities a))
   where
-    by : (o : Option Activity) → step_of m (activities_swapped k w) (renamed k a) (option_map (governed_renamed k) o) ≡ outcome_renamed k (step_of m w a o)
+    by : (o : Option Activity)
+        → step_of m (activities_swapped k w) (renamed k a) (option_map (governed_renamed k) o) ≡ outcome_renamed k (step_of m w a o)
     by None = refl
     by (Some act) = step_by_same m k w inside (wide_of k w inside full) a act act.status
 
 -- and it stands at the same instruction
 pub next-swapped : (m : ModuleValue) (w : World) (k a : ℕ) → suc k < length w.activities
     → next_instruction m (activities_swapped k w) (renamed k a) ≡ next_instruction m w a
-next-swapped m w k a inside = ap (option_and_then (λ act. instruction_at m act.frame)) (act-swapped k w.activities a inside) ∙ by (slice_get w.activities a)
+next-swapped m w k a inside = ap (option_and_then (λ act. instruction_at m act.frame)) (act-swapped k w.activities a inside)
+    ∙ by (slice_get w.activities a)
   where
     by : (o : Option Activity) → option_and_then (λ (x : Activity). instruction_at m x.frame) (option_map (governed_renamed k) o)
         ≡ option_and_then (λ (x : Activity). instruction_at m x.frame) o

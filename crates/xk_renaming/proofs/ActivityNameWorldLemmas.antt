@@ -29,12 +29,14 @@ standing-swapped k a c wide = get_or-swapped k c.standings a standing.Apart wide
 settled_clock-swapped : (k now : ℕ) (c : Clock) → settled_clock now (clock_swapped k c) ≡ clock_swapped k (settled_clock now c)
 settled_clock-swapped k now c = rw (any-swapped is_signalled k c.standings, any-swapped is_pending k c.standings) (by (is_ready c))
   where
-    by : (b : Bool) → cond b (record { phase = c.phase + 1; last = now; standings = map advanced (neighbours_swapped k c.standings) }) (clock_swapped k c)
+    by : (b : Bool) → cond b (record { phase = c.phase + 1; last = now; standings = map advanced (neighbours_swapped k c.standings) })
+        (clock_swapped k c)
         ≡ clock_swapped k (cond b (record { phase = c.phase + 1; last = now; standings = map advanced c.standings }) c)
     by true = ap (λ zs. record { phase = c.phase + 1; last = now; standings = zs }) (map-swapped advanced k c.standings)
     by false = refl
 
-settled_clocks-swapped : (k now : ℕ) (cs : List Clock) → map (settled_clock now) (map (clock_swapped k) cs) ≡ map (clock_swapped k) (map (settled_clock now) cs)
+settled_clocks-swapped : (k now : ℕ) (cs : List Clock)
+    → map (settled_clock now) (map (clock_swapped k) cs) ≡ map (clock_swapped k) (map (settled_clock now) cs)
 settled_clocks-swapped k now [] = refl
 settled_clocks-swapped k now (c ∷ cs) = rw (settled_clock-swapped k now c, settled_clocks-swapped k now cs)
 
@@ -95,12 +97,14 @@ length-acts k acts = length-map (neighbours_swapped k acts) (governed_renamed k)
 pub act-swapped : (k : ℕ) (acts : List Activity) (a : ℕ) → suc k < length acts
     → slice_get (acts_swapped k acts) (renamed k a) ≡ option_map (governed_renamed k) (slice_get acts a)
 act-swapped k acts a inside =
-    slice_get-map (governed_renamed k) (neighbours_swapped k acts) (renamed k a) ∙ ap (option_map (governed_renamed k)) (get-swapped k acts a inside)
+    slice_get-map (governed_renamed k) (neighbours_swapped k acts) (renamed k a)
+    ∙ ap (option_map (governed_renamed k)) (get-swapped k acts a inside)
 
 pub set_act-swapped : (k : ℕ) (acts : List Activity) (a : ℕ) (next : Activity) → suc k < length acts
     → set (acts_swapped k acts) (renamed k a) (governed_renamed k next) ≡ acts_swapped k (set acts a next)
 set_act-swapped k acts a next inside =
-    sym (map-set (governed_renamed k) (neighbours_swapped k acts) (renamed k a) next) ∙ ap (map (governed_renamed k)) (set-swapped k acts a next inside)
+    sym (map-set (governed_renamed k) (neighbours_swapped k acts) (renamed k a) next)
+    ∙ ap (map (governed_renamed k)) (set-swapped k acts a next inside)
 
 pub push_act-swapped : (k : ℕ) (acts : List Activity) (x : Activity) → suc k < length acts
     → acts_swapped k (acts ++ x ∷ []) ≡ acts_swapped k acts ++ governed_renamed k x ∷ []
@@ -111,7 +115,8 @@ pub child-renamed : (m : ModuleValue) (k a : ℕ) (act : Activity) (unit : ℕ) 
     → child m (renamed k a) (governed_renamed k act) unit values ≡ governed_renamed k (child m a act unit values)
 child-renamed m k a act unit values = ap (λ g. record (child m a act unit values) { governed = g }) (by (act.opened == 0))
   where
-    by : (b : Bool) → cond b (finish_renamed k act.governed) (finish_renamed k (innermost a act)) ≡ finish_renamed k (cond b act.governed (innermost a act))
+    by : (b : Bool) → cond b (finish_renamed k act.governed) (finish_renamed k (innermost a act))
+        ≡ finish_renamed k (cond b act.governed (innermost a act))
     by true = refl
     by false = refl
 
@@ -137,19 +142,23 @@ module _ (k : ℕ) (acts : List Activity) (inside : suc k < length acts) (f : Fi
   within-swapped (suc n) b = rw (act-swapped k acts b inside) (by (within-swapped n) (slice_get acts b))
     where
       owner : GoesSo n → (o : Option ℕ)
-          → option_map_or (under_within (acts_swapped k acts) (finish_renamed k f) n) (option_map (renamed k) o) false ≡ option_map_or (under_within acts f n) o false
+          → option_map_or (under_within (acts_swapped k acts) (finish_renamed k f) n) (option_map (renamed k) o) false
+          ≡ option_map_or (under_within acts f n) o false
       owner less None = refl
       owner less (Some c) = less c
 
       by : GoesSo n → (o : Option Activity)
           → option_map_or (λ (x : Activity). same_finish x.governed (finish_renamed k f)
-          || option_map_or (under_within (acts_swapped k acts) (finish_renamed k f) n) x.governed.owner false) (option_map (governed_renamed k) o) false
-          ≡ option_map_or (λ (x : Activity). same_finish x.governed f || option_map_or (under_within acts f n) x.governed.owner false) o false
+          || option_map_or (under_within (acts_swapped k acts) (finish_renamed k f) n) x.governed.owner false)
+          (option_map (governed_renamed k) o) false
+          ≡ option_map_or
+          (λ (x : Activity). same_finish x.governed f || option_map_or (under_within acts f n) x.governed.owner false) o false
       by less None = refl
       by less (Some x) = rw (same_renamed k x.governed f, owner less x.governed.owner)
 
   under-swapped : (b : ℕ) → is_under (acts_swapped k acts) (finish_renamed k f) (renamed k b) ≡ is_under acts f b
-  under-swapped b = ap (λ n. under_within (acts_swapped k acts) (finish_renamed k f) n (renamed k b)) (length-acts k acts) ∙ within-swapped (length acts) b
+  under-swapped b = ap (λ n. under_within (acts_swapped k acts) (finish_renamed k f) n (renamed k b)) (length-acts k acts)
+      ∙ within-swapped (length acts) b
 
   -- who is awaited is, by its other number
   awaited_there : IsAwaited acts f → IsAwaited (acts_swapped k acts) (finish_renamed k f)
@@ -174,7 +183,8 @@ module _ (k : ℕ) (acts : List Activity) (inside : suc k < length acts) (f : Fi
         b = renamed k i.b;
         act = x;
         found = e;
-        under = sym (under-swapped (renamed k i.b)) ∙ ap (is_under (acts_swapped k acts) (finish_renamed k f)) (renamed_twice k i.b) ∙ i.under;
+        under = sym (under-swapped (renamed k i.b))
+            ∙ ap (is_under (acts_swapped k acts) (finish_renamed k f)) (renamed_twice k i.b) ∙ i.under;
         alive = ap (λ (z : Activity). is_ended z.status)
             (same_Some (governed_renamed k x) i.act (sym (there ∙ ap (option_map (governed_renamed k)) e) ∙ i.found)) ∙ i.alive;
       }

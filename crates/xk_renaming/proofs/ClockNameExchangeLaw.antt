@@ -7,7 +7,8 @@ use Rattle.xk_squares.specs.PlainWorlds.{plain_activity, plain_clock, plain, Are
 use Rattle.xk_renaming.specs.ClockNames.{activity_renamed, clocks_swapped}
 use Rattle.xk_renaming.proofs.ActivityNameListLemmas.{map-swapped}
 
-plain_renamed : (k : ℕ) (xs : List Activity) → map plain_activity (map (activity_renamed k) xs) ≡ map (activity_renamed k) (map plain_activity xs)
+plain_renamed : (k : ℕ) (xs : List Activity)
+    → map plain_activity (map (activity_renamed k) xs) ≡ map (activity_renamed k) (map plain_activity xs)
 plain_renamed k [] = refl
 plain_renamed k (x ∷ xs) = ap (λ zs. plain_activity (activity_renamed k x) ∷ zs) (plain_renamed k xs)
 
@@ -18,7 +19,8 @@ pub alike_swapped : (k : ℕ) (w v : World) → AreAlike w v → AreAlike (clock
 alike_swapped k w v alike = plain_swapped k w ∙ ap (clocks_swapped k) alike ∙ sym (plain_swapped k v)
 
 ended_renamed : (k : ℕ) (xs : List Activity)
-    → list_all (λ (act : Activity). is_ended act.status) (map (activity_renamed k) xs) ≡ list_all (λ (act : Activity). is_ended act.status) xs
+    → list_all (λ (act : Activity). is_ended act.status) (map (activity_renamed k) xs)
+    ≡ list_all (λ (act : Activity). is_ended act.status) xs
 ended_renamed k [] = refl
 ended_renamed k (x ∷ xs) = ap (λ p. is_ended x.status && p) (ended_renamed k xs)
 

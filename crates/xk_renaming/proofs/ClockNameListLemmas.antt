@@ -47,14 +47,16 @@ pub moved-swapped : (a k : ℕ) (f g : ℕ → Standing → Standing) (cs : List
 moved-swapped a k f g [] h e = refl
 moved-swapped a zero f g (x ∷ []) h e = absurd (omega arith)
 moved-swapped a zero f g (x ∷ y ∷ cs) h e = λ i. moved_on a (e 1 i) y ∷ moved_on a (e 0 i) x ∷ moved a (λ c. e (suc (suc c)) i) cs
-moved-swapped a (suc k) f g (x ∷ cs) h e = λ i. moved_on a (e 0 i) x ∷ moved-swapped a k (λ c. f (suc c)) (λ c. g (suc c)) cs (omega arith) (λ c. e (suc c)) i
+moved-swapped a (suc k) f g (x ∷ cs) h e =
+    λ i. moved_on a (e 0 i) x ∷ moved-swapped a k (λ c. f (suc c)) (λ c. g (suc c)) cs (omega arith) (λ c. e (suc c)) i
 
 pub joined-swapped : (a k : ℕ) (f g : ℕ → Bool) (cs : List Clock) → suc k < length cs → ((c : ℕ) → g (renamed k c) ≡ f c)
     → joined a g (neighbours_swapped k cs) ≡ neighbours_swapped k (joined a f cs)
 joined-swapped a k f g [] h e = refl
 joined-swapped a zero f g (x ∷ []) h e = absurd (omega arith)
 joined-swapped a zero f g (x ∷ y ∷ cs) h e = λ i. joined_on a (e 1 i) y ∷ joined_on a (e 0 i) x ∷ joined a (λ c. e (suc (suc c)) i) cs
-joined-swapped a (suc k) f g (x ∷ cs) h e = λ i. joined_on a (e 0 i) x ∷ joined-swapped a k (λ c. f (suc c)) (λ c. g (suc c)) cs (omega arith) (λ c. e (suc c)) i
+joined-swapped a (suc k) f g (x ∷ cs) h e =
+    λ i. joined_on a (e 0 i) x ∷ joined-swapped a k (λ c. f (suc c)) (λ c. g (suc c)) cs (omega arith) (λ c. e (suc c)) i
 
 pub only-swapped : (k c : ℕ) (f : Standing → Standing) (d : ℕ) → only (renamed k c) f (renamed k d) ≡ only c f d
 only-swapped k c f d = λ i s. cond (renamed_same k d c i) (f s) s

@@ -46,18 +46,21 @@ step_keeps m w a = step_kind (Keeps (length w.clocks)) m w a tt (λ c. tt) (λ a
 
 -- ---- a run
 
-pub run_swapped : (m : ModuleValue) (k : ℕ) (s : List ℕ) (w : World) → suc k < length w.clocks → run m s (clocks_swapped k w) ≡ course_swapped k (run m s w)
+run_swapped : (m : ModuleValue) (k : ℕ) (s : List ℕ) (w : World) → suc k < length w.clocks
+    → run m s (clocks_swapped k w) ≡ course_swapped k (run m s w)
 run_swapped m k [] w inside = refl
 run_swapped m k (a ∷ s) w inside =
     ap (λ o. run_on (clocks_swapped k w) o (run m s)) (step_swapped m w k a inside) ∙ by (run_swapped m k s) (step m w a) (step_keeps m w a)
   where
     by : ((u : World) → suc k < length u.clocks → run m s (clocks_swapped k u) ≡ course_swapped k (run m s u))
-        → (o : Outcome) → Keeps (length w.clocks) o → run_on (clocks_swapped k w) (outcome_swapped k o) (run m s) ≡ course_swapped k (run_on w o (run m s))
+        → (o : Outcome) → Keeps (length w.clocks) o
+        → run_on (clocks_swapped k w) (outcome_swapped k o) (run m s) ≡ course_swapped k (run_on w o (run m s))
     by later Blocked h = refl
     by later (Wrong c) h = refl
     by later (Stepped u e) h = later u (omega arith)
 
-pub events_swapped : (m : ModuleValue) (k : ℕ) (s : List ℕ) (w : World) → suc k < length w.clocks → events m s (clocks_swapped k w) ≡ events m s w
+events_swapped : (m : ModuleValue) (k : ℕ) (s : List ℕ) (w : World) → suc k < length w.clocks
+    → events m s (clocks_swapped k w) ≡ events m s w
 events_swapped m k [] w inside = refl
 events_swapped m k (a ∷ s) w inside =
     ap (λ o. events_on a o (events m s)) (step_swapped m w k a inside) ∙ by (events_swapped m k s) (step m w a) (step_keeps m w a)
@@ -72,5 +75,6 @@ pub goes_swapped : (m : ModuleValue) (w : World) (k : ℕ) (s : List ℕ) → su
 goes_swapped m w k s inside = record {
   course = run_swapped m k s w inside;
   events = events_swapped m k s w inside;
-  prints = ap (λ (es : List (ℕ × Event)). filter_map (λ p. number_printed p.1) (filter (λ p. not (is_local p.1)) es)) (events_swapped m k s w inside);
+  prints = ap (λ (es : List (ℕ × Event)). filter_map (λ p. number_printed p.1) (filter (λ p. not (is_local p.1)) es))
+      (events_swapped m k s w inside);
 }

@@ -49,7 +49,8 @@ slots_stay k (v ∷ slots) h = λ i. by v (λ c e. h 0 c (ap Some e)) i ∷ slot
 frame_stays : (k : ℕ) (f : Frame) → ((s c : ℕ) → Names f.slots s c → c < k) → frame_renamed k f ≡ f
 frame_stays k f h = λ i. record f { slots = slots_stay k f.slots h i }
 
-callers_stay : (m : ModuleValue) (look : ℕ → Kind) (st : Status) (k : ℕ) (g : Frame) (fs : List Frame) → AreWaiting m look st k g fs → map (frame_renamed k) fs ≡ fs
+callers_stay : (m : ModuleValue) (look : ℕ → Kind) (st : Status) (k : ℕ) (g : Frame) (fs : List Frame) → AreWaiting m look st k g fs
+    → map (frame_renamed k) fs ≡ fs
 callers_stay m look st k g [] w = refl
 callers_stay m look st k g (f ∷ fs) w = λ i. frame_stays k f w.0.frame.known i ∷ callers_stay m look st k f fs w.1 i
 
@@ -61,11 +62,13 @@ activities_stay : (m : ModuleValue) (w : World) → IsSound m w → Each (λ a a
 activities_stay m w sound a act at =
     let s = sound.activities a act at in
     let frame : frame_renamed (length w.clocks) act.frame ≡ act.frame = frame_stays (length w.clocks) act.frame s.frame.known in
-    let callers : map (frame_renamed (length w.clocks)) act.callers ≡ act.callers = callers_stay m _ act.status (length w.clocks) act.frame act.callers s.waiting in
+    let callers : map (frame_renamed (length w.clocks)) act.callers ≡ act.callers =
+    callers_stay m _ act.status (length w.clocks) act.frame act.callers s.waiting in
     λ i. record act { frame = frame i; callers = callers i }
 
 -- one that has made a clock
-maker_renamed : (k : ℕ) (y : Activity) (d c e : ℕ) → activity_renamed k y ≡ y → renamed k c ≡ e → activity_renamed k (maker y d c) ≡ maker y d e
+maker_renamed : (k : ℕ) (y : Activity) (d c e : ℕ) → activity_renamed k y ≡ y → renamed k c ≡ e
+    → activity_renamed k (maker y d c) ≡ maker y d e
 maker_renamed k y d c e stays place =
     ap (λ slots. onward (with_slots (activity_renamed k y) slots)) (map-set (value_renamed k) y.frame.slots d (value.Clock c))
     ∙ ap (λ (z : Activity). maker z d (renamed k c)) stays ∙ ap (maker y d) place
@@ -76,7 +79,8 @@ still_once : (n : ℕ) (c : Clock) → settle c.standings ≡ c.standings → pl
 still_once n c h = plainly (settled_clock n c) c (settled_standings n c ∙ h)
 
 still_twice : (n o : ℕ) (c : Clock) → settle c.standings ≡ c.standings → plain_clock (settled_clock n (settled_clock o c)) ≡ plain_clock c
-still_twice n o c h = plainly (settled_clock n (settled_clock o c)) c (settled_standings n (settled_clock o c) ∙ ap settle (settled_standings o c ∙ h) ∙ h)
+still_twice n o c h =
+    plainly (settled_clock n (settled_clock o c)) c (settled_standings n (settled_clock o c) ∙ ap settle (settled_standings o c ∙ h) ∙ h)
 
 -- two that are made one after the other, and in the other order
 made_clocks : (n o : ℕ) (new old : Clock) (cs : List Clock) → settle new.standings ≡ new.standings → settle old.standings ≡ old.standings
@@ -111,7 +115,8 @@ make_of (Some (instr.Make d)) h = (d, refl)
 make_of None h = absurd (true≢false (sym h))
 make_of (Some _) h = absurd (true≢false (sym h))
 
-can_make : (m : ModuleValue) (w : World) → IsSound m w → (a : ℕ) (u : World) (e : Event) → step m w a ≡ Stepped u e → makes_next m w a ≡ true → CanMake m w a
+can_make : (m : ModuleValue) (w : World) → IsSound m w → (a : ℕ) (u : World) (e : Event) → step m w a ≡ Stepped u e
+    → makes_next m w a ≡ true → CanMake m w a
 can_make m w sound a u e takes h = record { act = act; at = at; d = i.0; next = next; old = slot.0; slot = slot.1 }
   where
     act : Activity
@@ -121,7 +126,8 @@ can_make m w sound a u e takes h = record { act = act; at = at; d = i.0; next = 
     at = (found_of m w a u e takes).1
 
     i : (d : ℕ) × (instruction_at m act.frame ≡ Some (instr.Make d))
-    i = make_of (instruction_at m act.frame) (sym (ap (λ o. option_map_or makes (option_and_then (λ (x : Activity). instruction_at m x.frame) o) false) at) ∙ h)
+    i = make_of (instruction_at m act.frame)
+        (sym (ap (λ o. option_map_or makes (option_and_then (λ (x : Activity). instruction_at m x.frame) o) false) at) ∙ h)
 
     taken : step_by m w a act act.status ≡ Stepped u e
     taken = sym (ap (step_of m w a) at) ∙ takes
@@ -130,7 +136,8 @@ can_make m w sound a u e takes h = record { act = act; at = at; d = i.0; next = 
     running status.Running is g = is
     running status.Arrived is g =
         let s = sound.activities a act at in
-        let there : instruction_at m act.frame ≡ Some instr.Advance = ap (option_and_then (λ (v : UnitValue). slice_get v.code act.frame.place)) s.unit ∙ s.advance is in
+        let there : instruction_at m act.frame ≡ Some instr.Advance =
+        ap (option_and_then (λ (v : UnitValue). slice_get v.code act.frame.place)) s.unit ∙ s.advance is in
         absurd (grind (arith, there, i.1))
     running status.Ended is g = absurd (grind arith)
 
@@ -150,7 +157,8 @@ can_make m w sound a u e takes h = record { act = act; at = at; d = i.0; next = 
 -- the worlds that they lead to
 both_worlds : (m : ModuleValue) (w : World) → IsSound m w → (a b : ℕ) → (b ≡ a → ⊥) → (x y : Activity)
     → slice_get w.activities a ≡ Some x → slice_get w.activities b ≡ Some y → (d e : ℕ)
-    → plain (clocks_swapped (length w.clocks) (made_world (made_world w b (maker y e (length w.clocks))) a (maker x d (suc (length w.clocks)))))
+    → plain (clocks_swapped (length w.clocks)
+    (made_world (made_world w b (maker y e (length w.clocks))) a (maker x d (suc (length w.clocks)))))
     ≡ plain (made_world (made_world w a (maker x d (length w.clocks))) b (maker y e (suc (length w.clocks))))
 both_worlds m w sound a b differs x y at there d e =
     let n : ℕ = length w.clocks in
@@ -166,14 +174,16 @@ both_worlds m w sound a b differs x y at there d e =
     ∙ ap (set w.activities b) (maker_renamed n y e n (suc n) (activities_stay m w sound b y there) (renamed_first n)))
     ∙ ap (set (set w.activities b y_last) a) (maker_renamed n x d (suc n) n (activities_stay m w sound a x at) (renamed_second n))
     ∙ set_other w.activities b a y_last x_first (λ h. differs (sym h)) in
-    same_plain (clocks_swapped n (made_world (made_world w b y_first) a x_last)) (made_world (made_world w a x_first) b y_last) (ap (map plain_activity) activities)
+    same_plain (clocks_swapped n (made_world (made_world w b y_first) a x_last)) (made_world (made_world w a x_first) b y_last)
+    (ap (map plain_activity) activities)
     (ap (λ k. map plain_clock (neighbours_swapped n
     (map (settled_clock (w.steps + 1 + 1)) (map (settled_clock (w.steps + 1)) (w.clocks ++ new_clock many b ∷ []) ++ new_clock k a ∷ []))))
     (length-set w.activities b y_first)
     ∙ made_clocks (w.steps + 1 + 1) (w.steps + 1) (new_clock many a) (new_clock many b) w.clocks
     (new_still many a (slice_get_within w.activities a x at)) (new_still many b (slice_get_within w.activities b y there))
     (λ k c is. unready_still c (sound.clocks k c is).unready)
-    ∙ sym (ap (λ k. map plain_clock (map (settled_clock (w.steps + 1 + 1)) (map (settled_clock (w.steps + 1)) (w.clocks ++ new_clock many a ∷ []) ++ new_clock k b ∷ [])))
+    ∙ sym (ap (λ k. map plain_clock (map (settled_clock (w.steps + 1 + 1))
+    (map (settled_clock (w.steps + 1)) (w.clocks ++ new_clock many a ∷ []) ++ new_clock k b ∷ [])))
     (length-set w.activities a x_first)))
     refl refl
 
@@ -188,14 +198,17 @@ more_clocks w a next =
 -- each can follow the other, and then there are both clocks
 pub makes_after : (m : ModuleValue) (w : World) → IsWithinLimits m → IsAccepted m → IsReached m w → (a b : ℕ) → (b ≡ a → ⊥)
     → makes_next m w a ≡ true → makes_next m w b ≡ true → (u v : World) (e f : Event) → step m w a ≡ Stepped u e → step m w b ≡ Stepped v f
-    → (x : World) × (y : World) × (step m v a ≡ Stepped x e) × (step m u b ≡ Stepped y f) × (plain (clocks_swapped (length w.clocks) x) ≡ plain y)
+    → (x : World) × (y : World) × (step m v a ≡ Stepped x e) × (step m u b ≡ Stepped y f)
+    × (plain (clocks_swapped (length w.clocks) x) ≡ plain y)
     × (suc (length w.clocks) < length x.clocks)
 makes_after m w limits ok reached a b differs first second u v e f hu hv = (
   there v a p (length v.clocks),
   there u b q (length u.clocks),
-  made_step m v a p.act p.d p.old (ap (λ (z : World). slice_get z.activities a) vs.0 ∙ get-set_other w.activities b a (maker q.act q.d n) turned ∙ p.at) p.next p.slot
+  made_step m v a p.act p.d p.old
+      (ap (λ (z : World). slice_get z.activities a) vs.0 ∙ get-set_other w.activities b a (maker q.act q.d n) turned ∙ p.at) p.next p.slot
       ∙ ap (Stepped (there v a p (length v.clocks))) (sym us.1),
-  made_step m u b q.act q.d q.old (ap (λ (z : World). slice_get z.activities b) us.0 ∙ get-set_other w.activities a b (maker p.act p.d n) differs ∙ q.at) q.next q.slot
+  made_step m u b q.act q.d q.old
+      (ap (λ (z : World). slice_get z.activities b) us.0 ∙ get-set_other w.activities a b (maker p.act p.d n) differs ∙ q.at) q.next q.slot
       ∙ ap (Stepped (there u b q (length u.clocks))) (sym vs.1),
   ap (λ (z : World). plain (clocks_swapped n (there z a p (length z.clocks)))) vs.0
       ∙ ap (λ k. plain (clocks_swapped n (there (made_world w b (maker q.act q.d n)) a p k))) (more_clocks w b (maker q.act q.d n))

@@ -29,22 +29,29 @@ use Rattle.xk_renaming.proofs.ActivityNameListLemmas.{length-swapped, get-swappe
 -- ---- what is looked at
 
 -- no activity is under another finish than before
-under_swapped : (k : ℕ) (acts : List Activity) (f : Finish) (n b : ℕ) → under_within (map (activity_renamed k) acts) f n b ≡ under_within acts f n b
+under_swapped : (k : ℕ) (acts : List Activity) (f : Finish) (n b : ℕ)
+    → under_within (map (activity_renamed k) acts) f n b ≡ under_within acts f n b
 unfolding under_within
 under_swapped k acts f zero b = refl
 under_swapped k acts f (suc n) b =
-    rw (slice_get-map (activity_renamed k) acts b, fun_ext (under_within (map (activity_renamed k) acts) f n) (under_within acts f n) (under_swapped k acts f n))
+    rw (
+      slice_get-map (activity_renamed k) acts b,
+      fun_ext (under_within (map (activity_renamed k) acts) f n) (under_within acts f n)
+          (under_swapped k acts f n),
+    )
     (by (slice_get acts b))
   where
     by : (o : Option Activity)
-        → option_map_or (λ (x : Activity). same_finish x.governed f || option_map_or (under_within acts f n) x.governed.owner false) (option_map (activity_renamed k) o) false
+        → option_map_or (λ (x : Activity). same_finish x.governed f || option_map_or (under_within acts f n) x.governed.owner false)
+        (option_map (activity_renamed k) o) false
         ≡ option_map_or (λ (x : Activity). same_finish x.governed f || option_map_or (under_within acts f n) x.governed.owner false) o false
     by None = refl
     by (Some x) = refl
 
 is_under_swapped : (k : ℕ) (acts : List Activity) (f : Finish) (b : ℕ) → is_under (map (activity_renamed k) acts) f b ≡ is_under acts f b
 is_under_swapped k acts f b =
-    ap (λ n. under_within (map (activity_renamed k) acts) f n b) (length-map acts (activity_renamed k)) ∙ under_swapped k acts f (length acts) b
+    ap (λ n. under_within (map (activity_renamed k) acts) f n b) (length-map acts (activity_renamed k))
+    ∙ under_swapped k acts f (length acts) b
 
 awaits_swapped : (k : ℕ) (acts : List Activity) (f : Finish) (b : ℕ) (xs : List Activity)
     → awaits_from (map (activity_renamed k) acts) f b (map (activity_renamed k) xs) ≡ awaits_from acts f b xs
@@ -62,12 +69,15 @@ unset_renamed k zero = refl
 unset_renamed k (suc n) = ap (λ zs. value.Unset ∷ zs) (unset_renamed k n)
 
 -- a frame that begins with renamed values is renamed
-begins_renamed : (k : ℕ) (m : ModuleValue) (u : ℕ) (values : List Value) → frame_with m u (map (value_renamed k) values) ≡ frame_renamed k (frame_with m u values)
+begins_renamed : (k : ℕ) (m : ModuleValue) (u : ℕ) (values : List Value)
+    → frame_with m u (map (value_renamed k) values) ≡ frame_renamed k (frame_with m u values)
 begins_renamed k m u values =
     let unset : List Value = replicate (slots_of m u - length values) value.Unset in
-    let slots : map (value_renamed k) values ++ replicate (slots_of m u - length (map (value_renamed k) values)) value.Unset ≡ map (value_renamed k) (values ++ unset) =
+    let slots : map (value_renamed k) values ++ replicate (slots_of m u - length (map (value_renamed k) values)) value.Unset
+    ≡ map (value_renamed k) (values ++ unset) =
     ap (λ n. map (value_renamed k) values ++ replicate (slots_of m u - n) value.Unset) (length-map values (value_renamed k))
-    ∙ ap (λ zs. map (value_renamed k) values ++ zs) (sym (unset_renamed k (slots_of m u - length values))) ∙ sym (map_append (value_renamed k) values unset) in
+    ∙ ap (λ zs. map (value_renamed k) values ++ zs) (sym (unset_renamed k (slots_of m u - length values)))
+    ∙ sym (map_append (value_renamed k) values unset) in
     λ i. record { unit = u; place = 0; slots = slots i }
 
 -- ---- where a step ends
@@ -111,17 +121,23 @@ module _ (k a : ℕ) (w : World) (inside : suc k < length w.clocks) where
     abbrev other : Activity
     other = activity_renamed k act
 
-    child_renamed : (t : ℕ) (values : List Value) → child m a other t (map (value_renamed k) values) ≡ activity_renamed k (child m a act t values)
+    child_renamed : (t : ℕ) (values : List Value)
+        → child m a other t (map (value_renamed k) values) ≡ activity_renamed k (child m a act t values)
     child_renamed t values = λ i. record (child m a act t values) { frame = begins_renamed k m t values i }
 
-    called_renamed : (t : ℕ) (values : List Value) → called m other t (map (value_renamed k) values) ≡ activity_renamed k (called m act t values)
+    called_renamed : (t : ℕ) (values : List Value)
+        → called m other t (map (value_renamed k) values) ≡ activity_renamed k (called m act t values)
     called_renamed t values = λ i. record (activity_renamed k (called m act t values)) { frame = begins_renamed k m t values i }
 
     spawned_swapped : (t : ℕ) (values : List Value)
         → spawned m v a other t (map (value_renamed k) values) ≡ outcome_swapped k (spawned m w a act t values)
     spawned_swapped t values =
-        ends_swapped k (record w { activities = set w.activities a (onward act) ++ child m a act t values ∷ []; clocks = joined a (is_given values) w.clocks })
-        (set (map (activity_renamed k) w.activities) a (activity_renamed k (onward act)) ++ child m a other t (map (value_renamed k) values) ∷ [])
+        ends_swapped k (record w {
+          activities = set w.activities a (onward act) ++ child m a act t values ∷ [];
+          clocks = joined a (is_given values) w.clocks;
+        })
+        (set (map (activity_renamed k) w.activities) a (activity_renamed k (onward act))
+        ++ child m a other t (map (value_renamed k) values) ∷ [])
         (joined a (is_given (map (value_renamed k) values)) (neighbours_swapped k w.clocks)) event.Spawned
         (ap (λ x. set (map (activity_renamed k) w.activities) a (activity_renamed k (onward act)) ++ x ∷ []) (child_renamed t values)
         ∙ ap (λ xs. xs ++ activity_renamed k (child m a act t values) ∷ []) (sym (map-set (activity_renamed k) w.activities a (onward act)))
@@ -140,7 +156,8 @@ module _ (k a : ℕ) (w : World) (inside : suc k < length w.clocks) where
         by (Some (value.Number n)) = h n
         by (Some (value.Clock c)) = refl
 
-    registered_swapped : (o : Option Clock) (go later : Outcome) → later ≡ outcome_swapped k go → registered_on o a later ≡ outcome_swapped k (registered_on o a go)
+    registered_swapped : (o : Option Clock) (go later : Outcome) → later ≡ outcome_swapped k go
+        → registered_on o a later ≡ outcome_swapped k (registered_on o a go)
     registered_swapped None go later h = refl
     registered_swapped (Some c) go later h = by (is_registered (standing_of c a))
       where
@@ -159,16 +176,19 @@ module _ (k a : ℕ) (w : World) (inside : suc k < length w.clocks) where
         by (Some (value.Clock c)) = ap (λ o. registered_on o a (later (renamed k c))) (get-swapped k w.clocks c inside)
             ∙ registered_swapped (slice_get w.clocks c) (go c) (later (renamed k c)) (h c)
 
-    cell_swapped : (o : Option ℤ) (go later : ℤ → Outcome) → ((n : ℤ) → later n ≡ outcome_swapped k (go n)) → cell_in o later ≡ outcome_swapped k (cell_in o go)
+    cell_swapped : (o : Option ℤ) (go later : ℤ → Outcome) → ((n : ℤ) → later n ≡ outcome_swapped k (go n))
+        → cell_in o later ≡ outcome_swapped k (cell_in o go)
     cell_swapped None go later h = refl
     cell_swapped (Some n) go later h = h n
 
-    put_swapped : (d : ℕ) (v : Value) (go later : Activity → Outcome) → ((next : Activity) → later (activity_renamed k next) ≡ outcome_swapped k (go next))
+    put_swapped : (d : ℕ) (v : Value) (go later : Activity → Outcome)
+        → ((next : Activity) → later (activity_renamed k next) ≡ outcome_swapped k (go next))
         → put_in (slot_at other d) other d (value_renamed k v) later ≡ outcome_swapped k (put_in (slot_at act d) act d v go)
     put_swapped d v go later h =
         ap (λ o. put_in o other d (value_renamed k v) later) (slice_get-map (value_renamed k) act.frame.slots d) ∙ by (slot_at act d)
       where
-        by : (o : Option Value) → put_in (option_map (value_renamed k) o) other d (value_renamed k v) later ≡ outcome_swapped k (put_in o act d v go)
+        by : (o : Option Value)
+            → put_in (option_map (value_renamed k) o) other d (value_renamed k v) later ≡ outcome_swapped k (put_in o act d v go)
         by None = refl
         by (Some old) = ap (λ slots. later (onward (with_slots other slots))) (sym (map-set (value_renamed k) act.frame.slots d v))
             ∙ h (onward (with_slots act (set act.frame.slots d v)))
@@ -226,7 +246,8 @@ module _ (k a : ℕ) (w : World) (inside : suc k < length w.clocks) where
 
     turning_swapped : (b : ℕ) (o : Option Loop) → turning v a other b o ≡ outcome_swapped k (turning w a act b o)
     turning_swapped b None = refl
-    turning_swapped b (Some l) = number_swapped l.slot _ _ (λ n. limit_swapped l.limit l.hi _ _ (λ top. again_swapped b l.slot n (int_lt n top)))
+    turning_swapped b (Some l) =
+        number_swapped l.slot _ _ (λ n. limit_swapped l.limit l.hi _ _ (λ top. again_swapped b l.slot n (int_lt n top)))
 
     calling_swapped : (t : ℕ) (args : List ℕ) (o : Option UnitValue)
         → calling m v a other t args o ≡ outcome_swapped k (calling m w a act t args o)
@@ -235,9 +256,11 @@ module _ (k a : ℕ) (w : World) (inside : suc k < length w.clocks) where
       where
         by : (b : Bool) → cond b (arguments_in v a other u.params args
             (λ values. done v a (called m other t values) none event.Local)) (Wrong OutOfRange)
-            ≡ outcome_swapped k (cond b (arguments_in w a act u.params args (λ values. done w a (called m act t values) none event.Local)) (Wrong OutOfRange))
+            ≡ outcome_swapped k (cond b (arguments_in w a act u.params args (λ values. done w a (called m act t values) none event.Local))
+            (Wrong OutOfRange))
         by true = arguments_swapped u.params args _ _
-            (λ values. ap (λ next. done v a next none event.Local) (called_renamed t values) ∙ rests_swapped (called m act t values) event.Local)
+            (λ values. ap (λ next. done v a next none event.Local) (called_renamed t values)
+            ∙ rests_swapped (called m act t values) event.Local)
         by false = refl
 
     spawning_swapped : (t : ℕ) (args : List ℕ) (o : Option UnitValue)
@@ -258,7 +281,8 @@ module _ (k a : ℕ) (w : World) (inside : suc k < length w.clocks) where
 
     closing_swapped : (n : ℕ) → closing v a other n ≡ outcome_swapped k (closing w a act n)
     closing_swapped zero = refl
-    closing_swapped (suc n) = rw (awaits_swapped k w.activities (innermost a act) 0 w.activities) (by (awaits w.activities (innermost a act)))
+    closing_swapped (suc n) =
+        rw (awaits_swapped k w.activities (innermost a act) 0 w.activities) (by (awaits w.activities (innermost a act)))
       where
         by : (b : Bool) → cond b Blocked (done v a (left other n) none event.Closed)
             ≡ outcome_swapped k (cond b Blocked (done w a (left act n) none event.Closed))
@@ -286,13 +310,16 @@ module _ (k a : ℕ) (w : World) (inside : suc k < length w.clocks) where
     instruction_swapped (instr.Jump t) = rests_swapped (going act t) event.Local
     instruction_swapped (instr.For d lo hi e) = write_swapped d lo event.Local
     instruction_swapped (instr.ForTo d lo x hi e) = limit_swapped (Some x) hi _ _ (beginning_swapped d lo (e + 1))
-    instruction_swapped (instr.Next b) = turning_swapped b (option_and_then (loop_head b) (instruction_at m (record act.frame { place = b })))
+    instruction_swapped (instr.Next b) =
+        turning_swapped b (option_and_then (loop_head b) (instruction_at m (record act.frame { place = b })))
     instruction_swapped (instr.Finish e) = rests_swapped (entered act) event.Opened
     instruction_swapped (instr.EndFinish b) = closing_swapped act.opened
     instruction_swapped (instr.Get d s) = cell_swapped (slice_get w.cells s) _ _ (λ n. write_swapped d n event.Got)
-    instruction_swapped (instr.Put s x) = number_swapped x _ _ (λ n. cell_swapped (slice_get w.cells s) _ _ (λ old. stored_swapped s n event.Put))
+    instruction_swapped (instr.Put s x) =
+        number_swapped x _ _ (λ n. cell_swapped (slice_get w.cells s) _ _ (λ old. stored_swapped s n event.Put))
     instruction_swapped (instr.AddTo s x) =
-        number_swapped x _ _ (λ n. cell_swapped (slice_get w.cells s) _ _ (λ old. stored_swapped s (int_wrapping_add w64 old n) event.Added))
+        number_swapped x _ _
+        (λ n. cell_swapped (slice_get w.cells s) _ _ (λ old. stored_swapped s (int_wrapping_add w64 old n) event.Added))
     instruction_swapped (instr.Print x) = number_swapped x _ _ (λ n. rests_swapped (onward act) (event.Printed n))
     instruction_swapped (instr.Make d) =
         ap (λ c. put_in (slot_at other d) other d (value.Clock c) (λ next. made v a next))
@@ -325,8 +352,10 @@ module _ (k a : ℕ) (w : World) (inside : suc k < length w.clocks) where
     by_swapped status.Ended = refl
 
 -- each step goes as well where two neighbours among the clocks have changed places
-pub step_swapped : (m : ModuleValue) (w : World) (k a : ℕ) → suc k < length w.clocks → step m (clocks_swapped k w) a ≡ outcome_swapped k (step m w a)
-step_swapped m w k a inside = ap (step_of m (clocks_swapped k w) a) (slice_get-map (activity_renamed k) w.activities a) ∙ by (slice_get w.activities a)
+pub step_swapped : (m : ModuleValue) (w : World) (k a : ℕ) → suc k < length w.clocks
+    → step m (clocks_swapped k w) a ≡ outcome_swapped k (step m w a)
+step_swapped m w k a inside = ap (step_of m (clocks_swapped k w) a) (slice_get-map (activity_renamed k) w.activities a)
+    ∙ by (slice_get w.activities a)
   where
     by : (o : Option Activity) → step_of m (clocks_swapped k w) a (option_map (activity_renamed k) o) ≡ outcome_swapped k (step_of m w a o)
     by None = refl

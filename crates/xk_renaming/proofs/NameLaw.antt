@@ -40,20 +40,22 @@ activities_many : (x : Exchange) (w : World) → length (exchanged x w).activiti
 activities_many (OfClocks k) w = length-map w.activities _
 activities_many (OfActivities k) w = length-acts k w.activities
 
-pub clocks_all : (xs : List Exchange) (w : World) → length (all_exchanged xs w).clocks ≡ length w.clocks
+clocks_all : (xs : List Exchange) (w : World) → length (all_exchanged xs w).clocks ≡ length w.clocks
 clocks_all [] w = refl
 clocks_all (x ∷ xs) w = clocks_all xs (exchanged x w) ∙ clocks_many x w
 
-pub activities_all : (xs : List Exchange) (w : World) → length (all_exchanged xs w).activities ≡ length w.activities
+activities_all : (xs : List Exchange) (w : World) → length (all_exchanged xs w).activities ≡ length w.activities
 activities_all [] w = refl
 activities_all (x ∷ xs) w = activities_all xs (exchanged x w) ∙ activities_many x w
 
 -- pairs of one world are pairs of each world that has as many, or more
-pair_more : (x : Exchange) (w v : World) → length w.clocks ≤ length v.clocks → length w.activities ≤ length v.activities → IsPair x w → IsPair x v
+pair_more : (x : Exchange) (w v : World) → length w.clocks ≤ length v.clocks → length w.activities ≤ length v.activities
+    → IsPair x w → IsPair x v
 pair_more (OfClocks k) w v p q h = omega arith
 pair_more (OfActivities k) w v p q h = omega arith
 
-pub pairs_more : (xs : List Exchange) (w v : World) → length w.clocks ≤ length v.clocks → length w.activities ≤ length v.activities → ArePairs xs w → ArePairs xs v
+pairs_more : (xs : List Exchange) (w v : World) → length w.clocks ≤ length v.clocks → length w.activities ≤ length v.activities
+    → ArePairs xs w → ArePairs xs v
 pairs_more [] w v p q h = tt
 pairs_more (x ∷ xs) w v p q h = (pair_more x w v p q h.0, pairs_more xs w v p q h.1)
 
@@ -82,10 +84,11 @@ clocks_alike : (w v : World) → AreAlike w v → length w.clocks ≡ length v.c
 clocks_alike w v h = sym (length-map w.clocks plain_clock) ∙ ap (λ (z : World). length z.clocks) h ∙ length-map v.clocks plain_clock
 
 activities_alike : (w v : World) → AreAlike w v → length w.activities ≡ length v.activities
-activities_alike w v h = sym (length-map w.activities plain_activity) ∙ ap (λ (z : World). length z.activities) h ∙ length-map v.activities plain_activity
+activities_alike w v h = sym (length-map w.activities plain_activity) ∙ ap (λ (z : World). length z.activities) h
+    ∙ length-map v.activities plain_activity
 
 -- as many in both
-pub same_clocks : (xs : List Exchange) (w v : World) → AreSameBy xs w v → length w.clocks ≡ length v.clocks
+same_clocks : (xs : List Exchange) (w v : World) → AreSameBy xs w v → length w.clocks ≡ length v.clocks
 same_clocks xs w v h = sym (clocks_all xs w) ∙ clocks_alike (all_exchanged xs w) v h.alike
 
 pub same_activities : (xs : List Exchange) (w v : World) → AreSameBy xs w v → length w.activities ≡ length v.activities
@@ -96,7 +99,8 @@ same_itself w = record { there = tt; alike = refl }
 
 pub same_joined : (xs ys : List Exchange) (w v u : World) → AreSameBy xs w v → AreSameBy ys v u → AreSameBy (xs ++ ys) w u
 same_joined xs ys w v u h g = record {
-  there = pairs_append xs ys w h.there (pairs_more ys v w (omega (arith, same_clocks xs w v h)) (omega (arith, same_activities xs w v h)) g.there);
+  there = pairs_append xs ys w h.there
+      (pairs_more ys v w (omega (arith, same_clocks xs w v h)) (omega (arith, same_activities xs w v h)) g.there);
   alike = ap plain (all_append xs ys w) ∙ alike_all ys (all_exchanged xs w) v h.alike ∙ g.alike;
 }
 
@@ -146,7 +150,8 @@ named_within [] w a h g = g
 named_within (OfClocks k ∷ xs) w a h g = named_within xs w a h.1 g
 named_within (OfActivities k ∷ xs) w a h g = named_within xs w (renamed k a) h.1 (renamed_within k a (length w.activities) h.0 g)
 
-pub named_inside : (xs : List Exchange) (w v : World) (a : ℕ) → AreSameBy xs w v → a < length w.activities → all_named xs a < length v.activities
+pub named_inside : (xs : List Exchange) (w v : World) (a : ℕ) → AreSameBy xs w v → a < length w.activities
+    → all_named xs a < length v.activities
 named_inside xs w v a same h = let n = named_within xs w a same.there h in let many = same_activities xs w v same in omega arith
 
 -- ---- numbers of clocks
@@ -208,7 +213,8 @@ module _ (m : ModuleValue) where
       → step m (all_exchanged xs w) (all_named xs a) ≡ Stepped (all_exchanged xs u) e
   step_all [] w u a e there full h = h
   step_all (x ∷ xs) w u a e there full h =
-      step_all xs (exchanged x w) (exchanged x u) (named x a) e (pairs_behind xs x w there.1) (full_one x w full) (step_one x w u a e there.0 full h)
+      step_all xs (exchanged x w) (exchanged x u) (named x a) e (pairs_behind xs x w there.1) (full_one x w full)
+      (step_one x w u a e there.0 full h)
 
   ended_one : (x : Exchange) (w : World) → all_ended (exchanged x w) ≡ all_ended w
   ended_one (OfClocks k) w = ended_swapped k w
@@ -224,9 +230,11 @@ module _ (m : ModuleValue) where
   pub go_as_one : (xs : List Exchange) (w v : World) → HasAllStandings w → AreSameBy xs w v → GoAsOne m xs w v
   go_as_one xs w v full same = record {
     steps = λ u a e h.
-        (let r = (alike_worlds_go_alike m).steps (all_exchanged xs w) v (all_exchanged xs u) (all_named xs a) e same.alike (step_all xs w u a e same.there full h) in
+        (let r = (alike_worlds_go_alike m).steps (all_exchanged xs w) v (all_exchanged xs u) (all_named xs a) e same.alike
+        (step_all xs w u a e same.there full h) in
         let more : length w.clocks ≤ length u.clocks = subst (clocks.Keeps (length w.clocks)) h (clocks.step_keeps m w a) in
-        let wide : length w.activities ≤ length u.activities = (subst (activities.Keeps (length w.activities)) h (activities.step_keeps w a full m)).0 in
+        let wide : length w.activities ≤ length u.activities =
+        (subst (activities.Keeps (length w.activities)) h (activities.step_keeps w a full m)).0 in
         (r.0, r.1, record { there = pairs_more xs w u more wide same.there; alike = r.2 }));
     ends = same_ends xs w v same;
     cells = same_cells xs w v same;
@@ -237,14 +245,16 @@ module _ (m : ModuleValue) where
   abbrev BothGo : World → World → ℕ → ℕ → Event → Event → List Exchange → Type 0
   BothGo u v a b e f xs = (x : World) × (y : World) × (step m v a ≡ Stepped x e) × (step m u b ≡ Stepped y f) × AreSameBy xs y x
 
-  pub squares_but_names : (w : World) → IsWithinLimits m → IsAccepted m → IsReached m w → (a b : ℕ) → (b ≡ a → ⊥) → AreConflictFree m w a b → IsSquareButNames m w a b
+  pub squares_but_names : (w : World) → IsWithinLimits m → IsAccepted m → IsReached m w → (a b : ℕ) → (b ≡ a → ⊥) → AreConflictFree m w a b
+      → IsSquareButNames m w a b
   squares_but_names w limits ok reached a b differs apart u v e f hu hv =
       by (makes_next m w a && makes_next m w b) (starts_next m w a && starts_next m w b) refl refl
     where
       turned : a ≡ b → ⊥
       turned q = differs (sym q)
 
-      plainly : (makes_next m w a ≡ true → makes_next m w b ≡ true → ⊥) → (starts_next m w a ≡ true → starts_next m w b ≡ true → ⊥) → BothGo u v a b e f []
+      plainly : (makes_next m w a ≡ true → makes_next m w b ≡ true → ⊥) → (starts_next m w a ≡ true → starts_next m w b ≡ true → ⊥)
+          → BothGo u v a b e f []
       plainly one_makes one_starts =
           let r = all_squares m w limits ok reached a b differs apart one_makes one_starts u v e f hu hv in
           (r.0, r.1, r.2, r.3, record { there = tt; alike = sym r.4 })

@@ -16,24 +16,25 @@ use Rattle.xk_renaming.proofs.ActivityNameWorldLemmas.{standing-swapped}
 use Rattle.xk_renaming.proofs.NameLaw.{pairs_behind, clock_named, clocks_named, full_one}
 
 -- every clock has one name
-abbrev pub nameless_value : Value → Value
+abbrev nameless_value : Value → Value
 nameless_value value.Unset = value.Unset
 nameless_value (value.Number n) = value.Number n
 nameless_value (value.Clock c) = value.Clock 0
 
-abbrev pub nameless_frame : Frame → Frame
+abbrev nameless_frame : Frame → Frame
 nameless_frame f = record f { slots = map nameless_value f.slots }
 
 -- and it isn't known which finish governs the activity, and when it passed last
 abbrev pub nameless_activity : Activity → Activity
-nameless_activity act = record act { frame = nameless_frame act.frame; callers = map nameless_frame act.callers; since = 0; governed = root }
+nameless_activity act =
+    record act { frame = nameless_frame act.frame; callers = map nameless_frame act.callers; since = 0; governed = root }
 
 -- how an activity stands, if it's there
 abbrev pub state_of : World → ℕ → Option Activity
 state_of w a = option_map nameless_activity (slice_get w.activities a)
 
 -- which finish governs it
-abbrev pub governed_of : World → ℕ → Option Finish
+abbrev governed_of : World → ℕ → Option Finish
 governed_of w a = option_map (λ act. act.governed) (slice_get w.activities a)
 
 -- a finish by its owner's number after exchanges
@@ -62,7 +63,8 @@ activity_nameless k act = λ i. record act {
   governed = root;
 }
 
-option_unseen : {X Y : Type 0} (f : X → Y) (g : X → X) → ((x : X) → f (g x) ≡ f x) → (o : Option X) → option_map f (option_map g o) ≡ option_map f o
+option_unseen : {X Y : Type 0} (f : X → Y) (g : X → X) → ((x : X) → f (g x) ≡ f x) → (o : Option X)
+    → option_map f (option_map g o) ≡ option_map f o
 option_unseen f g h None = refl
 option_unseen f g h (Some x) = ap (λ y. Some y) (h x)
 
@@ -71,14 +73,17 @@ found_one : (x : Exchange) (w : World) (a : ℕ) → IsPair x w → (f : Activit
     → ((k : ℕ) (act : Activity) → f (activity_renamed k act) ≡ f act) → ((k : ℕ) (act : Activity) → f (governed_renamed k act) ≡ f act)
     → option_map f (slice_get (exchanged x w).activities (named x a)) ≡ option_map f (slice_get w.activities a)
 found_one (OfClocks k) w a there f p q =
-    ap (option_map f) (slice_get-map (activity_renamed k) w.activities a) ∙ option_unseen f (activity_renamed k) (p k) (slice_get w.activities a)
+    ap (option_map f) (slice_get-map (activity_renamed k) w.activities a)
+    ∙ option_unseen f (activity_renamed k) (p k) (slice_get w.activities a)
 found_one (OfActivities k) w a there f p q =
     ap (option_map f) (slice_get-map (governed_renamed k) (neighbours_swapped k w.activities) (renamed k a))
     ∙ option_unseen f (governed_renamed k) (q k) (slice_get (neighbours_swapped k w.activities) (renamed k a))
     ∙ ap (option_map f) (get-swapped k w.activities a there)
 
-governed_one : (x : Exchange) (w : World) (a : ℕ) → IsPair x w → governed_of (exchanged x w) (named x a) ≡ option_map (finish_named (x ∷ [])) (governed_of w a)
-governed_one (OfClocks k) w a there = ap (option_map (λ (act : Activity). act.governed)) (slice_get-map (activity_renamed k) w.activities a) ∙ by (slice_get w.activities a)
+governed_one : (x : Exchange) (w : World) (a : ℕ) → IsPair x w
+    → governed_of (exchanged x w) (named x a) ≡ option_map (finish_named (x ∷ [])) (governed_of w a)
+governed_one (OfClocks k) w a there = ap (option_map (λ (act : Activity). act.governed)) (slice_get-map (activity_renamed k) w.activities a)
+    ∙ by (slice_get w.activities a)
   where
     owner : (o : Option ℕ) → o ≡ option_map (λ b. b) o
     owner None = refl
@@ -102,9 +107,11 @@ governed_one (OfActivities k) w a there =
 state_all : (xs : List Exchange) (w : World) (a : ℕ) → ArePairs xs w → state_of (all_exchanged xs w) (all_named xs a) ≡ state_of w a
 state_all [] w a there = refl
 state_all (x ∷ xs) w a there =
-    state_all xs (exchanged x w) (named x a) (pairs_behind xs x w there.1) ∙ found_one x w a there.0 nameless_activity activity_nameless (λ k act. refl)
+    state_all xs (exchanged x w) (named x a) (pairs_behind xs x w there.1)
+    ∙ found_one x w a there.0 nameless_activity activity_nameless (λ k act. refl)
 
-governed_all : (xs : List Exchange) (w : World) (a : ℕ) → ArePairs xs w → governed_of (all_exchanged xs w) (all_named xs a) ≡ option_map (finish_named xs) (governed_of w a)
+governed_all : (xs : List Exchange) (w : World) (a : ℕ) → ArePairs xs w
+    → governed_of (all_exchanged xs w) (all_named xs a) ≡ option_map (finish_named xs) (governed_of w a)
 governed_all [] w a there = by (governed_of w a)
   where
     owner : (o : Option ℕ) → o ≡ option_map (λ b. b) o
@@ -115,7 +122,8 @@ governed_all [] w a there = by (governed_of w a)
     by None = refl
     by (Some f) = λ i. Some (record f { owner = owner f.owner i })
 governed_all (x ∷ xs) w a there =
-    governed_all xs (exchanged x w) (named x a) (pairs_behind xs x w there.1) ∙ ap (option_map (finish_named xs)) (governed_one x w a there.0) ∙ by (governed_of w a)
+    governed_all xs (exchanged x w) (named x a) (pairs_behind xs x w there.1)
+    ∙ ap (option_map (finish_named xs)) (governed_one x w a there.0) ∙ by (governed_of w a)
   where
     owner : (o : Option ℕ) → option_map (all_named xs) (option_map (named x) o) ≡ option_map (all_named (x ∷ xs)) o
     owner None = refl
@@ -144,23 +152,28 @@ state_same xs w v a same =
     sym (found_alike nameless_activity (λ act. refl) (all_exchanged xs w) v (all_named xs a) same.alike) ∙ state_all xs w a same.there
 
 -- and is governed by the same finish, by its owner's number there
-pub governed_same : (xs : List Exchange) (w v : World) (a : ℕ) → AreSameBy xs w v → governed_of v (all_named xs a) ≡ option_map (finish_named xs) (governed_of w a)
+pub governed_same : (xs : List Exchange) (w v : World) (a : ℕ) → AreSameBy xs w v
+    → governed_of v (all_named xs a) ≡ option_map (finish_named xs) (governed_of w a)
 governed_same xs w v a same =
-    sym (found_alike (λ (act : Activity). act.governed) (λ act. refl) (all_exchanged xs w) v (all_named xs a) same.alike) ∙ governed_all xs w a same.there
+    sym (found_alike (λ (act : Activity). act.governed) (λ act. refl) (all_exchanged xs w) v (all_named xs a) same.alike)
+    ∙ governed_all xs w a same.there
 
 -- ---- where one stands on a clock
 
 -- on a clock, if it's there
-abbrev pub stands_at : World → ℕ → ℕ → Option Standing
+abbrev stands_at : World → ℕ → ℕ → Option Standing
 stands_at w k a = option_map (λ (c : Clock). standing_of c a) (slice_get w.clocks k)
 
-stands_one : (x : Exchange) (w : World) (k a : ℕ) → IsPair x w → HasAllStandings w → stands_at (exchanged x w) (clock_named x k) (named x a) ≡ stands_at w k a
+stands_one : (x : Exchange) (w : World) (k a : ℕ) → IsPair x w → HasAllStandings w
+    → stands_at (exchanged x w) (clock_named x k) (named x a) ≡ stands_at w k a
 stands_one (OfClocks j) w k a there full = ap (option_map (λ (c : Clock). standing_of c a)) (get-swapped j w.clocks k there)
 stands_one (OfActivities j) w k a there full =
-    ap (option_map (λ (c : Clock). standing_of c (renamed j a))) (slice_get-map (clock_swapped j) w.clocks k) ∙ by (slice_get w.clocks k) refl
+    ap (option_map (λ (c : Clock). standing_of c (renamed j a))) (slice_get-map (clock_swapped j) w.clocks k)
+    ∙ by (slice_get w.clocks k) refl
   where
     by : (o : Option Clock) → slice_get w.clocks k ≡ o
-        → option_map (λ (c : Clock). standing_of c (renamed j a)) (option_map (clock_swapped j) o) ≡ option_map (λ (c : Clock). standing_of c a) o
+        → option_map (λ (c : Clock). standing_of c (renamed j a)) (option_map (clock_swapped j) o)
+        ≡ option_map (λ (c : Clock). standing_of c a) o
     by None h = refl
     by (Some c) h = ap (λ s. Some s) (standing-swapped j a c (let n = full k c h in omega arith))
 
@@ -168,7 +181,8 @@ stands_all : (m : ModuleValue) (xs : List Exchange) (w : World) (k a : ℕ) → 
     → stands_at (all_exchanged xs w) (clocks_named xs k) (all_named xs a) ≡ stands_at w k a
 stands_all m [] w k a there full = refl
 stands_all m (x ∷ xs) w k a there full =
-    stands_all m xs (exchanged x w) (clock_named x k) (named x a) (pairs_behind xs x w there.1) (full_one m x w full) ∙ stands_one x w k a there.0 full
+    stands_all m xs (exchanged x w) (clock_named x k) (named x a) (pairs_behind xs x w there.1) (full_one m x w full)
+    ∙ stands_one x w k a there.0 full
 
 -- by the numbers there an activity stands the same on each clock
 pub stands_same : (m : ModuleValue) (xs : List Exchange) (w v : World) (k a : ℕ) → HasAllStandings w → AreSameBy xs w v

@@ -25,20 +25,25 @@ DoesStart Blocked = Unit {0}
 DoesStart (Wrong c) = Unit {0}
 DoesStart (Stepped u e) = e ≡ event.Spawned
 
-run_starts : (m : ModuleValue) (w : World) (a : ℕ) (act : Activity) (o : Option Instr) → option_map_or starts o false ≡ true → DoesStart (run_at m w a act o)
+run_starts : (m : ModuleValue) (w : World) (a : ℕ) (act : Activity) (o : Option Instr) → option_map_or starts o false ≡ true
+    → DoesStart (run_at m w a act o)
 run_starts m w a act (Some (instr.Spawn t args)) h =
-    spawning_form (λ outcome. DoesStart (outcome (finishes_of w act))) (λ c. tt) w a act m t args (slice_get m.units t) (λ u values at given. refl)
+    spawning_form (λ outcome. DoesStart (outcome (finishes_of w act))) (λ c. tt) w a act m t args (slice_get m.units t)
+    (λ u values at given. refl)
 run_starts m w a act None h = absurd (true≢false (sym h))
 run_starts m w a act (Some _) h = absurd (true≢false (sym h))
 
 -- one that has arrived stands at an `advance`
-pub at_advance : (m : ModuleValue) (act : Activity) (u : UnitValue) → slice_get m.units act.frame.unit ≡ Some u → slice_get u.code act.frame.place ≡ Some instr.Advance
+pub at_advance : (m : ModuleValue) (act : Activity) (u : UnitValue) → slice_get m.units act.frame.unit ≡ Some u
+    → slice_get u.code act.frame.place ≡ Some instr.Advance
     → instruction_at m act.frame ≡ Some instr.Advance
 at_advance m act u unit at = ap (option_and_then (λ (v : UnitValue). slice_get v.code act.frame.place)) unit ∙ at
 
-pub event_started : (m : ModuleValue) → IsWithinLimits m → IsAccepted m → (w u : World) (a : ℕ) (e : Event) → IsReached m w → step m w a ≡ Stepped u e
+pub event_started : (m : ModuleValue) → IsWithinLimits m → IsAccepted m → (w u : World) (a : ℕ) (e : Event) → IsReached m w
+    → step m w a ≡ Stepped u e
     → starts_next m w a ≡ true → e ≡ event.Spawned
-event_started m limits ok w u a e reached takes h = subst DoesStart takes (subst DoesStart (sym (ap (step_of m w a) there)) (by act.status refl))
+event_started m limits ok w u a e reached takes h =
+    subst DoesStart takes (subst DoesStart (sym (ap (step_of m w a) there)) (by act.status refl))
   where
     act : Activity
     act = (found_of m w a u e takes).0

@@ -23,32 +23,38 @@ renamed zero (suc (suc a)) = suc (suc a)
 renamed (suc k) zero = 0
 renamed (suc k) (suc a) = suc (renamed k a)
 
--- a finish by its owner's number there, and an activity that it governs
+-- a finish by its owner's number there
 abbrev pub finish_renamed : ℕ → Finish → Finish
 finish_renamed k f = record f { owner = option_map (renamed k) f.owner }
 
+-- an activity by the number there of who owns the finish that governs it
 abbrev pub governed_renamed : ℕ → Activity → Activity
 governed_renamed k act = record act { governed = finish_renamed k act.governed }
 
--- a clock, on which they stand in each other's place
+-- a clock on which they stand in each other's place
 abbrev pub clock_swapped : ℕ → Clock → Clock
 clock_swapped k c = record c { standings = neighbours_swapped k c.standings }
 
 -- the world in which activities k and k + 1 have each other's number
 abbrev pub activities_swapped : ℕ → World → World
-activities_swapped k w = record w { activities = map (governed_renamed k) (neighbours_swapped k w.activities); clocks = map (clock_swapped k) w.clocks }
+activities_swapped k w = record w {
+  activities = map (governed_renamed k) (neighbours_swapped k w.activities);
+  clocks = map (clock_swapped k) w.clocks;
+}
 
--- what a step, and what a run comes to, the world after it being so; and an entry
+-- what a step comes to, the world after it being so
 abbrev pub outcome_renamed : ℕ → Outcome → Outcome
 outcome_renamed k Blocked = Blocked
 outcome_renamed k (Wrong c) = Wrong c
 outcome_renamed k (Stepped w e) = Stepped (activities_swapped k w) e
 
+-- what a run comes to, the world after it being so
 abbrev pub course_renamed : ℕ → Course → Course
 course_renamed k (Through w) = Through (activities_swapped k w)
 course_renamed k (Held w) = Held (activities_swapped k w)
 course_renamed k (Wronged w c) = Wronged (activities_swapped k w) c
 
+-- an event, by the number there of whose it is
 abbrev pub entry_renamed : ℕ → ℕ × Event → ℕ × Event
 entry_renamed k p = (renamed k p.0, p.1)
 
@@ -56,8 +62,8 @@ entry_renamed k p = (renamed k p.0, p.1)
 abbrev pub HasAllStandings : World → Type 0
 HasAllStandings w = (j : ℕ) (c : Clock) → slice_get w.clocks j ≡ Some c → length c.standings ≡ length w.activities
 
--- By their numbers there the activities go the same way from the world in which k and k + 1 have each other's: each has the same events, and the same
--- list is printed.
+-- By their numbers there the activities go the same way from the world in which k and k + 1 have each other's: each has the same events,
+-- and the same list is printed.
 pub record GoesRenamed (m : ModuleValue) (w : World) (k : ℕ) (s : List ℕ) : Type 0 where
   pub course : run m (map (renamed k) s) (activities_swapped k w) ≡ course_renamed k (run m s w)
   pub events : events m (map (renamed k) s) (activities_swapped k w) ≡ map (entry_renamed k) (events m s w)
@@ -70,8 +76,9 @@ IsSquareOfStarts m w a b = (u v : World) → step m w a ≡ Stepped u event.Spaw
     → (x : World) × (y : World) × (step m v a ≡ Stepped x event.Spawned) × (step m u b ≡ Stepped y event.Spawned)
     × AreAlike (activities_swapped (length w.activities) x) y
 
--- Activities a and b each start one, and then schedule s leads to world z. It may as well be b first: then s goes on by the numbers that the two new
--- ones have so, to a world that is alike once they have each other's number; each activity has the same events, and the same list is printed.
+-- Activities a and b each start one, and then schedule s leads to world z. It may as well be b first: then s goes on by the numbers that
+-- the two new ones have so, to a world that is alike once they have each other's number; each activity has the same events, and the same
+-- list is printed.
 pub record GoesInEitherOrder (m : ModuleValue) (w : World) (a b : ℕ) (s : List ℕ) (z : World) : Type 0 where
   pub last : World
   pub legal : run m (b ∷ a ∷ map (renamed (length w.activities)) s) w ≡ Through last

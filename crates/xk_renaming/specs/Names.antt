@@ -15,11 +15,12 @@ pub data Exchange : Type 0 where
   OfClocks : ℕ → Exchange
   OfActivities : ℕ → Exchange
 
+-- the world in which they have
 abbrev pub exchanged : Exchange → World → World
 exchanged (OfClocks k) w = clocks_swapped k w
 exchanged (OfActivities k) w = activities_swapped k w
 
--- both are there
+-- both are there in the world
 abbrev pub IsPair : Exchange → World → Type 0
 IsPair (OfClocks k) w = suc k < length w.clocks
 IsPair (OfActivities k) w = suc k < length w.activities
@@ -29,15 +30,17 @@ abbrev pub named : Exchange → ℕ → ℕ
 named (OfClocks k) a = a
 named (OfActivities k) a = renamed k a
 
--- one exchange after the other
+-- the world after one exchange after the other
 abbrev pub all_exchanged : List Exchange → World → World
 all_exchanged [] w = w
 all_exchanged (x ∷ xs) w = all_exchanged xs (exchanged x w)
 
+-- both of each exchange are there when it comes
 abbrev pub ArePairs : List Exchange → World → Type 0
 ArePairs [] w = Unit {0}
 ArePairs (x ∷ xs) w = IsPair x w × ArePairs xs w
 
+-- the number that activity a has after one exchange after the other
 abbrev pub all_named : List Exchange → ℕ → ℕ
 all_named [] a = a
 all_named (x ∷ xs) a = all_named xs (named x a)
@@ -47,8 +50,8 @@ pub record AreSameBy (xs : List Exchange) (w v : World) : Type 0 where
   pub there : ArePairs xs w
   pub alike : AreAlike (all_exchanged xs w) v
 
--- An activity that can take a step in world w can take one in v by its number there, with the same event, to worlds that are the same by these
--- exchanges; all have ended in both worlds or in neither; and the shared numbers are the same.
+-- An activity that can take a step in world w can take one in v by its number there, with the same event, to worlds that are the same by
+-- these exchanges; all have ended in both worlds or in neither; and the shared numbers are the same.
 pub record GoAsOne (m : ModuleValue) (xs : List Exchange) (w v : World) : Type 0 where
   pub steps : (u : World) (a : ℕ) (e : Event) → step m w a ≡ Stepped u e
       → (z : World) × (step m v (all_named xs a) ≡ Stepped z e) × AreSameBy xs u z
@@ -61,8 +64,8 @@ exchange_of m w a b =
     if makes_next m w a && makes_next m w b then OfClocks (length w.clocks) ∷ []
     else (if starts_next m w a && starts_next m w b then OfActivities (length w.activities) ∷ [] else [])
 
--- Where activities a and b can both take a step, each still can after the other's, with the same event, and both orders lead to worlds that are
--- the same but for that.
+-- Where activities a and b can both take a step, each still can after the other's, with the same event, and both orders lead to worlds
+-- that are the same but for what that exchanges.
 abbrev pub IsSquareButNames : ModuleValue → World → ℕ → ℕ → Type 0
 IsSquareButNames m w a b = (u v : World) (e f : Event) → step m w a ≡ Stepped u e → step m w b ≡ Stepped v f
     → (x : World) × (y : World) × (step m v a ≡ Stepped x e) × (step m u b ≡ Stepped y f) × AreSameBy (exchange_of m w a b) y x

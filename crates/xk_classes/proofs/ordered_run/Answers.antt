@@ -18,4 +18,5 @@ returns-clause-every c m args s t z y edges limits ok taken one sound ordered =
 pub returns-clause-prints : goal.returns-clause-prints
 returns-clause-prints c m args s t z y edges limits ok taken one sound ordered prints_ordered =
     one_prints m args limits ok taken s t z y one (ordered_run m args limits ok taken s z edges one sound ordered)
-    (never_two_ordered m limits ok (opening m args) z (opening_reached m args taken) s one.legal one.ended is_print prints (print_says m) edges sound prints_ordered)
+    (never_two_ordered m limits ok (opening m args) z (opening_reached m args taken) s one.legal one.ended is_print prints
+    (print_says m) edges sound prints_ordered)
