@@ -159,8 +159,8 @@ standing_on w a c = option_map_or (λ k. standing_of k a) (slice_get w.clocks c)
 abbrev pub phase_of : World → ℕ → ℕ
 phase_of w c = option_map_or (λ k. k.phase) (slice_get w.clocks c) 0
 
--- Step y passes an `advance` of an activity that is on a clock, which has advanced since step x. Where x was taken the clock still waited
--- for the activity that takes x: that one was registered, and hadn't signalled.
+-- Step y passes an `advance`, by an activity that is registered on the clock; the clock has advanced since step x; and where x was taken
+-- it still waited for the activity that takes x, which was registered and hadn't signalled.
 pub record IsPass (m : ModuleValue) (w : World) (s : List ℕ) (x y : StepName) : Type 0 where
   pub first : IsTurn m w s x
   pub second : IsTurn m w s y

@@ -1,5 +1,5 @@
 -- Which instructions access shared numbers, and where two conflict; and that a step at such an instruction is told of as that access.
-use Rattle.std.proofs.Common.{◌≡◌, ℕ, ℤ, ◌==◌, ◌&&◌, Bool, true, false, true≢false, List, Some, None, Option, refl, sym, ap, ◌∙◌, subst, eqb-true, eq-eqb}
+use Rattle.std.proofs.Common.{◌≡◌, ℕ, ◌==◌, ◌&&◌, Bool, true, false, true≢false, List, Some, Option, refl, sym, ap, ◌∙◌, subst, eqb-true, eq-eqb}
 use Rattle.std.specs.Prelude.{slice_get}
 use Rattle.std.proofs.lemmas.Bool.{and_parts}
 use Rattle.xk_types.specs.declared.instr.Instr.{Instr}
@@ -8,7 +8,7 @@ use Rattle.xk_types.specs.declared.world.Event.{Event}
 use Rattle.xk_types.specs.declared.world.Event.TheVariants as event
 use Rattle.xk_types.specs.Acceptance.{IsAccepted}
 use Rattle.xk_types.specs.Code.{ModuleValue, IsWithinLimits}
-use Rattle.xk_types.specs.World.{Activity, World}
+use Rattle.xk_types.specs.World.{World}
 use Rattle.xk_types.specs.Schedule.{IsReached}
 use Rattle.xk_squares.specs.Conflicts.{reads, puts, stores, next_instruction}
 use Rattle.xk_classes.specs.Edges.{AreApart, does}

@@ -7,24 +7,17 @@ use Rattle.std.proofs.lemmas.Bool.{cases_eq, cases_lt}
 use Rattle.std.proofs.lemmas.Option.{none-some, same_Some}
 use Rattle.xk_types.specs.declared.instr.Instr.{Instr}
 use Rattle.xk_types.specs.declared.instr.Instr.TheVariants as instr
-use Rattle.xk_types.specs.declared.world.Value.{Value}
-use Rattle.xk_types.specs.declared.world.Value.TheVariants as value
 use Rattle.xk_types.specs.declared.world.Event.{Event}
 use Rattle.xk_types.specs.declared.world.Event.TheVariants as event
 use Rattle.xk_types.specs.Acceptance.{IsAccepted}
 use Rattle.xk_types.specs.Code.{ModuleValue, IsWithinLimits}
-use Rattle.xk_types.specs.World.{Activity, World, AreArguments, opening, instruction_at}
-use Rattle.xk_types.specs.Step.{Stepped, number_in, done, none, onward, slot_at, step}
-use Rattle.xk_types.specs.Schedule.{Through, run, IsReached, all_ended, number_printed}
+use Rattle.xk_types.specs.World.{World, AreArguments, opening}
+use Rattle.xk_types.specs.Schedule.{Through, run, IsReached, all_ended}
 use Rattle.xk_laws.proofs.ReachabilityLemmas.{opening_reached}
 use Rattle.xk_squares.specs.Conflicts.{next_instruction}
-use Rattle.xk_squares.proofs.ChangeSquareLemmas.{same_step, not_none, found_of}
-use Rattle.xk_squares.proofs.StartSquareLemmas.{made_world, started_world, maker}
-use Rattle.xk_squares.proofs.ViewLemmas.{Goes, IsNone, DoesAct, DoesMake, DoesStart, goes, sees_itself}
 use Rattle.xk_classes.specs.Moments.{is_print}
 use Rattle.xk_classes.specs.Classes.{HasNeverTwo}
-use Rattle.xk_classes.specs.Edges.{StepName, turns_of, IsBefore, IsEdge, IsCause, instruction_of, prints, AreOneByOne}
-use Rattle.xk_classes.proofs.SwapLemmas.{next_of}
+use Rattle.xk_classes.specs.Edges.{StepName, turns_of, IsBefore, instruction_of, prints, AreOneByOne}
 use Rattle.xk_classes.proofs.StepEventLemmas.{print_says}
 use Rattle.xk_classes.proofs.InstructionEventLemmas.{shows}
 use Rattle.xk_classes.proofs.EdgeLaw.{never_two_ordered}

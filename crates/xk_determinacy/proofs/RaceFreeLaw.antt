@@ -12,7 +12,7 @@ use Rattle.xk_types.specs.Schedule.{Through, run, IsReached, all_ended}
 use Rattle.xk_laws.proofs.ReachabilityLemmas.{opening_reached}
 use Rattle.xk_squares.specs.Conflicts.{next_instruction}
 use Rattle.xk_classes.specs.Classes.{HasNoRace}
-use Rattle.xk_classes.specs.Edges.{StepName, turns_of, IsEdge, IsBefore, instruction_of, AreApart, IsCause, AreOrdered}
+use Rattle.xk_classes.specs.Edges.{StepName, turns_of, IsBefore, instruction_of, AreApart, AreOrdered}
 use Rattle.xk_classes.proofs.OneRunLaw.{ordered_run}
 use Rattle.xk_classes.proofs.PassEdgeLaw.{causes_sound}
 use Rattle.xk_events.specs.declared.steps.RunStep.{RunStep}

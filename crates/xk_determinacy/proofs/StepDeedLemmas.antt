@@ -1,5 +1,5 @@
 -- A step at an instruction is seen to do what that instruction does, and the first deed that is told of it is one of the run.
-use Rattle.std.proofs.Common.{◌≡◌, ℕ, true, true≢false, List, length, Some, None, Option, refl, sym, ap, ◌∙◌, subst, arith}
+use Rattle.std.proofs.Common.{◌≡◌, ℕ, true, true≢false, List, length, Some, None, Option, refl, sym, ap, ◌∙◌, arith}
 use Rattle.std.specs.Prelude.{slice_get, option_and_then}
 use Rattle.std.specs.Option.{option_map_or}
 use Rattle.std.proofs.lemmas.Option.{none-some, same_Some, get_or_from_slice_get}
