@@ -3,6 +3,8 @@ use Rattle.std.specs.Prelude.{◌≡◌, ℕ, ℤ, ◌+◌, ◌<◌, ◌&&◌, �
 use Rattle.std.specs.Char.{is_ascii_digit}
 use Rattle.std.specs.List.{filter_map, prefix_len, starts_with}
 use Rattle.std.specs.Option.{option_map_or}
+use Rattle.xk_outcomes.specs.declared.all_outcomes.Limit.{Limit}
+use Rattle.xk_outcomes.specs.Limits.{GoesFar}
 use Rattle.xk_outcomes.specs.declared.reading.ListFault.{ListFault}
 use Rattle.xk_outcomes.specs.declared.reading.ListFault.TheVariants as fault
 use Rattle.xk_outcomes.specs.declared.listing.Outcome.{Outcome}
@@ -126,12 +128,14 @@ abbrev pub AreHeld : List (List ℕ) → List Outcome → Bool → List ℕ → 
 AreHeld told list complete text whole = TellsUntold told list text whole ⊎ TellsAll told list complete text whole
 
 -- What a module can print that is given these arguments, as lists of numbers or without their order, is held against the list in these bytes: the text
--- tells the first outcome that isn't in it, or whether they are all. The answer is whole where they are all and each is in the list.
-pub record AreExpected (m : ModuleValue) (args : List ℤ) (sets : Bool) (bytes text : List ℕ) (whole : Bool) : Type 0 where
+-- tells the first outcome that isn't in it, or whether they are all. The answer is whole where they are all and each is in the list. They are looked for up to
+-- this limit.
+pub record AreExpected (m : ModuleValue) (args : List ℤ) (sets : Bool) (limit : Limit) (bytes text : List ℕ) (whole : Bool) : Type 0 where
   pub list : List Outcome
   pub complete : Bool
   pub shown : AreShownAs sets m args list
   pub distinct : AreDistinctAs sets list
   pub all : complete ≡ true → AreAllAs sets m args list
+  pub far : GoesFar m args limit list complete
   pub may_stand : stray_line bytes ≡ None
   pub held : AreHeld (told_by bytes) list complete text whole

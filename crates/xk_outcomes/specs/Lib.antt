@@ -1,4 +1,5 @@
 pub mod Outcomes
+pub mod Limits
 pub mod Sets
 pub mod Digest
 pub mod Search

@@ -1,7 +1,8 @@
 //! All that a program can print.
 
-ghost use Rattle.std.specs.Prelude.{◌≡◌, ◌≤◌, ◌⊎◌, true, false, length, IfOk, IfSome};
+ghost use Rattle.std.specs.Prelude.{◌≡◌, ◌≤◌, ◌⊎◌, true, false, length, IfOk};
 ghost use Rattle.xk_types.specs.World.{AreArguments};
+ghost use Rattle.xk_outcomes.specs.Limits.{limit_of};
 ghost use Rattle.xk_outcomes.specs.Listing.{AreAllIn, AreShownIn};
 ghost use Rattle.xk_outcomes.specs.Outcomes.{AreAll, AreDistinct, AreShown, HasApart};
 ghost use Rattle.xk_outcomes.specs.Sets.{AreAllAs, AreDistinctAs, AreSetsAll, AreSetsDistinct, AreSetsShown, AreShownAs};
@@ -25,18 +26,15 @@ pub struct Limit {
 /// How many worlds are kept at most, and how many outcomes are told, where nothing is said.
 const USUAL_LIMIT: u64 = 40_000;
 
-/// How many bytes these may take, and how many one takes for each activity and beside them, as far as can be said before.
-const USUAL_BYTES: u64 = 400_000_000;
-
-const BYTES_EACH: u64 = 1_000;
+/// The same, counted once for each activity that there may be, and once more.
+const USUAL_WEIGHT: u64 = 400_000;
 
 impl Limit {
     /// The limit that was given, for both; or else the usual one of a module with so many activities at most.
     pub fn of(given: Option<u64>, activities: u32) -> Limit
-        ensures { IfSome given (λ n. (result.entries ≡ n) × (result.outcomes ≡ n)) }
+        ensures { result ≡ limit_of given activities }
     {
-        let bytes = BYTES_EACH * (1 + u64::from(activities));
-        let usual = (USUAL_BYTES / bytes).min(USUAL_LIMIT);
+        let usual = (USUAL_WEIGHT / (1 + u64::from(activities))).min(USUAL_LIMIT);
         let most = given.unwrap_or(usual) as usize;
         Limit {
             entries: most,
@@ -104,6 +102,10 @@ pub fn outcomes_as(
     ensures distinct { IfOk result (λ r. AreDistinctAs sets r.list.items) }
     ensures all { IfOk result
         (λ r. r.complete ≡ true → AreAllAs sets verified.now arguments.now r.list.items) }
+    // As for `outcomes`.
+    ensures limit { IfOk result (λ r. r.complete ≡ false
+        → (limit.entries ≤ r.entries) ⊎ (limit.outcomes ≤ length r.list.items)) }
+    ensures kept { IfOk result (λ r. HasApart verified.now arguments.now r.entries) }
 {
     if sets {
         return outcome_sets(alloc, verified, arguments, limit);

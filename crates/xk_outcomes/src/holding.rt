@@ -103,6 +103,7 @@ fn hold(
 }
 
 /// What a module can print that is given these arguments, as lists of numbers or without their order, is held against the list in these bytes.
+/// They are looked for up to the limit.
 pub fn expected_outcomes(
     alloc: Global,
     sets: bool,
@@ -113,7 +114,7 @@ pub fn expected_outcomes(
 ) -> Result<Held, ListFault>
     requires { AreArguments verified.now arguments.now }
     ensures held { IfOk result (λ r.
-        AreExpected verified.now arguments.now sets list.now r.text.items r.whole) }
+        AreExpected verified.now arguments.now sets limit list.now r.text.items r.whole) }
     ensures stray { IfErr result (IsStrayIn list.now) }
 {
     let expected = read_expected(alloc, list)?;
@@ -135,7 +136,7 @@ fn held_by(
     requires { AreArguments verified.now arguments.now }
     ensures { (bytes : List ℕ) → stray_line bytes ≡ None → expected.now ≡ told_by bytes
         → IfOk result (λ r.
-        AreExpected verified.now arguments.now sets bytes r.text.items r.whole) }
+        AreExpected verified.now arguments.now sets limit bytes r.text.items r.whole) }
 {
     let found = outcomes_as(alloc, sets, verified, arguments, limit)?;
     let held = hold(alloc, &found.list, found.complete, expected)?;

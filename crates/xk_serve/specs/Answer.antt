@@ -31,6 +31,8 @@ use Rattle.xk_replay.specs.Chart.{chart_text}
 use Rattle.xk_outcomes.specs.Sets.{AreAllAs, AreDistinctAs, AreShownAs}
 use Rattle.xk_outcomes.specs.declared.listing.Outcome.{Outcome}
 use Rattle.xk_outcomes.specs.Text.{outcomes_text}
+use Rattle.xk_outcomes.specs.declared.all_outcomes.Limit.{Limit}
+use Rattle.xk_outcomes.specs.Limits.{GoesFar, limit_of}
 use Rattle.xk_outcomes.specs.Expected.{AreExpected, stray_line}
 use Rattle.xk_tally.specs.Runs.{IsTallyText}
 use Rattle.xk_replay.specs.Replay.{IsStoppedAt, IsUnfinished}
@@ -54,8 +56,8 @@ pub data Doing : Type 0 where
   Where : Doing
   Races : Doing
   Tally : ℕ → ℕ → Doing
-  Outcomes : Bool → ℕ → ℕ → Bool → Doing
-  Expected : Bool → ℕ → Doing
+  Outcomes : Bool → Option ℕ → ℕ → Bool → Doing
+  Expected : Bool → Option ℕ → Doing
 
 -- whether the module is run, and main given its arguments
 abbrev pub runs : Doing → Bool
@@ -109,10 +111,6 @@ abbrev pub races_by : Bool → Doing
 races_by true = Draw picture.Races
 races_by false = Races
 
--- how many outcomes are looked for at most where nothing is said
-abbrev pub usual_limit : ℕ
-usual_limit = 40000
-
 -- a log is kept where there is a path for it
 abbrev pub doing_of : Command → Doing
 doing_of command.Check = Check
@@ -128,8 +126,8 @@ doing_of (command.Page log from to) = Draw (picture.Page (window_given from to))
 doing_of (command.Where log) = Where
 doing_of (command.Races path) = races_by (is_some path)
 doing_of (command.Tally seed runs) = Tally seed runs
-doing_of (command.Outcomes limit pick path sets) = Outcomes sets (unwrap_or limit usual_limit) (unwrap_or pick 1) (is_some path)
-doing_of (command.Expected list limit sets) = Expected sets (unwrap_or limit usual_limit)
+doing_of (command.Outcomes limit pick path sets) = Outcomes sets limit (unwrap_or pick 1) (is_some path)
+doing_of (command.Expected list limit sets) = Expected sets limit
 
 -- what is to be done with a file, what it is called, what stands in it, and what main is given where it is run
 pub record Task : Type 0 where
@@ -167,22 +165,24 @@ abbrev pub lacks_log : Bool → ℕ → List Outcome → Bool
 lacks_log keeps pick list = keeps && not (is_some (kept_log keeps pick list))
 
 -- What a module can print that is given these arguments, as lists of numbers or without their order. The answer is whole where they are all, and the log
--- that is to be kept is there. (That as many were looked for as the limit says, where they aren't all, no field says.)
-pub record AreOutcomes (m : ModuleValue) (args : List ℤ) (sets : Bool) (pick : ℕ) (keeps : Bool) (text : List ℕ) (whole : Bool) (log : Option (List Entry)) : Type 0 where
+-- that is to be kept is there. They are looked for up to this limit.
+pub record AreOutcomes (m : ModuleValue) (args : List ℤ) (sets : Bool) (limit : Limit) (pick : ℕ) (keeps : Bool) (text : List ℕ) (whole : Bool) (log : Option (List Entry)) : Type 0 where
   pub taken : AreArguments m args
   pub list : List Outcome
   pub complete : Bool
   pub shown : AreShownAs sets m args list
   pub distinct : AreDistinctAs sets list
   pub all : complete ≡ true → AreAllAs sets m args list
+  pub far : GoesFar m args limit list complete
   pub text_is : text ≡ outcomes_text list complete
   pub whole_is : whole ≡ (complete && not (lacks_log keeps pick list))
   pub log_is : log ≡ kept_log keeps pick list
 
 -- that is what it comes to
-abbrev pub IsFoundOut : ModuleValue → List ℤ → Bool → ℕ → Bool → Done → Type 0
-IsFoundOut m args sets pick keeps (done.Outcomes text whole log) = AreOutcomes m args sets pick keeps text.items whole (option_map (λ es. es.items) log)
-IsFoundOut m args sets pick keeps _ = ⊥
+abbrev pub IsFoundOut : ModuleValue → List ℤ → Bool → Limit → ℕ → Bool → Done → Type 0
+IsFoundOut m args sets limit pick keeps (done.Outcomes text whole log) =
+    AreOutcomes m args sets limit pick keeps text.items whole (option_map (λ es. es.items) log)
+IsFoundOut m args sets limit pick keeps _ = ⊥
 
 -- how many bytes of a list are read at most
 abbrev pub longest_list : ℕ
@@ -194,9 +194,9 @@ list_in bytes = take longest_list bytes
 
 -- What a module can print that is given these arguments is held against the list in these bytes: the answer is whole where that is all, and each is
 -- in the list.
-abbrev pub IsHeldOut : ModuleValue → List ℤ → Bool → List ℕ → Done → Type 0
-IsHeldOut m args sets bytes (done.Outcomes text whole None) = AreArguments m args × AreExpected m args sets (list_in bytes) text.items whole
-IsHeldOut m args sets bytes _ = ⊥
+abbrev pub IsHeldOut : ModuleValue → List ℤ → Bool → Limit → List ℕ → Done → Type 0
+IsHeldOut m args sets limit bytes (done.Outcomes text whole None) = AreArguments m args × AreExpected m args sets limit (list_in bytes) text.items whole
+IsHeldOut m args sets limit bytes _ = ⊥
 
 -- What is to be done with a module, whose main is given these arguments where it is run, and with the bytes of a log or a list where one is read, comes
 -- to this: for `compile` the text of the module; where the module is accepted, for `check` its bounds, for `run` its run in the order, or, by workers,
@@ -210,8 +210,8 @@ ComesTo (Run (In o) true) m args logged (done.Ended numbers steps (Some log)) = 
 ComesTo (Run (By n) false) m args logged (done.Ended numbers steps None) = IsAccepted m × IsSomeRun m args numbers.items steps
 ComesTo (Run (By n) true) m args logged (done.Ended numbers steps (Some log)) = IsAccepted m × IsReplay m args log.items numbers.items steps
 ComesTo Replay m args logged (done.Ended numbers steps None) = IsAccepted m × Replays m args logged numbers.items steps
-ComesTo (Outcomes sets limit pick keeps) m args logged d = IsAccepted m × IsFoundOut m args sets pick keeps d
-ComesTo (Expected sets limit) m args logged d = IsAccepted m × IsHeldOut m args sets logged d
+ComesTo (Outcomes sets limit pick keeps) m args logged d = IsAccepted m × IsFoundOut m args sets (limit_of limit (activities_bound m)) pick keeps d
+ComesTo (Expected sets limit) m args logged d = IsAccepted m × IsHeldOut m args sets (limit_of limit (activities_bound m)) logged d
 ComesTo _ m args logged _ = ⊥
 
 -- What is told of a run of the module that the bytes give, by their lines where they are a source text: its chart, what others see of its steps, the

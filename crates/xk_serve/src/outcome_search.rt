@@ -2,7 +2,7 @@
 
 ghost use Rattle.std.specs.Prelude.{◌≡◌, ◌≢◌, ℕ, List, IfOk, IfErr, IfSome, None, OnOk, option_map, unwrap_or};
 ghost use Rattle.xk_types.specs.World.{AreArguments};
-ghost use Rattle.xk_serve.specs.Answer.{ComesTo, Expected, IsFoundOut, IsHeldOut, IsNotRun, Outcomes, kept_log, usual_limit};
+ghost use Rattle.xk_serve.specs.Answer.{ComesTo, Expected, IsFoundOut, IsHeldOut, IsNotRun, Outcomes, kept_log};
 ghost use Rattle.xk_cli.specs.Status.{status_program};
 ghost use Rattle.xk_serve.specs.Devices.{AgainstExpected, AgainstList};
 ghost use Rattle.xk_serve.specs.Lines.{status_of};
@@ -33,8 +33,7 @@ pub(crate) fn searched(
     arguments: &[i64],
 ) -> Result<Done, Fault>
     ensures done { IfOk result (λ d. (logged : List ℕ)
-        → ComesTo (Outcomes sets (unwrap_or limit usual_limit) (unwrap_or pick 1) keeps_log)
-        m arguments.now logged d) }
+        → ComesTo (Outcomes sets limit (unwrap_or pick 1) keeps_log) m arguments.now logged d) }
     ensures fault { IfErr result (IsNotRun m arguments.now) }
 {
     let verified = runnable(alloc, m, arguments)?;
@@ -54,7 +53,7 @@ fn found_out(
     arguments: &[i64],
 ) -> Result<Done, AllocError>
     requires { AreArguments verified.now arguments.now }
-    ensures { IfOk result (IsFoundOut verified.now arguments.now sets pick keeps_log) }
+    ensures { IfOk result (IsFoundOut verified.now arguments.now sets limit pick keeps_log) }
 {
     let found = outcomes_as(alloc, sets, verified, arguments, limit)?;
     let text = outcomes_text(alloc, &found.list, found.complete)?;
@@ -74,7 +73,7 @@ pub(crate) fn held<L: Source>(
     source: &mut L,
 ) -> Result<Done, Fault>
     ensures done { IfOk result (λ d. IfSome (L.remaining source.old) (λ bytes.
-        ComesTo (Expected sets (unwrap_or limit usual_limit)) m arguments.now bytes d)) }
+        ComesTo (Expected sets limit) m arguments.now bytes d)) }
     ensures no_fault { OnOk result (L.fault_count source.new ≡ L.fault_count source.old) }
     ensures fault { IfErr result (AgainstExpected m arguments.now (L.remaining source.old)
         (L.fault_count source.old) (L.fault_count source.new)) }
@@ -97,7 +96,7 @@ fn held_by<L: Source>(
 ) -> Result<Done, Fault>
     requires { AreArguments verified.now arguments.now }
     ensures done { IfOk result (λ d. IfSome (L.remaining source.old)
-        (λ bytes. IsHeldOut verified.now arguments.now sets bytes d)) }
+        (λ bytes. IsHeldOut verified.now arguments.now sets limit bytes d)) }
     ensures no_fault { OnOk result (L.fault_count source.new ≡ L.fault_count source.old) }
     ensures fault { IfErr result (AgainstList (L.remaining source.old)
         (L.fault_count source.old) (L.fault_count source.new)) }

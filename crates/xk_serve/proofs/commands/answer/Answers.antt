@@ -2,7 +2,7 @@ use Rattle.std.proofs.Common.{◌∙◌, refl, ap, sym}
 use Rattle.std.specs.Prelude.{unwrap_or}
 use Rattle.xk_serve.specs.declared.picture.Picture.TheVariants as picture
 use Rattle.std.proofs.lemmas.Result.{err_from_is_err_and}
-use Rattle.xk_serve.specs.Answer.{Check, Compile, Draw, Expected, Outcomes, Races, Replay, Run, Where, doing_of, races_by, task_of, usual_limit, way_given}
+use Rattle.xk_serve.specs.Answer.{Check, Compile, Draw, Expected, Outcomes, Races, Replay, Run, Where, doing_of, races_by, task_of, way_given}
 use Rattle.xk_serve.proofs.TaskLemmas.{against_any, against_list, against_log, against_memory, against_refused, against_run_of, against_text, done_of_any, done_of_list, done_of_log, done_of_none, done_of_run, done_of_text, done_of_told}
 use Rattle.xk_serve.proofs.UnfitModuleLemmas.{no_module_fails}
 use Rattle.xk_serve.proofs.commands.answer.Goals as goal
@@ -140,8 +140,8 @@ returns-in-Tally-clause-fault g c =
 
 pub returns-in-Outcomes-clause-done : goal.returns-in-Outcomes-clause-done
 returns-in-Outcomes-clause-done g c =
-    let what = Outcomes c.in-Outcomes.sets (unwrap_or c.in-Outcomes.limit usual_limit) (unwrap_or c.in-Outcomes.pick 1) c.is_some-in-Outcomes.result in
-    let is = ap doing_of c.in-Outcomes.is ∙ ap (λ kept. Outcomes c.in-Outcomes.sets (unwrap_or c.in-Outcomes.limit usual_limit) (unwrap_or c.in-Outcomes.pick 1) kept) (sym c.is_some-in-Outcomes.ensures) in
+    let what = Outcomes c.in-Outcomes.sets c.in-Outcomes.limit (unwrap_or c.in-Outcomes.pick 1) c.is_some-in-Outcomes.result in
+    let is = ap doing_of c.in-Outcomes.is ∙ ap (λ kept. Outcomes c.in-Outcomes.sets c.in-Outcomes.limit (unwrap_or c.in-Outcomes.pick 1) kept) (sym c.is_some-in-Outcomes.ensures) in
     done_of_any (task_of c.args.job.now) c.args.bytes.now (g.L.Source.remaining c.args.log_in.now) _ what c.as_slice-arguments.result.now c.searched.result is c.as_slice-arguments.ensures.value c.in_ok-module.ensures.module c.searched.ensures.done
 
 pub returns-in-Outcomes-clause-fault : goal.returns-in-Outcomes-clause-fault
@@ -150,10 +150,10 @@ returns-in-Outcomes-clause-fault g c =
 
 pub returns-in-Expected-clause-done : goal.returns-in-Expected-clause-done
 returns-in-Expected-clause-done g c =
-    let what = Expected c.in-Expected.sets (unwrap_or c.in-Expected.limit usual_limit) in
+    let what = Expected c.in-Expected.sets c.in-Expected.limit in
     done_of_list (task_of c.args.job.now) c.args.bytes.now (g.L.Source.remaining c.args.log_in.now) _ what c.as_slice-arguments.result.now c.held.result (ap doing_of c.in-Expected.is) c.as_slice-arguments.ensures.value refl c.in_ok-module.ensures.module c.held.ensures.done
 
 pub returns-in-Expected-clause-fault : goal.returns-in-Expected-clause-fault
 returns-in-Expected-clause-fault g c =
-    let what = Expected c.in-Expected.sets (unwrap_or c.in-Expected.limit usual_limit) in
+    let what = Expected c.in-Expected.sets c.in-Expected.limit in
     against_list (task_of c.args.job.now) c.args.bytes.now (g.L.Source.remaining c.args.log_in.now) _ _ _ what c.as_slice-arguments.result.now c.held.result (ap doing_of c.in-Expected.is) c.as_slice-arguments.ensures.value refl c.in_ok-module.ensures.module c.held.ensures.fault

@@ -9,7 +9,7 @@ returns-clause-done g c =
     let accepted = c.in_ok-verified.ensures.accepted in
     IfOk-weaker c.held_by.result _ _
     (λ d h. of_each _ _ (g.L.Source.remaining c.args.source.now)
-    (λ bytes held. (accepted.1, subst (λ m. IsHeldOut m c.args.arguments.now c.args.sets bytes d) accepted.0 held)) h)
+    (λ bytes held. (accepted.1, subst (λ m. IsHeldOut m c.args.arguments.now c.args.sets (limit_of c.args.limit (activities_bound m)) bytes d) accepted.0 held)) h)
     c.held_by.ensures.done
 
 pub returns-clause-fault : goal.returns-clause-fault
