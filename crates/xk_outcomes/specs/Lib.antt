@@ -1,7 +1,9 @@
 pub mod Outcomes
 pub mod Sets
 pub mod Digest
+pub mod Found
 pub mod Search
+pub mod Entries
 pub mod Rising
 pub mod Listing
 pub mod Text

@@ -130,7 +130,7 @@ fn told_in(
     ensures kept { IfOk result (λ r. HasApart verified.now arguments.now r.entries) }
 {
     let start = Core::open(alloc, verified, arguments)?;
-    let explored = explore(alloc, &start, limit.entries)?;
+    let explored = explore(alloc, start, limit.entries)?;
     let mut list = Vec::new(alloc);
     let listed = list_outcomes(alloc, order, &mut list, &explored.all, limit.outcomes)?;
     Ok(Outcomes {
