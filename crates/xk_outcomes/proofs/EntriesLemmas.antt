@@ -8,9 +8,9 @@ use Rattle.xk_core.specs.Core.{CoreValue}
 use Rattle.xk_outcomes.specs.declared.entries.Edge.{Edge}
 use Rattle.xk_outcomes.specs.Entries.{AreBehind, AreEntries, led_by, with_edge}
 use Rattle.xk_outcomes.specs.Found.{FoundValue, along, first_found, next}
-use Rattle.xk_outcomes.specs.Search.{AreFound, AreDifferent, Has, IsFound, found_digest}
+use Rattle.xk_outcomes.specs.Search.{AreFound, Has, IsFound, found_digest}
 use Rattle.xk_outcomes.proofs.FoundLemmas.{along_push, found_first, found_next}
-use Rattle.xk_outcomes.proofs.SearchLemmas.{different_one, different_push, digests_push, found_push, place}
+use Rattle.xk_outcomes.proofs.SearchLemmas.{different_push, digests_push, found_push, place}
 
 -- what is in a list, or stands for what isn't
 each_or : {X : Type 0} (P : X → Type 0) (xs : List X) (d : X) → ((k : ℕ) (x : X) → slice_get xs k ≡ Some x → P x) → P d → (k : ℕ) → P (get_or xs k d)
@@ -110,16 +110,7 @@ all_led start edges = by (first_found start ∷ []) edges (found_push start [] (
 pub new_found : (start : CoreValue) (edges : List Edge) (k a : ℕ) (x new : FoundValue) → slice_get (led_by start edges) k ≡ Some x → new ≡ next a x → IsFound start new
 new_found start edges k a x new there is = subst (IsFound start) (sym is) (found_next start x a (all_led start edges k x there))
 
--- ---- the first, and one more
-
-pub entries_one : (start : CoreValue) (edges : List Edge) (digests : List ℕ) → start.world.steps ≡ 0 → edges ≡ [] → digests ≡ found_digest (first_found start) ∷ []
-    → AreEntries start edges digests
-entries_one start edges digests root none one = subst (λ (l : List Edge). AreEntries start l digests) (sym none) (record {
-  root = root;
-  behind = λ k e there. absurd (none-some e there);
-  digests_are = one;
-  different = different_one (first_found start);
-})
+-- ---- one more
 
 -- what one edge more leads to
 pub led_push : (start : CoreValue) (edges more : List Edge) (e : Edge) (x new : FoundValue) → more ≡ edges ++ e ∷ [] → slice_get (led_by start edges) e.from ≡ Some x → new ≡ next e.act x

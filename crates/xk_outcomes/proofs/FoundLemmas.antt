@@ -1,5 +1,5 @@
 -- One that was found goes on by a step and by quiet steps.
-use Rattle.std.proofs.Common.{◌≡◌, ◌∙◌, ℕ, zero, suc, ◌+◌, ◌<◌, ◌≤◌, ◌⊎◌, inl, inr, Bool, true, false, true≢false, List, [], ◌∷◌, ◌++◌, length, Option, Some, None, refl, sym, ap, subst, add-one, arith}
+use Rattle.std.proofs.Common.{◌≡◌, ◌∙◌, ℕ, zero, suc, ◌+◌, ◌<◌, ◌≤◌, ◌⊎◌, inl, inr, Bool, true, false, List, [], ◌∷◌, ◌++◌, length, Option, Some, None, refl, sym, ap, subst, add-one, arith}
 use Rattle.std.specs.Option.{option_to_list}
 use Rattle.std.proofs.lemmas.List.{append-nil}
 use Rattle.std.proofs.lemmas.Option.{none-some, same_Some}
@@ -9,14 +9,14 @@ use Rattle.xk_types.specs.Bound.{steps_bound}
 use Rattle.xk_types.specs.Code.{ModuleValue, IsWithinLimits}
 use Rattle.xk_types.specs.World.{World}
 use Rattle.xk_types.specs.Step.{Outcome, Blocked, Wrong, Stepped, step}
-use Rattle.xk_types.specs.Schedule.{Through, run, is_step, is_enabled, number_printed, printed}
+use Rattle.xk_types.specs.Schedule.{number_printed}
 use Rattle.xk_laws.proofs.ReachabilityLemmas.{run_more}
 use Rattle.xk_squares.specs.QuietSteps.{has_quiet_step}
 use Rattle.xk_squares.proofs.QuietStepLaw.{enabled_step, quiet_enabled, quiet_steps_go_first}
-use Rattle.xk_core.specs.Core.{CoreValue, StepsTo}
+use Rattle.xk_core.specs.Core.{CoreValue}
 use Rattle.xk_outcomes.specs.Found.{FoundValue, along, at_rest, first_found, least, least_quiet, next, one_more, or_this, settled, with_outcome, with_step}
-use Rattle.xk_outcomes.specs.Search.{AreFound, Has, HasAfter, IsFound, IsGrown, IsKnown, LeadsQuietly}
-use Rattle.xk_outcomes.proofs.SearchLemmas.{known_grown, printed_more}
+use Rattle.xk_outcomes.specs.Search.{Has, HasAfter, IsFound, IsGrown, IsKnown, LeadsQuietly}
+use Rattle.xk_outcomes.proofs.SearchLemmas.{printed_more}
 
 -- ---- the least that passes
 
@@ -51,21 +51,6 @@ least_passes passes (suc n) a h = by (least_passes passes n a) (least passes n) 
 
 -- ---- a step
 
--- what a step leads to is one step more
-pub one_more_is : (x y : FoundValue) (a : ℕ) (e : Event) → StepsTo x.core a y.core e → y.core.module_run ≡ x.core.module_run
-    → y.printed ≡ x.printed ++ option_to_list (number_printed e) → y.schedule ≡ x.schedule ++ a ∷ [] → y ≡ one_more a x
-one_more_is x y a e stepped same prints steps =
-    (λ i. record { core = record { module_run = same i; world = y.core.world }; printed = prints i; schedule = steps i }) ∙ sym (ap (with_outcome x a) stepped)
-
--- who can't take a step takes none
-pub none_more : (x : FoundValue) (a : ℕ) → is_enabled x.core.module_run x.core.world a ≡ false → x ≡ one_more a x
-none_more x a unable = by (step x.core.module_run x.core.world a) unable
-  where
-    by : (o : Outcome) → is_step o ≡ false → x ≡ with_outcome x a o
-    by Blocked h = refl
-    by (Wrong c) h = refl
-    by (Stepped w e) h = absurd (true≢false h)
-
 pub found_one_more : (start : CoreValue) (x : FoundValue) (a : ℕ) → IsFound start x → IsFound start (one_more a x)
 found_one_more start x a f = by (step x.core.module_run x.core.world a) refl
   where
@@ -97,11 +82,6 @@ found_next start x a f = found_settled start (one_more a x) (steps_bound (one_mo
 pub found_first : (start : CoreValue) → IsFound start (first_found start)
 found_first start =
     found_settled start (record { core = start; printed = []; schedule = [] }) (steps_bound start.module_run) (record { module_is = refl; legal = refl; prints = refl })
-
--- one quiet step more
-pub settled_more : (x y z : FoundValue) (n a : ℕ) → y ≡ settled n x → least_quiet y.core ≡ Some a → z ≡ one_more a y → z ≡ settled (n + 1) x
-settled_more x y z n a so_far quiet more =
-    rw add-one (more ∙ ap (with_step y) (sym quiet) ∙ ap (λ (u : FoundValue). with_step u (least_quiet u.core)) so_far)
 
 -- where there is no quiet step, no more are taken
 pub settled_all : (x y : FoundValue) (k n : ℕ) → k ≤ n → y ≡ settled k x → least_quiet y.core ≡ None → y ≡ settled n x

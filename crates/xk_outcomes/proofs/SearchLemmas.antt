@@ -1,16 +1,16 @@
 -- What is printed by one step more; and those that were found grow in number.
-use Rattle.std.proofs.Common.{◌≡◌, ◌∙◌, ℕ, ℤ, zero, suc, ◌+◌, ◌<◌, ◌≤◌, ◌⊎◌, inl, inr, not, true, false, true≢false, List, [], ◌∷◌, ◌++◌, length, filter, get_or, Some, refl, sym, ap, subst, append_assoc, arith, slice_get}
+use Rattle.std.proofs.Common.{◌≡◌, ◌∙◌, ℕ, ℤ, zero, suc, ◌+◌, ◌<◌, ◌≤◌, ◌⊎◌, inl, inr, not, List, [], ◌∷◌, ◌++◌, length, filter, get_or, Some, refl, sym, ap, subst, append_assoc, arith, slice_get}
 use Rattle.std.specs.List.{filter_map}
 use Rattle.std.specs.Option.{option_to_list}
 use Rattle.std.specs.Prelude.{map}
-use Rattle.std.proofs.lemmas.List.{append-nil, length-map, map-append}
+use Rattle.std.proofs.lemmas.List.{append-nil, map-append}
 use Rattle.std.proofs.lemmas.Option.{slice_get_within, none-some, same_Some}
 use Rattle.xk_types.specs.declared.world.Event.{Event}
 use Rattle.xk_types.specs.declared.world.Event.TheVariants as event
 use Rattle.xk_types.specs.Code.{ModuleValue}
 use Rattle.xk_types.specs.World.{World}
 use Rattle.xk_types.specs.Step.{Stepped, step}
-use Rattle.xk_types.specs.Schedule.{Through, run, is_step, is_local, events, events_on, is_enabled, number_printed, printed}
+use Rattle.xk_types.specs.Schedule.{Through, run, is_local, events, events_on, number_printed, printed}
 use Rattle.xk_laws.proofs.ReachabilityLemmas.{same_through, first_step}
 use Rattle.xk_squares.proofs.ChangeSquareLemmas.{found_of}
 use Rattle.xk_core.specs.Core.{CoreValue}
@@ -102,10 +102,6 @@ longer old new n grown h = let y = there_is old n h in slice_get_within new n y.
 
 -- ---- one is looked at
 
--- activity a can't take a step there
-pub after_none : (m : ModuleValue) (all : List FoundValue) (here : FoundValue) (a : ℕ) → is_enabled m here.core.world a ≡ false → HasAfter m all here a
-after_none m all here a none u e t = absurd (true≢false (sym (ap is_step t) ∙ none))
-
 -- who isn't there takes no step
 pub after_all : (m : ModuleValue) (all : List FoundValue) (here : FoundValue) (last : ℕ) → ((a : ℕ) → a < last → HasAfter m all here a)
     → length here.core.world.activities ≤ last → (a : ℕ) → HasAfter m all here a
@@ -140,11 +136,6 @@ expanded_more m old new n within grown before here k x less there a =
 pub same_digests : (x new : FoundValue) → IsAt x new.core.world new.printed → found_digest x ≡ found_digest new
 same_digests x new at = ap (world_digest x.core.world) at.1 ∙ sym (alike_digests new.core.world x.core.world new.printed at.0)
 
-pub different_one : (x : FoundValue) → AreDifferent (x ∷ [])
-different_one x zero zero y z hi hj same = refl
-different_one x zero (suc j) y z hi hj same = absurd (none-some z hj)
-different_one x (suc i) j y z hi hj same = absurd (none-some y hi)
-
 pub different_push : (old new : List FoundValue) (o : FoundValue) → new ≡ old ++ o ∷ [] → (Has old o.core.world o.printed → ⊥) → AreDifferent old → AreDifferent new
 different_push old new o e fresh before i j x y hi hj same =
     by (place old o i x (subst (λ (l : List FoundValue). slice_get l i ≡ Some x) e hi)) (place old o j y (subst (λ (l : List FoundValue). slice_get l j ≡ Some y) e hj))
@@ -167,6 +158,3 @@ digest_at all digests k d x h there = ap (λ (l : List ℕ). get_or l k d) h ∙
     read [] i g = absurd (none-some x g)
     read (z ∷ zs) zero g = ap found_digest (same_Some z x g)
     read (z ∷ zs) (suc i) g = read zs i g
-
-pub as_many : (all : List FoundValue) (digests : List ℕ) → AreDigests all digests → length digests ≡ length all
-as_many all digests h = ap length h ∙ length-map all found_digest

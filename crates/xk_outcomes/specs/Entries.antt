@@ -1,5 +1,5 @@
 -- Those that were found, each by a step from one before it. This project's own.
-use Rattle.std.specs.Prelude.{◌≡◌, ℕ, ◌≤◌, List, [], ◌∷◌, ◌++◌, Some, slice_get, get_or, fold, map}
+use Rattle.std.specs.Prelude.{◌≡◌, ℕ, ◌≤◌, List, [], ◌∷◌, ◌++◌, Some, slice_get, get_or, fold}
 use Rattle.xk_core.specs.Core.{CoreValue}
 use Rattle.xk_outcomes.specs.declared.entries.Edge.{Edge}
 use Rattle.xk_outcomes.specs.Found.{FoundValue, first_found, next}

@@ -143,9 +143,15 @@ impl<'m> Entries<'m> {
         }
     }
 
-    /// Whether the new one, which has such a digest, is the same as the one of a number. Another core is led there only where they have one
-    /// digest.
-    fn is_at(&self, alloc: Global, number: usize, new: &Found<'_>, digest: u64) -> Result<bool, AllocError>
+    /// Whether the new one, which has such a digest, is the same as the one of a number. Another core is led there only where their
+    /// digests are the same.
+    fn is_at(
+        &self,
+        alloc: Global,
+        number: usize,
+        new: &Found<'_>,
+        digest: u64,
+    ) -> Result<bool, AllocError>
         requires number { number < length self.now.all }
         requires digest { digest ≡ found_digest new.now }
         ensures yes { IfOk result (λ same. same ≡ true
@@ -185,7 +191,8 @@ impl<'m> Entries<'m> {
         act: Act,
         new: &Found<'_>,
     ) -> Result<(), AllocError>
-        requires { (x : FoundValue) × (slice_get self.old.all from ≡ Some x) × (new.now ≡ next act x) }
+        requires { (x : FoundValue) × (slice_get self.old.all from ≡ Some x)
+            × (new.now ≡ next act x) }
         ensures start { self.new.start ≡ self.old.start }
         ensures grown { IsGrown self.old.all self.new.all }
         ensures there { OnOk result (Has self.new.all new.now.core.world new.now.printed) }

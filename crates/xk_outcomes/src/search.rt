@@ -14,7 +14,7 @@ use xk_types::Act;
 #[derive(Drop)]
 pub struct Explored<'m> {
     /// What was found.
-    pub all: Entries<'m>,
+    pub found: Entries<'m>,
     /// Whether nothing is left to look at.
     pub complete: bool,
 }
@@ -90,23 +90,19 @@ fn search(alloc: Global, all: &mut Entries<'_>, limit: usize) -> Result<bool, Al
 
 /// Finds worlds that legal schedules lead to from the start, each with the numbers that are printed by then, until nothing is left to
 /// look at, or at least as many are kept as the limit says.
-pub fn explore<'m>(
-    alloc: Global,
-    start: Core<'m>,
-    limit: usize,
-) -> Result<Explored<'m>, AllocError>
+pub fn explore<'m>(alloc: Global, start: Core<'m>, limit: usize) -> Result<Explored<'m>, AllocError>
     requires { start.world.steps ≡ 0 }
-    ensures found { IfOk result (λ r. AreFound start.entry r.all.all) }
-    ensures all { IfOk result (λ r. r.complete ≡ true → AreAllFound start.entry r.all.all) }
-    ensures limit { IfOk result (λ r. r.complete ≡ false → limit ≤ length r.all.all) }
-    ensures different { IfOk result (λ r. AreDifferent r.all.all) }
+    ensures found { IfOk result (λ r. AreFound start.entry r.found.all) }
+    ensures all { IfOk result (λ r. r.complete ≡ true → AreAllFound start.entry r.found.all) }
+    ensures limit { IfOk result (λ r. r.complete ≡ false → limit ≤ length r.found.all) }
+    ensures different { IfOk result (λ r. AreDifferent r.found.all) }
 {
     let verified = start.module();
     // For the law that nothing is missed: the module is accepted.
     let _accepted = verified.module();
-    let mut all = Entries::open(alloc, start)?;
-    let complete = search(alloc, &mut all, limit)?;
+    let mut found = Entries::open(alloc, start)?;
+    let complete = search(alloc, &mut found, limit)?;
     // For `found` and `different`.
-    let _found = all.len();
-    Ok(Explored { all, complete })
+    let _count = found.len();
+    Ok(Explored { found, complete })
 }

@@ -1,4 +1,4 @@
-use Rattle.std.proofs.Common.{◌≡◌, ◌∙◌, length, true≢false, sym, subst, arith}
+use Rattle.std.proofs.Common.{◌∙◌, true≢false, sym, subst}
 use Rattle.xk_core.specs.Core.{CoreValue}
 use Rattle.xk_outcomes.specs.Outcomes.{HasApart}
 use Rattle.xk_outcomes.specs.Search.{AreFound, AreAllFound}
@@ -8,13 +8,13 @@ use Rattle.xk_outcomes.proofs.all_outcomes.told_in.Goals as goal
 
 pub returns-clause-shown : goal.returns-clause-shown
 returns-clause-shown c =
-    let all = c.in_ok-explored.explored.all.all in
+    let all = c.in_ok-explored.explored.found.all in
     all_shown c.args.order c.args.verified.now c.args.arguments.now all c.list_outcomes.new.list.items
     (subst (λ (s : CoreValue). AreFound s all) c.in_ok-start.ensures c.in_ok-explored.ensures.found) c.list_outcomes.ensures.of
 
 pub returns-clause-all : goal.returns-clause-all
 returns-clause-all c done =
-    let all = c.in_ok-explored.explored.all.all in
+    let all = c.in_ok-explored.explored.found.all in
     elim c.if-explored.branch [
       | then-explored w ↦ all_listed c.args.order c.args.verified.now c.args.arguments.now all c.list_outcomes.new.list.items
           (subst (λ (s : CoreValue). AreAllFound s all) c.in_ok-start.ensures (c.in_ok-explored.ensures.all w.if-explored.true))
@@ -24,7 +24,7 @@ returns-clause-all c done =
 
 pub returns-clause-kept : goal.returns-clause-kept
 returns-clause-kept c =
-    let all = c.in_ok-explored.explored.all.all in
+    let all = c.in_ok-explored.explored.found.all in
     subst (HasApart c.args.verified.now c.args.arguments.now) (sym c.len.ensures.count)
     (all_apart c.args.verified.now c.args.arguments.now all
     (subst (λ (s : CoreValue). AreFound s all) c.in_ok-start.ensures c.in_ok-explored.ensures.found) c.in_ok-explored.ensures.different)

@@ -1,4 +1,4 @@
-use Rattle.std.proofs.Common.{◌≡◌, ◌∙◌, ap, length, subst}
+use Rattle.std.proofs.Common.{◌∙◌, ap, length, subst}
 use Rattle.xk_types.specs.Acceptance.{IsAccepted}
 use Rattle.xk_types.specs.Code.{IsWithinLimits}
 use Rattle.xk_core.specs.Core.{CoreValue}
@@ -10,7 +10,7 @@ use Rattle.xk_outcomes.proofs.search.explore.Goals as goal
 
 pub returns-clause-found : goal.returns-clause-found
 returns-clause-found c =
-    subst (λ (s : CoreValue). AreFound s c.search.new.all.all) (c.search.ensures.start ∙ ap (λ (e : EntriesValue). e.start) c.in_ok-all.ensures) c.len-found.ensures.found
+    subst (λ (s : CoreValue). AreFound s c.search.new.all.all) (c.search.ensures.start ∙ ap (λ (e : EntriesValue). e.start) c.in_ok-found.ensures) c.len-count.ensures.found
 
 pub returns-clause-all : goal.returns-clause-all
 returns-clause-all c done =
@@ -21,6 +21,6 @@ returns-clause-all c done =
     all_found start all limits accepted
     c.module-verified.ensures.taken
     (c.module-verified.ensures.opening c.requires)
-    (subst (λ (s : CoreValue). AreFound s all) (c.search.ensures.start ∙ ap (λ (e : EntriesValue). e.start) c.in_ok-all.ensures) c.len-found.ensures.found)
-    (subst (λ (e : EntriesValue). AreExpanded e.start.module_run all (length all)) c.in_ok-all.ensures (c.in_ok-complete.ensures.expanded done))
-    (known_first start limits accepted all (subst (λ (e : EntriesValue). IsGrown e.all all) c.in_ok-all.ensures c.search.ensures.grown))
+    (subst (λ (s : CoreValue). AreFound s all) (c.search.ensures.start ∙ ap (λ (e : EntriesValue). e.start) c.in_ok-found.ensures) c.len-count.ensures.found)
+    (subst (λ (e : EntriesValue). AreExpanded e.start.module_run all (length all)) c.in_ok-found.ensures (c.in_ok-complete.ensures.expanded done))
+    (known_first start limits accepted all (subst (λ (e : EntriesValue). IsGrown e.all all) c.in_ok-found.ensures c.search.ensures.grown))

@@ -1,4 +1,4 @@
-use Rattle.std.proofs.Common.{◌≡◌, ◌<◌, ℕ, Some, slice_get}
+use Rattle.std.proofs.Common.{◌≡◌, ◌<◌, ℕ}
 use Rattle.xk_outcomes.specs.Search.{HasAfter, IsGrown}
 use Rattle.xk_outcomes.proofs.search.look.Given as goal
 

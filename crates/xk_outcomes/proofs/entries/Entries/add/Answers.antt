@@ -1,8 +1,7 @@
 use Rattle.std.proofs.Common.{◌≡◌, ◌∙◌, ◌++◌, ◌∷◌, [], ℕ, List, Some, ap, slice_get, subst, sym}
 use Rattle.xk_outcomes.specs.declared.entries.Edge.{Edge}
 use Rattle.xk_outcomes.specs.Entries.{EntriesValue, led_by}
-use Rattle.xk_outcomes.specs.Found.{FoundValue}
-use Rattle.xk_outcomes.specs.Search.{Has, IsFound, found_digest}
+use Rattle.xk_outcomes.specs.Search.{Has, IsFound}
 use Rattle.xk_outcomes.proofs.EntriesLemmas.{entries_push, led_push, new_found}
 use Rattle.xk_outcomes.proofs.SearchLemmas.{grown_push, has_push}
 use Rattle.xk_outcomes.proofs.entries.Entries.add.Goals as goal

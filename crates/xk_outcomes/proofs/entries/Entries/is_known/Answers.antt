@@ -1,4 +1,4 @@
-use Rattle.std.proofs.Common.{◌≡◌, ◌<◌, ℕ, Some, slice_get, arith}
+use Rattle.std.proofs.Common.{◌≡◌, ℕ, Some, slice_get, arith}
 use borrow.Author.Count.{below_more}
 use Rattle.std.proofs.lemmas.Option.{slice_get_within}
 use Rattle.xk_outcomes.specs.Found.{FoundValue}

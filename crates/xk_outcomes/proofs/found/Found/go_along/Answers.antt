@@ -1,4 +1,4 @@
-use Rattle.std.proofs.Common.{◌≡◌, ◌∙◌, ap, sym}
+use Rattle.std.proofs.Common.{◌∙◌, ap, sym}
 use Rattle.xk_outcomes.specs.Found.{along}
 use Rattle.xk_outcomes.proofs.FoundLemmas.{along_push}
 use Rattle.xk_outcomes.proofs.found.Found.go_along.Goals as goal
