@@ -10,7 +10,7 @@ use Rattle.xk_types.specs.World.{Activity, World, slots_of}
 use Rattle.xk_activity.specs.Activities.{act_at, nobody}
 use Rattle.xk_laws.proofs.Invariant.{IsActivitySound, looks}
 use Rattle.xk_laws.proofs.ReachabilityLemmas.{reached_sound}
-use Rattle.xk_squares.specs.PlainWorlds.{AreAlike, plain, plain_activity}
+use Rattle.xk_squares.specs.PlainWorlds.{AreAlike, plain_activity}
 use Rattle.xk_core.specs.Core.{IsCore}
 use Rattle.xk_outcomes.specs.Digest.{mixed, with_activity, with_numbers, with_values, word_of, world_digest}
 

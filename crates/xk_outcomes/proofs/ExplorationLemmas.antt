@@ -16,7 +16,7 @@ use Rattle.xk_squares.proofs.ChangeSquareLemmas.{same_step}
 use Rattle.xk_squares.proofs.QuietStepLaw.{quiet_steps_go_first, alike_worlds_go_alike}
 use Rattle.xk_squares.proofs.ExplorationLaw.{nobody_steps, nothing_missed}
 use Rattle.xk_core.specs.Core.{CoreValue}
-use Rattle.xk_outcomes.specs.declared.found.Found.{Found}
+use Rattle.xk_outcomes.specs.Found.{FoundValue}
 use Rattle.xk_outcomes.specs.Search.{LeadsQuietly, AreFound, Has, IsKnown, AreExpanded, AreAllFound}
 use Rattle.xk_outcomes.proofs.SearchLemmas.{printed_more}
 
@@ -29,7 +29,7 @@ led_step m args w u numbers a e led h = record {
   prints = printed_more m led.list (opening m args) w u a e led.legal h ∙ ap (λ l. l ++ option_to_list (number_printed e)) led.prints;
 }
 
-module _ (start : CoreValue) (all : List Found) (limits : IsWithinLimits start.module_run) (ok : IsAccepted start.module_run)
+module _ (start : CoreValue) (all : List FoundValue) (limits : IsWithinLimits start.module_run) (ok : IsAccepted start.module_run)
     (taken : AreArguments start.module_run start.world.arguments) (begins : start.world ≡ opening start.module_run start.world.arguments)
     (found : AreFound start all) (closed : AreExpanded start.module_run all (length all)) (begun : IsKnown start.module_run all start.world []) where
   abbrev m : ModuleValue
@@ -43,11 +43,11 @@ module _ (start : CoreValue) (all : List Found) (limits : IsWithinLimits start.m
   Finds w numbers = IsLedTo m args w numbers × IsKnown m all w numbers
 
   -- one of them is where its schedule leads
-  led_there : (k : ℕ) (x : Found) → slice_get all k ≡ Some x → IsLedTo m args x.core.world x.printed.items
+  led_there : (k : ℕ) (x : FoundValue) → slice_get all k ≡ Some x → IsLedTo m args x.core.world x.printed
   led_there k x there = let f = found k x there in record {
-    list = x.schedule.items;
-    legal = subst (λ w. run m x.schedule.items w ≡ Through x.core.world) begins f.legal;
-    prints = subst (λ w. printed m x.schedule.items w ≡ x.printed.items) begins f.prints;
+    list = x.schedule;
+    legal = subst (λ w. run m x.schedule w ≡ Through x.core.world) begins f.legal;
+    prints = subst (λ w. printed m x.schedule w ≡ x.printed) begins f.prints;
   }
 
   -- each step from one that is like one of them
@@ -56,8 +56,8 @@ module _ (start : CoreValue) (all : List Found) (limits : IsWithinLimits start.m
       let x = has.1 in
       let next = (alike_worlds_go_alike m).steps w x.core.world u a e has.3.0 h in
       let more : List ℤ = option_to_list (number_printed e) in
-      let there : Finds next.0 (x.printed.items ++ more) = (
-        led_step m args x.core.world next.0 x.printed.items a e (led_there has.0 x has.2) next.1,
+      let there : Finds next.0 (x.printed ++ more) = (
+        led_step m args x.core.world next.0 x.printed a e (led_there has.0 x has.2) next.1,
         closed has.0 x (slice_get_within all has.0 x has.2) has.2 a next.0 e next.1,
       ) in
       record {
@@ -88,7 +88,7 @@ module _ (start : CoreValue) (all : List Found) (limits : IsWithinLimits start.m
 
   -- one of them is where all have ended, these numbers being printed by then
   abbrev IsMet : List ℤ → Type 0
-  IsMet numbers = (k : ℕ) × (x : Found) × (slice_get all k ≡ Some x) × (x.printed.items ≡ numbers) × (all_ended x.core.world ≡ true)
+  IsMet numbers = (k : ℕ) × (x : FoundValue) × (slice_get all k ≡ Some x) × (x.printed ≡ numbers) × (all_ended x.core.world ≡ true)
 
   -- where all have ended there is no quiet step more
   met : (list : List ℕ) (w v : World) (numbers : List ℤ) → LeadsQuietly m list w v → all_ended w ≡ true → Has all v numbers → IsMet numbers

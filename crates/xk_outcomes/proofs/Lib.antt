@@ -1,5 +1,7 @@
 mod DigestLemmas
 mod SearchLemmas
+mod FoundLemmas
+mod EntriesLemmas
 mod ExplorationLemmas
 mod RisingLemmas
 mod ListingLemmas

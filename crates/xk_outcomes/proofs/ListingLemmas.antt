@@ -11,7 +11,7 @@ use Rattle.xk_types.specs.Logs.{schedule_of}
 use Rattle.xk_laws.proofs.ReachabilityLemmas.{same_through}
 use Rattle.xk_squares.specs.PlainWorlds.{AreAlike, plain}
 use Rattle.xk_core.specs.Core.{opening_core}
-use Rattle.xk_outcomes.specs.declared.found.Found.{Found}
+use Rattle.xk_outcomes.specs.Found.{FoundValue}
 use Rattle.xk_outcomes.specs.declared.listing.Outcome.{Outcome}
 use Rattle.xk_outcomes.specs.declared.order.Order.{Order}
 use Rattle.xk_outcomes.specs.declared.order.Order.TheVariants as order
@@ -47,44 +47,44 @@ keeps_same old new e numbers h = subst (λ (l : List Outcome). IsListed l number
 pub listed_push : (old new : List Outcome) (o : Outcome) → new ≡ old ++ o ∷ [] → IsListed new o.numbers.items
 listed_push old new o e = (length old, o, subst (λ (l : List Outcome). slice_get l (length old) ≡ Some o) (sym e) (at_end old o), refl)
 
-of_push : (order : Order) (all : List Found) (j : ℕ) (x : Found) (old new : List Outcome) (o : Outcome) → new ≡ old ++ o ∷ [] → slice_get all j ≡ Some x → IsOf order x o → AreOf order all old → AreOf order all new
+of_push : (order : Order) (all : List FoundValue) (j : ℕ) (x : FoundValue) (old new : List Outcome) (o : Outcome) → new ≡ old ++ o ∷ [] → slice_get all j ≡ Some x → IsOf order x o → AreOf order all old → AreOf order all new
 of_push order all j x old new o e there is before k p h = by (place old o k p (subst (λ (l : List Outcome). slice_get l k ≡ Some p) e h))
   where
-    by : (slice_get old k ≡ Some p) ⊎ ((k ≡ length old) × (o ≡ p)) → (i : ℕ) × (y : Found) × (slice_get all i ≡ Some y) × IsOf order y p
+    by : (slice_get old k ≡ Some p) ⊎ ((k ≡ length old) × (o ≡ p)) → (i : ℕ) × (y : FoundValue) × (slice_get all i ≡ Some y) × IsOf order y p
     by (inl a) = before k p a
     by (inr b) = (j, x, there, subst (λ (q : Outcome). IsOf order x q) b.1 is)
 
 -- the same where it was listed already
-pub of_either : (order : Order) (all : List Found) (j : ℕ) (x : Found) (old new : List Outcome) (o : Outcome) → (new ≡ old) ⊎ (new ≡ old ++ o ∷ [])
+pub of_either : (order : Order) (all : List FoundValue) (j : ℕ) (x : FoundValue) (old new : List Outcome) (o : Outcome) → (new ≡ old) ⊎ (new ≡ old ++ o ∷ [])
     → slice_get all j ≡ Some x → IsOf order x o → AreOf order all old → AreOf order all new
 of_either order all j x old new o (inl e) there is before = subst (AreOf order all) (sym e) before
 of_either order all j x old new o (inr e) there is before = of_push order all j x old new o e there is before
 
-pub of_none : (order : Order) (all : List Found) (list : List Outcome) → list ≡ [] → AreOf order all list
+pub of_none : (order : Order) (all : List FoundValue) (list : List Outcome) → list ≡ [] → AreOf order all list
 of_none order all list none k o h = absurd (none-some o (subst (λ (l : List Outcome). slice_get l k ≡ Some o) none h))
 
-pub noted_more : (order : Order) (all : List Found) (place : ℕ) (here : Found) (old new : List Outcome) → slice_get all place ≡ Some here → KeepsListed old new
-    → (all_ended here.core.world ≡ true → IsListed new (ordered order here.printed.items)) → AreNoted order all place old → AreNoted order all (place + 1) new
+pub noted_more : (order : Order) (all : List FoundValue) (place : ℕ) (here : FoundValue) (old new : List Outcome) → slice_get all place ≡ Some here → KeepsListed old new
+    → (all_ended here.core.world ≡ true → IsListed new (ordered order here.printed)) → AreNoted order all place old → AreNoted order all (place + 1) new
 noted_more order all place here old new there kept listed before j x less at done = by (split j place less)
   where
     split : (i n : ℕ) → i < n + 1 → (i < n) ⊎ (i ≡ n)
     split i n h = grind arith
 
-    by : (j < place) ⊎ (j ≡ place) → IsListed new (ordered order x.printed.items)
-    by (inl l) = kept (ordered order x.printed.items) (before j x l at done)
+    by : (j < place) ⊎ (j ≡ place) → IsListed new (ordered order x.printed)
+    by (inl l) = kept (ordered order x.printed) (before j x l at done)
     by (inr e) =
         let same : here ≡ x = same_Some here x (sym there ∙ (sym (ap (slice_get all) e) ∙ at)) in
-        subst (λ (y : Found). all_ended y.core.world ≡ true → IsListed new (ordered order y.printed.items)) same listed done
+        subst (λ (y : FoundValue). all_ended y.core.world ≡ true → IsListed new (ordered order y.printed)) same listed done
 
 -- ---- from what was found to what is listed
 
-pub all_shown : (order : Order) (m : ModuleValue) (args : List ℤ) (all : List Found) (list : List Outcome) → AreFound (opening_core m args) all → AreOf order all list
+pub all_shown : (order : Order) (m : ModuleValue) (args : List ℤ) (all : List FoundValue) (list : List Outcome) → AreFound (opening_core m args) all → AreOf order all list
     → AreShownIn order m args list
 all_shown order m args all list found of k o there =
     let h = of k o there in
-    let x : Found = h.1 in
+    let x : FoundValue = h.1 in
     let f = found h.0 x h.2 in (
-      x.printed.items,
+      x.printed,
       record {
         last = x.core.world;
         legal = ap (λ (l : List ℕ). run m l (opening m args)) h.3.log ∙ f.legal;
@@ -94,7 +94,7 @@ all_shown order m args all list found of k o there =
       h.3.numbers,
     )
 
-pub all_listed : (order : Order) (m : ModuleValue) (args : List ℤ) (all : List Found) (list : List Outcome) → AreAllFound (opening_core m args) all
+pub all_listed : (order : Order) (m : ModuleValue) (args : List ℤ) (all : List FoundValue) (list : List Outcome) → AreAllFound (opening_core m args) all
     → AreNoted order all (length all) list → AreAllIn order m args list
 all_listed order m args all list found noted schedule numbers o =
     let h = found schedule o.last o.legal o.over in
@@ -106,24 +106,24 @@ of_map f [] k y h = absurd (none-some y h)
 of_map f (x ∷ xs) zero y h = (x, refl, same_Some (f x) y h)
 of_map f (x ∷ xs) (suc k) y h = of_map f xs k y h
 
-pub all_apart : (m : ModuleValue) (args : List ℤ) (all : List Found) → AreFound (opening_core m args) all → AreDifferent all → HasApart m args (length all)
+pub all_apart : (m : ModuleValue) (args : List ℤ) (all : List FoundValue) → AreFound (opening_core m args) all → AreDifferent all → HasApart m args (length all)
 all_apart m args all found different = (
-  map (λ (x : Found). x.schedule.items) all,
-  length-map all (λ (x : Found). x.schedule.items),
+  map (λ (x : FoundValue). x.schedule) all,
+  length-map all (λ (x : FoundValue). x.schedule),
   record {
     legal = λ k p there.
-        let x = of_map (λ (x : Found). x.schedule.items) all k p there in
+        let x = of_map (λ (x : FoundValue). x.schedule) all k p there in
         let f = found k x.0 x.1 in
         (x.0.core.world, ap (λ (l : List ℕ). run m l (opening m args)) (sym x.2) ∙ f.legal);
     apart = λ i j p q w v hi hj lead_w lead_v alike same.
-        let x = of_map (λ (x : Found). x.schedule.items) all i p hi in
-        let y = of_map (λ (x : Found). x.schedule.items) all j q hj in
+        let x = of_map (λ (x : FoundValue). x.schedule) all i p hi in
+        let y = of_map (λ (x : FoundValue). x.schedule) all j q hj in
         let f = found i x.0 x.1 in
         let g = found j y.0 y.1 in
         let to_w : w ≡ x.0.core.world = same_through w x.0.core.world (sym lead_w ∙ (ap (λ (l : List ℕ). run m l (opening m args)) (sym x.2) ∙ f.legal)) in
         let to_v : v ≡ y.0.core.world = same_through v y.0.core.world (sym lead_v ∙ (ap (λ (l : List ℕ). run m l (opening m args)) (sym y.2) ∙ g.legal)) in
         let worlds : AreAlike y.0.core.world x.0.core.world = ap plain (sym to_v) ∙ sym alike ∙ ap plain to_w in
-        let numbers : x.0.printed.items ≡ y.0.printed.items =
+        let numbers : x.0.printed ≡ y.0.printed =
         sym f.prints ∙ ap (λ (l : List ℕ). printed m l (opening m args)) x.2 ∙ same ∙ ap (λ (l : List ℕ). printed m l (opening m args)) (sym y.2) ∙ g.prints in
         different i j x.0 y.0 x.1 y.1 (worlds, numbers);
   },

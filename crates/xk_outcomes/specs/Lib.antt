@@ -2,7 +2,9 @@ pub mod Outcomes
 pub mod Limits
 pub mod Sets
 pub mod Digest
+pub mod Found
 pub mod Search
+pub mod Entries
 pub mod Rising
 pub mod Listing
 pub mod Text

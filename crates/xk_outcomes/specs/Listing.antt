@@ -3,25 +3,25 @@ use Rattle.std.specs.Prelude.{◌≡◌, ℕ, ℤ, ◌<◌, true, List, Some, sl
 use Rattle.xk_types.specs.Code.{ModuleValue}
 use Rattle.xk_types.specs.Schedule.{all_ended}
 use Rattle.xk_types.specs.Logs.{schedule_of}
-use Rattle.xk_outcomes.specs.declared.found.Found.{Found}
+use Rattle.xk_outcomes.specs.Found.{FoundValue}
 use Rattle.xk_outcomes.specs.declared.listing.Outcome.{Outcome}
 use Rattle.xk_outcomes.specs.declared.order.Order.{Order}
 use Rattle.xk_outcomes.specs.Outcomes.{IsListed, IsOutcome}
 use Rattle.xk_outcomes.specs.Rising.{ordered}
 
 -- all have ended in what was found, and this has its numbers, in the order in which they are told, and a log of its schedule
-pub record IsOf (order : Order) (x : Found) (o : Outcome) : Type 0 where
+pub record IsOf (order : Order) (x : FoundValue) (o : Outcome) : Type 0 where
   pub over : all_ended x.core.world ≡ true
-  pub numbers : o.numbers.items ≡ ordered order x.printed.items
-  pub log : schedule_of o.log.items ≡ x.schedule.items
+  pub numbers : o.numbers.items ≡ ordered order x.printed
+  pub log : schedule_of o.log.items ≡ x.schedule
 
 -- each that is listed is of one that was found
-abbrev pub AreOf : Order → List Found → List Outcome → Type 0
-AreOf order all list = (k : ℕ) (o : Outcome) → slice_get list k ≡ Some o → (j : ℕ) × (x : Found) × (slice_get all j ≡ Some x) × IsOf order x o
+abbrev pub AreOf : Order → List FoundValue → List Outcome → Type 0
+AreOf order all list = (k : ℕ) (o : Outcome) → slice_get list k ≡ Some o → (j : ℕ) × (x : FoundValue) × (slice_get all j ≡ Some x) × IsOf order x o
 
 -- of those before this place, what the ones print in which all have ended is listed
-abbrev pub AreNoted : Order → List Found → ℕ → List Outcome → Type 0
-AreNoted order all place list = (j : ℕ) (x : Found) → j < place → slice_get all j ≡ Some x → all_ended x.core.world ≡ true → IsListed list (ordered order x.printed.items)
+abbrev pub AreNoted : Order → List FoundValue → ℕ → List Outcome → Type 0
+AreNoted order all place list = (j : ℕ) (x : FoundValue) → j < place → slice_get all j ≡ Some x → all_ended x.core.world ≡ true → IsListed list (ordered order x.printed)
 
 -- what was listed is
 abbrev pub KeepsListed : List Outcome → List Outcome → Type 0

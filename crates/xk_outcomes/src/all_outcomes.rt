@@ -132,12 +132,12 @@ fn told_in(
     ensures kept { IfOk result (λ r. HasApart verified.now arguments.now r.entries) }
 {
     let start = Core::open(alloc, verified, arguments)?;
-    let explored = explore(alloc, &start, limit.entries)?;
+    let explored = explore(alloc, start, limit.entries)?;
     let mut list = Vec::new(alloc);
-    let listed = list_outcomes(alloc, order, &mut list, &explored.all, limit.outcomes)?;
+    let listed = list_outcomes(alloc, order, &mut list, &explored.found, limit.outcomes)?;
     Ok(Outcomes {
         list,
         complete: explored.complete && listed,
-        entries: explored.all.len(),
+        entries: explored.found.len(),
     })
 }

@@ -1,13 +1,13 @@
 //! Worlds that are found one from another.
 
-ghost use Rattle.std.specs.Prelude.{◌≡◌, ◌++◌, [], true, IfOk, IfSome, OnOk, IsTrue};
+ghost use Rattle.std.specs.Prelude.{◌≡◌, ◌++◌, [], true, length, IfOk, IfSome, OnOk};
 ghost use Rattle.std.specs.Option.{option_to_list};
-ghost use Rattle.xk_types.specs.Schedule.{Through, is_enabled, number_printed, run};
+ghost use Rattle.xk_types.specs.Schedule.{number_printed};
 ghost use Rattle.xk_squares.specs.QuietSteps.{has_quiet_step};
-ghost use Rattle.xk_core.specs.Core.{CoreValue};
-ghost use Rattle.xk_outcomes.specs.Search.{Begins, IsFound, IsLegal, IsNext, IsOneStepOn, IsSettled, IsSuccessor};
+ghost use Rattle.xk_outcomes.specs.Found.{along, at_rest, first_found, least_quiet, next, one_more};
 
 use std::alloc::{AllocError, Global};
+use std::marker::Model;
 use xk_core::Core;
 use xk_types::{Act, Event};
 
@@ -22,41 +22,16 @@ pub struct Found<'m> {
     pub schedule: Vec<u32>,
 }
 
-/// A copy of the numbers.
-pub fn same_numbers(alloc: Global, numbers: &[i64]) -> Result<Vec<i64>, AllocError>
-    ensures { IfOk result (λ v. v.items ≡ numbers.now) }
-{
-    let mut same = Vec::with_capacity(alloc, numbers.len())?;
-    for n in numbers {
-        same.push(*n)?;
-    }
-    Ok(same)
-}
+impl<'m> Model for Found<'m> {
+    ghost use Rattle.xk_outcomes.specs.Found.{FoundValue};
 
-/// A copy of the schedule.
-fn same_schedule(alloc: Global, schedule: &[u32]) -> Result<Vec<u32>, AllocError>
-    ensures { IfOk result (λ v. v.items ≡ schedule.now) }
-{
-    let mut same = Vec::with_capacity(alloc, schedule.len())?;
-    for a in schedule {
-        same.push(*a)?;
-    }
-    Ok(same)
-}
+    ghost Value = { FoundValue };
 
-/// The core where a legal schedule leads from the start. A core isn't copied: another one is led the same way.
-fn led_by<'m>(alloc: Global, start: &Core<'m>, schedule: &[u32]) -> Result<Core<'m>, AllocError>
-    requires start { start.now.world.steps ≡ 0 }
-    requires legal { IsLegal start.now schedule.now }
-    ensures same_module { IfOk result (λ c. c.module_run ≡ start.now.module_run) }
-    ensures led { IfOk result (λ c.
-        run start.now.module_run schedule.now start.now.world ≡ Through c.world) }
-{
-    let mut core = Core::open(alloc, start.module(), start.arguments())?;
-    for act in schedule {
-        core.step(Act(*act))?;
-    }
-    Ok(core)
+    ghost view = { λ x. record {
+      core = x.core;
+      printed = x.printed.items;
+      schedule = x.schedule.items;
+    } };
 }
 
 /// Keeps the number that an event prints, if it does.
@@ -85,31 +60,9 @@ fn keep_printed(printed: &mut Vec<i64>, event: Event) -> Result<(), AllocError>
     }
 }
 
-/// One that was found is found again.
-fn found_again<'m>(
-    alloc: Global,
-    start: &Core<'m>,
-    here: &Found<'m>,
-) -> Result<Found<'m>, AllocError>
-    requires start { start.now.world.steps ≡ 0 }
-    requires found { IsFound start.now here.now }
-    ensures world { IfOk result (λ y. y.core.world ≡ here.now.core.world) }
-    ensures printed { IfOk result (λ y. y.printed.items ≡ here.now.printed.items) }
-    ensures found { IfOk result (IsFound start.now) }
-{
-    let printed = same_numbers(alloc, &here.printed)?;
-    let schedule = same_schedule(alloc, &here.schedule)?;
-    let core = led_by(alloc, start, &here.schedule)?;
-    Ok(Found {
-        core,
-        printed,
-        schedule,
-    })
-}
-
-/// An activity that has a quiet step, if one does.
+/// The least activity that has a quiet step, if one has.
 fn quiet_act(core: &Core<'_>) -> Option<Act>
-    ensures { IfSome result (λ a. has_quiet_step core.now.module_run core.now.world a ≡ true) }
+    ensures { result ≡ least_quiet core.now }
 {
     for a in 0..core.activities() {
         if core.has_quiet_step(Act(a)) {
@@ -120,11 +73,13 @@ fn quiet_act(core: &Core<'_>) -> Option<Act>
 }
 
 impl<'m> Found<'m> {
-    /// One step of the activity.
+    /// One step of the activity, if it can take one.
     fn step(&mut self, act: Act) -> Result<(), AllocError>
-        requires { IsTrue (is_enabled self.old.core.module_run self.old.core.world act) }
-        ensures { OnOk result (IsOneStepOn self.old act self.new) }
+        ensures { OnOk result (self.new ≡ one_more act self.old) }
     {
+        if !self.core.enabled(act) {
+            return Ok(());
+        }
         let event = self.core.step(act)?;
         keep_printed(&mut self.printed, event)?;
         self.schedule.push(act.0)?;
@@ -133,13 +88,10 @@ impl<'m> Found<'m> {
 
     /// Quiet steps, as long as there is one.
     fn settle(&mut self) -> Result<(), AllocError>
-        ensures settled { OnOk result (IsSettled self.old self.new) }
-        ensures found { (start : CoreValue) → IsFound start self.old
-            → OnOk result (IsFound start self.new) }
+        ensures { OnOk result (self.new ≡ at_rest self.old) }
     {
-        let verified = self.core.module();
-        let _accepted = verified.module();
-        for turn in 0..verified.steps() {
+        let most = self.core.module().steps();
+        for turn in 0..most {
             match quiet_act(&self.core) {
                 Some(act) => self.step(act)?,
                 None => return Ok(()),
@@ -148,15 +100,22 @@ impl<'m> Found<'m> {
         Ok(())
     }
 
-    /// One step of the activity, and then quiet steps.
-    fn go_on(&mut self, act: Act) -> Result<(), AllocError>
-        requires { IsTrue (is_enabled self.old.core.module_run self.old.core.world act) }
-        ensures next { OnOk result (IsNext self.old.core.module_run self.old act self.new) }
-        ensures found { (start : CoreValue) → IsFound start self.old
-            → OnOk result (IsFound start self.new) }
+    /// One step of the activity, if it can take one, and then quiet steps.
+    pub fn go_on(&mut self, act: Act) -> Result<(), AllocError>
+        ensures { OnOk result (self.new ≡ next act self.old) }
     {
         self.step(act)?;
         self.settle()?;
+        Ok(())
+    }
+
+    /// Steps of these activities, the last of which stands first, and quiet steps behind each.
+    pub fn go_along(&mut self, mut way: Vec<Act>) -> Result<(), AllocError>
+        ensures { OnOk result (self.new ≡ along way.items self.old) }
+    {
+        while let Some(act) = way.pop() {
+            self.go_on(act)?;
+        }
         Ok(())
     }
 }
@@ -164,10 +123,9 @@ impl<'m> Found<'m> {
 /// What is found before any step that isn't quiet.
 pub fn beginning<'m>(alloc: Global, start: &Core<'m>) -> Result<Found<'m>, AllocError>
     requires { start.now.world.steps ≡ 0 }
-    ensures found { IfOk result (IsFound start.now) }
-    ensures begun { IfOk result (Begins start.now) }
+    ensures { IfOk result (λ x. x ≡ first_found start.now) }
 {
-    let core = led_by(alloc, start, &[])?;
+    let core = Core::open(alloc, start.module(), start.arguments())?;
     let mut first = Found {
         core,
         printed: Vec::new(alloc),
@@ -175,27 +133,6 @@ pub fn beginning<'m>(alloc: Global, start: &Core<'m>) -> Result<Found<'m>, Alloc
     };
     match first.settle() {
         Ok(()) => Ok(first),
-        Err(_) => Err(AllocError),
-    }
-}
-
-/// What is found by a step of the activity, if it can take one, and quiet steps behind it.
-pub fn successor<'m>(
-    alloc: Global,
-    start: &Core<'m>,
-    here: &Found<'m>,
-    act: Act,
-) -> Result<Option<Found<'m>>, AllocError>
-    requires start { start.now.world.steps ≡ 0 }
-    requires found { IsFound start.now here.now }
-    ensures { IfOk result (IsSuccessor start.now here.now act) }
-{
-    if !here.core.enabled(act) {
-        return Ok(None);
-    }
-    let mut next = found_again(alloc, start, here)?;
-    match next.go_on(act) {
-        Ok(()) => Ok(Some(next)),
         Err(_) => Err(AllocError),
     }
 }

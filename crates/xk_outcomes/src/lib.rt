@@ -3,6 +3,7 @@
 
 mod all_outcomes;
 mod digest;
+mod entries;
 mod found;
 mod holding;
 mod listing;

@@ -1,16 +1,16 @@
 //! What was found is listed, each list of numbers once, as it is told in an order.
 
-ghost use Rattle.std.specs.Prelude.{◌≡◌, ℕ, ◌≤◌, ◌++◌, ◌∷◌, ◌⊎◌, [], true, false, length, slice_get, IfOk, OnOk, Some, List};
+ghost use Rattle.std.specs.Prelude.{◌≡◌, ℕ, ◌≤◌, ◌<◌, ◌+◌, ◌++◌, ◌∷◌, ◌⊎◌, [], true, false, length, slice_get, IfOk, OnOk, Some, List};
 ghost use Rattle.xk_types.specs.Schedule.{all_ended};
 ghost use Rattle.xk_types.specs.Logs.{schedule_of, one_step_of};
-ghost use Rattle.xk_outcomes.specs.declared.found.Found.{Found as FoundValue};
+ghost use Rattle.xk_outcomes.specs.Found.{FoundValue};
 ghost use Rattle.xk_outcomes.specs.Outcomes.{AreDistinct, IsListed};
 ghost use Rattle.xk_outcomes.specs.Listing.{AreNoted, AreOf, IsOf, KeepsListed};
 ghost use Rattle.xk_outcomes.specs.Rising.{ordered};
 
+use crate::entries::{Entries, are_same};
 use crate::found::Found;
 use crate::order::{Order, ordered};
-use crate::search::are_same;
 use std::alloc::{AllocError, Global};
 use xk_types::Entry;
 
@@ -104,7 +104,7 @@ fn note(
     ensures distinct { AreDistinct list.old.items → AreDistinct list.new.items }
     ensures kept { KeepsListed list.old.items list.new.items }
     ensures listed { OnOk result (all_ended x.now.core.world ≡ true
-        → IsListed list.new.items (ordered order x.now.printed.items)) }
+        → IsListed list.new.items (ordered order x.now.printed)) }
     ensures of { (all : List FoundValue) (j : ℕ) → slice_get all j ≡ Some x.now
         → AreOf order all list.old.items → AreOf order all list.new.items }
 {
@@ -116,27 +116,46 @@ fn note(
     }
 }
 
+/// Lists what the one of a number printed, if all have ended in it.
+fn note_at(
+    alloc: Global,
+    order: Order,
+    list: &mut Vec<Outcome>,
+    all: &Entries<'_>,
+    number: usize,
+) -> Result<(), AllocError>
+    requires { number < length all.now.all }
+    ensures distinct { AreDistinct list.old.items → AreDistinct list.new.items }
+    ensures noted { OnOk result (AreNoted order all.now.all number list.old.items
+        → AreNoted order all.now.all (number + 1) list.new.items) }
+    ensures of { AreOf order all.now.all list.old.items
+        → AreOf order all.now.all list.new.items }
+{
+    let x = all.get(alloc, number)?;
+    note(alloc, order, list, &x)
+}
+
 /// Lists what those print that were found and in which all have ended, each list of numbers once, until as many are listed as the limit
 /// says. Whether all are.
 pub fn list_outcomes(
     alloc: Global,
     order: Order,
     list: &mut Vec<Outcome>,
-    all: &[Found<'_>],
+    all: &Entries<'_>,
     limit: usize,
 ) -> Result<bool, AllocError>
     requires { list.old.items ≡ [] }
-    ensures of { AreOf order all.now list.new.items }
+    ensures of { AreOf order all.now.all list.new.items }
     ensures distinct { AreDistinct list.new.items }
     ensures noted { IfOk result (λ complete. complete ≡ true
-        → AreNoted order all.now (length all.now) list.new.items) }
+        → AreNoted order all.now.all (length all.now.all) list.new.items) }
     ensures limit { IfOk result (λ complete. complete ≡ false → limit ≤ length list.new.items) }
 {
-    for x in all {
+    for number in 0..all.len() {
         if list.len() >= limit {
             return Ok(false);
         }
-        note(alloc, order, list, x)?;
+        note_at(alloc, order, list, all, number)?;
     }
     Ok(true)
 }

@@ -1,7 +1,5 @@
-use Rattle.std.proofs.Common.{◌≡◌, ◌∙◌, length, true≢false, sym, subst, List, arith}
+use Rattle.std.proofs.Common.{◌∙◌, true≢false, sym, subst}
 use Rattle.xk_core.specs.Core.{CoreValue}
-use Rattle.xk_outcomes.specs.declared.found.Found.{Found}
-use Rattle.xk_outcomes.specs.Listing.{AreOf, AreNoted}
 use Rattle.xk_outcomes.specs.Outcomes.{HasApart}
 use Rattle.xk_outcomes.specs.Search.{AreFound, AreAllFound}
 use Rattle.xk_outcomes.proofs.ListingLemmas.{all_shown, all_listed, all_apart}
@@ -10,29 +8,23 @@ use Rattle.xk_outcomes.proofs.all_outcomes.told_in.Goals as goal
 
 pub returns-clause-shown : goal.returns-clause-shown
 returns-clause-shown c =
-    let all = c.in_ok-explored.explored.all.items in
-    let list = c.list_outcomes.new.list.items in
-    let same : c.deref.result.now ≡ all = cc in
-    all_shown c.args.order c.args.verified.now c.args.arguments.now all list
-    (subst (λ (s : CoreValue). AreFound s all) c.in_ok-start.ensures c.in_ok-explored.ensures.found)
-    (subst (λ (l : List Found). AreOf c.args.order l list) same c.list_outcomes.ensures.of)
+    let all = c.in_ok-explored.explored.found.all in
+    all_shown c.args.order c.args.verified.now c.args.arguments.now all c.list_outcomes.new.list.items
+    (subst (λ (s : CoreValue). AreFound s all) c.in_ok-start.ensures c.in_ok-explored.ensures.found) c.list_outcomes.ensures.of
 
 pub returns-clause-all : goal.returns-clause-all
 returns-clause-all c done =
-    let all = c.in_ok-explored.explored.all.items in
-    let list = c.list_outcomes.new.list.items in
-    let same : c.deref.result.now ≡ all = cc in
+    let all = c.in_ok-explored.explored.found.all in
     elim c.if-explored.branch [
-      | then-explored w ↦ all_listed c.args.order c.args.verified.now c.args.arguments.now all list
+      | then-explored w ↦ all_listed c.args.order c.args.verified.now c.args.arguments.now all c.list_outcomes.new.list.items
           (subst (λ (s : CoreValue). AreAllFound s all) c.in_ok-start.ensures (c.in_ok-explored.ensures.all w.if-explored.true))
-          (subst (λ (l : List Found). AreNoted c.args.order l (length l) list) same (c.in_ok-listed.ensures.noted (sym w.result-is ∙ done)))
+          (c.in_ok-listed.ensures.noted (sym w.result-is ∙ done))
       | else-explored w ↦ absurd (true≢false (sym done ∙ w.result-is ∙ w.if-explored.false))
     ]
 
 pub returns-clause-kept : goal.returns-clause-kept
 returns-clause-kept c =
-    let all = c.in_ok-explored.explored.all.items in
-    let many : length all ≡ c.len.result = omega arith in
-    subst (HasApart c.args.verified.now c.args.arguments.now) many
+    let all = c.in_ok-explored.explored.found.all in
+    subst (HasApart c.args.verified.now c.args.arguments.now) (sym c.len.ensures.count)
     (all_apart c.args.verified.now c.args.arguments.now all
     (subst (λ (s : CoreValue). AreFound s all) c.in_ok-start.ensures c.in_ok-explored.ensures.found) c.in_ok-explored.ensures.different)

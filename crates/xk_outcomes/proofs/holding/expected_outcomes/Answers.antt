@@ -1,4 +1,3 @@
-use Rattle.std.proofs.lemmas.Result.{err_from_is_err_and}
 use Rattle.xk_outcomes.proofs.holding.expected_outcomes.Goals as goal
 
 pub returns-in-Ok-clause-held : goal.returns-in-Ok-clause-held

@@ -1,4 +1,4 @@
-use Rattle.std.proofs.Common.{List, subst}
+use Rattle.std.proofs.Common.{subst}
 use Rattle.xk_outcomes.specs.Expected.{AreHeld}
 use Rattle.xk_outcomes.proofs.holding.held_by.Goals as goal
 

@@ -1,5 +1,7 @@
-use Rattle.std.proofs.Common.{◌∙◌, sym, subst, true≢false}
+use Rattle.std.proofs.Common.{◌∙◌, ap, sym, subst, true≢false}
 use Rattle.std.proofs.lemmas.Result.{on_ok_weaker}
+use Rattle.xk_types.specs.Schedule.{all_ended}
+use Rattle.xk_outcomes.specs.Found.{FoundValue}
 use Rattle.xk_outcomes.specs.Outcomes.{IsListed}
 use Rattle.xk_outcomes.proofs.ListingLemmas.{of_either}
 use Rattle.xk_outcomes.proofs.listing.note.Goals as goal
@@ -34,7 +36,8 @@ pub returns-else-ended-clause-kept : goal.returns-else-ended-clause-kept
 returns-else-ended-clause-kept c numbers h = h
 
 pub returns-else-ended-clause-listed : goal.returns-else-ended-clause-listed
-returns-else-ended-clause-listed c done = absurd (true≢false (sym done ∙ (sym c.ended.ensures ∙ c.if-ended.false)))
+returns-else-ended-clause-listed c done =
+    absurd (true≢false (sym done ∙ (ap (λ (x : FoundValue). all_ended x.core.world) (sym c.x.view_is) ∙ (sym c.ended.ensures ∙ c.if-ended.false))))
 
 pub returns-else-ended-clause-of : goal.returns-else-ended-clause-of
 returns-else-ended-clause-of c all j there before = before

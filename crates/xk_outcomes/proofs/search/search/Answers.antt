@@ -1,31 +1,34 @@
-use Rattle.std.proofs.Common.{◌<◌, length, arith}
+use Rattle.std.proofs.Common.{◌∙◌, ◌<◌, length, ap, arith, refl, subst}
+use Rattle.xk_types.specs.Code.{ModuleValue}
+use Rattle.xk_core.specs.Core.{CoreValue}
+use Rattle.xk_outcomes.specs.Search.{HasAfter}
 use Rattle.xk_outcomes.proofs.SearchLemmas.{expanded_more, longer}
 use Rattle.xk_outcomes.proofs.search.search.Goals as goal
 
 pub loop-next-init : goal.loop-next-init
 loop-next-init c = record {
+  start = refl;
   grown = λ k x h. h;
-  found = c.requires.found;
   expanded = λ k x less there. absurd (omega (arith, less));
   within = omega arith;
-  digests = c.requires.digests;
-  different = c.requires.different;
 }
-
-pub returns-in_err-expand-clause-grown : goal.returns-in_err-expand-clause-grown
-returns-in_err-expand-clause-grown c k x h = c.expand.ensures.grown k x (c.loop-next.invariant.grown k x h)
 
 pub loop-next-preserved : goal.loop-next-preserved
 loop-next-preserved c =
-    let old = c.loop-next.all.items in
-    let new = c.expand.new.all.items in
-    let inside : c.loop-next.next < length old = omega arith in
-    let still = longer old new c.loop-next.next c.expand.ensures.grown inside in
+    let old = c.loop-next.all.all in
+    let new = c.expand.new.all.all in
+    let m = c.args.all.now.start.module_run in
+    let at = c.loop-next.next in
+    let before = c.loop-next-test.true in
+    let many = c.len.ensures.count in
+    let inside : at < length old = omega (arith, before, many) in
+    let still = longer old new at c.expand.ensures.grown inside in
     record {
+      start = c.expand.ensures.start ∙ c.loop-next.invariant.start;
       grown = λ k x h. c.expand.ensures.grown k x (c.loop-next.invariant.grown k x h);
-      found = c.expand.ensures.found;
-      expanded = expanded_more c.args.start.now.module_run old new c.loop-next.next inside c.expand.ensures.grown c.loop-next.invariant.expanded c.in_ok-expand.ensures.after;
+      expanded = expanded_more m old new at inside c.expand.ensures.grown c.loop-next.invariant.expanded (λ x there a.
+          subst (λ (k : ModuleValue). HasAfter k new x a)
+          ((c.len.ensures.found at x there).module_is ∙ ap (λ (s : CoreValue). s.module_run) c.loop-next.invariant.start)
+          (c.in_ok-expand.ensures.after x there a));
       within = omega (arith, still);
-      digests = c.in_ok-expand.ensures.digests;
-      different = c.expand.ensures.different;
     }

@@ -1,17 +1,13 @@
-use Rattle.std.proofs.Common.{subst}
-use Rattle.xk_types.specs.Acceptance.{IsAccepted}
-use Rattle.xk_types.specs.Code.{IsWithinLimits}
-use Rattle.xk_outcomes.proofs.SearchLemmas.{found_step, settled_more}
+use Rattle.std.proofs.Common.{◌≡◌, ◌∙◌, ◌≤◌, ap, subst, sym}
+use Rattle.xk_types.specs.Bound.{steps_bound}
+use Rattle.xk_outcomes.specs.Found.{FoundValue, least_quiet}
+use Rattle.xk_outcomes.proofs.FoundLemmas.{settled_all}
 use Rattle.xk_outcomes.proofs.found.Found.settle.Goals as goal
 
-pub loop-turn-preserved : goal.loop-turn-preserved
-loop-turn-preserved c =
+pub returns-in-None : goal.returns-in-None
+returns-in-None c =
     let first = c.args.self.now in
-    let before = c.loop-turn.self in
-    let after = c.step.new.self in
-    let taken = c.in_ok-step-in-Some.ensures in
-    record {
-      settled = settled_more first before after c.in-Some.act (subst IsWithinLimits c.module-verified.ensures.same c.module-accepted.ensures.limits)
-          (subst IsAccepted c.module-verified.ensures.same c.module-accepted.ensures.accepted) c.loop-turn.invariant.settled c.in-Some.ensures taken;
-      found = λ start f. found_step start before after c.in-Some.act (c.loop-turn.invariant.found start f) taken;
-    }
+    let bound : c.steps-most.result ≡ steps_bound first.core.module_run =
+    c.steps-most.ensures ∙ ap steps_bound c.module.ensures.same ∙ ap (λ (x : FoundValue). steps_bound x.core.module_run) c.self.view_is in
+    settled_all first c.loop-turn.self c.loop-turn.turn (steps_bound first.core.module_run) (subst (λ n. c.loop-turn.turn ≤ n) bound c.loop-turn.auto.turn-end)
+    c.loop-turn.invariant (ap (λ (x : FoundValue). least_quiet x.core) (sym c.self-in-loop-turn.view_is) ∙ sym c.quiet_act.ensures ∙ c.in-None.is)

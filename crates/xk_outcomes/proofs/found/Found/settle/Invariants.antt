@@ -1,10 +1,7 @@
-use Rattle.xk_core.specs.Core.{CoreValue}
-use Rattle.xk_outcomes.specs.Search.{IsFound, IsSettled}
+use Rattle.std.proofs.Common.{◌≡◌}
+use Rattle.xk_outcomes.specs.Found.{settled}
 use Rattle.xk_outcomes.proofs.found.Found.settle.Given as goal
 
--- quiet steps were taken
+-- so many quiet steps were taken
 abbrev pub invariant-loop-turn : goal.invariant-loop-turn
-invariant-loop-turn l = record {
-  settled : IsSettled l.fn.self l.self;
-  found : (start : CoreValue) → IsFound start l.fn.self → IsFound start l.self;
-}
+invariant-loop-turn l = l.self ≡ settled l.turn l.fn.self

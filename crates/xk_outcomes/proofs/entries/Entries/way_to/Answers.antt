@@ -1,0 +1,44 @@
+use Rattle.std.proofs.Common.{◌≡◌, ◌∙◌, ◌<◌, length, get_or, slice_get, Some, ap, arith, subst, sym}
+use Rattle.std.proofs.lemmas.Option.{slice_get-get_or}
+use Rattle.xk_outcomes.specs.Entries.{EntriesValue, led_by}
+use Rattle.xk_outcomes.specs.Found.{along, first_found}
+use Rattle.xk_outcomes.proofs.EntriesLemmas.{first_led, many_led, way_more}
+use Rattle.xk_outcomes.proofs.entries.Entries.way_to.Goals as goal
+
+pub loop-at-init : goal.loop-at-init
+loop-at-init c =
+    let edges = c.self.inside.edges.items in
+    let many = many_led c.self.inside.start edges in
+    let inside : c.args.number < length (led_by c.self.inside.start edges) = subst (λ (e : EntriesValue). c.args.number < length e.all) (sym c.self.view_is) c.requires in
+    record {
+      within = omega (arith, many, inside);
+      leads = ap (λ l. along l (get_or (led_by c.self.inside.start edges) c.args.number (first_found c.self.inside.start))) c.new-way.ensures.items;
+    }
+
+pub loop-at-smaller : goal.loop-at-smaller
+loop-at-smaller c =
+    (way_more c.self.inside.start c.self.inside.edges.items c.loop-at.at c.index-edge.result.now c.loop-at.way.items c.push.new.self.items c.self.invariant.behind
+    c.loop-at.invariant.within c.loop-at-test.true c.index-edge.ensures c.in_ok-push.ensures.items).0
+
+pub loop-at-preserved : goal.loop-at-preserved
+loop-at-preserved c =
+    let more = way_more c.self.inside.start c.self.inside.edges.items c.loop-at.at c.index-edge.result.now c.loop-at.way.items c.push.new.self.items c.self.invariant.behind
+    c.loop-at.invariant.within c.loop-at-test.true c.index-edge.ensures c.in_ok-push.ensures.items in
+    let less = more.0 in
+    let within = c.loop-at.invariant.within in
+    record {
+      within = omega (arith, less, within);
+      leads = more.1 ∙ c.loop-at.invariant.leads;
+    }
+
+pub returns : goal.returns
+returns c =
+    let start = c.self.inside.start in
+    let edges = c.self.inside.edges.items in
+    let all = led_by start edges in
+    let way = c.loop-at.way.items in
+    let inside : c.args.number < length all = subst (λ (e : EntriesValue). c.args.number < length e.all) (sym c.self.view_is) c.requires in
+    let at : c.loop-at.at ≡ 0 = omega (arith, c.loop-at-test.false) in
+    subst (λ (e : EntriesValue). slice_get e.all c.args.number ≡ Some (along way (first_found e.start))) c.self.view_is
+    (slice_get-get_or all c.args.number (first_found start) inside
+    ∙ ap Some (sym c.loop-at.invariant.leads ∙ ap (along way) (ap (λ k. get_or all k (first_found start)) at ∙ first_led start edges)))
