@@ -63,7 +63,7 @@ const GAMES: [Game; 2] = [
         answers: "0\n2\n1\n0",
         status: 6,
         asked: ASKED_AGAIN,
-        out: "stopped steps 3\n",
+        out: "2\nstopped steps 3\n",
         log_out: "x10log 1\n0 1\n1 1\n1 1\nend 3\n",
     },
 ];
