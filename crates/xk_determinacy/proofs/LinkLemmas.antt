@@ -154,7 +154,7 @@ module _ (m : ModuleValue) (args : List ℤ) (limits : IsWithinLimits m) (ok : I
   abbrev scopes_at : Turn m w s → Scopes
   scopes_at t = scopes_after (deeds m t.before w) start
 
-  finish_is : (t : Turn m w s) (k : ℕ) (d : Deed) (r : IsToldOf m w s t k d) → r.offset ≡ 0 → (a : ℕ)
+  pub finish_is : (t : Turn m w s) (k : ℕ) (d : Deed) (r : IsToldOf m w s t k d) → r.offset ≡ 0 → (a : ℕ)
       → finish_at ds k a ≡ number_at (scopes_at t).within a
   finish_is t k d r first a =
       ap (λ l. number_at (scopes_after l start).within a)

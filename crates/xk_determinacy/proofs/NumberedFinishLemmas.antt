@@ -108,10 +108,10 @@ module _ (s t : Nest) (a : ℕ) (was : AreNumbered s) (o : Opens s t a) where
   up_old : (k n : ℕ) → n < s.finishes → up t.around k n ≡ up s.around k n
   up_old = up_same s.around t.around s.finishes was.around old
 
-  other_number : (b k : ℕ) → (b ≡ a → ⊥) → number t b k ≡ number s b k
+  pub other_number : (b k : ℕ) → (b ≡ a → ⊥) → number t b k ≡ number s b k
   other_number b k differs = ap (up t.around k) (o.others b differs) ∙ up_old k (s.within b) (was.within b)
 
-  own_number : (j : ℕ) → number t a (suc j) ≡ number s a j
+  pub own_number : (j : ℕ) → number t a (suc j) ≡ number s a j
   own_number j = ap (λ n. up t.around j (t.around n)) o.goes ∙ ap (up t.around j) o.wraps ∙ up_old j (s.within a) (was.within a)
 
   opens_open : (b k : ℕ) → k < t.opened b → WasOpen s t b k ⊎ IsNew s t a b k
@@ -129,7 +129,7 @@ module _ (s t : Nest) (a : ℕ) (was : AreNumbered s) (o : Opens s t a) where
           let n : t.opened b ≡ s.opened b = o.opened b differs in
           inl (k, omega (arith, less, n), other_number b k differs, omega (arith, n), less)
 
-  opens_base : (x : ℕ) → base t x ≡ base s x
+  pub opens_base : (x : ℕ) → base t x ≡ base s x
   opens_base x = by (cases_eq x a)
     where
       by : (x ≡ a) ⊎ (x ≡ a → ⊥) → base t x ≡ base s x
@@ -172,10 +172,10 @@ module _ (s t : Nest) (a : ℕ) (was : AreNumbered s) (c : Closes s t a) where
   up_kept : (k n : ℕ) → n < s.finishes → up t.around k n ≡ up s.around k n
   up_kept = up_same s.around t.around s.finishes was.around (λ n less. c.around n)
 
-  other_kept : (b k : ℕ) → (b ≡ a → ⊥) → number t b k ≡ number s b k
+  pub other_kept : (b k : ℕ) → (b ≡ a → ⊥) → number t b k ≡ number s b k
   other_kept b k differs = ap (up t.around k) (c.others b differs) ∙ up_kept k (s.within b) (was.within b)
 
-  own_closed : (k : ℕ) → number t a k ≡ number s a (suc k)
+  pub own_closed : (k : ℕ) → number t a k ≡ number s a (suc k)
   own_closed k = ap (up t.around k) c.goes ∙ up_kept k (s.around (s.within a)) (was.around (s.within a))
 
   closes_open : (b k : ℕ) → k < t.opened b → WasOpen s t b k ⊎ IsNew s t a b k
@@ -195,7 +195,7 @@ module _ (s t : Nest) (a : ℕ) (was : AreNumbered s) (c : Closes s t a) where
           let n : t.opened b ≡ s.opened b = c.opened b differs in
           inl (k, omega (arith, less, n), other_kept b k differs, omega (arith, n), less)
 
-  closes_base : (x : ℕ) → base t x ≡ base s x
+  pub closes_base : (x : ℕ) → base t x ≡ base s x
   closes_base x = by (cases_eq x a)
     where
       by : (x ≡ a) ⊎ (x ≡ a → ⊥) → base t x ≡ base s x
@@ -237,7 +237,7 @@ module _ (s t : Nest) (a : ℕ) (was : AreNumbered s) (c : Begins s t a) where
   up_still : (k n : ℕ) → n < s.finishes → up t.around k n ≡ up s.around k n
   up_still = up_same s.around t.around s.finishes was.around (λ n less. c.around n)
 
-  still : (b k : ℕ) → (b ≡ s.activities → ⊥) → number t b k ≡ number s b k
+  pub still : (b k : ℕ) → (b ≡ s.activities → ⊥) → number t b k ≡ number s b k
   still b k differs = ap (up t.around k) (c.others b differs) ∙ up_still k (s.within b) (was.within b)
 
   no_child : (b k : ℕ) → k < t.opened b → b ≡ s.activities → ⊥

@@ -26,7 +26,8 @@ use Rattle.xk_races.specs.Order.{scopes_after}
 use Rattle.xk_races.specs.Deeds.{tell_deeds, at_clocks, awaiting}
 use Rattle.xk_races.proofs.RowLemmas.{with_at_same, with_at_other}
 use Rattle.xk_events.specs.Steps.{run_step}
-use Rattle.xk_determinacy.proofs.NumberedFinishLemmas.{finish, Nest, AreNumbered, opened_numbered, closed_numbered, begun_numbered, kept_numbered}
+use Rattle.xk_determinacy.proofs.NumberedFinishLemmas.{finish, Nest, AreNumbered, Opens, Closes, Begins, Keeps}
+use Rattle.xk_determinacy.proofs.NestChangeLemmas.{Change, GoesIn, GoesOut, Begun, Still, changed_numbered}
 use Rattle.xk_determinacy.proofs.StepNestingLemmas.{Nests, Effect, DoesGo, DoesStart, effect_of}
 use Rattle.xk_determinacy.proofs.TurnLemmas.{deeds, deeds_first}
 use Rattle.xk_determinacy.proofs.DeedPartLemmas.{at_clock, clock_parts}
@@ -130,8 +131,7 @@ push_last (y ∷ xs) x = push_last xs x
 some_open : (n : ℕ) → (suc n == 0) ≡ false
 some_open n = ne_eqb (suc n) 0 (λ e. absurd (omega (arith, e)))
 
-module _ (m : ModuleValue) (acts : List Activity) (a : ℕ) (act : Activity) (found : slice_get acts a ≡ Some act) (s : Scopes)
-    (was : AreNumbered (nest s acts)) where
+module _ (m : ModuleValue) (acts : List Activity) (a : ℕ) (act : Activity) (found : slice_get acts a ≡ Some act) (s : Scopes) where
   own_opened : opened_in acts a ≡ act.opened
   own_opened = ap (λ o. option_map_or (λ (x : Activity). x.opened) o 0) found
 
@@ -144,19 +144,19 @@ module _ (m : ModuleValue) (acts : List Activity) (a : ℕ) (act : Activity) (fo
   all_governed : (next : Activity) → next.governed ≡ act.governed → (b : ℕ) → governed_in (set acts a next) b ≡ governed_in acts b
   all_governed next same b = set_kept (λ (x : Activity). x.governed) root acts a b act next found same
 
-  keeps : (next : Activity) → next.governed ≡ act.governed → next.opened ≡ act.opened → AreNumbered (nest s (set acts a next))
-  keeps next governed opened = kept_numbered (nest s acts) (nest s (set acts a next)) was (record {
+  keeps : (next : Activity) → next.governed ≡ act.governed → next.opened ≡ act.opened → Keeps (nest s acts) (nest s (set acts a next))
+  keeps next governed opened = record {
     within = λ b. refl;
     around = λ n. refl;
     opened = λ b. set_kept (λ (x : Activity). x.opened) 0 acts a b act next found opened;
     governed = all_governed next governed;
     finishes = refl;
     activities = length-set acts a next;
-  })
+  }
 
   opens : (next : Activity) → next.governed ≡ act.governed → next.opened ≡ suc act.opened
-      → AreNumbered (nest (scope_opened a s) (set acts a next))
-  opens next governed opened = opened_numbered (nest s acts) (nest (scope_opened a s) (set acts a next)) a was (record {
+      → Opens (nest s acts) (nest (scope_opened a s) (set acts a next)) a
+  opens next governed opened = record {
     known = slice_get_within acts a act found;
     goes = with_at_same 0 s.within a (length s.around);
     others = λ b differs. with_at_other 0 s.within a b (length s.around) differs;
@@ -167,11 +167,11 @@ module _ (m : ModuleValue) (acts : List Activity) (a : ℕ) (act : Activity) (fo
     governed = all_governed next governed;
     finishes = (let e = length_push s.around (number_at s.within a) in omega (arith, e));
     activities = length-set acts a next;
-  })
+  }
 
   closes : (next : Activity) → next.governed ≡ act.governed → act.opened ≡ suc next.opened
-      → AreNumbered (nest (scope_closed a s) (set acts a next))
-  closes next governed opened = closed_numbered (nest s acts) (nest (scope_closed a s) (set acts a next)) a was (record {
+      → Closes (nest s acts) (nest (scope_closed a s) (set acts a next)) a
+  closes next governed opened = record {
     goes = with_at_same 0 s.within a (number_at s.around (number_at s.within a));
     others = λ b differs. with_at_other 0 s.within a b (number_at s.around (number_at s.within a)) differs;
     around = λ n. refl;
@@ -180,16 +180,16 @@ module _ (m : ModuleValue) (acts : List Activity) (a : ℕ) (act : Activity) (fo
     governed = all_governed next governed;
     finishes = refl;
     activities = length-set acts a next;
-  })
+  }
 
   going : (e : Event) (next : Activity) → next.governed ≡ act.governed → Nests m e act next → is_start e ≡ false
-      → AreNumbered (nest (scopes_by a (length acts) e s) (set acts a next))
-  going event.Opened next governed nests alone = opens next governed nests
-  going event.Closed next governed nests alone = closes next governed nests.0
-  going event.Ended next governed nests alone = keeps next governed nests.0
+      → Change (nest s acts) (nest (scopes_by a (length acts) e s) (set acts a next)) a e
+  going event.Opened next governed nests alone = GoesIn (opens next governed nests)
+  going event.Closed next governed nests alone = GoesOut refl (closes next governed nests.0)
+  going event.Ended next governed nests alone = Still (keeps next governed nests.0)
   going event.Spawned next governed nests alone = absurd (true≢false alone)
-  going event.Local next governed nests alone = keeps next governed nests
-  going _ next governed nests alone = keeps next governed nests
+  going event.Local next governed nests alone = Still (keeps next governed nests)
+  going _ next governed nests alone = Still (keeps next governed nests)
 
   -- whoever isn't the new one stays
   push_kept : {X : Type 0} (f : Activity → X) (d : X) (next one : Activity) → f next ≡ f act → (b : ℕ) → (b ≡ length acts → ⊥)
@@ -204,49 +204,53 @@ module _ (m : ModuleValue) (acts : List Activity) (a : ℕ) (act : Activity) (fo
       ap (λ o. option_map_or f o d)
       (ap (slice_get (set acts a next ++ one ∷ [])) (sym (length-set acts a next)) ∙ get_push (set acts a next) one)
 
-  beginning : (next one : Activity) → next.governed ≡ act.governed → next.opened ≡ act.opened → one.opened ≡ 0
-      → one.governed ≡ governing a act
-      → AreNumbered (nest (scopes_by a (length acts) event.Spawned s) (set acts a next ++ one ∷ []))
-  beginning next one governed opened none under =
-      begun_numbered (nest s acts) (nest (scopes_by a (length acts) event.Spawned s) (set acts a next ++ one ∷ [])) a was (record {
-        known = slice_get_within acts a act found;
-        goes = with_at_same 0 s.within (length acts) (number_at s.within a);
-        others = λ b differs. with_at_other 0 s.within (length acts) b (number_at s.within a) differs;
-        around = λ n. refl;
-        none = push_new (λ (x : Activity). x.opened) 0 next one ∙ none;
-        opened = λ b differs. push_kept (λ (x : Activity). x.opened) 0 next one opened b differs;
-        outer = λ zero'. push_new (λ (x : Activity). x.governed) root next one ∙ under
-            ∙ ap (λ n. cond (n == 0) act.governed (finish a n)) (sym own_opened ∙ zero')
-            ∙ sym (ap (λ o. option_map_or (λ (x : Activity). x.governed) o root) found)
-            ∙ ap (λ n. governed_in acts a) zero';
-        inner = λ n some. push_new (λ (x : Activity). x.governed) root next one ∙ under
-            ∙ by act.opened n (sym own_opened ∙ some);
-        governed = λ b differs. push_kept (λ (x : Activity). x.governed) root next one governed b differs;
-        finishes = refl;
-        activities = (let e = length_push (set acts a next) one in let f = length-set acts a next in omega (arith, e, f));
-      })
+  beginning : (next one : Activity) → next.governed ≡ act.governed → next.opened ≡ act.opened → one.opened ≡ 0 → one.governed ≡ governing a act
+      → Begins (nest s acts) (nest (scopes_by a (length acts) event.Spawned s) (set acts a next ++ one ∷ [])) a
+  beginning next one governed opened none under = record {
+    known = slice_get_within acts a act found;
+    goes = with_at_same 0 s.within (length acts) (number_at s.within a);
+    others = λ b differs. with_at_other 0 s.within (length acts) b (number_at s.within a) differs;
+    around = λ n. refl;
+    none = push_new (λ (x : Activity). x.opened) 0 next one ∙ none;
+    opened = λ b differs. push_kept (λ (x : Activity). x.opened) 0 next one opened b differs;
+    outer = λ zero'. push_new (λ (x : Activity). x.governed) root next one ∙ under ∙ ap (λ n. cond (n == 0) act.governed (finish a n)) (sym own_opened ∙ zero')
+        ∙ sym (ap (λ o. option_map_or (λ (x : Activity). x.governed) o root) found)
+        ∙ ap (λ n. governed_in acts a) zero';
+    inner = λ n some. push_new (λ (x : Activity). x.governed) root next one ∙ under
+        ∙ by act.opened n (sym own_opened ∙ some);
+    governed = λ b differs. push_kept (λ (x : Activity). x.governed) root next one governed b differs;
+    finishes = refl;
+    activities = (let e = length_push (set acts a next) one in let f = length-set acts a next in omega (arith, e, f));
+  }
     where
       by : (o n : ℕ) → o ≡ suc n → cond (o == 0) act.governed (finish a o) ≡ finish a (suc n)
       by o n is = ap (λ k. cond (k == 0) act.governed (finish a k)) is ∙ ap (λ q. cond q act.governed (finish a (suc n))) (some_open n)
 
--- a step keeps finishes numbered
-numbered_step : (m : ModuleValue) (w u : World) (a : ℕ) (e : Event) (s : Scopes) → step m w a ≡ Stepped u e
-    → AreNumbered (nest s w.activities)
-    → AreNumbered (nest (scopes_after (tell_deeds m a w u e) s) u.activities)
-numbered_step m w u a e s takes was =
-    subst (λ q. AreNumbered (nest q u.activities)) (sym (scopes_step m a w u s e)) (by (effect_of m w u a x.0 e x.1 takes))
+-- what a step changes of them
+pub change_step : (m : ModuleValue) (w u : World) (a : ℕ) (e : Event) (s : Scopes) → step m w a ≡ Stepped u e
+    → Change (nest s w.activities) (nest (scopes_after (tell_deeds m a w u e) s) u.activities) a e
+change_step m w u a e s takes =
+    subst (λ q. Change (nest s w.activities) (nest q u.activities) a e) (sym (scopes_step m a w u s e)) (by (effect_of m w u a x.0 e x.1 takes))
   where
     x : (act : Activity) × (slice_get w.activities a ≡ Some act)
     x = found_of m w a u e takes
 
-    by : Effect m w u a x.0 e → AreNumbered (nest (scopes_by a (length w.activities) e s) u.activities)
+    by : Effect m w u a x.0 e → Change (nest s w.activities) (nest (scopes_by a (length w.activities) e s) u.activities) a e
     by (DoesGo g) =
-        subst (λ l. AreNumbered (nest (scopes_by a (length w.activities) e s) l)) (sym g.activities)
-        (going m w.activities a x.0 x.1 s was e g.next g.governed g.nests g.alone)
+        subst (λ l. Change (nest s w.activities) (nest (scopes_by a (length w.activities) e s) l) a e) (sym g.activities)
+        (going m w.activities a x.0 x.1 s e g.next g.governed g.nests g.alone)
     by (DoesStart g) =
-        subst (λ l. AreNumbered (nest (scopes_by a (length w.activities) e s) l)) (sym g.activities)
-        (subst (λ f. AreNumbered (nest (scopes_by a (length w.activities) f s) (set w.activities a g.next ++ g.one ∷ []))) (sym g.is)
-        (beginning m w.activities a x.0 x.1 s was g.next g.one g.governed g.opened g.none g.under))
+        subst (λ l. Change (nest s w.activities) (nest (scopes_by a (length w.activities) e s) l) a e) (sym g.activities)
+        (subst (λ f. Change (nest s w.activities) (nest (scopes_by a (length w.activities) f s) (set w.activities a g.next ++ g.one ∷ [])) a e)
+        (sym g.is)
+        (Begun (beginning m w.activities a x.0 x.1 s g.next g.one g.governed g.opened g.none g.under)))
+
+-- a step keeps finishes numbered
+pub numbered_step : (m : ModuleValue) (w u : World) (a : ℕ) (e : Event) (s : Scopes) → step m w a ≡ Stepped u e
+    → AreNumbered (nest s w.activities)
+    → AreNumbered (nest (scopes_after (tell_deeds m a w u e) s) u.activities)
+numbered_step m w u a e s takes was =
+    changed_numbered (nest s w.activities) (nest (scopes_after (tell_deeds m a w u e) s) u.activities) a e (change_step m w u a e s takes) was
 
 -- ---- a run
 

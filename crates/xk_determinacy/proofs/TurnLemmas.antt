@@ -219,7 +219,7 @@ module _ (m : ModuleValue) (w : World) (s : List ℕ) where
   turn_reached t reached = reached_run m t.before w t.here reached t.leads
 
   -- a later deed is told of no earlier turn
-  numbers_rise : (t u : Turn m w s) (k j : ℕ) (d e : Deed) → IsToldOf m w s t k d → IsToldOf m w s u j e → IsEarlier u t → j < k
+  pub numbers_rise : (t u : Turn m w s) (k j : ℕ) (d e : Deed) → IsToldOf m w s t k d → IsToldOf m w s u j e → IsEarlier u t → j < k
   numbers_rise t u k j d e p q earlier =
       let l = ap (λ b. length (deeds m b w)) earlier.1 ∙ ap length (deeds_run m u.before (u.act ∷ earlier.0) w u.here u.leads
       ∙ ap (λ l. deeds m u.before w ++ l) (deeds_first m earlier.0 u.here u.there u.act u.e u.takes))

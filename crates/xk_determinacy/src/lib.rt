@@ -2,6 +2,8 @@
 //! all others.
 #![tactic(auto)]
 
+pub mod laws;
+
 ghost use Rattle.std.specs.Prelude.{◌≡◌, ℕ, ℤ, true, List, None};
 ghost use Rattle.xk_classes.specs.Classes.{HasNoRace};
 ghost use Rattle.xk_classes.specs.OneRun.{ComeToOne, IsWholeRun};

@@ -1,14 +1,18 @@
 -- Who is told to wait is held back: by a clock at an `advance`, or by somebody under the finish at an `endfinish`.
 use Rattle.std.proofs.Common.{◌≡◌, ◌∙◌, ℕ, Bool, true, false, not, ◌&&◌, Option, Some, None, slice_get, refl, sym, ap}
-use Rattle.std.specs.Prelude.{nat_lt, length, if◌then◌else◌}
+use Rattle.std.specs.Prelude.{nat_lt, length, option_and_then, if◌then◌else◌}
 use Rattle.std.specs.Option.{option_map_or}
+use Rattle.std.proofs.lemmas.Option.{get_or_from_slice_get}
+use Rattle.xk_types.specs.declared.instr.Instr.TheVariants as instr
 use Rattle.xk_types.specs.declared.world.Status.{Status}
 use Rattle.xk_types.specs.declared.world.Status.TheVariants as status
 use Rattle.xk_types.specs.Code.{ModuleValue}
-use Rattle.xk_types.specs.World.{Activity, World, is_ended}
+use Rattle.xk_types.specs.World.{Activity, World, instruction_at, is_ended}
 use Rattle.xk_types.specs.Step.{waits}
 use Rattle.xk_types.specs.Schedule.{is_enabled}
+use Rattle.xk_laws.proofs.Invariant.{IsSound}
 use Rattle.xk_laws.proofs.ReachabilityLemmas.{reached_sound, reached_scoped}
+use Rattle.xk_activity.specs.Activities.{act_at, nobody}
 use Rattle.xk_core.specs.Core.{IsCore, instruction_of, is_arrived, is_living, is_waiting}
 use Rattle.xk_core.specs.Enabledness.{able_by, able_of, is_able, is_kept, kept_by}
 use Rattle.xk_core.proofs.EnablednessLemmas.{able_enabled}
@@ -68,11 +72,30 @@ held_so m w a (Some act) arrived h = of act.status refl arrived
         (sym (ap (λ z. able_by w a z && not (kept_by w a (Some act) (Rattle.xk_core.specs.Core.instruction_by m act z))) e) ∙ h)
     of status.Ended e g = absurd (cc)
 
-pub told_for_clocks : (m : ModuleValue) (w : World) (a : ℕ) → IsCore m w → condition_of m w a ≡ condition.ForClocks → (is_waiting w a ≡ true) × (waits w a ≡ true)
+-- who has arrived stands at its `advance`
+at_advance : (m : ModuleValue) (w : World) (a : ℕ) → IsSound m w → is_waiting w a ≡ true → instruction_at m (act_at w.activities a).frame ≡ Some instr.Advance
+at_advance m w a sound arrived = of (slice_get w.activities a) refl arrived
+  where
+    has_arrived : (s : Status) → is_arrived s ≡ true → s ≡ status.Arrived
+    has_arrived status.Running h = absurd (cc)
+    has_arrived status.Arrived h = refl
+    has_arrived status.Ended h = absurd (cc)
+
+    of : (o : Option Activity) → slice_get w.activities a ≡ o → option_map_or (λ act. is_arrived act.status) o false ≡ true
+        → instruction_at m (act_at w.activities a).frame ≡ Some instr.Advance
+    of None e h = absurd (cc)
+    of (Some act) e h =
+        let me = sound.activities a act e in
+        ap (λ (x : Activity). instruction_at m x.frame) (get_or_from_slice_get w.activities a act nobody e)
+        ∙ ap (option_and_then (λ unit. slice_get unit.code act.frame.place)) me.unit ∙ me.advance (has_arrived act.status h)
+
+pub told_for_clocks : (m : ModuleValue) (w : World) (a : ℕ) → IsCore m w → condition_of m w a ≡ condition.ForClocks
+    → (is_waiting w a ≡ true) × (waits w a ≡ true) × (instruction_at m (act_at w.activities a).frame ≡ Some instr.Advance)
 told_for_clocks m w a core h =
     let t = for_clocks (is_living w a) (is_enabled m w a) (is_waiting w a) (nat_lt a (length w.activities)) h in
-    let e = able_enabled m core.accepted w (reached_sound m core.limits core.accepted w core.reached) (reached_scoped m core.limits core.accepted w core.reached) a in
-    (t.2, held_so m w a (slice_get w.activities a) t.2 (e ∙ t.1))
+    let sound = reached_sound m core.limits core.accepted w core.reached in
+    let e = able_enabled m core.accepted w sound (reached_scoped m core.limits core.accepted w core.reached) a in
+    (t.2, held_so m w a (slice_get w.activities a) t.2 (e ∙ t.1), at_advance m w a sound t.2)
 
 pub told_in_finish : (m : ModuleValue) (w : World) (a : ℕ) → IsCore m w → condition_of m w a ≡ condition.InFinish → is_kept m w a ≡ true
 told_in_finish m w a core h =

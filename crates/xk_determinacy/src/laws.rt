@@ -1,0 +1,18 @@
+//! That the order in which races are looked for has the finishes of the run's worlds: nothing here is computed.
+
+ghost use Rattle.std.specs.Prelude.{◌≡◌, ℕ, ℤ, List};
+ghost use Rattle.xk_determinacy.specs.Finishes.{ClosesAreExact};
+ghost use Rattle.xk_types.specs.Acceptance.{IsAccepted};
+ghost use Rattle.xk_types.specs.Code.{IsWithinLimits, ModuleValue};
+ghost use Rattle.xk_types.specs.Logs.{schedule_of};
+ghost use Rattle.xk_types.specs.Schedule.{Through, run};
+ghost use Rattle.xk_types.specs.World.{AreArguments, World, opening};
+ghost use Rattle.xk_types.specs.declared.world.Entry.{Entry};
+
+/// Of the deeds of a legal run of an accepted module, the order has the end of an activity right before the close of a finish exactly where
+/// that is the first one behind it to close the finish that governs the activity, by the worlds in which the two steps are taken.
+pub fn closes_are_exact()
+    ensures { (m : ModuleValue) (args : List ℤ) (log : List Entry) (z : World)
+        → IsWithinLimits m → IsAccepted m → AreArguments m args
+        → run m (schedule_of log) (opening m args) ≡ Through z → ClosesAreExact m args log }
+{}
