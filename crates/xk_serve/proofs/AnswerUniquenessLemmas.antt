@@ -359,7 +359,7 @@ told_once t bytes logged m d e given p q =
 -- ---- lists
 
 -- what reads a list holds outcomes against it
-lists_alone : (what : Doing) → reads_list what ≡ true → (sets : Bool) × (limit : ℕ) × (what ≡ Expected sets limit)
+lists_alone : (what : Doing) → reads_list what ≡ true → (sets : Bool) × (limit : Option ℕ) × (what ≡ Expected sets limit)
 lists_alone (Expected sets limit) lists = (sets, limit, refl)
 lists_alone (Outcomes sets limit pick kept) lists = absurd (false≢true lists)
 lists_alone (Explain json) lists = absurd (false≢true lists)
