@@ -1,8 +1,9 @@
 -- Of want of memory and of devices nothing is said on standard output.
-use Rattle.std.proofs.Common.{◌≡◌, ℕ, Bool, true, false, List, [], Option, Some, None, inl, inr}
+use Rattle.std.proofs.Common.{◌≡◌, ℕ, Bool, true, false, List, [], Option, Some, None, Result, Ok, Err, IfErr, inl, inr}
 use Rattle.xk_bounds.specs.declared.refusal.Refusal.TheVariants as refusal
 use Rattle.xk_cli.specs.declared.job.Form.{Form}
 use Rattle.xk_module.specs.declared.fault.ModuleFault.TheVariants as text
+use Rattle.xk_serve.specs.declared.explanation.Refused.{Refused}
 use Rattle.xk_serve.specs.declared.fault.Fault.{Fault}
 use Rattle.xk_serve.specs.declared.fault.Fault.TheVariants as fault
 use Rattle.xk_origins.specs.UnitOrigins.{UnitOrigins}
@@ -22,7 +23,7 @@ source_unsaid : (json : Bool) (file bytes said : List ℕ) (origins : List UnitO
 source_unsaid false file bytes said origins notes h = h
 source_unsaid true file bytes said origins notes h = h
 
-unsaid : (json : Bool) (file bytes said : List ℕ) (p : Option Program) → said ≡ refusal_said json file bytes refusal.OutOfMemory p → said ≡ []
+pub unsaid : (json : Bool) (file bytes said : List ℕ) (p : Option Program) → said ≡ refusal_said json file bytes refusal.OutOfMemory p → said ≡ []
 unsaid json file bytes said None h = plain_unsaid json file said [] h
 unsaid json file bytes said (Some (m, None)) h = plain_unsaid json file said (module_notes m refusal.OutOfMemory) h
 unsaid json file bytes said (Some (m, Some origins)) h = source_unsaid json file bytes said origins (refusal_notes m origins refusal.OutOfMemory) h
@@ -66,3 +67,7 @@ quiet_by Races kind file bytes said f h = λ e. h
 quiet_by (Tally seed runs) kind file bytes said f h = λ e. h
 quiet_by (Outcomes sets limit pick kept) kind file bytes said f h = λ e. h
 quiet_by (Expected sets limit) kind file bytes said f h = λ e. h
+
+pub quiet_of : {A : Type 0} (t : Task) (bytes : List ℕ) (r : Result A Refused) → IfErr r (λ x. IsSaidOf t bytes x.fault x.said.items) → IfErr r (λ x. IsQuiet x.fault x.said.items)
+quiet_of t bytes (Ok d) h = tt
+quiet_of t bytes (Err x) h = quiet_by t.doing t.form t.file bytes x.said.items x.fault h

@@ -12,3 +12,4 @@ pub mod TextUniquenessLemmas
 pub mod ExplanationLemmas
 pub mod UnfitModuleLemmas
 pub mod UnfitTextLemmas
+pub mod VerdictLemmas

@@ -1,5 +1,5 @@
 -- Of a text that is too long no more than one byte too many is kept: what stands against that stands against the whole text.
-use Rattle.std.proofs.Common.{◌≡◌, ◌≢◌, ◌+◌, ◌<◌, ◌≤◌, ℕ, Bool, true, false, if◌then◌else◌, List, [], length, take, min, Option, Some, None, inl, inr, refl, sym, arith, ap, ◌∙◌, subst}
+use Rattle.std.proofs.Common.{◌≡◌, ◌≢◌, ◌+◌, ◌<◌, ◌≤◌, ℕ, Bool, true, false, if◌then◌else◌, List, [], length, take, min, Option, Some, None, Result, Ok, Err, IfErr, inl, inr, refl, sym, arith, ap, ◌∙◌, subst}
 use Rattle.std.proofs.lemmas.Bool.{false≢true}
 use Rattle.std.proofs.lemmas.List.{length-take, take_all}
 use Rattle.std.specs.Prelude.{◌⊎◌, IfSome}
@@ -10,6 +10,7 @@ use Rattle.xk_cli.specs.declared.job.Form.TheVariants as form
 use Rattle.xk_bounds.specs.declared.refusal.Refusal.{Refusal}
 use Rattle.xk_bounds.specs.declared.refusal.Refusal.TheVariants as refusal
 use Rattle.xk_serve.specs.declared.job_result.Done.{Done}
+use Rattle.xk_serve.specs.declared.explanation.Refused.{Refused}
 use Rattle.xk_serve.specs.declared.fault.Fault.{Fault}
 use Rattle.xk_serve.specs.declared.fault.Fault.TheVariants as fault
 use Rattle.xk_module.specs.declared.fault.ModuleFault.{ModuleFault}
@@ -19,9 +20,8 @@ use Rattle.xk_serve.specs.Answer.{Check, ComesTo, Compile, Doing, Draw, Expected
 use Rattle.xk_expected.specs.Notes.{expected_notes}
 use Rattle.xk_serve.specs.Explanation.{IsByProgram, IsByTree, IsExplanation, fault_said, front_said, refusal_said}
 use Rattle.xk_tree.specs.declared.fault.FrontRule.TheVariants as rule
-use Rattle.xk_serve.specs.Devices.{AgainstLog, IfKnown, IsRead, IsSaid, Reads, StandsAgainst, read_of}
+use Rattle.xk_serve.specs.Devices.{AgainstLog, IfKnown, IsRead, Reads, StandsAgainst, read_of}
 use Rattle.xk_explain.specs.Explanations.{has_place}
-use Rattle.xk_serve.proofs.ReplyLemmas.{of_known}
 use Rattle.xk_serve.proofs.TaskLemmas.{of_each}
 
 -- a front that is shorter than it may be is the whole
@@ -181,7 +181,7 @@ said_kept t bytes known logged said f e h =
     same_said t.doing t.form t.file bytes known said f (λ json. explanation_kept json t bytes known logged said f e h)
 
 -- of want of memory nothing is said
-memory_unsaid : (what : Doing) (kind : Form) (file bytes : List ℕ) → IsSaidBy what kind file bytes fault.OutOfMemory []
+pub memory_unsaid : (what : Doing) (kind : Form) (file bytes : List ℕ) → IsSaidBy what kind file bytes fault.OutOfMemory []
 memory_unsaid (Explain json) kind file bytes = refl
 memory_unsaid Check kind file bytes = refl
 memory_unsaid Compile kind file bytes = refl
@@ -233,34 +233,9 @@ told_stands t known logged bytes n (fault.NoOutcome line) said s e h is = stands
 told_stands t known logged bytes n fault.OutOfMemory said s e h is = stands t known logged bytes n fault.OutOfMemory said s h.0 e h.1 is
 told_stands t known logged bytes n fault.Device said s e h is = (inr h, device_unsaid t.doing t.form t.file bytes said is)
 
--- what stands against a log that is no device's fault leaves the count of failures
-log_read : (t : Task) (bytes : List ℕ) (logged : Option (List ℕ)) (old new : ℕ) (f : Fault) → f ≢ fault.Device → AgainstLog t bytes logged old new f → new ≡ old
-log_read t bytes logged old new (fault.Text f) other h = h.0
-log_read t bytes logged old new (fault.Front f) other h = h.0
-log_read t bytes logged old new (fault.Refused r) other h = h.0
-log_read t bytes logged old new (fault.Arguments wants has) other h = h.0
-log_read t bytes logged old new (fault.Grammar line) other h = h.0
-log_read t bytes logged old new fault.Truncated other h = h.0
-log_read t bytes logged old new (fault.NotEnabled i) other h = h.0
-log_read t bytes logged old new fault.NotEnded other h = h.0
-log_read t bytes logged old new (fault.NoOutcome line) other h = h.0
-log_read t bytes logged old new fault.OutOfMemory other h = h.0
-log_read t bytes logged old new fault.Device other h = absurd (other refl)
-
--- want of memory stands where no source failed
-memory_stands : (t : Task) (known logged : Option (List ℕ)) (n : Reads) → n.program_new ≡ n.program_old → n.log_new ≡ n.log_old
-    → StandsAgainst t known logged n fault.OutOfMemory []
-memory_stands t known logged n s l = (
-  (s, l),
-  of_known t known logged (λ k log. FailsBy t k log fault.OutOfMemory × IsSaidOf t k fault.OutOfMemory [])
-      (λ k log. (tt, memory_unsaid t.doing t.form t.file k)),
-)
-
--- the same of a fault that is told with what is said of it, or as want of memory
-pub kept_stands : (t : Task) (known logged : Option (List ℕ)) (bytes : List ℕ) (n : Reads) (f told : Fault) (said : List ℕ) → n.program_new ≡ n.program_old
-    → IfSome known (λ k. bytes ≡ kept t.form k) → AgainstLog t bytes logged n.log_old n.log_new f → IsSaid t bytes f told said → StandsAgainst t known logged n told said
-kept_stands t known logged bytes n f told said s e h (inl is) =
-    subst (λ x. StandsAgainst t known logged n x said) (sym is.0) (told_stands t known logged bytes n f said s e h is.1)
-kept_stands t known logged bytes n f told said s e h (inr is) =
-    subst (λ x. StandsAgainst t known logged n x said) (sym is.1) (subst (StandsAgainst t known logged n fault.OutOfMemory) (sym is.2)
-    (memory_stands t known logged n s (log_read t bytes logged n.log_old n.log_new f is.0 h)))
+-- what stands against the task on the bytes kept stands against it on those that are known, and what is said of it is the same
+pub kept_stands : {A : Type 0} (t : Task) (known logged : Option (List ℕ)) (bytes : List ℕ) (n : Reads) (r : Result A Refused) → n.program_new ≡ n.program_old
+    → IfSome known (λ k. bytes ≡ kept t.form k) → IfErr r (λ x. AgainstLog t bytes logged n.log_old n.log_new x.fault)
+    → IfErr r (λ x. IsSaidOf t bytes x.fault x.said.items) → IfErr r (λ x. StandsAgainst t known logged n x.fault x.said.items)
+kept_stands t known logged bytes n (Ok d) s e h is = tt
+kept_stands t known logged bytes n (Err x) s e h is = told_stands t known logged bytes n x.fault x.said.items s e h is

@@ -28,7 +28,7 @@ use Rattle.xk_serve.specs.Devices.{AgainstExpected, AgainstList, AgainstLog, Aga
 -- ---- logs that may be known
 
 -- what holds of each list holds of the one that is known, if any is
-of_any : (P : List ℕ → Type 0) (known : Option (List ℕ)) → ((xs : List ℕ) → P xs) → IfSome known P
+pub of_any : (P : List ℕ → Type 0) (known : Option (List ℕ)) → ((xs : List ℕ) → P xs) → IfSome known P
 of_any P None h = tt
 of_any P (Some xs) h = h xs
 
@@ -97,7 +97,7 @@ done_of_list t bytes known m what args (Ok d) is told lists given h =
     of_more t _ _ known (list_more t.doing (ap reads_list is ∙ lists)) (λ logged done. succeeds t bytes logged m what args d is told given done) h
 done_of_list t bytes known m what args (Err f) is told lists given h = tt
 
-tells : (t : Task) (bytes logged : List ℕ) (m : ModuleValue) (what : Doing) (args : List ℤ) (d : Done) → t.doing ≡ what → args ≡ t.arguments → Gives t.form bytes m
+pub tells : (t : Task) (bytes logged : List ℕ) (m : ModuleValue) (what : Doing) (args : List ℤ) (d : Done) → t.doing ≡ what → args ≡ t.arguments → Gives t.form bytes m
     → IsText (IsTelling what t.form t.file bytes m args logged) d → Succeeds t bytes logged d
 tells t bytes logged m what args d is told given text = record {
   of = m;
@@ -153,7 +153,7 @@ against_memory t bytes known n (Ok d) h = tt
 against_memory t bytes known n (Err f) h =
     subst (AgainstLog t bytes known n n) (sym h) (against_any t bytes known n n fault.OutOfMemory refl (λ logged. tt))
 
-refusal_fails : (t : Task) (bytes logged : List ℕ) (m : ModuleValue) (f : Fault) → asks_verifier t.doing ≡ true → Gives t.form bytes m → IsRefusal m f → FailsBy t bytes logged f
+pub refusal_fails : (t : Task) (bytes logged : List ℕ) (m : ModuleValue) (f : Fault) → asks_verifier t.doing ≡ true → Gives t.form bytes m → IsRefusal m f → FailsBy t bytes logged f
 refusal_fails t bytes logged m (fault.Text f) asks given h = absurd h
 refusal_fails t bytes logged m (fault.Front f) asks given h = absurd h
 refusal_fails t bytes logged m (fault.Refused (refusal.Shape r)) asks given h = (asks, (m, given, h))

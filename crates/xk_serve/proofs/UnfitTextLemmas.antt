@@ -1,7 +1,6 @@
 -- Why a source text gives no tree, or no module.
 use Rattle.std.proofs.Common.{◌≡◌, ℕ, ◌<◌, ◌≤◌, List, length, Result, Ok, Err, IfErr, inl, inr, refl, arith}
 use Rattle.std.specs.Prelude.{IsUtf8}
-use Rattle.xk_types.specs.declared.unit.Module.{Module}
 use Rattle.xk_tree.specs.Tree.{TreeValue}
 use Rattle.xk_tree.specs.declared.fault.FrontFault.{FrontFault}
 use Rattle.xk_tree.specs.declared.fault.FrontRule.TheVariants as rule
@@ -31,9 +30,9 @@ unparsed bytes (Err (error.Fault f)) short utf8 none of only = inr (inr (
 unparsed bytes (Err error.OutOfMemory) short utf8 none of only = tt
 
 -- what the compiler refuses has a fault
-pub uncompiled : (bytes : List ℕ) (tree : TreeValue) (r : Result Module FrontError) → IsSource bytes tree
+pub uncompiled : {A : Type 0} (bytes : List ℕ) (tree : TreeValue) (r : Result A FrontError) → IsSource bytes tree
     → ((f : FrontFault) → r ≡ Err (error.Fault f) → IsFaultOf tree f) → IfErr r (IsUnfit bytes)
-uncompiled bytes tree (Ok m) is faults = tt
+uncompiled bytes tree (Ok x) is faults = tt
 uncompiled bytes tree (Err (error.Fault f)) is faults = inr (inr (inr (tree, is, faults f refl)))
 uncompiled bytes tree (Err error.OutOfMemory) is faults = tt
 

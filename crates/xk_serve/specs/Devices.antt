@@ -14,7 +14,10 @@ use Rattle.xk_serve.specs.declared.fault.Fault.TheVariants as fault
 use Rattle.xk_log.specs.Verdicts.{IsTruncated, IsWrongAt}
 use Rattle.xk_outcomes.specs.Expected.{stray_line}
 use Rattle.xk_log.specs.Writing.{AppendsBeginning}
-use Rattle.xk_serve.specs.Answer.{Answers, FailsBy, IsNoRun, IsNotRun, Reply, Succeeds, Task, IsSaidOf, list_in, reads_more}
+use Rattle.xk_serve.specs.Answer.{Answers, FailsBy, IsNoRun, IsNotRun, IsRefusal, Reply, Succeeds, Task, IsSaidOf, list_in, reads_more}
+use Rattle.xk_serve.specs.Faults.{GivesNoModule}
+use Rattle.xk_serve.specs.Programs.{Gives}
+use Rattle.xk_cli.specs.declared.job.Form.{Form}
 use Rattle.xk_serve.specs.Lines.{device_line, done_log, done_text, excluded_line, fault_line, list_line, runs_line, seed_line, status_of}
 use Rattle.xk_diagnostics.specs.Lines.{memory_line}
 
@@ -60,6 +63,10 @@ StandsAgainst t known logged n f said = IsRead n × IfKnown t known logged (λ b
 abbrev pub AgainstLog : Task → List ℕ → Option (List ℕ) → ℕ → ℕ → Fault → Type 0
 AgainstLog t bytes known old new fault.Device = Rose old new
 AgainstLog t bytes known old new f = (new ≡ old) × IfSome (read_of t known) (λ logged. FailsBy t bytes logged f)
+
+-- the bytes give no module, or one that the verifier refuses; of want of memory nothing is claimed
+abbrev pub IsUnaccepted : Form → List ℕ → Fault → Type 0
+IsUnaccepted kind bytes f = GivesNoModule kind bytes f ⊎ ((m : ModuleValue) × Gives kind bytes m × IsRefusal m f)
 
 -- the same of a log of a run of the module with these arguments
 abbrev pub AgainstRun : ModuleValue → List ℤ → Option (List ℕ) → ℕ → ℕ → Fault → Type 0
@@ -123,11 +130,6 @@ Explained said f out_old out_new out_faults out_after err_old err_new err_faults
 -- where a fault is want of memory or a device's, nothing is said
 abbrev pub IsQuiet : Fault → List ℕ → Type 0
 IsQuiet f said = (status_of f ≡ status_memory) ⊎ (status_of f ≡ status_device) → said ≡ []
-
--- the fault is told with what the task says of it; or, where it is no device's, as want of memory, and nothing is said
-abbrev pub IsSaid : Task → List ℕ → Fault → Fault → List ℕ → Type 0
-IsSaid t bytes f told said =
-    ((told ≡ f) × IsSaidOf t bytes f said) ⊎ ((f ≢ fault.Device) × (told ≡ fault.OutOfMemory) × (said ≡ []))
 
 -- status and texts are an answer to the task on these bytes
 pub record Answered (t : Task) (bytes logged : List ℕ) (status : ℕ) (out_old out_new err_old err_new log_old log_new : Option (List ℕ)) : Type 0 where

@@ -1,6 +1,6 @@
 //! The answer to a job, over values.
 
-ghost use Rattle.std.specs.Prelude.{◌≡◌, ◌≢◌, ℕ, ℤ, List, false, true, IfOk, IfErr, IfSome, OnOk};
+ghost use Rattle.std.specs.Prelude.{◌≡◌, ◌≢◌, ℕ, ℤ, Bool, List, false, true, IfOk, IfErr, IfSome, OnOk};
 ghost use Rattle.xk_types.specs.Acceptance.{IsAccepted};
 ghost use Rattle.xk_types.specs.World.{AreArguments};
 ghost use Rattle.xk_serve.specs.Answer.{Check, ComesTo, Compile, Explain, IsLogText, IsNotRun, IsRefusal, IsTelling, IsText, Listing, Replay, Run, Succeeds, reads_more, task_of, way_given};
@@ -10,7 +10,7 @@ ghost use Rattle.xk_serve.specs.Lines.{status_of};
 ghost use Rattle.xk_serve.specs.Devices.{AgainstLog, AgainstModule, AgainstRun, read_of};
 ghost use Rattle.xk_serve.specs.declared.fault.Fault.TheVariants.{OutOfMemory};
 
-use crate::explanation::{acceptance, listing};
+use crate::explanation::listing;
 use crate::fault::Fault;
 use crate::first_races::raced;
 use crate::job_result::Done;
@@ -32,8 +32,9 @@ use xk_replay::replay;
 use xk_scheduler::Ended;
 use xk_types::{Module, Source};
 
-/// What the job on a file of these bytes comes to, or what stands against it: a fault of the text (F1 to F15, M1 to M3), of its module (V1 to
-/// V17), of main's arguments where it is run (A1), or of the log or the list where one is read, want of memory, or a read of these that failed.
+/// What a job on a file of these bytes comes to of which nothing is said but the line of a fault, as of all but `explain`; or what stands against
+/// it: a fault of the text (F1 to F15, M1 to M3), of its module (V1 to V17), of main's arguments where it is run (A1), or of the log or the list
+/// where one is read, want of memory, or a read of these that failed.
 pub(crate) fn answer<R: Threads + Wait + Sync, L: Source>(
     rt: &R,
     alloc: Global,
@@ -41,6 +42,7 @@ pub(crate) fn answer<R: Threads + Wait + Sync, L: Source>(
     bytes: &[u8],
     log_in: &mut L,
 ) -> Result<Done, Fault>
+    requires by_line { (json : Bool) → (task_of job.now).doing ≢ Explain json }
     ensures done { IfOk result (λ d. IfSome (read_of (task_of job.now) (L.remaining log_in.old))
         (λ logged. Succeeds (task_of job.now) bytes.now logged d)) }
     ensures no_fault { OnOk result (L.fault_count log_in.new ≡ L.fault_count log_in.old) }
@@ -57,7 +59,7 @@ pub(crate) fn answer<R: Threads + Wait + Sync, L: Source>(
         Command::Compile => compiled(alloc, &module),
         Command::Listing => listed(alloc, job.form, bytes, module),
         Command::Check => checked(alloc, module),
-        Command::Explain { json } => explained(alloc, json, job.form, job.file, bytes, module),
+        Command::Explain { .. } => unreachable!(),
         Command::Run { drive, log } => {
             run_driven(rt, alloc, drive, log.is_some(), module, arguments)
         }
@@ -117,26 +119,6 @@ fn listed(alloc: Global, form: Form, bytes: &[u8], m: Module) -> Result<Done, Fa
 {
     Ok(Done::Told {
         text: listing(alloc, form, bytes, m)?,
-        whole: true,
-    })
-}
-
-/// What `explain` says of a module that these bytes give, which are such a text, if it is accepted.
-fn explained(
-    alloc: Global,
-    json: bool,
-    form: Form,
-    file: &str,
-    bytes: &[u8],
-    m: Module,
-) -> Result<Done, Fault>
-    ensures done { (args : List ℤ) (logged : List ℕ) → IfOk result
-        (IsText (IsTelling (Explain json) form file.now bytes.now m args logged)) }
-    ensures fault { IfErr result (IsRefusal m) }
-{
-    let verified = accepted(alloc, m)?;
-    Ok(Done::Told {
-        text: acceptance(alloc, json, form, file, bytes, &verified)?,
         whole: true,
     })
 }

@@ -5,7 +5,7 @@ ghost use Rattle.std.specs.Io.KnownBytes.{Appends};
 ghost use Rattle.xk_types.specs.Device.{Rose};
 ghost use Rattle.xk_log.specs.Writing.{AppendsBeginning};
 ghost use Rattle.xk_cli.specs.Status.{status_device, status_done, status_memory, status_partial, status_program};
-ghost use Rattle.xk_serve.specs.Answer.{Succeeds, done_status, reads_more, task_of};
+ghost use Rattle.xk_serve.specs.Answer.{IsSaidOf, Succeeds, done_status, reads_more, task_of};
 ghost use Rattle.xk_serve.specs.Bytes.{FailsRead, IsReadToLimit, kept};
 ghost use Rattle.xk_serve.specs.Lines.{device_line, done_ending, done_log, status_of};
 ghost use Rattle.xk_diagnostics.specs.Lines.{memory_line};
@@ -13,14 +13,15 @@ ghost use Rattle.xk_serve.specs.Devices.{AgainstLog, Answered, ErrBegins, Explai
 
 use crate::bounded_read::read_front;
 use crate::commands::answer;
-use crate::explanation::{Refused, refused_by, unsaid};
+use crate::explanation::{Refused, unsaid};
 use crate::fault::{DEVICE_LINE, EXCLUDED_LINE, Fault, LIST_LINE, RUNS_LINE, SEED_LINE};
 use crate::job_result::Done;
 use crate::program_loader::{LONGEST_MODULE, LONGEST_SOURCE};
+use crate::verdict::explained;
 use std::alloc::Global;
 use std::sync::Wait;
 use std::thread::Threads;
-use xk_cli::{Form, Job, WordsFault, status};
+use xk_cli::{Command, Form, Job, WordsFault, status};
 use xk_diagnostics::MEMORY_LINE;
 use xk_log::{Device, write_all, write_entries};
 use xk_types::{Sink, Source};
@@ -122,35 +123,78 @@ fn outcome<R: Threads + Wait + Sync, P: Source, L: Source>(
         (P.remaining program.old) (P.remaining program.new) }
 {
     match read_program(alloc, job.form, program) {
-        Ok(bytes) => match done_on(rt, alloc, job, &bytes, log_in) {
-            Ok(done) => Ok(done),
-            Err(fault) => Err(refused_by(alloc, job, &bytes, fault)),
-        },
+        Ok(bytes) => done_on(rt, alloc, job, &bytes, log_in),
         Err(fault) => Err(unsaid(alloc, fault)),
     }
 }
 
-/// What the job on a file of these bytes comes to, and what is printed behind it.
+/// What the job on a file of these bytes comes to, and what is printed behind it; or what stands against it, with what is said of that.
 fn done_on<R: Threads + Wait + Sync, L: Source>(
     rt: &R,
     alloc: Global,
     job: &Job<'_>,
     bytes: &[u8],
     log_in: &mut L,
-) -> Result<(Done, String), Fault>
+) -> Result<(Done, String), Refused>
     ensures done { IfOk result (λ r. IfSome (read_of (task_of job.now) (L.remaining log_in.old))
         (λ logged. Succeeds (task_of job.now) bytes.now logged r.0)) }
     ensures ending { IfOk result (λ r. string_bytes r.1 ≡ done_ending r.0) }
     ensures no_fault { OnOk result (L.fault_count log_in.new ≡ L.fault_count log_in.old) }
-    ensures fault { IfErr result (λ f. AgainstLog (task_of job.now) bytes.now
-        (L.remaining log_in.old) (L.fault_count log_in.old) (L.fault_count log_in.new) f) }
+    ensures fault { IfErr result (λ r. AgainstLog (task_of job.now) bytes.now
+        (L.remaining log_in.old) (L.fault_count log_in.old) (L.fault_count log_in.new) r.fault) }
+    ensures said { IfErr result
+        (λ r. IsSaidOf (task_of job.now) bytes.now r.fault r.said.items) }
     ensures unread { reads_more (task_of job.now).doing ≡ false → log_in.new ≡ log_in.old }
     ensures refused { IfErr result
-        (λ f. status_of f ≡ status_program → log_in.new ≡ log_in.old) }
+        (λ r. status_of r.fault ≡ status_program → log_in.new ≡ log_in.old) }
 {
-    let done = answer(rt, alloc, job, bytes, log_in)?;
-    let ending = done.ending(alloc)?;
-    Ok((done, ending))
+    match done_or_refused(rt, alloc, job, bytes, log_in) {
+        Ok(done) => match done.ending(alloc) {
+            Ok(ending) => Ok((done, ending)),
+            Err(_) => Err(unsaid(alloc, Fault::OutOfMemory)),
+        },
+        Err(refused) => Err(refused),
+    }
+}
+
+/// What the job on a file of these bytes comes to, or what stands against it, with what is said of that: only `explain` says more than the line.
+fn done_or_refused<R: Threads + Wait + Sync, L: Source>(
+    rt: &R,
+    alloc: Global,
+    job: &Job<'_>,
+    bytes: &[u8],
+    log_in: &mut L,
+) -> Result<Done, Refused>
+    ensures done { IfOk result (λ d. IfSome (read_of (task_of job.now) (L.remaining log_in.old))
+        (λ logged. Succeeds (task_of job.now) bytes.now logged d)) }
+    ensures no_fault { OnOk result (L.fault_count log_in.new ≡ L.fault_count log_in.old) }
+    ensures fault { IfErr result (λ r. AgainstLog (task_of job.now) bytes.now
+        (L.remaining log_in.old) (L.fault_count log_in.old) (L.fault_count log_in.new) r.fault) }
+    ensures said { IfErr result
+        (λ r. IsSaidOf (task_of job.now) bytes.now r.fault r.said.items) }
+    ensures unread { reads_more (task_of job.now).doing ≡ false → log_in.new ≡ log_in.old }
+    ensures refused { IfErr result
+        (λ r. status_of r.fault ≡ status_program → log_in.new ≡ log_in.old) }
+{
+    match job.command {
+        Command::Explain { json } => explained(alloc, json, job.form, job.file, bytes),
+        Command::Check
+        | Command::Compile
+        | Command::Listing
+        | Command::Run { .. }
+        | Command::Replay { .. }
+        | Command::Chart { .. }
+        | Command::Events { .. }
+        | Command::Lanes { .. }
+        | Command::Where { .. }
+        | Command::Races { .. }
+        | Command::Tally { .. }
+        | Command::Outcomes { .. }
+        | Command::Expected { .. } => match answer(rt, alloc, job, bytes, log_in) {
+            Ok(done) => Ok(done),
+            Err(fault) => Err(unsaid(alloc, fault)),
+        },
+    }
 }
 
 /// All that counts of the bytes in FILE: one byte more than its text may have, at most, and no others are read then.

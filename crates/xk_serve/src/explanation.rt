@@ -1,19 +1,19 @@
 //! What is told of a program on standard output: of a fault beside its line on standard error, of one that is accepted, and its listing.
 
-ghost use Rattle.std.specs.Prelude.{◌≡◌, [], None, Some, option_map, IfOk, IsOk};
-ghost use Rattle.xk_serve.specs.Answer.{IsSaidOf, task_of};
+ghost use Rattle.std.specs.Prelude.{◌≡◌, [], None, Some, option_map, IfOk, OnErr};
+ghost use Rattle.std.specs.Option.{option_map_or};
 ghost use Rattle.xk_types.specs.Acceptance.{IsAccepted};
 ghost use Rattle.xk_tree.specs.Program.{tree_value};
+ghost use Rattle.xk_module.specs.Faults.{fault_label};
 ghost use Rattle.xk_sums.specs.Notes.{module_notes, refusal_notes};
-ghost use Rattle.xk_serve.specs.Explanation.{IsByOrigins, IsByProgram, IsByTree, IsExplanation, IsProgramListed, accepted_said, acceptance_said, fault_said, front_said, lines_of, module_said, plain_said, refusal_said, source_said};
-ghost use Rattle.xk_serve.specs.Devices.{IsQuiet, IsSaid};
+ghost use Rattle.xk_serve.specs.Explanation.{IsProgramListed, accepted_said, acceptance_said, fault_said, front_said, lines_of, module_said, plain_said, refusal_said, source_said};
 ghost use Rattle.xk_serve.specs.declared.fault.Fault.TheVariants as found;
 
 use crate::fault::Fault;
-use crate::program_loader::{origins_in, program_in, tree_of};
+use crate::program_loader::origins_in;
 use std::alloc::{AllocError, Global};
 use xk_bounds::{Refusal, Verified};
-use xk_cli::{Command, Form, Job};
+use xk_cli::Form;
 use xk_declarations::front_notes;
 use xk_diagnostics::accepted_line;
 use xk_expected::expected_notes;
@@ -26,7 +26,7 @@ use xk_module::ModuleFault;
 use xk_origins::Origins;
 use xk_positions::LineStarts;
 use xk_sums::{accepted_notes, module_notes, refusal_notes};
-use xk_tree::{FrontError, FrontFault, Tree};
+use xk_tree::{FrontFault, Tree};
 use xk_types::Module;
 
 /// What stands against a job, and what is said of it on standard output.
@@ -49,109 +49,40 @@ pub(crate) fn unsaid(alloc: Global, fault: Fault) -> Refused
     }
 }
 
-/// A fault of the job on a file of these bytes, with what is said of it; or, where memory was refused for that, want of memory.
-pub(crate) fn refused_by(alloc: Global, job: &Job<'_>, bytes: &[u8], fault: Fault) -> Refused
-    ensures said { IsSaid (task_of job.now) bytes.now fault result.fault result.said.items }
-    ensures quiet { IsQuiet result.fault result.said.items }
+/// A fault with what is said of it; or, where memory was refused for that, want of memory.
+pub(crate) fn told(alloc: Global, fault: Fault, said: Result<Vec<u8>, AllocError>) -> Refused
+    ensures told { IfOk said
+        (λ text. (result.fault ≡ fault) × (result.said.items ≡ text.items)) }
+    ensures memory { OnErr said
+        ((result.fault ≡ found.OutOfMemory) × (result.said.items ≡ [])) }
 {
-    match said_of(alloc, job, bytes, &fault) {
+    match said {
         Ok(said) => Refused { fault, said },
         Err(_) => unsaid(alloc, Fault::OutOfMemory),
     }
 }
 
-/// What is said of a fault of the job on a file of these bytes. Err where memory was refused; where nothing is said, none is wanted.
-fn said_of(alloc: Global, job: &Job<'_>, bytes: &[u8], fault: &Fault) -> Result<Vec<u8>, AllocError>
-    ensures said { IfOk result
-        (λ said. IsSaidOf (task_of job.now) bytes.now fault.now said.items) }
-    ensures device { fault.now ≡ found.Device → IsOk result }
-{
-    match job.command {
-        Command::Explain { json } => explanation(alloc, json, job.form, job.file, bytes, fault),
-        Command::Check
-        | Command::Compile
-        | Command::Listing
-        | Command::Run { .. }
-        | Command::Replay { .. }
-        | Command::Chart { .. }
-        | Command::Events { .. }
-        | Command::Lanes { .. }
-        | Command::Page { .. }
-        | Command::Where { .. }
-        | Command::Races { .. }
-        | Command::Tally { .. }
-        | Command::Outcomes { .. }
-        | Command::Expected { .. } => Ok(Vec::new(alloc)),
-    }
-}
-
-/// What `explain` says of a fault of a file of this name and these bytes, which are to be such a text: as a text, or as a JSON value.
-fn explanation(
-    alloc: Global,
-    json: bool,
-    form: Form,
-    file: &str,
-    bytes: &[u8],
-    fault: &Fault,
-) -> Result<Vec<u8>, AllocError>
-    ensures said { IfOk result
-        (λ said. IsExplanation json form file.now bytes.now fault.now said.items) }
-    ensures device { fault.now ≡ found.Device → IsOk result }
-{
-    match fault {
-        Fault::Text(fault) => match fault.label() {
-            Some(title) => module_said(alloc, json, file, title, *fault),
-            None => Ok(Vec::new(alloc)),
-        },
-        Fault::Front(fault) => fault_said(alloc, json, file, bytes, *fault),
-        Fault::Refused(refusal) => refusal_explanation(alloc, json, form, file, bytes, refusal),
-        Fault::Arguments { .. }
-        | Fault::Grammar(_)
-        | Fault::Truncated
-        | Fault::NotEnabled(_)
-        | Fault::NotEnded
-        | Fault::NoOutcome(_)
-        | Fault::OutOfMemory
-        | Fault::Device => Ok(Vec::new(alloc)),
-    }
-}
-
-/// What it says of a file that is no module text.
-fn module_said(
+/// What `explain` says of a file that is no module text: as a text, or as a JSON value. Of want of memory nothing is said.
+pub(crate) fn module_said(
     alloc: Global,
     json: bool,
     file: &str,
-    title: &str,
     fault: ModuleFault,
 ) -> Result<Vec<u8>, AllocError>
-    ensures { IfOk result (λ said. said.items ≡ module_said json file.now title.now fault) }
+    ensures { IfOk result (λ said. said.items
+        ≡ option_map_or (λ title. module_said json file.now title fault) (fault_label fault) []) }
 {
+    let Some(title) = fault.label() else {
+        return Ok(Vec::new(alloc));
+    };
     if json {
         return module_json(alloc, file, fault);
     }
     explain_module(alloc, file, title, fault)
 }
 
-/// What it says of a file that is no source text of a module: with what the text declares by the name that stands there, if it spells a tree.
-fn fault_said(
-    alloc: Global,
-    json: bool,
-    file: &str,
-    bytes: &[u8],
-    fault: FrontFault,
-) -> Result<Vec<u8>, AllocError>
-    ensures { IfOk result (λ said. IsByTree bytes.now
-        (fault_said json file.now bytes.now fault) said.items) }
-{
-    match tree_of(alloc, bytes) {
-        Ok(tree) => fault_of_tree(alloc, json, file, bytes, &tree, fault),
-        Err(FrontError::Fault(_)) => fault_of_text(alloc, json, file, bytes, fault),
-        Err(FrontError::OutOfMemory) => Err(AllocError),
-    }
-}
-
-/// The same of a text that spells none: with what could stand at the fault.
-fn fault_of_text(
+/// What it says of a text that spells no tree: with what could stand at the fault.
+pub(crate) fn fault_of_text(
     alloc: Global,
     json: bool,
     file: &str,
@@ -165,8 +96,8 @@ fn fault_of_text(
     front_said(alloc, json, file, bytes, fault, &notes)
 }
 
-/// The same of a text that spells this tree.
-fn fault_of_tree(
+/// The same of a text that spells this tree: with what it declares by the name that stands there.
+pub(crate) fn fault_of_tree(
     alloc: Global,
     json: bool,
     file: &str,
@@ -199,28 +130,8 @@ fn front_said(
     explain_front(alloc, file, bytes, fault, notes)
 }
 
-/// What it says of a program in such a file that the verifier refuses.
-fn refusal_explanation(
-    alloc: Global,
-    json: bool,
-    form: Form,
-    file: &str,
-    bytes: &[u8],
-    refusal: &Refusal,
-) -> Result<Vec<u8>, AllocError>
-    ensures { IfOk result (λ said. IsByProgram form bytes.now
-        (refusal_said json file.now bytes.now refusal.now) said.items) }
-{
-    match program_in(alloc, form, bytes)? {
-        Some((m, origins)) => {
-            refusal_of_module(alloc, json, file, bytes, &m, origins.as_ref(), refusal)
-        }
-        None => refusal_by_numbers(alloc, json, file, refusal, &[]),
-    }
-}
-
-/// The same of a module, with where its instructions come from, if that is known.
-fn refusal_of_module(
+/// What it says of a module that the verifier refuses, with where its instructions come from, if that is known.
+pub(crate) fn refusal_of_module(
     alloc: Global,
     json: bool,
     file: &str,
@@ -258,7 +169,7 @@ fn refusal_in_source(
     explain_source(alloc, file, bytes, origins.units(), refusal, &notes)
 }
 
-/// The same of a module that has no source text.
+/// The same of a module that has no source text, by units and places.
 fn refusal_in_module(
     alloc: Global,
     json: bool,
@@ -270,39 +181,26 @@ fn refusal_in_module(
         ≡ plain_said json file.now refusal.now (module_notes m.now refusal.now)) }
 {
     let notes = module_notes(alloc, m, refusal)?;
-    refusal_by_numbers(alloc, json, file, refusal, &notes)
-}
-
-/// The same by units and places, with these notes.
-fn refusal_by_numbers(
-    alloc: Global,
-    json: bool,
-    file: &str,
-    refusal: &Refusal,
-    notes: &[Note],
-) -> Result<Vec<u8>, AllocError>
-    ensures { IfOk result (λ said. said.items ≡ plain_said json file.now refusal.now notes.now) }
-{
     if json {
-        return refusal_json(alloc, file, refusal, notes);
+        return refusal_json(alloc, file, refusal, &notes);
     }
-    explain_refusal(alloc, file, refusal, notes)
+    explain_refusal(alloc, file, refusal, &notes)
 }
 
-/// What `explain` says of an accepted module that these bytes give, which are such a text: its bounds, and what they are made of.
+/// What it says of an accepted module: its bounds, and what they are made of, in the text where its instructions come from, if that is known.
 pub(crate) fn acceptance(
     alloc: Global,
     json: bool,
-    form: Form,
     file: &str,
     bytes: &[u8],
     verified: &Verified,
+    origins: Option<&Origins<'_>>,
 ) -> Result<Vec<u8>, AllocError>
     requires { IsAccepted verified.now }
-    ensures { IfOk result (λ said. IsByOrigins form bytes.now
-        (accepted_said json file.now bytes.now verified.now) said.items) }
+    ensures { IfOk result (λ said. said.items ≡ accepted_said json file.now bytes.now verified.now
+        (option_map (λ o. o.now) origins.entry)) }
 {
-    match origins_in(alloc, form, bytes)? {
+    match origins {
         Some(origins) => {
             let notes = accepted_notes(alloc, verified.module(), origins.units())?;
             accepted_said(alloc, json, file, Some(bytes), verified, &notes)

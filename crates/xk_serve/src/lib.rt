@@ -15,6 +15,7 @@ mod outcome_search;
 mod picture;
 mod program_loader;
 mod tally;
+mod verdict;
 mod whereabouts;
 
 pub use commands::runnable;

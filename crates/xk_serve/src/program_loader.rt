@@ -1,7 +1,7 @@
 //! From the bytes of FILE to a module.
 
 ghost use Rattle.std.specs.Prelude.{◌≡◌, ◌≤◌, Some, length, IfOk, OnOk, IfErr, IsUtf8};
-ghost use Rattle.xk_serve.specs.Explanation.{GiveProgram, HaveOrigins};
+ghost use Rattle.xk_serve.specs.Explanation.{HaveOrigins};
 ghost use Rattle.xk_serve.specs.Faults.{GivesNoModule};
 ghost use Rattle.xk_serve.specs.Programs.{Gives, IsNoText, IsSource, IsUnfit, IsUnfitModule, IsUnspelled, longest_source};
 ghost use Rattle.xk_tree.specs.Program.{tree_value};
@@ -9,9 +9,11 @@ ghost use Rattle.xk_cli.specs.declared.job.Form.TheVariants as form;
 
 use crate::fault::Fault;
 use std::alloc::{AllocError, Global};
+use xk_callgraph::check_recursion;
 use xk_cli::Form;
 use xk_codegen::compile;
 use xk_module::{ModuleFault, read_module};
+use xk_names::check_names;
 use xk_origins::{Origins, origins};
 use xk_syntax::parse;
 use xk_tree::{FrontError, FrontFault, FrontRule, Tree};
@@ -35,7 +37,7 @@ pub fn module_by(alloc: Global, form: Form, bytes: &[u8]) -> Result<Module, Faul
 }
 
 /// The module of a module text. Bytes that are too many count as beyond the limits.
-fn module_of(alloc: Global, bytes: &[u8]) -> Result<Module, ModuleFault>
+pub(crate) fn module_of(alloc: Global, bytes: &[u8]) -> Result<Module, ModuleFault>
     ensures module { IfOk result (Gives form.Module bytes.now) }
     ensures fault { IfErr result (IsUnfitModule bytes.now) }
 {
@@ -65,29 +67,6 @@ pub(crate) fn tree_of(alloc: Global, bytes: &[u8]) -> Result<Tree<'_>, FrontErro
     parse(alloc, text)
 }
 
-/// The program that these bytes give, read again: its module, and where its instructions come from, of a source text by its tree. None where they
-/// give none; Err where memory was refused. A source text is read and compiled again: nothing of its tree is kept while it is verified.
-pub(crate) fn program_in(
-    alloc: Global,
-    form: Form,
-    bytes: &[u8],
-) -> Result<Option<(Module, Option<Origins<'_>>)>, AllocError>
-    ensures { IfOk result (λ p. GiveProgram form bytes.now p) }
-{
-    match form {
-        Form::Module => match module_of(alloc, bytes) {
-            Ok(m) => Ok(Some((m, None))),
-            Err(ModuleFault::OutOfMemory) => Err(AllocError),
-            Err(ModuleFault::NotJson | ModuleFault::NotAModule | ModuleFault::Limit) => Ok(None),
-        },
-        Form::Source => match source_in(alloc, bytes) {
-            Ok((m, origins)) => Ok(Some((m, Some(origins)))),
-            Err(FrontError::OutOfMemory) => Err(AllocError),
-            Err(FrontError::Fault(_)) => Ok(None),
-        },
-    }
-}
-
 /// Where the instructions come from of the module that these bytes give, which a module text doesn't say.
 pub fn origins_in(
     alloc: Global,
@@ -98,42 +77,36 @@ pub fn origins_in(
 {
     match form {
         Form::Module => Ok(None),
-        Form::Source => match source_in(alloc, bytes) {
-            Ok((_, origins)) => Ok(Some(origins)),
+        Form::Source => match source_origins(alloc, bytes) {
+            Ok(origins) => Ok(Some(origins)),
             Err(FrontError::OutOfMemory) => Err(AllocError),
             Err(FrontError::Fault(_)) => Ok(None),
         },
     }
 }
 
-/// The module that goes with the tree of a source text, and where its instructions come from.
-fn source_in(alloc: Global, bytes: &[u8]) -> Result<(Module, Origins<'_>), FrontError>
-    ensures module { IfOk result (λ p. Gives form.Source bytes.now p.0) }
-    ensures origins { IfOk result (λ p. HaveOrigins form.Source bytes.now (Some p.1)) }
+/// Where the instructions come from of the module that goes with the tree of a source text. It isn't compiled for that.
+fn source_origins(alloc: Global, bytes: &[u8]) -> Result<Origins<'_>, FrontError>
+    ensures origins { IfOk result (λ o. HaveOrigins form.Source bytes.now (Some o)) }
     ensures fault { IfErr result (IsUnfit bytes.now) }
 {
     match tree_of(alloc, bytes) {
-        Ok(tree) => program_of(alloc, bytes, &tree),
+        Ok(tree) => origins_of(alloc, bytes, &tree),
         Err(e) => Err(e),
     }
 }
 
-/// The same of the tree of a source text, if it is compiled.
-fn program_of<'t>(
-    alloc: Global,
-    bytes: &[u8],
-    tree: &Tree<'t>,
-) -> Result<(Module, Origins<'t>), FrontError>
+/// The same of the tree of a source text, if its names and its calls have no fault.
+fn origins_of<'t>(alloc: Global, bytes: &[u8], tree: &Tree<'t>) -> Result<Origins<'t>, FrontError>
     requires source { IsSource bytes.now (tree_value tree.now) }
-    ensures module { IfOk result (λ p. Gives form.Source bytes.now p.0) }
-    ensures origins { IfOk result (λ p. HaveOrigins form.Source bytes.now (Some p.1)) }
+    ensures origins { IfOk result (λ o. HaveOrigins form.Source bytes.now (Some o)) }
     ensures fault { IfErr result (IsUnfit bytes.now) }
 {
     // For the clauses alone, which say that the tree is that of these bytes.
     let _bytes = bytes;
-    let m = compile(alloc, tree)?;
-    let origins = origins(alloc, tree)?;
-    Ok((m, origins))
+    check_names(alloc, tree)?;
+    check_recursion(alloc, tree)?;
+    Ok(origins(alloc, tree)?)
 }
 
 /// The bytes as text: they are UTF-8, and not too many.
