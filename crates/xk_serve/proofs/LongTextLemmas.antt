@@ -180,21 +180,6 @@ said_kept : (t : Task) (bytes known logged said : List ℕ) (f : Fault) → byte
 said_kept t bytes known logged said f e h =
     same_said t.doing t.form t.file bytes known said f (λ json. explanation_kept json t bytes known logged said f e h)
 
--- of want of memory nothing is said
-pub memory_unsaid : (what : Doing) (kind : Form) (file bytes : List ℕ) → IsSaidBy what kind file bytes fault.OutOfMemory []
-memory_unsaid (Explain json) kind file bytes = refl
-memory_unsaid Check kind file bytes = refl
-memory_unsaid Compile kind file bytes = refl
-memory_unsaid Listing kind file bytes = refl
-memory_unsaid (Run way kept) kind file bytes = refl
-memory_unsaid Replay kind file bytes = refl
-memory_unsaid (Draw picture) kind file bytes = refl
-memory_unsaid Where kind file bytes = refl
-memory_unsaid Races kind file bytes = refl
-memory_unsaid (Tally seed runs) kind file bytes = refl
-memory_unsaid (Outcomes sets limit pick kept) kind file bytes = refl
-memory_unsaid (Expected sets limit) kind file bytes = refl
-
 -- of devices nothing is said
 device_unsaid : (what : Doing) (kind : Form) (file bytes said : List ℕ) → IsSaidBy what kind file bytes fault.Device said → said ≡ []
 device_unsaid (Explain json) kind file bytes said h = h
