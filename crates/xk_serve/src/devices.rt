@@ -186,6 +186,7 @@ fn done_or_refused<R: Threads + Wait + Sync, L: Source>(
         | Command::Chart { .. }
         | Command::Events { .. }
         | Command::Lanes { .. }
+        | Command::Page { .. }
         | Command::Where { .. }
         | Command::Races { .. }
         | Command::Tally { .. }
