@@ -4,6 +4,6 @@ pub mod OrderLemmas
 pub mod KnowledgeLemmas
 pub mod SightLemmas
 pub mod RaceListLemmas
-pub mod AccessLemmas
+pub mod PlaceListLemmas
 pub mod LatestLemmas
 pub mod ToldPlaceLemmas

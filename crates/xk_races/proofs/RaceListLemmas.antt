@@ -73,7 +73,7 @@ same_number n = eq-eqb n n refl
 same_place : (s : RunStep) → is_place_of s s ≡ true
 same_place s = ap (λ b. b && nat_eq s.place s.place) (same_number s.unit) ∙ same_number s.place
 
-same_places : (q : Race) → have_same_places q q ≡ true
+pub same_places : (q : Race) → have_same_places q q ≡ true
 same_places q =
     ap (λ b. b && ((is_place_of q.first q.first && is_place_of q.second q.second) || (is_place_of q.first q.second && is_place_of q.second q.first)))
     (same_number q.cell)

@@ -1,156 +1,36 @@
-//! Of the accesses of each shared number, those that stand for all earlier ones.
+//! The races of an access with earlier ones, by those that stand for all.
 
-ghost use Rattle.std.specs.Prelude.{◌≡◌, ◌<◌, ◌-◌, ◌++◌, ℕ, true, suc, [], ◌∷◌, length, replicate, slice_set, OnOk};
+ghost use Rattle.std.specs.Prelude.{◌≡◌, ◌<◌, ◌-◌, ◌++◌, suc, [], ◌∷◌, length, flat_map, replicate, IfOk, OnOk};
 ghost use Rattle.std.specs.List.{list_any};
-ghost use Rattle.std.specs.Option.{IfSome};
+ghost use Rattle.xk_accesses.specs.Accesses.{KeepsCovered, none_yet};
 ghost use Rattle.xk_races.specs.declared.deeds.Part.TheVariants as part;
 ghost use Rattle.xk_races.specs.Races.{with_races_of};
-ghost use Rattle.xk_races.specs.Accesses.{AreAllCovered, AreCovered, IsLikeAt, KeepsCovered, access_of, cell_accessed, is_at, is_covered, is_kind, is_like, is_new, is_race_of, kind_of, later, none_yet, race_of, rows_of};
+ghost use Rattle.xk_races.specs.Accesses.{AreAllCovered, AreCovered, access_of, cell_accessed, is_new, is_race_of, new_members, race_of};
 
 use crate::deeds::Part;
-use crate::pairs::{Race, cell_in, clash, is_place_of, push_races_of};
+use crate::pairs::{Race, cell_in, clash, push_races_at};
 use crate::race_list::RaceList;
 use crate::rows::number_at;
 use crate::sights::Sight;
 use std::alloc::{AllocError, Global};
-use std::marker::Model;
-use xk_events::RunStep;
-use xk_types::Event;
-
-/// How much two accesses have in common.
-#[derive(Clone, Copy)]
-pub enum Detail {
-    /// The activity and the kind.
-    Activity,
-    /// The place in the text, too.
-    Place,
-}
-
-/// What an access does.
-#[derive(Clone, Copy)]
-pub enum Kind {
-    Read,
-    Addition,
-    Write,
-}
-
-/// An access of a shared number.
-#[derive(Clone, Copy)]
-pub struct Access {
-    /// The number of its deed.
-    pub number: usize,
-    pub step: RunStep,
-}
-
-/// What an access does, by what was seen of it.
-fn kind_of(event: Event) -> Kind
-    ensures { result ≡ kind_of event }
-{
-    match event {
-        Event::Got => Kind::Read,
-        Event::Added => Kind::Addition,
-        _ => Kind::Write,
-    }
-}
-
-/// Whether two kinds are the same.
-fn is_kind(one: Kind, other: Kind) -> bool
-    ensures { result ≡ is_kind one other }
-{
-    match one {
-        Kind::Read => matches!(other, Kind::Read),
-        Kind::Addition => matches!(other, Kind::Addition),
-        Kind::Write => matches!(other, Kind::Write),
-    }
-}
-
-/// Whether two steps were taken at one place, where that is looked at.
-fn is_at(detail: Detail, s: &RunStep, t: &RunStep) -> bool
-    ensures { result ≡ is_at detail s.now t.now }
-{
-    match detail {
-        Detail::Activity => true,
-        Detail::Place => is_place_of(s, t),
-    }
-}
+use xk_accesses::{Access, Group, Latest};
 
 /// What is kept of an access.
-pub fn access_of(y: &Sight) -> Access
-    ensures { result ≡ access_of y.now }
+fn access_of(position: usize, y: &Sight) -> Access
+    ensures { result ≡ access_of position y.now }
 {
     Access {
+        position,
         number: y.number,
         step: y.deed.step,
     }
 }
 
-/// Whether two accesses are of one activity and one kind.
-fn is_like(detail: Detail, r: &Access, x: &Access) -> bool
-    ensures { result ≡ is_like detail r.now x.now }
-{
-    r.step.act == x.step.act
-        && is_kind(kind_of(r.step.event), kind_of(x.step.event))
-        && is_at(detail, &r.step, &x.step)
-}
-
 /// Whether an access and a later one of the same shared number are a race.
-pub fn is_race_of(r: &Access, y: &Sight) -> bool
+fn is_race_of(r: &Access, y: &Sight) -> bool
     ensures { result ≡ is_race_of r.now y.now }
 {
     clash(r.step.event, y.deed.step.event) && r.number > number_at(&y.row, r.step.act as usize)
-}
-
-/// One that is like x, and where it stands.
-fn find_like(detail: Detail, rows: &[Access], x: &Access) -> Option<(usize, Access)>
-    ensures { IfSome result (λ found. IsLikeAt detail rows.now x.now found.0 found.1) }
-{
-    for (i, r) in rows.iter().enumerate() {
-        if is_like(detail, r, x) {
-            return Some((i, *r));
-        }
-    }
-    None
-}
-
-/// The later one of two.
-fn later(r: Access, x: Access) -> Access
-    ensures { result ≡ later r x }
-{
-    if r.number < x.number { x } else { r }
-}
-
-/// Row i becomes another one, where there is such a row.
-fn replace(rows: &mut Vec<Access>, i: usize, row: Access)
-    ensures { rows.new.items ≡ slice_set rows.old.items i row }
-{
-    if let Some(place) = rows.get_mut(i) {
-        *place = row;
-    }
-}
-
-/// Adds an access to those that stand for others: in the place of one like it, or behind all.
-fn put(detail: Detail, rows: &mut Vec<Access>, x: &Access) -> Result<(), AllocError>
-    ensures kept { OnOk result ((z : Access) → is_covered detail rows.old.items z ≡ true
-        → is_covered detail rows.new.items z ≡ true) }
-    ensures there { OnOk result (is_covered detail rows.new.items x.now ≡ true) }
-{
-    match find_like(detail, rows, x) {
-        Some((i, r)) => replace(rows, i, later(r, *x)),
-        None => rows.push(*x)?,
-    }
-    Ok(())
-}
-
-/// Adds these, one after the other.
-fn put_all(detail: Detail, rows: &mut Vec<Access>, list: &[Access]) -> Result<(), AllocError>
-    ensures { OnOk result ((z : Access)
-        → is_covered detail (rows.old.items ++ list.now) z ≡ true
-        → is_covered detail rows.new.items z ≡ true) }
-{
-    for x in list {
-        put(detail, rows, x)?;
-    }
-    Ok(())
 }
 
 /// The race of an access and a later one.
@@ -171,107 +51,83 @@ fn is_new(list: &RaceList, y: &Sight, r: &Access) -> bool
     is_race_of(r, y) && !list.has_same_places(&race_of(r, y))
 }
 
-/// Accesses of a shared number that stand for all earlier ones.
-#[derive(Drop)]
-pub struct Latest {
-    /// The last one of each activity and kind.
-    of_activities: Vec<Access>,
-    /// The last one of each activity, kind and place in the text, of those that were asked for.
-    of_places: Vec<Access>,
-    /// Those that came since.
-    since: Vec<Access>,
+/// Adds the positions of a group's members, if the last one is in a race that isn't listed yet.
+fn push_if_new(
+    positions: &mut Vec<usize>,
+    list: &RaceList,
+    y: &Sight,
+    group: &Group,
+) -> Result<(), AllocError>
+    ensures { OnOk result (positions.new.items ≡ positions.old.items
+        ++ new_members list.now y.now group.now) }
+{
+    if is_new(list, y, group.last()) {
+        positions.extend_from_slice(group.members())?;
+    }
+    Ok(())
 }
 
-impl Model for Latest {
-    ghost use Rattle.xk_races.specs.Accesses.{Latest as LatestValue};
-
-    ghost Value = { LatestValue };
-
-    ghost view = { λ l. record {
-      of_activities = l.of_activities.items;
-      of_places = l.of_places.items;
-      since = l.since.items;
-    } };
+/// The positions of the members of those groups whose last one is in a race that isn't listed yet.
+fn new_positions(
+    alloc: Global,
+    groups: &[Group],
+    list: &RaceList,
+    y: &Sight,
+) -> Result<Vec<usize>, AllocError>
+    ensures { IfOk result (λ v. v.items ≡ flat_map (new_members list.now y.now) groups.now) }
+{
+    let mut positions = Vec::new(alloc);
+    for group in groups {
+        push_if_new(&mut positions, list, y, group)?;
+    }
+    Ok(positions)
 }
 
-impl Latest {
-    /// Before the first access.
-    fn new(alloc: Global) -> Latest
-        ensures { result ≡ none_yet }
-    {
-        Latest {
-            of_activities: Vec::new(alloc),
-            of_places: Vec::new(alloc),
-            since: Vec::new(alloc),
-        }
-    }
+/// Whether an access is in a race at all.
+fn has_race(latest: &Latest, y: &Sight) -> bool
+    ensures { result ≡ list_any (λ r. is_race_of r y.now) latest.now.of_activities }
+{
+    latest.of_activities().iter().any(|r| is_race_of(r, y))
+}
 
-    /// Whether a later access is in a race at all.
-    fn has_race(&self, y: &Sight) -> bool
-        ensures { result ≡ list_any (λ r. is_race_of r y.now) self.now.of_activities }
-    {
-        self.of_activities.iter().any(|r| is_race_of(r, y))
+/// Adds the races of an access with earlier ones.
+fn push_races(
+    alloc: Global,
+    latest: &mut Latest,
+    list: &mut RaceList,
+    earlier: &[Sight],
+    y: &Sight,
+) -> Result<(), AllocError>
+    requires { AreCovered earlier.now y.now.deed.part latest.old }
+    ensures told { OnOk result (list.new ≡ with_races_of y.now earlier.now list.old) }
+    ensures kept { OnOk result (KeepsCovered latest.old latest.new) }
+{
+    if !has_race(latest, y) {
+        return Ok(());
     }
+    latest.put_since(alloc)?;
+    let mut positions = new_positions(alloc, latest.of_places(), list, y)?;
+    positions.sort_unstable();
+    push_races_at(list, earlier, &positions, y)?;
+    Ok(())
+}
 
-    /// Whether it is in one whose places aren't listed yet.
-    fn has_new_race(&self, list: &RaceList, y: &Sight) -> bool
-        ensures { result ≡ list_any (is_new list.now y.now) self.now.of_places }
-    {
-        self.of_places.iter().any(|r| is_new(list, y, r))
-    }
-
-    /// Those that came since are put among those of their places.
-    fn put_since(&mut self) -> Result<(), AllocError>
-        ensures kept { OnOk result (KeepsCovered self.old self.new) }
-        ensures none { OnOk result (self.new.since ≡ []) }
-    {
-        put_all(Detail::Place, &mut self.of_places, &self.since)?;
-        self.since.clear();
-        Ok(())
-    }
-
-    /// Adds an access.
-    fn add(&mut self, x: &Access) -> Result<(), AllocError>
-        ensures kept { OnOk result (KeepsCovered self.old self.new) }
-        ensures there { OnOk result ((d : Detail)
-            → is_covered d (rows_of d self.new) x.now ≡ true) }
-    {
-        put(Detail::Activity, &mut self.of_activities, x)?;
-        self.since.push(*x)?;
-        Ok(())
-    }
-
-    /// Adds the races of an access with earlier ones.
-    fn push_races(
-        &mut self,
-        list: &mut RaceList,
-        earlier: &[Sight],
-        y: &Sight,
-    ) -> Result<(), AllocError>
-        requires { AreCovered earlier.now y.now.deed.part self.old }
-        ensures told { OnOk result (list.new ≡ with_races_of y.now earlier.now list.old) }
-        ensures kept { OnOk result (KeepsCovered self.old self.new) }
-    {
-        if !self.has_race(y) {
-            return Ok(());
-        }
-        self.put_since()?;
-        if self.has_new_race(list, y) {
-            push_races_of(list, earlier, y)?;
-        }
-        Ok(())
-    }
-
-    /// The same, and the access becomes an earlier one.
-    fn take(&mut self, list: &mut RaceList, earlier: &[Sight], y: &Sight) -> Result<(), AllocError>
-        requires { AreCovered earlier.now y.now.deed.part self.old }
-        ensures told { OnOk result (list.new ≡ with_races_of y.now earlier.now list.old) }
-        ensures covered { OnOk result
-            (AreCovered (earlier.now ++ y.now ∷ []) y.now.deed.part self.new) }
-    {
-        self.push_races(list, earlier, y)?;
-        self.add(&access_of(y))
-    }
+/// The same, and the access becomes one of those that stand for others.
+fn take_into(
+    alloc: Global,
+    latest: &mut Latest,
+    list: &mut RaceList,
+    earlier: &[Sight],
+    y: &Sight,
+) -> Result<(), AllocError>
+    requires { AreCovered earlier.now y.now.deed.part latest.old }
+    ensures told { OnOk result (list.new ≡ with_races_of y.now earlier.now list.old) }
+    ensures covered { OnOk result
+        (AreCovered (earlier.now ++ y.now ∷ []) y.now.deed.part latest.new) }
+{
+    push_races(alloc, latest, list, earlier, y)?;
+    latest.add(&access_of(earlier.len(), y))?;
+    Ok(())
 }
 
 /// Adds so many that have no access yet.
@@ -300,6 +156,7 @@ fn grow(alloc: Global, cells: &mut Vec<Latest>, c: usize) -> Result<(), AllocErr
 
 /// Adds the races of an access of shared number c with earlier ones, and it becomes one of these.
 fn take_access(
+    alloc: Global,
     cells: &mut Vec<Latest>,
     list: &mut RaceList,
     earlier: &[Sight],
@@ -313,7 +170,7 @@ fn take_access(
     ensures covered { OnOk result (AreAllCovered (earlier.now ++ y.now ∷ []) cells.new.items) }
 {
     if let Some(latest) = cells.get_mut(c as usize) {
-        latest.take(list, earlier, y)?;
+        take_into(alloc, latest, list, earlier, y)?;
     }
     Ok(())
 }
@@ -342,7 +199,7 @@ pub fn take(
 {
     if let Some(c) = cell_accessed(y.deed.part) {
         grow(alloc, cells, c as usize)?;
-        take_access(cells, list, earlier, y, c)?;
+        take_access(alloc, cells, list, earlier, y, c)?;
     }
     Ok(())
 }

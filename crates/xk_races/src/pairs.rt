@@ -1,7 +1,9 @@
 //! Pairs of steps that nothing but the schedule puts in order.
 
-ghost use Rattle.std.specs.Prelude.{◌≡◌, [], if◌then◌else◌, IfOk, OnOk};
-ghost use Rattle.xk_races.specs.Races.{cell_in, clash, gap_in, have_one_number, have_same_places, is_place_of, is_print, is_race, race, races_in, with_race, with_races_of};
+ghost use Rattle.std.specs.Prelude.{◌≡◌, [], slice_get, if◌then◌else◌, IfOk, OnOk};
+ghost use Rattle.std.specs.Option.{option_to_list};
+ghost use Rattle.xk_races.specs.Accesses.{sights_at};
+ghost use Rattle.xk_races.specs.Races.{cell_in, clash, gap_in, have_one_number, is_print, is_race, race, races_in, with_race, with_races_of};
 
 use crate::accesses::take;
 use crate::deeds::Part;
@@ -69,22 +71,6 @@ fn is_race(x: &Sight, y: &Sight) -> bool
         && !comes_before(x, y)
 }
 
-/// Whether two steps were taken at one instruction.
-pub fn is_place_of(s: &RunStep, t: &RunStep) -> bool
-    ensures { result ≡ is_place_of s.now t.now }
-{
-    s.unit == t.unit && s.place == t.place
-}
-
-/// Whether two races are of the same places and the same shared number.
-pub fn have_same_places(r: &Race, q: &Race) -> bool
-    ensures { result ≡ have_same_places r.now q.now }
-{
-    r.cell == q.cell
-        && (is_place_of(&r.first, &q.first) && is_place_of(&r.second, &q.second)
-            || is_place_of(&r.first, &q.second) && is_place_of(&r.second, &q.first))
-}
-
 /// Adds two accesses, if they are a race.
 fn push_if_race(list: &mut RaceList, x: &Sight, y: &Sight) -> Result<(), AllocError>
     ensures { OnOk result (list.new ≡ (if is_race x.now y.now
@@ -100,12 +86,34 @@ fn push_if_race(list: &mut RaceList, x: &Sight, y: &Sight) -> Result<(), AllocEr
     Ok(())
 }
 
-/// Adds the races of an access with these earlier ones.
-pub fn push_races_of(list: &mut RaceList, earlier: &[Sight], y: &Sight) -> Result<(), AllocError>
-    ensures { OnOk result (list.new ≡ with_races_of y.now earlier.now list.old) }
+/// Adds the race of an access with the earlier one at a position, if there is one.
+fn push_race_at(
+    list: &mut RaceList,
+    earlier: &[Sight],
+    position: usize,
+    y: &Sight,
+) -> Result<(), AllocError>
+    ensures { OnOk result (list.new ≡ with_races_of y.now
+        (option_to_list (slice_get earlier.now position)) list.old) }
 {
-    for x in earlier {
+    if let Some(x) = earlier.get(position) {
         push_if_race(list, x, y)?;
+    }
+    Ok(())
+}
+
+/// Adds the races of an access with the earlier ones at these positions.
+pub fn push_races_at(
+    list: &mut RaceList,
+    earlier: &[Sight],
+    positions: &[usize],
+    y: &Sight,
+) -> Result<(), AllocError>
+    ensures { OnOk result (list.new ≡ with_races_of y.now
+        (sights_at earlier.now positions.now) list.old) }
+{
+    for position in positions {
+        push_race_at(list, earlier, *position, y)?;
     }
     Ok(())
 }
@@ -122,6 +130,7 @@ pub fn races_in(alloc: Global, sights: &[Sight]) -> Result<Vec<Race>, AllocError
     Ok(list.into_races())
 }
 
+/// Whether a deed is a print.
 fn is_print(part: Part) -> bool
     ensures { result ≡ is_print part }
 {

@@ -46,7 +46,9 @@ fn races(alloc: Global, places: &Places<'_>, ended: &Ended<'_>) -> Result<RaceRe
 /// the first such pair of the run is told. Where there is none, it is told whether the prints are in one order, and that every schedule prints
 /// these numbers; else nothing is said of other runs.
 /// It takes time in proportion to the deeds of the run (its steps that others see, those of clocks counted once for each clock) times its
-/// activities, and to the square of the number of accesses. Err where memory was refused.
+/// activities. For an access that is in a race there is, besides, time in proportion to how many activities access its shared number at how many
+/// places of the text, and for each of these places once to how often that shared number is accessed; each look whether two places are told
+/// already, and each sort, takes a logarithm of it more. Err where memory was refused.
 pub fn source_races(
     alloc: Global,
     text: &[u8],

@@ -1,18 +1,16 @@
 -- One access that stands for others.
-use Rattle.std.proofs.Common.{◌≡◌, ◌∙◌, ℕ, zero, suc, ◌≤◌, Bool, true, false, ◌&&◌, ◌||◌, List, [], ◌∷◌, ◌++◌, Some, slice_get, ◌⊎◌, inl, inr, refl, sym, subst, arith}
+use Rattle.std.proofs.Common.{◌≡◌, ◌∙◌, ℕ, zero, suc, ◌≤◌, Bool, true, false, ◌&&◌, ◌||◌, List, [], ◌∷◌, Some, slice_get, ◌⊎◌, inl, inr, refl, sym, subst, arith}
 use Rattle.std.specs.Prelude.{if◌then◌else◌, nat_eq, nat_le, nat_lt, slice_set}
 use Rattle.std.specs.List.{list_any}
 use Rattle.std.proofs.lemmas.Bool.{and_parts, and_from, or_cases, eq-eqb, eqb-true, le-leb, leb-true, ltb-true, ltb-false, false≢true}
-use Rattle.std.proofs.lemmas.List.Folds.{list_any-append}
 use Rattle.std.proofs.lemmas.Option.{same_Some}
 use Rattle.xk_events.specs.declared.steps.RunStep.{RunStep}
-use Rattle.xk_races.specs.declared.accesses.Access.{Access}
-use Rattle.xk_races.specs.declared.accesses.Detail.{Detail}
-use Rattle.xk_races.specs.declared.accesses.Detail.TheVariants.{Activity, Place}
-use Rattle.xk_races.specs.declared.accesses.Kind.{Kind}
-use Rattle.xk_races.specs.declared.accesses.Kind.TheVariants.{Read, Addition, Write}
-use Rattle.xk_races.specs.Races.{is_place_of}
-use Rattle.xk_races.specs.Accesses.{kind_of, is_kind, is_at, is_like, covers, is_covered, later}
+use Rattle.xk_accesses.specs.declared.access.Access.{Access}
+use Rattle.xk_accesses.specs.declared.access.Detail.{Detail}
+use Rattle.xk_accesses.specs.declared.access.Detail.TheVariants.{Activity, Place}
+use Rattle.xk_accesses.specs.declared.access.Kind.{Kind}
+use Rattle.xk_accesses.specs.declared.access.Kind.TheVariants.{Read, Addition, Write}
+use Rattle.xk_accesses.specs.Accesses.{kind_of, is_kind, is_at, is_like, is_same_place, covers, is_covered, later}
 
 -- ---- two that are alike
 
@@ -33,12 +31,12 @@ is_kind_same Read = refl
 is_kind_same Addition = refl
 is_kind_same Write = refl
 
-pub place_true : (s t : RunStep) → is_place_of s t ≡ true → (s.unit ≡ t.unit) × (s.place ≡ t.place)
+pub place_true : (s t : RunStep) → is_same_place s t ≡ true → (s.unit ≡ t.unit) × (s.place ≡ t.place)
 place_true s t h =
     let both = and_parts (nat_eq s.unit t.unit) (nat_eq s.place t.place) h in
     (eqb-true s.unit t.unit both.0, eqb-true s.place t.place both.1)
 
-place_from : (s t : RunStep) → s.unit ≡ t.unit → s.place ≡ t.place → is_place_of s t ≡ true
+place_from : (s t : RunStep) → s.unit ≡ t.unit → s.place ≡ t.place → is_same_place s t ≡ true
 place_from s t u p = and_from (nat_eq s.unit t.unit) (nat_eq s.place t.place) (eq-eqb s.unit t.unit u) (eq-eqb s.place t.place p)
 
 -- of two that are at the same place as a third one
@@ -53,7 +51,7 @@ at_same : (d : Detail) (s : RunStep) → is_at d s s ≡ true
 at_same Activity s = refl
 at_same Place s = place_from s s refl refl
 
-like_true : (d : Detail) (r x : Access) → is_like d r x ≡ true → Like d r x
+pub like_true : (d : Detail) (r x : Access) → is_like d r x ≡ true → Like d r x
 like_true d r x h =
     let a = and_parts (nat_eq r.step.act x.step.act) (is_kind (kind_of r.step.event) (kind_of x.step.event) && is_at d r.step x.step) h in
     let b = and_parts (is_kind (kind_of r.step.event) (kind_of x.step.event)) (is_at d r.step x.step) a.1 in
@@ -96,13 +94,13 @@ later_like d r x z g h = of (nat_lt r.number x.number)
     of true = like_swapped d r x z g h
     of false = h
 
-later_covers : (d : Detail) (r x z : Access) → Like d r x → covers d r z ≡ true → covers d (later r x) z ≡ true
+pub later_covers : (d : Detail) (r x z : Access) → Like d r x → covers d r z ≡ true → covers d (later r x) z ≡ true
 later_covers d r x z g h =
     let c = covers_parts d r z h in
     let n = later_number r x in
     covers_from d (later r x) z (later_like d r x z g c.0) (omega (arith, c.1, n.0))
 
-later_covers_it : (d : Detail) (r x : Access) → Like d r x → covers d (later r x) x ≡ true
+pub later_covers_it : (d : Detail) (r x : Access) → Like d r x → covers d (later r x) x ≡ true
 later_covers_it d r x g = covers_from d (later r x) x (later_like d r x x g g) (later_number r x).1
 
 -- ---- among others
@@ -158,36 +156,10 @@ pub raised_there : (d : Detail) (rows : List Access) (i : ℕ) (x : Access) (r :
 raised_there d rows i x r at like =
     any_set_there (λ q. covers d q x) rows i r (later r x) at (later_covers_it d r x (like_true d r x like))
 
-pub behind : (d : Detail) (rows : List Access) (x z : Access) → is_covered d rows z ≡ true → is_covered d (rows ++ x ∷ []) z ≡ true
-behind d rows x z h = rw list_any-append (any_left (is_covered d rows z) (is_covered d (x ∷ []) z) h)
-
-pub behind_there : (d : Detail) (rows : List Access) (x : Access) → is_covered d (rows ++ x ∷ []) x ≡ true
-behind_there d rows x =
-    rw list_any-append (any_right (is_covered d rows x) (is_covered d (x ∷ []) x)
-    (any_left (covers d x x) false (covers_from d x x (like_same d x) (omega arith))))
-
 -- ---- one after the other
 
-covers_on : (d : Detail) (r x z : Access) → covers d r x ≡ true → covers d x z ≡ true → covers d r z ≡ true
+pub covers_on : (d : Detail) (r x z : Access) → covers d r x ≡ true → covers d x z ≡ true → covers d r z ≡ true
 covers_on d r x z g h =
     let a = covers_parts d r x g in
     let b = covers_parts d x z h in
     covers_from d r z (like_swapped d x r z (like_swapped d r x r a.0 (like_same d r)) b.0) (omega (arith, a.1, b.1))
-
-pub covered_on : (d : Detail) (rows : List Access) (x z : Access) → is_covered d rows x ≡ true → covers d x z ≡ true → is_covered d rows z ≡ true
-covered_on d rows x z there c = any_from (λ r. covers d r x) (λ r. covers d r z) rows (λ r h. covers_on d r x z h c) there
-
--- what the first ones and one more stand for, the new ones do
-pub one_more_covered : (d : Detail) (first rows : List Access) (x z : Access)
-    → (is_covered d first z ≡ true → is_covered d rows z ≡ true) → is_covered d rows x ≡ true
-    → is_covered d (first ++ x ∷ []) z ≡ true → is_covered d rows z ≡ true
-one_more_covered d first rows x z before there h =
-    of (or_cases (is_covered d first z) (covers d x z || false) (sym (list_any-append (λ r. covers d r z) first (x ∷ [])) ∙ h))
-  where
-    of : (is_covered d first z ≡ true) ⊎ ((covers d x z || false) ≡ true) → is_covered d rows z ≡ true
-    of (inl e) = before e
-    of (inr e) = last (or_cases (covers d x z) false e)
-      where
-        last : (covers d x z ≡ true) ⊎ (false ≡ true) → is_covered d rows z ≡ true
-        last (inl g) = covered_on d rows x z there g
-        last (inr g) = absurd (false≢true g)

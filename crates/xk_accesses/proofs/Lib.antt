@@ -1,0 +1,2 @@
+pub mod AccessLemmas
+pub mod GroupLemmas
