@@ -30,7 +30,7 @@ returns-in-Check-clause-fault g c =
     against_refused (task_of c.args.job.now) c.args.bytes.now (g.L.Source.remaining c.args.log_in.now) _ _ Check c.checked.result (ap doing_of c.in-Check.is) refl c.in_ok-module.ensures.module c.checked.ensures.fault
 
 pub unreachable-requires : goal.unreachable-requires
-unreachable-requires g c = c.requires c.in-Explain.json (ap doing_of c.in-Explain.is)
+unreachable-requires g c = c.requires.by_line c.in-Explain.json (ap doing_of c.in-Explain.is)
 
 pub returns-in-Listing-clause-done : goal.returns-in-Listing-clause-done
 returns-in-Listing-clause-done g c =
