@@ -1,5 +1,5 @@
 -- Small inputs, and what is played and told.
-use Rattle.std.proofs.Common.{◌≡◌, ℕ, pos, List, [], ◌∷◌, refl, Some, None}
+use Rattle.std.proofs.Common.{◌≡◌, ℕ, pos, List, [], ◌∷◌, true, false, refl, Some, None}
 use Rattle.std.specs.Prelude.{codes}
 use Rattle.std.specs.Fmt.{digits}
 use Rattle.xk_types.specs.declared.instr.Instr.TheVariants as instr
@@ -10,7 +10,7 @@ use Rattle.xk_types.specs.Schedule.{printed}
 use Rattle.xk_types.proofs.Examples.Notation.{main_with, body_with, module_with}
 use Rattle.xk_events.specs.Events.{no_text}
 use Rattle.xk_ask.specs.Answers.{answers}
-use Rattle.xk_ask.specs.Play.{act_line, played, question, told}
+use Rattle.xk_ask.specs.Play.{act_line, played, question, told, unread}
 
 -- ---- lines
 
@@ -60,3 +60,12 @@ none_behind = refl
 two_early : played two (answers (codes "0\n0\n")) (opening two []) ≡ 0 ∷ 0 ∷ 0 ∷ []
 unfolding total_within
 two_early = refl
+
+-- what stands behind the last answer that is looked at isn't read
+two_left : unread two [] true (codes "0\n1\n1\n0\n0\n7\nx") ≡ codes "7\nx"
+unfolding total_within
+two_left = refl
+
+-- where the run doesn't come to its end all is, also what no line feed ends
+none_left : unread two [] false (codes "0\n0\n1") ≡ []
+none_left = refl

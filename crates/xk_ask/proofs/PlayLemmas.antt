@@ -1,6 +1,7 @@
 -- Runs by answers, answer by answer.
-use Rattle.std.proofs.Common.{◌≡◌, ◌∙◌, ℕ, ℤ, ◌⊎◌, inl, inr, true, false, List, [], ◌∷◌, ◌++◌, refl, sym, ap, subst, append_assoc, append-nil, Option, Some, None, Result, Ok, Err, arith}
-use Rattle.std.specs.Prelude.{⊤, Bool, length, map, take, option_map, IfNone, IfSome, IsErr, OnOk, if◌then◌else◌}
+use Rattle.std.proofs.Common.{◌≡◌, ◌∙◌, ℕ, ℤ, ◌⊎◌, inl, inr, true, false, List, [], ◌∷◌, ◌++◌, refl, sym, ap, subst, append_assoc, append-nil, suc, Option, Some, None, Result, Ok, Err, arith}
+use Rattle.std.specs.Prelude.{⊤, Bool, drop, length, map, take, option_map, IfNone, IfSome, IsErr, OnOk, if◌then◌else◌}
+use Rattle.std.specs.Io.BufRead.{drop_through}
 use Rattle.std.specs.Io.KnownBytes.{Appends}
 use Rattle.std.proofs.KnownBytes.{Appends-nil}
 use Rattle.std.proofs.Math.Seq.{take-length}
@@ -16,9 +17,10 @@ use Rattle.xk_scheduler.proofs.EnabledSetLemmas.{going}
 use Rattle.xk_log.specs.Writing.{AppendsBeginning}
 use Rattle.xk_log.proofs.DeviceLemmas.{appends_then, beginning_more, beginning_then}
 use Rattle.xk_events.specs.Events.{PlacesValue}
-use Rattle.xk_ask.specs.Answers.{answers, most_bytes}
-use Rattle.xk_ask.specs.Asking.{TakesAnswer, to_come}
-use Rattle.xk_ask.specs.Play.{behind, picked, played, played_log, question, said, taken, told, told_text}
+use Rattle.xk_ask.specs.Answers.{answers, answers_read, behind_lines, most_bytes}
+use Rattle.xk_ask.specs.Asking.{BeginsByAnswers, BeginsSome, EndAlike, FollowsSome, IsByAnswers, Leaves, TakesAnswer, TakesLine, to_come}
+use Rattle.xk_ask.specs.Play.{behind, looked_at, picked, played, played_log, question, said, taken, told, told_by, told_text, unread, unread_from}
+use Rattle.xk_ask.proofs.LineLemmas.{passing_stops}
 
 -- ---- where all have ended
 
@@ -117,6 +119,62 @@ on_ends p m xs w log err ys v more later i ends =
     none_left (inl over) = (played_over m ys v over, told_over p m ys v over)
     none_left (inr is) = (ap (λ l. played m l v) is, ap (λ l. told p m l v) is)
 
+-- ---- by some answers
+
+-- Some answers were followed, whatever the input: any that come behind them go on from here.
+pub record IsBySome (p : PlacesValue) (m : ModuleValue) (w : World) (log : List Entry) (err : Option (List ℕ))
+    (v : World) (more : List Entry) (later : Option (List ℕ)) : Type 0 where
+  pub followed : List (Option ℕ)
+  pub on : (ys : List (Option ℕ)) → IsOn p m (followed ++ ys) w log err ys v more later
+
+by_none : (p : PlacesValue) (m : ModuleValue) (w : World) (log : List Entry) (err : Option (List ℕ)) → IsBySome p m w log err w log err
+by_none p m w log err = record { followed = []; on = λ ys. on_starts p m ys w log err }
+
+by_one_more : (p : PlacesValue) (m : ModuleValue) (w : World) (log : List Entry) (err : Option (List ℕ)) (x : Option ℕ) (v u : World)
+    (more next : List Entry) (later last : Option (List ℕ))
+    → IsBySome p m w log err v more later → all_ended v ≡ false → u ≡ behind m v (picked m v x)
+    → next ≡ more ++ map one_step_of (taken m v (picked m v x)) → Appends later last (said p m v (picked m v x)) → IsBySome p m w log err u next last
+by_one_more p m w log err x v u more next later last i goes led grown wrote = record {
+  followed = i.followed ++ x ∷ [];
+  on = λ ys. subst (λ l. IsOn p m l w log err ys u next last) (sym (append_assoc i.followed (x ∷ []) ys))
+      (on_more p m (i.followed ++ x ∷ ys) w log err x (x ∷ ys) ys v u more next later last (i.on (x ∷ ys)) refl goes led grown wrote);
+}
+
+-- ---- the bytes that are left
+
+-- What stands behind the answers that are looked at from this world on is what stood behind those from the first, and so does what may not be read.
+abbrev pub AreLeft : ModuleValue → World → ℕ → Option (List ℕ) → World → ℕ → Option (List ℕ) → Type 0
+AreLeft m w n None v k now = ⊤
+AreLeft m w n (Some text) v k None = ⊥
+AreLeft m w n (Some text) v k (Some rest) =
+    behind_lines (looked_at m (answers (take k rest)) v) rest ≡ behind_lines (looked_at m (answers (take n text)) w) text
+
+left_first : (m : ModuleValue) (w : World) (n : ℕ) (known : Option (List ℕ)) → AreLeft m w n known w n known
+left_first m w n None = tt
+left_first m w n (Some text) = refl
+
+left_more : (m : ModuleValue) (w v u : World) (x : Option ℕ) (n k j : ℕ) (first now next : Option (List ℕ)) → AreLeft m w n first v k now
+    → TakesAnswer x (to_come k now) (to_come j next) → Leaves (drop_through 10) now next → all_ended v ≡ false → u ≡ behind m v (picked m v x)
+    → AreLeft m w n first u j next
+left_more m w v u x n k j None now next are takes line goes led = tt
+left_more m w v u x n k j (Some text) None next are takes line goes led = absurd are
+left_more m w v u x n k j (Some text) (Some rest) None are takes line goes led = absurd line
+left_more m w v u x n k j (Some text) (Some rest) (Some more) are takes line goes led =
+    let one : looked_at m (answers (take k rest)) v ≡ suc (looked_at m (answers (take j more)) u) =
+    ap (λ l. looked_at m l v) takes ∙ cond-false (all_ended v) _ _ goes ∙ ap (λ z. suc (looked_at m (answers (take j more)) z)) (sym led) in
+    ap (behind_lines (looked_at m (answers (take j more)) u)) line ∙ sym (ap (λ c. behind_lines c rest) one) ∙ are
+
+looked_over : (m : ModuleValue) (xs : List (Option ℕ)) (v : World) → all_ended v ≡ true → looked_at m xs v ≡ 0
+looked_over m [] v over = refl
+looked_over m (x ∷ xs) v over = cond-true (all_ended v) _ _ over
+
+left_ended : (m : ModuleValue) (w v : World) (k : ℕ) (first now : Option (List ℕ)) → AreLeft m w most_bytes first v k now → all_ended v ≡ true
+    → Leaves (unread_from m w true) first now
+left_ended m w v k None now are over = tt
+left_ended m w v k (Some text) None are over = absurd are
+left_ended m w v k (Some text) (Some rest) are over =
+    sym (ap (λ c. behind_lines c rest) (looked_over m (answers (take k rest)) v over)) ∙ are
+
 -- ---- by the bytes that are known
 
 abbrev pub AreOn : PlacesValue → ModuleValue → World → List Entry → Option (List ℕ) → Option (List ℕ) → World → List Entry → Option (List ℕ) → Option (List ℕ) → Type 0
@@ -130,6 +188,7 @@ pub record IsPlaying (p : PlacesValue) (first : CoreValue) (log : List Entry) (e
     (c : CoreValue) (more : List Entry) (later now : Option (List ℕ)) : Type 0 where
   pub same_module : c.module_run ≡ first.module_run
   pub same_arguments : c.world.arguments ≡ first.world.arguments
+  pub some : IsBySome p first.module_run first.world log err c.world more later
   pub on : AreOn p first.module_run first.world log err text c.world more later now
 
 are_on_first : (p : PlacesValue) (m : ModuleValue) (w : World) (log : List Entry) (err text : Option (List ℕ)) → AreOn p m w log err text w log err text
@@ -137,7 +196,12 @@ are_on_first p m w log err None = tt
 are_on_first p m w log err (Some text) = on_starts p m (answers text) w log err
 
 pub playing_starts : (p : PlacesValue) (c : CoreValue) (log : List Entry) (err text : Option (List ℕ)) → IsPlaying p c log err text c log err text
-playing_starts p c log err text = record { same_module = refl; same_arguments = refl; on = are_on_first p c.module_run c.world log err text }
+playing_starts p c log err text = record {
+  same_module = refl;
+  same_arguments = refl;
+  some = by_none p c.module_run c.world log err;
+  on = are_on_first p c.module_run c.world log err text;
+}
 
 are_on_more : (p : PlacesValue) (m : ModuleValue) (w : World) (log : List Entry) (err text : Option (List ℕ)) (x : Option ℕ) (v u : World)
     (more longer : List Entry) (later last now next : Option (List ℕ))
@@ -156,14 +220,19 @@ pub playing_on : (p : PlacesValue) (first : CoreValue) (log : List Entry) (err t
     → d.module_run ≡ c.module_run → d.world.arguments ≡ c.world.arguments → d.world ≡ behind c.module_run c.world (picked c.module_run c.world x)
     → longer ≡ more ++ map one_step_of (taken c.module_run c.world (picked c.module_run c.world x))
     → Appends later last (said p c.module_run c.world (picked c.module_run c.world x)) → IsPlaying p first log err text d longer last next
-playing_on p first log err text x c d more longer later last now next i takes goes same given led grown wrote = record {
-  same_module = same ∙ i.same_module;
-  same_arguments = given ∙ i.same_arguments;
-  on = are_on_more p first.module_run first.world log err text x c.world d.world more longer later last now next i.on takes goes
-      (subst (λ k. d.world ≡ behind k c.world (picked k c.world x)) i.same_module led)
-      (subst (λ k. longer ≡ more ++ map one_step_of (taken k c.world (picked k c.world x))) i.same_module grown)
-      (subst (λ k. Appends later last (said p k c.world (picked k c.world x))) i.same_module wrote);
-}
+playing_on p first log err text x c d more longer later last now next i takes goes same given led grown wrote =
+    let m = first.module_run in
+    let to : d.world ≡ behind m c.world (picked m c.world x) = subst (λ k. d.world ≡ behind k c.world (picked k c.world x)) i.same_module led in
+    let entries : longer ≡ more ++ map one_step_of (taken m c.world (picked m c.world x)) =
+    subst (λ k. longer ≡ more ++ map one_step_of (taken k c.world (picked k c.world x))) i.same_module grown in
+    let words : Appends later last (said p m c.world (picked m c.world x)) =
+    subst (λ k. Appends later last (said p k c.world (picked k c.world x))) i.same_module wrote in
+    record {
+      same_module = same ∙ i.same_module;
+      same_arguments = given ∙ i.same_arguments;
+      some = by_one_more p m first.world log err x c.world d.world more longer later last i.some goes to entries words;
+      on = are_on_more p m first.world log err text x c.world d.world more longer later last now next i.on takes goes to entries words;
+    }
 
 are_on_breaks : (p : PlacesValue) (m : ModuleValue) (w : World) (log : List Entry) (err text : Option (List ℕ)) (x : Option ℕ) (v : World)
     (more : List Entry) (later last now next : Option (List ℕ))
@@ -185,6 +254,19 @@ playing_breaks p first log err text x c more later last now next i takes goes wr
     are_on_breaks p first.module_run first.world log err text x c.world more later last now next i.on takes goes
     (subst (λ k. AppendsBeginning later last (said p k c.world (picked k c.world x))) i.same_module wrote)
 
+-- so it is by some answers
+pub playing_breaks_some : (p : PlacesValue) (first : CoreValue) (log : List Entry) (err text : Option (List ℕ)) (x : Option ℕ) (c : CoreValue)
+    (more : List Entry) (later last now : Option (List ℕ))
+    → IsPlaying p first log err text c more later now → all_ended c.world ≡ false
+    → AppendsBeginning later last (said p c.module_run c.world (picked c.module_run c.world x))
+    → BeginsSome (λ xs. told p first.module_run xs first.world) err last
+playing_breaks_some p first log err text x c more later last now i goes wrote =
+    let s = i.some in (
+      s.followed ++ x ∷ [],
+      on_breaks p first.module_run (s.followed ++ x ∷ []) first.world log err x (x ∷ []) [] c.world more later last (s.on (x ∷ [])) refl goes
+          (subst (λ k. AppendsBeginning later last (said p k c.world (picked k c.world x))) i.same_module wrote),
+    )
+
 are_on_stops : (p : PlacesValue) (m : ModuleValue) (w : World) (log : List Entry) (err text : Option (List ℕ)) (v : World)
     (more : List Entry) (later now : Option (List ℕ))
     → AreOn p m w log err text v more later now → IfSome text (λ t. AppendsBeginning err later (told p m (answers t) w))
@@ -197,6 +279,23 @@ pub playing_stops : (p : PlacesValue) (first : CoreValue) (log : List Entry) (er
     (more : List Entry) (later now : Option (List ℕ))
     → IsPlaying p first log err text c more later now → IfSome text (λ t. AppendsBeginning err later (told p first.module_run (answers t) first.world))
 playing_stops p first log err text c more later now i = are_on_stops p first.module_run first.world log err text c.world more later now i.on
+
+pub playing_stops_some : (p : PlacesValue) (first : CoreValue) (log : List Entry) (err text : Option (List ℕ)) (c : CoreValue)
+    (more : List Entry) (later now : Option (List ℕ))
+    → IsPlaying p first log err text c more later now → BeginsSome (λ xs. told p first.module_run xs first.world) err later
+playing_stops_some p first log err text c more later now i =
+    let s = i.some in
+    (s.followed ++ [], on_stops p first.module_run (s.followed ++ []) first.world log err [] c.world more later (s.on []))
+
+-- whatever is known, what was played and told is so by some answers
+pub playing_some : (p : PlacesValue) (first : CoreValue) (log : List Entry) (err text : Option (List ℕ)) (c : CoreValue)
+    (more : List Entry) (later now : Option (List ℕ))
+    → IsPlaying p first log err text c more later now → FollowsSome first.module_run first.world log more
+    (λ xs. told p first.module_run xs first.world) err later
+playing_some p first log err text c more later now i =
+    let s = i.some in
+    let ends = on_ends p first.module_run (s.followed ++ []) first.world log err [] c.world more later (s.on []) (inr refl) in
+    (s.followed ++ [], ends.0, ends.1)
 
 -- it is played to the end, and all is told
 abbrev pub AreOut : PlacesValue → ModuleValue → World → List Entry → Option (List ℕ) → Option (List ℕ) → List Entry → Option (List ℕ) → Type 0
@@ -248,6 +347,19 @@ pub said_before : (a b c : Option (List ℕ)) (text : List ℕ) (known : Option 
 said_before a b c text None rest wrote then_all = tt
 said_before a b c text (Some t) rest wrote then_all = appends_then a b c text (rest t) wrote then_all
 
+-- the same by some answers
+pub some_before : (m : ModuleValue) (w : World) (log more : List Entry) (a b c : Option (List ℕ)) (text : List ℕ) (rest : List (Option ℕ) → List ℕ)
+    → Appends a b text → FollowsSome m w log more rest b c → FollowsSome m w log more (λ xs. text ++ rest xs) a c
+some_before m w log more a b c text rest wrote s = (s.0, s.1, appends_then a b c text (rest s.0) wrote s.2)
+
+pub begun_some_before : (a b c : Option (List ℕ)) (text : List ℕ) (rest : List (Option ℕ) → List ℕ)
+    → Appends a b text → BeginsSome rest b c → BeginsSome (λ xs. text ++ rest xs) a c
+begun_some_before a b c text rest wrote s = (s.0, beginning_then a b c text (rest s.0) wrote s.1)
+
+pub begun_some_early : (a b : Option (List ℕ)) (text : List ℕ) (rest : List (Option ℕ) → List ℕ)
+    → AppendsBeginning a b text → BeginsSome (λ xs. text ++ rest xs) a b
+begun_some_early a b text rest begins = ([], beginning_more a b text (rest []) begins)
+
 pub begun_before : (a b c : Option (List ℕ)) (text : List ℕ) (known : Option (List ℕ)) (rest : List ℕ → List ℕ)
     → Appends a b text → IfSome known (λ t. AppendsBeginning b c (rest t)) → IfSome known (λ t. AppendsBeginning a c (text ++ rest t))
 begun_before a b c text None rest wrote begins = tt
@@ -263,6 +375,58 @@ begun_early a b text (Some t) rest begins = beginning_more a b text (rest t) beg
 pub of_known : (n : ℕ) (known : Option (List ℕ)) (P : List ℕ → Type 0) → IfSome (option_map (take n) known) P → IfSome known (λ t. P (take n t))
 of_known n None P h = tt
 of_known n (Some t) P h = h
+
+-- ---- what is left of the input
+
+-- bytes were read up to the line of an answer that was followed
+pub record IsUsing (m : ModuleValue) (w : World) (first : Option (List ℕ)) (v : World) (k : ℕ) (now : Option (List ℕ)) : Type 0 where
+  pub left : AreLeft m w most_bytes first v k now
+  pub alike : EndAlike most_bytes first k now
+
+alike_first : (n : ℕ) (known : Option (List ℕ)) → EndAlike n known n known
+alike_first n None = tt
+alike_first n (Some text) = refl
+
+pub using_starts : (m : ModuleValue) (w : World) (known : Option (List ℕ)) → IsUsing m w known w most_bytes known
+using_starts m w known = record { left = left_first m w most_bytes known; alike = alike_first most_bytes known }
+
+alike_then : (n k j : ℕ) (a b c : Option (List ℕ)) → EndAlike n a k b → EndAlike k b j c → EndAlike n a j c
+alike_then n k j None b c e f = tt
+alike_then n k j (Some x) None c e f = absurd e
+alike_then n k j (Some x) (Some y) None e f = absurd f
+alike_then n k j (Some x) (Some y) (Some z) e f = f ∙ e
+
+-- one answer more
+pub using_on : (m : ModuleValue) (w : World) (c d : CoreValue) (x : Option ℕ) (k j : ℕ) (first now next : Option (List ℕ))
+    → IsUsing m w first c.world k now → c.module_run ≡ m → TakesAnswer x (to_come k now) (to_come j next) → TakesLine k now j next → all_ended c.world ≡ false
+    → d.world ≡ behind c.module_run c.world (picked c.module_run c.world x) → IsUsing m w first d.world j next
+using_on m w c d x k j first now next i same takes line goes led = record {
+  left = left_more m w c.world d.world x most_bytes k j first now next i.left takes line.0 goes
+      (subst (λ q. d.world ≡ behind q c.world (picked q c.world x)) same led);
+  alike = alike_then most_bytes k j first now next i.alike line.1;
+}
+
+using_out : (m : ModuleValue) (w v : World) (b : Bool) (k : ℕ) (first now next : Option (List ℕ)) → IsUsing m w first v k now → all_ended v ≡ b
+    → (b ≡ true → next ≡ now) → (b ≡ false → Leaves (drop k) now next) → Leaves (unread_from m w b) first next
+using_out m w v true k first now next i is same rest =
+    subst (Leaves (unread_from m w true) first) (sym (same refl)) (left_ended m w v k first now i.left is)
+using_out m w v false k first now next i is same rest = unread_whole first next (passing_stops most_bytes k first now next i.alike (rest refl))
+  where
+    unread_whole : (a b : Option (List ℕ)) → Leaves (drop most_bytes) a b → Leaves (unread_from m w false) a b
+    unread_whole None b l = tt
+    unread_whole (Some text) None l = absurd l
+    unread_whole (Some text) (Some left) l = l
+
+-- no answer is wanted, and no byte was read; or none comes, and all were
+pub using_ends : (m : ModuleValue) (w : World) (c d : CoreValue) (k : ℕ) (first now next : Option (List ℕ)) (o : Option (Option ℕ))
+    → IsUsing m w first c.world k now → d ≡ c → ((x : Option ℕ) → o ≡ Some x → ⊥)
+    → (all_ended d.world ≡ true → next ≡ now) → IfNone o (all_ended d.world ≡ false → Leaves (drop k) now next)
+    → Leaves (unread_from m w (all_ended c.world)) first next
+using_ends m w c d k first now next (Some x) i is none same rest = absurd (none x refl)
+using_ends m w c d k first now next None i is none same rest =
+    using_out m w c.world (all_ended c.world) k first now next i refl
+    (subst (λ (z : CoreValue). all_ended z.world ≡ true → next ≡ now) is same)
+    (subst (λ (z : CoreValue). all_ended z.world ≡ false → Leaves (drop k) now next) is rest)
 
 -- ---- from the opening world
 
@@ -288,3 +452,53 @@ pub opened_text : (Q : List ℕ → Type 0) (p : PlacesValue) (m : ModuleValue) 
 opened_text Q p m args d known start h =
     of_known most_bytes known (λ t. Q (question p m (opening m args) ++ told p m (answers t) (opening m args)))
     (subst (λ (x : CoreValue). IfSome (to_come most_bytes known) (λ t. Q (question p x.module_run x.world ++ told p x.module_run (answers t) x.world))) start h)
+
+-- by the answers that are known, or by some
+by_answers : (p : PlacesValue) (m : ModuleValue) (args : List ℤ) (input : Option (List ℕ)) (log : List Entry) (old new : Option (List ℕ))
+    → IfSome input (λ t. log ≡ played_log m args t) → IfSome input (λ t. Appends old new (told_text p m args t))
+    → FollowsSome m (opening m args) [] log (told_by p m args) old new → IsByAnswers p m args input log old new
+by_answers p m args None log old new logged wrote some = (some.0, tt, some.1, some.2)
+by_answers p m args (Some t) log old new logged wrote some = (answers_read t, refl, logged, wrote)
+
+pub opened_by : (p : PlacesValue) (m : ModuleValue) (args : List ℤ) (d : CoreValue) (input : Option (List ℕ)) (before log result : List Entry)
+    (old new : Option (List ℕ))
+    → d ≡ opening_core m args → before ≡ [] → result ≡ log
+    → IfSome input (λ t. result ≡ played_log m args t) → IfSome input (λ t. Appends old new (told_text p m args t))
+    → FollowsSome d.module_run d.world before log (λ xs. question p d.module_run d.world ++ told p d.module_run xs d.world) old new
+    → IsByAnswers p m args input result old new
+opened_by p m args d input before log result old new start empty is logged wrote some =
+    by_answers p m args input result old new logged wrote
+    (subst (λ (l : List Entry). FollowsSome m (opening m args) [] l (told_by p m args) old new) (sym is)
+    (subst (λ (l : List Entry). FollowsSome m (opening m args) l log (told_by p m args) old new) empty
+    (subst (λ (x : CoreValue). FollowsSome x.module_run x.world before log
+    (λ xs. question p x.module_run x.world ++ told p x.module_run xs x.world) old new) start some)))
+
+begins_by : (p : PlacesValue) (m : ModuleValue) (args : List ℤ) (input old new : Option (List ℕ))
+    → IfSome input (λ t. AppendsBeginning old new (told_text p m args t))
+    → BeginsSome (told_by p m args) old new → BeginsByAnswers p m args input old new
+begins_by p m args None old new known some = (some.0, tt, some.1)
+begins_by p m args (Some t) old new known some = (answers_read t, refl, known)
+
+pub opened_begins : (p : PlacesValue) (m : ModuleValue) (args : List ℤ) (d : CoreValue) (input old new : Option (List ℕ)) → d ≡ opening_core m args
+    → IfSome input (λ t. AppendsBeginning old new (told_text p m args t))
+    → BeginsSome (λ xs. question p d.module_run d.world ++ told p d.module_run xs d.world) old new → BeginsByAnswers p m args input old new
+opened_begins p m args d input old new start known some =
+    begins_by p m args input old new known
+    (subst (λ (x : CoreValue). BeginsSome (λ xs. question p x.module_run x.world ++ told p x.module_run xs x.world) old new) start some)
+
+-- nothing was written, before any was read
+pub nothing_begun_by : (p : PlacesValue) (m : ModuleValue) (args : List ℤ) (input a : Option (List ℕ)) → BeginsByAnswers p m args input a a
+nothing_begun_by p m args None a = ([], tt, (0, Appends-nil a))
+nothing_begun_by p m args (Some t) a = (answers_read t, refl, (0, Appends-nil a))
+
+-- and what is left of the input
+pub opened_unread : (m : ModuleValue) (args : List ℤ) (d : CoreValue) (b whole : Bool) (old new : Option (List ℕ)) → d ≡ opening_core m args → whole ≡ b
+    → Leaves (unread_from d.module_run d.world b) old new → Leaves (unread m args whole) old new
+opened_unread m args d b whole old new start is l =
+    subst (λ z. Leaves (unread m args z) old new) (sym is)
+    (by old new (subst (λ (x : CoreValue). Leaves (unread_from x.module_run x.world b) old new) start l))
+  where
+    by : (old new : Option (List ℕ)) → Leaves (unread_from m (opening m args) b) old new → Leaves (unread m args b) old new
+    by None new h = tt
+    by (Some text) None h = absurd h
+    by (Some text) (Some left) h = h

@@ -1,5 +1,5 @@
 -- Turns, step by step.
-use Rattle.std.proofs.Common.{◌≡◌, ◌∙◌, ℕ, suc, ◌+◌, ◌-◌, ◌≤◌, Bool, true, false, List, [], ◌∷◌, ◌++◌, refl, sym, ap, subst, arith, append_assoc}
+use Rattle.std.proofs.Common.{◌≡◌, ◌∙◌, ℕ, suc, ◌+◌, ◌-◌, ◌≤◌, Bool, true, false, List, [], ◌∷◌, ◌++◌, sym, ap, subst, arith, append_assoc}
 use Rattle.std.specs.Prelude.{map, if◌then◌else◌}
 use Rattle.std.proofs.lemmas.Bool.{and_parts, cond-true, cond-false}
 use Rattle.xk_types.specs.declared.world.Entry.{Entry}
@@ -26,10 +26,6 @@ pub record IsTurning (a : ℕ) (first : CoreValue) (log : List Entry) (c : CoreV
   pub able : is_enabled first.module_run c.world a ≡ true
   pub led : run first.module_run (turn first.module_run a c.world) c.world ≡ run first.module_run (turn first.module_run a first.world) first.world
   pub logged : more ++ map one_step_of (turn first.module_run a c.world) ≡ log ++ map one_step_of (turn first.module_run a first.world)
-
--- none was taken yet
-pub turning_starts : (a : ℕ) (c : CoreValue) (log : List Entry) → is_enabled c.module_run c.world a ≡ true → IsTurning a c log c log
-turning_starts a c log able = record { same_module = refl; able = able; led = refl; logged = refl }
 
 -- a step was taken, and the turn goes on
 pub turning_on : (a : ℕ) (first c d : CoreValue) (log more next : List Entry) (b : Bool) → b ≡ true → IsTurning a first log c more

@@ -1,6 +1,7 @@
 -- Answers: the lines of a text, and whom each names. This project's own.
-use Rattle.std.specs.Prelude.{ℕ, ◌-◌, ◌^◌, ◌==◌, nat_lt, Bool, ◌||◌, List, [], ◌∷◌, ◌++◌, map, take, Option, Some, None, if◌then◌else◌}
+use Rattle.std.specs.Prelude.{◌≡◌, ℕ, zero, suc, ◌-◌, ◌^◌, ◌==◌, nat_lt, Bool, ◌||◌, List, [], ◌∷◌, ◌++◌, map, take, Option, Some, None, IfSome, if◌then◌else◌}
 use Rattle.std.specs.Char.{is_ascii_digit}
+use Rattle.std.specs.Io.BufRead.{drop_through}
 use Rattle.xk_log.specs.Numbers.{with_digit}
 
 -- ---- lines
@@ -12,6 +13,11 @@ lines_from line (b ∷ bs) = if b == 10 then line ∷ lines_from [] bs else line
 
 abbrev pub lines_of : List ℕ → List (List ℕ)
 lines_of text = lines_from [] text
+
+-- what stands behind so many lines of a text
+abbrev pub behind_lines : ℕ → List ℕ → List ℕ
+behind_lines zero text = text
+behind_lines (suc n) text = behind_lines n (drop_through 10 text)
 
 -- ---- numbers
 
@@ -49,3 +55,7 @@ most_bytes = 2 ^ 64 - 1
 -- whom each line names of a text that is read
 abbrev pub answers_read : List ℕ → List (Option ℕ)
 answers_read text = answers (take most_bytes text)
+
+-- these are the answers in the input, where its bytes are known
+abbrev pub AreAnswers : Option (List ℕ) → List (Option ℕ) → Type 0
+AreAnswers input xs = IfSome input (λ bytes. xs ≡ answers_read bytes)

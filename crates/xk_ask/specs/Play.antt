@@ -1,6 +1,6 @@
 -- Runs in which a person names who takes the next steps, and what is asked. X10 Language Specification 2.4, chapter Activities, Spawning an activity, leaves
 -- the order of steps open; that somebody is asked for it, and how, is this project's own.
-use Rattle.std.specs.Prelude.{◌≡◌, ℕ, zero, suc, ℤ, ◌-◌, Bool, ◌&&◌, List, [], ◌∷◌, ◌++◌, map, flat_map, Option, Some, None, codes, decimal, if◌then◌else◌}
+use Rattle.std.specs.Prelude.{◌≡◌, ℕ, zero, suc, ℤ, ◌-◌, Bool, ◌&&◌, List, [], ◌∷◌, ◌++◌, drop, map, flat_map, Option, Some, None, codes, decimal, if◌then◌else◌}
 use Rattle.xk_types.specs.declared.world.Entry.{Entry}
 use Rattle.xk_types.specs.declared.world.Event.{Event}
 use Rattle.xk_types.specs.Code.{ModuleValue}
@@ -12,7 +12,7 @@ use Rattle.xk_types.specs.Logs.{schedule_of, one_step_of}
 use Rattle.xk_activity.specs.Activities.{act_at}
 use Rattle.xk_scheduler.specs.Choosers.{enabled_in}
 use Rattle.xk_events.specs.Events.{PlacesValue, origin_of, place_words}
-use Rattle.xk_ask.specs.Answers.{answers_read}
+use Rattle.xk_ask.specs.Answers.{answers_read, behind_lines, most_bytes}
 
 -- ---- a turn
 
@@ -67,6 +67,11 @@ abbrev pub played : ModuleValue → List (Option ℕ) → World → List ℕ
 played m [] w = []
 played m (x ∷ xs) w = taken m w (picked m w x) ++ played m xs (behind m w (picked m w x))
 
+-- how many of these answers are looked at, from this world on: all, or those up to the end of the run
+abbrev pub looked_at : ModuleValue → List (Option ℕ) → World → ℕ
+looked_at m [] w = 0
+looked_at m (x ∷ xs) w = if all_ended w then 0 else suc (looked_at m xs (behind m w (picked m w x)))
+
 -- ---- what is asked
 
 -- an activity, and where it is, as `where` tells it: `act 0 at 8:13`
@@ -102,15 +107,33 @@ told p m [] w = []
 told p m (x ∷ xs) w =
     if all_ended w then [] else said p m w (picked m w x) ++ told p m xs (behind m w (picked m w x))
 
--- ---- by the bytes of the input
+-- ---- by answers
 
--- the log of the run by the answers in these bytes, where main is given these numbers: an entry for each step
-abbrev pub played_log : ModuleValue → List ℤ → List ℕ → List Entry
-played_log m args text = map one_step_of (played m (answers_read text) (opening m args))
+-- the log of the run by these answers, where main is given these numbers: an entry for each step
+abbrev pub log_by : ModuleValue → List ℤ → List (Option ℕ) → List Entry
+log_by m args xs = map one_step_of (played m xs (opening m args))
 
 -- all that is asked and said
+abbrev pub told_by : PlacesValue → ModuleValue → List ℤ → List (Option ℕ) → List ℕ
+told_by p m args xs = question p m (opening m args) ++ told p m xs (opening m args)
+
+-- ---- by the bytes of the input
+
+-- the same by the answers in these bytes
+abbrev pub played_log : ModuleValue → List ℤ → List ℕ → List Entry
+played_log m args text = log_by m args (answers_read text)
+
 abbrev pub told_text : PlacesValue → ModuleValue → List ℤ → List ℕ → List ℕ
-told_text p m args text = question p m (opening m args) ++ told p m (answers_read text) (opening m args)
+told_text p m args text = told_by p m args (answers_read text)
+
+-- Which bytes aren't read, where a run from this world comes to its end or doesn't: those behind the line of the last answer that is looked at; or none,
+-- but those behind as many as are read at most.
+abbrev pub unread_from : ModuleValue → World → Bool → List ℕ → List ℕ
+unread_from m w whole text = if whole then behind_lines (looked_at m (answers_read text) w) text else drop most_bytes text
+
+-- the same of a run in which main is given these numbers
+abbrev pub unread : ModuleValue → List ℤ → Bool → List ℕ → List ℕ
+unread m args whole text = unread_from m (opening m args) whole text
 
 -- The entries stand for a legal schedule of the module with these arguments, which prints these numbers and takes so many steps. It is whole if all have ended.
 pub record IsPlayed (m : ModuleValue) (args : List ℤ) (log : List Entry) (numbers : List ℤ) (steps : ℕ) (whole : Bool) : Type 0 where

@@ -1,10 +1,10 @@
 //! Reading answers.
 
-ghost use Rattle.std.specs.Prelude.{◌≡◌, ◌+◌, ◌<◌, ◌∷◌, [], IfNone, IfOk, IfSome, OnErr, OnOk};
+ghost use Rattle.std.specs.Prelude.{◌≡◌, ◌+◌, ◌<◌, ◌∷◌, [], drop, IfNone, IfOk, IfSome, OnErr, OnOk};
 ghost use Rattle.std.specs.Io.KnownBytes.{Consumes, IsAtEnd};
 ghost use Rattle.xk_types.specs.Device.{Rose};
 ghost use Rattle.xk_ask.specs.Answers.{answers};
-ghost use Rattle.xk_ask.specs.Asking.{TakesAnswer, to_come};
+ghost use Rattle.xk_ask.specs.Asking.{Leaves, TakesAnswer, TakesLine, to_come};
 
 use crate::line::Line;
 use xk_log::Device;
@@ -16,8 +16,12 @@ fn next_byte<R: Source>(source: &mut R, left: &mut u64) -> Result<Option<u8>, De
         Consumes (to_come left.old (R.remaining source.old))
         (to_come left.new (R.remaining source.new)) (b ∷ []))) }
     ensures fewer { IfOk result (λ o. IfSome o (λ _. left.old ≡ left.new + 1)) }
+    ensures one { IfOk result (λ o. IfSome o (λ b.
+        Consumes (R.remaining source.old) (R.remaining source.new) (b ∷ []))) }
     ensures none { IfOk result (λ o. IfNone o
         (IsAtEnd (to_come left.old (R.remaining source.old)))) }
+    ensures rest { IfOk result (λ o. IfNone o
+        (Leaves (drop left.old) (R.remaining source.old) (R.remaining source.new))) }
     ensures no_fault { OnOk result (R.fault_count source.new ≡ R.fault_count source.old) }
     ensures failed { OnErr result
         (Rose (R.fault_count source.old) (R.fault_count source.new)) }
@@ -43,8 +47,12 @@ pub(crate) fn next_answer<R: Source>(
         TakesAnswer x (to_come left.old (R.remaining source.old))
         (to_come left.new (R.remaining source.new)))) }
     ensures fewer { IfOk result (λ o. IfSome o (λ _. left.new < left.old)) }
+    ensures line { IfOk result (λ o. IfSome o (λ _. TakesLine
+        left.old (R.remaining source.old) left.new (R.remaining source.new))) }
     ensures none { IfOk result (λ o. IfNone o
         (IfSome (to_come left.old (R.remaining source.old)) (λ text. answers text ≡ []))) }
+    ensures rest { IfOk result (λ o. IfNone o
+        (Leaves (drop left.old) (R.remaining source.old) (R.remaining source.new))) }
     ensures no_fault { OnOk result (R.fault_count source.new ≡ R.fault_count source.old) }
     ensures failed { OnErr result
         (Rose (R.fault_count source.old) (R.fault_count source.new)) }

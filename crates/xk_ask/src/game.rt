@@ -1,6 +1,6 @@
 //! A run whose steps are asked for.
 
-ghost use Rattle.std.specs.Prelude.{◌≡◌, ◌<◌, ◌⊎◌, ◌++◌, [], false, true, map, IfErr, IfNone, IfOk, IfSome, OnErr, OnOk};
+ghost use Rattle.std.specs.Prelude.{◌≡◌, ◌<◌, ◌⊎◌, ◌++◌, [], false, true, drop, map, IfErr, IfNone, IfOk, IfSome, OnErr, OnOk};
 ghost use Rattle.std.specs.Io.KnownBytes.{Appends};
 ghost use Rattle.xk_types.specs.Device.{Rose};
 ghost use Rattle.xk_types.specs.World.{AreArguments};
@@ -9,8 +9,8 @@ ghost use Rattle.xk_types.specs.Schedule.{all_ended};
 ghost use Rattle.xk_log.specs.Writing.{AppendsBeginning};
 ghost use Rattle.xk_events.specs.Events.{no_text, places_of};
 ghost use Rattle.xk_ask.specs.Answers.{answers, most_bytes};
-ghost use Rattle.xk_ask.specs.Play.{IsPlayed, behind, picked, played, played_log, question, said, taken, told, told_text};
-ghost use Rattle.xk_ask.specs.Asking.{FailsToAsk, FailsToWrite, TakesAnswer, to_come};
+ghost use Rattle.xk_ask.specs.Play.{IsPlayed, behind, picked, played, played_log, question, said, taken, told, told_text, unread, unread_from};
+ghost use Rattle.xk_ask.specs.Asking.{BeginsByAnswers, BeginsSome, FailsToAsk, FailsToWrite, FollowsSome, IsByAnswers, Leaves, TakesAnswer, TakesLine, to_come};
 
 use crate::answers::next_answer;
 use crate::fault::AskFault;
@@ -107,9 +107,14 @@ fn awaited<R: Source>(
         TakesAnswer x (to_come left.old (R.remaining input.old))
         (to_come left.new (R.remaining input.new)))) }
     ensures fewer { IfOk result (λ o. IfSome o (λ _. left.new < left.old)) }
+    ensures line { IfOk result (λ o. IfSome o (λ _. TakesLine
+        left.old (R.remaining input.old) left.new (R.remaining input.new))) }
     ensures goes_on { IfOk result (λ o. IfSome o (λ _. all_ended core.now.world ≡ false)) }
     ensures none { IfOk result (λ o. IfNone o ((all_ended core.now.world ≡ true)
         ⊎ IfSome (to_come left.old (R.remaining input.old)) (λ text. answers text ≡ []))) }
+    ensures unread { all_ended core.now.world ≡ true → input.new ≡ input.old }
+    ensures rest { IfOk result (λ o. IfNone o (all_ended core.now.world ≡ false
+        → Leaves (drop left.old) (R.remaining input.old) (R.remaining input.new))) }
     ensures no_fault { OnOk result (R.fault_count input.new ≡ R.fault_count input.old) }
     ensures failed { OnErr result (Rose (R.fault_count input.old) (R.fault_count input.new)) }
 {
@@ -139,10 +144,19 @@ fn play_on<R: Source, E: Sink>(
     ensures begins { IfSome (to_come most_bytes (R.remaining input.old)) (λ text.
         AppendsBeginning (E.contents err.old) (E.contents err.new)
         (told places.now game.old.driver.module_run (answers text) game.old.driver.world)) }
+    ensures by_some { OnOk result (FollowsSome game.old.driver.module_run game.old.driver.world
+        game.old.log.items game.new.log.items
+        (λ xs. told places.now game.old.driver.module_run xs game.old.driver.world)
+        (E.contents err.old) (E.contents err.new)) }
+    ensures begins_some { BeginsSome
+        (λ xs. told places.now game.old.driver.module_run xs game.old.driver.world)
+        (E.contents err.old) (E.contents err.new) }
+    ensures unread { OnOk result (Leaves (unread_from game.old.driver.module_run
+        game.old.driver.world (all_ended game.new.driver.world))
+        (R.remaining input.old) (R.remaining input.new)) }
     ensures no_fault { OnOk result ((R.fault_count input.new ≡ R.fault_count input.old)
         × (E.fault_count err.new ≡ E.fault_count err.old)) }
-    ensures failed { IfErr result
-        (FailsToAsk (R.fault_count input.old) (R.fault_count input.new)
+    ensures failed { IfErr result (FailsToAsk (R.fault_count input.old) (R.fault_count input.new)
         (E.fault_count err.old) (E.fault_count err.new)) }
 {
     let mut left = u64::MAX;
@@ -174,10 +188,20 @@ fn play<R: Source, E: Sink>(
         AppendsBeginning (E.contents err.old) (E.contents err.new)
         (question places.now game.old.driver.module_run game.old.driver.world
         ++ told places.now game.old.driver.module_run (answers text) game.old.driver.world)) }
+    ensures by_some { OnOk result (FollowsSome game.old.driver.module_run game.old.driver.world
+        game.old.log.items game.new.log.items
+        (λ xs. question places.now game.old.driver.module_run game.old.driver.world
+        ++ told places.now game.old.driver.module_run xs game.old.driver.world)
+        (E.contents err.old) (E.contents err.new)) }
+    ensures begins_some { BeginsSome (λ xs. question places.now game.old.driver.module_run
+        game.old.driver.world ++ told places.now game.old.driver.module_run xs
+        game.old.driver.world) (E.contents err.old) (E.contents err.new) }
+    ensures unread { OnOk result (Leaves (unread_from game.old.driver.module_run
+        game.old.driver.world (all_ended game.new.driver.world))
+        (R.remaining input.old) (R.remaining input.new)) }
     ensures no_fault { OnOk result ((R.fault_count input.new ≡ R.fault_count input.old)
         × (E.fault_count err.new ≡ E.fault_count err.old)) }
-    ensures failed { IfErr result
-        (FailsToAsk (R.fault_count input.old) (R.fault_count input.new)
+    ensures failed { IfErr result (FailsToAsk (R.fault_count input.old) (R.fault_count input.new)
         (E.fault_count err.old) (E.fault_count err.new)) }
 {
     ask(alloc, places, game.driver.core(), err)?;
@@ -189,6 +213,7 @@ fn closed(game: Logged<'_>) -> Played
     ensures played { IsPlayed game.entry.driver.module_run game.entry.driver.world.arguments
         result.log.items result.printed.items result.steps result.whole }
     ensures log { result.log.items ≡ game.entry.log.items }
+    ensures whole { result.whole ≡ all_ended game.entry.driver.world }
 {
     let whole = game.driver.over();
     let core = game.driver.into_core();
@@ -220,10 +245,16 @@ fn play_whole<R: Source, E: Sink>(
     ensures begins { IfSome (R.remaining input.old) (λ text.
         AppendsBeginning (E.contents err.old) (E.contents err.new)
         (told_text places.now verified.now arguments.now text)) }
+    ensures by_answers { IfOk result (λ r. IsByAnswers places.now
+        verified.now arguments.now (R.remaining input.old) r.log.items
+        (E.contents err.old) (E.contents err.new)) }
+    ensures begins_by { BeginsByAnswers places.now verified.now arguments.now
+        (R.remaining input.old) (E.contents err.old) (E.contents err.new) }
+    ensures unread { IfOk result (λ r. Leaves (unread verified.now arguments.now r.whole)
+        (R.remaining input.old) (R.remaining input.new)) }
     ensures no_fault { OnOk result ((R.fault_count input.new ≡ R.fault_count input.old)
         × (E.fault_count err.new ≡ E.fault_count err.old)) }
-    ensures failed { IfErr result
-        (FailsToAsk (R.fault_count input.old) (R.fault_count input.new)
+    ensures failed { IfErr result (FailsToAsk (R.fault_count input.old) (R.fault_count input.new)
         (E.fault_count err.old) (E.fault_count err.new)) }
 {
     let core = Core::open(alloc, verified, arguments)?;
@@ -261,10 +292,16 @@ pub fn source_ask<R: Source, E: Sink>(
     ensures begins { IfSome (R.remaining input.old) (λ bytes.
         AppendsBeginning (E.contents err.old) (E.contents err.new)
         (told_text (places_of text.now origins.now) verified.now arguments.now bytes)) }
+    ensures by_answers { IfOk result (λ r. IsByAnswers (places_of text.now origins.now)
+        verified.now arguments.now (R.remaining input.old) r.log.items
+        (E.contents err.old) (E.contents err.new)) }
+    ensures begins_by { BeginsByAnswers (places_of text.now origins.now) verified.now arguments.now
+        (R.remaining input.old) (E.contents err.old) (E.contents err.new) }
+    ensures unread { IfOk result (λ r. Leaves (unread verified.now arguments.now r.whole)
+        (R.remaining input.old) (R.remaining input.new)) }
     ensures no_fault { OnOk result ((R.fault_count input.new ≡ R.fault_count input.old)
         × (E.fault_count err.new ≡ E.fault_count err.old)) }
-    ensures failed { IfErr result
-        (FailsToAsk (R.fault_count input.old) (R.fault_count input.new)
+    ensures failed { IfErr result (FailsToAsk (R.fault_count input.old) (R.fault_count input.new)
         (E.fault_count err.old) (E.fault_count err.new)) }
 {
     let places = Places::of_source(alloc, text, origins)?;
@@ -290,10 +327,16 @@ pub fn module_ask<R: Source, E: Sink>(
     ensures begins { IfSome (R.remaining input.old) (λ bytes.
         AppendsBeginning (E.contents err.old) (E.contents err.new)
         (told_text no_text verified.now arguments.now bytes)) }
+    ensures by_answers { IfOk result (λ r. IsByAnswers no_text
+        verified.now arguments.now (R.remaining input.old) r.log.items
+        (E.contents err.old) (E.contents err.new)) }
+    ensures begins_by { BeginsByAnswers no_text verified.now arguments.now
+        (R.remaining input.old) (E.contents err.old) (E.contents err.new) }
+    ensures unread { IfOk result (λ r. Leaves (unread verified.now arguments.now r.whole)
+        (R.remaining input.old) (R.remaining input.new)) }
     ensures no_fault { OnOk result ((R.fault_count input.new ≡ R.fault_count input.old)
         × (E.fault_count err.new ≡ E.fault_count err.old)) }
-    ensures failed { IfErr result
-        (FailsToAsk (R.fault_count input.old) (R.fault_count input.new)
+    ensures failed { IfErr result (FailsToAsk (R.fault_count input.old) (R.fault_count input.new)
         (E.fault_count err.old) (E.fault_count err.new)) }
 {
     let places = Places::of_module(alloc)?;

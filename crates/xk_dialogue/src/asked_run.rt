@@ -1,16 +1,20 @@
 //! `run --order ask`: a run whose order is asked for.
 
-ghost use Rattle.std.specs.Prelude.{◌≡◌, ◌≢◌, ◌⊎◌, ◌++◌, [], IfErr, IfOk, IfSome, OnErr, OnOk, string_bytes, if◌then◌else◌};
+ghost use Rattle.std.specs.Prelude.{◌≡◌, ◌≢◌, ◌⊎◌, ◌++◌, ℕ, List, Option, [], IfErr, IfOk, IfSome, OnErr, OnOk, string_bytes, if◌then◌else◌};
 ghost use Rattle.std.specs.Io.KnownBytes.{Appends};
-ghost use Rattle.xk_types.specs.Acceptance.{IsAccepted};
 ghost use Rattle.xk_types.specs.Device.{Rose};
 ghost use Rattle.xk_types.specs.World.{AreArguments};
 ghost use Rattle.xk_log.specs.LogText.{log_text};
+ghost use Rattle.xk_log.specs.Writing.{AppendsBeginning};
 ghost use Rattle.xk_output.specs.Lines.{number_lines};
-ghost use Rattle.xk_cli.specs.Status.{status_device, status_memory};
-ghost use Rattle.xk_ask.specs.Play.{IsPlayed, played_log};
+ghost use Rattle.xk_cli.specs.Status.{status_device, status_memory, status_program};
+ghost use Rattle.xk_diagnostics.specs.Lines.{memory_line};
+ghost use Rattle.xk_ask.specs.Asking.{Leaves};
+ghost use Rattle.xk_ask.specs.Play.{IsPlayed, log_by, unread};
 ghost use Rattle.xk_serve.specs.Answer.{whole_status};
-ghost use Rattle.xk_dialogue.specs.AskedRun.{AnsweredAsked, FailsWhile, fault_of, IfBoth, IsAskedRun, IsAskedText, IsUnfitFor, IsWrittenBy, StandsAgainstAsked, last_line};
+ghost use Rattle.xk_serve.specs.Lines.{device_line, status_of};
+ghost use Rattle.xk_ask.specs.Answers.{AreAnswers};
+ghost use Rattle.xk_dialogue.specs.AskedRun.{AnsweredAsked, AreBegun, BeginsAsking, BeginsToAsk, EndsAsking, FailsWhile, fault_of, IfBoth, IsAskedBy, IsAskedFirst, IsFaultReply, IsPlayedByHand, IsRunReply, IsWrittenBy, OutBeginsRun, StandsAgainstAsked, last_line};
 ghost use Rattle.xk_serve.specs.Bytes.{IsReadToLimit, kept};
 
 use std::alloc::{AllocError, Global};
@@ -63,11 +67,15 @@ fn played_by<L: Source, E: Sink>(
     requires { AreArguments verified.now arguments.now }
     ensures played { IfOk result (λ r. IsPlayed verified.now arguments.now
         r.log.items r.printed.items r.steps r.whole) }
-    ensures log { IfOk result (λ r. IfSome (L.remaining input.old) (λ answers.
-        r.log.items ≡ played_log verified.now arguments.now answers)) }
-    ensures told { OnOk result (IfSome (L.remaining input.old) (λ answers. IsWrittenBy
-        (IsAskedText form bytes.now verified.now arguments.now answers)
-        (E.contents err.old) (E.contents err.new))) }
+    ensures answers { IfOk result (λ r. (xs : List (Option ℕ))
+        × AreAnswers (L.remaining input.old) xs
+        × (r.log.items ≡ log_by verified.now arguments.now xs)
+        × IsWrittenBy (IsAskedBy form bytes.now verified.now arguments.now xs)
+        (E.contents err.old) (E.contents err.new)) }
+    ensures begins { BeginsToAsk form bytes.now verified.now arguments.now
+        (L.remaining input.old) (E.contents err.old) (E.contents err.new) }
+    ensures rest { IfOk result (λ r. Leaves (unread verified.now arguments.now r.whole)
+        (L.remaining input.old) (L.remaining input.new)) }
     ensures no_fault { OnOk result ((L.fault_count input.new ≡ L.fault_count input.old)
         × (E.fault_count err.new ≡ E.fault_count err.old)) }
     ensures failed { IfErr result (FailsWhile (L.fault_count input.old) (L.fault_count input.new)
@@ -97,10 +105,10 @@ fn asked_of<L: Source, E: Sink>(
     input: &mut L,
     err: &mut E,
 ) -> Result<AskedRun, Fault>
-    ensures done { IfOk result (λ r. IfSome (L.remaining input.old) (λ answers. IsWrittenBy
-        (λ told. IsAskedRun form bytes.now arguments.now answers told r.played.log.items
-        r.played.printed.items r.played.steps r.played.whole)
-        (E.contents err.old) (E.contents err.new))) }
+    ensures done { IfOk result (λ r. IsPlayedByHand form bytes.now arguments.now
+        (L.remaining input.old) (L.remaining input.new)
+        (E.contents err.old) (E.contents err.new) r.played.log.items
+        r.played.printed.items r.played.steps r.played.whole) }
     ensures ending { IfOk result
         (λ r. string_bytes r.ending ≡ last_line r.played.whole r.played.steps) }
     ensures no_fault { OnOk result ((L.fault_count input.new ≡ L.fault_count input.old)
@@ -109,6 +117,11 @@ fn asked_of<L: Source, E: Sink>(
         (L.fault_count input.old) (L.fault_count input.new)
         (E.fault_count err.old) (E.fault_count err.new)
         (E.contents err.old) (E.contents err.new)) }
+    ensures begins { IsWrittenBy
+        (IsAskedFirst form bytes.now arguments.now (L.remaining input.old))
+        (E.contents err.old) (E.contents err.new) }
+    ensures unread { IfErr result
+        (λ f. status_of f ≡ status_program → input.new ≡ input.old) }
 {
     let module = module_by(alloc, form, bytes)?;
     let verified = runnable(alloc, module, arguments)?;
@@ -117,7 +130,36 @@ fn asked_of<L: Source, E: Sink>(
     Ok(AskedRun { played, ending })
 }
 
-/// Writes the numbers and the last line to `out`, and then the log, where it is to be kept.
+/// Writes the numbers and the last line.
+fn write_numbers_of<O: Sink>(run: &AskedRun, out: &mut O) -> Result<(), Device>
+    ensures all { OnOk result (Appends (O.contents out.old) (O.contents out.new)
+        (number_lines run.now.played.printed.items ++ string_bytes run.now.ending)) }
+    ensures beginning { AppendsBeginning (O.contents out.old) (O.contents out.new)
+        (number_lines run.now.played.printed.items ++ string_bytes run.now.ending) }
+    ensures no_fault { OnOk result (O.fault_count out.new ≡ O.fault_count out.old) }
+    ensures failed { OnErr result (Rose (O.fault_count out.old) (O.fault_count out.new)) }
+{
+    write_numbers(&run.played.printed, out)?;
+    write_all(out, run.ending.as_bytes())
+}
+
+/// Writes the log, where it is to be kept, and else nothing.
+fn write_log<K: Sink>(run: &AskedRun, keeps_log: bool, log_out: &mut K) -> Result<(), Device>
+    ensures all { OnOk result (Appends (K.contents log_out.old) (K.contents log_out.new)
+        (if keeps_log then log_text run.now.played.log.items else [])) }
+    ensures beginning { AppendsBeginning (K.contents log_out.old) (K.contents log_out.new)
+        (if keeps_log then log_text run.now.played.log.items else []) }
+    ensures no_fault { OnOk result (K.fault_count log_out.new ≡ K.fault_count log_out.old) }
+    ensures failed { OnErr result
+        (Rose (K.fault_count log_out.old) (K.fault_count log_out.new)) }
+{
+    if keeps_log {
+        return write_entries(&run.played.log, log_out);
+    }
+    Ok(())
+}
+
+/// Writes the numbers and the last line to `out`, and then the log to `log_out`, where it is to be kept.
 fn write_run<O: Sink, K: Sink>(
     run: &AskedRun,
     keeps_log: bool,
@@ -128,17 +170,18 @@ fn write_run<O: Sink, K: Sink>(
         (number_lines run.now.played.printed.items ++ string_bytes run.now.ending)) }
     ensures log { OnOk result (Appends (K.contents log_out.old) (K.contents log_out.new)
         (if keeps_log then log_text run.now.played.log.items else [])) }
+    ensures begun { AreBegun
+        (number_lines run.now.played.printed.items ++ string_bytes run.now.ending)
+        (if keeps_log then log_text run.now.played.log.items else [])
+        (O.contents out.old) (O.contents out.new)
+        (K.contents log_out.old) (K.contents log_out.new) }
     ensures no_fault { OnOk result ((O.fault_count out.new ≡ O.fault_count out.old)
         × (K.fault_count log_out.new ≡ K.fault_count log_out.old)) }
     ensures failed { OnErr result (Rose (O.fault_count out.old) (O.fault_count out.new)
         ⊎ Rose (K.fault_count log_out.old) (K.fault_count log_out.new)) }
 {
-    write_numbers(&run.played.printed, out)?;
-    write_all(out, run.ending.as_bytes())?;
-    if keeps_log {
-        return write_entries(&run.played.log, log_out);
-    }
-    Ok(())
+    write_numbers_of(run, out)?;
+    write_log(run, keeps_log, log_out)
 }
 
 /// The status of a run: whether all have ended.
@@ -170,6 +213,16 @@ fn print<O: Sink, E: Sink, K: Sink>(
         × (K.fault_count log_out.new ≡ K.fault_count log_out.old))
         ⊎ ((result ≡ status_device) × (Rose (O.fault_count out.old) (O.fault_count out.new)
         ⊎ Rose (K.fault_count log_out.old) (K.fault_count log_out.new))) }
+    ensures begun { AreBegun
+        (number_lines run.now.played.printed.items ++ string_bytes run.now.ending)
+        (if keeps_log then log_text run.now.played.log.items else [])
+        (O.contents out.old) (O.contents out.new)
+        (K.contents log_out.old) (K.contents log_out.new) }
+    ensures told { result ≡ status_device
+        → Appends (E.contents err.old) (E.contents err.new) device_line
+        ⊎ Rose (E.fault_count err.old) (E.fault_count err.new) }
+    ensures err_beginning { AppendsBeginning
+        (E.contents err.old) (E.contents err.new) device_line }
 {
     match write_run(run, keeps_log, out, log_out) {
         Ok(()) => status_of(run.played.whole),
@@ -197,10 +250,33 @@ pub fn serve_asked<P: Source, L: Source, O: Sink, E: Sink, K: Sink>(
         → AnsweredAsked form (kept form bytes) arguments.now answers keeps_log result
         (O.contents out.old) (O.contents out.new) (E.contents err.old) (E.contents err.new)
         (K.contents log_out.old) (K.contents log_out.new)) }
+    // Whatever the input.
+    ensures by_hand { IfSome (P.remaining program.old) (λ bytes.
+        result ≢ status_memory → result ≢ status_device
+        → IsRunReply form (kept form bytes) arguments.now keeps_log result
+        (L.remaining input.old) (L.remaining input.new)
+        (O.contents out.old) (O.contents out.new) (E.contents err.old) (E.contents err.new)
+        (K.contents log_out.old) (K.contents log_out.new)
+        ⊎ IsFaultReply form (kept form bytes) arguments.now result
+        (O.contents out.old) (O.contents out.new) (E.contents err.old) (E.contents err.new)
+        (K.contents log_out.old) (K.contents log_out.new)) }
+    ensures unread { result ≡ status_program → input.new ≡ input.old }
+
+    // Memory and devices.
+    ensures out_begins { IfSome (P.remaining program.old) (λ bytes.
+        OutBeginsRun form (kept form bytes) arguments.now keeps_log (L.remaining input.old)
+        (O.contents out.old) (O.contents out.new)
+        (K.contents log_out.old) (K.contents log_out.new)) }
+    ensures err_begins { IfSome (P.remaining program.old) (λ bytes.
+        BeginsAsking form (kept form bytes) arguments.now (L.remaining input.old)
+        (E.contents err.old) (E.contents err.new)) }
     ensures memory_out { result ≡ status_memory
         → Appends (O.contents out.old) (O.contents out.new) [] }
     ensures memory_log { result ≡ status_memory
         → Appends (K.contents log_out.old) (K.contents log_out.new) [] }
+    ensures memory_err { result ≡ status_memory
+        → EndsAsking form (P.remaining program.old) arguments.now (L.remaining input.old)
+        memory_line (E.contents err.old) (E.contents err.new) }
     ensures faults { result ≢ status_device
         → (P.fault_count program.new ≡ P.fault_count program.old)
         × (L.fault_count input.new ≡ L.fault_count input.old)
@@ -213,6 +289,10 @@ pub fn serve_asked<P: Source, L: Source, O: Sink, E: Sink, K: Sink>(
         ⊎ (Rose (O.fault_count out.old) (O.fault_count out.new)
         ⊎ (Rose (E.fault_count err.old) (E.fault_count err.new)
         ⊎ Rose (K.fault_count log_out.old) (K.fault_count log_out.new)))) }
+    ensures device_err { result ≡ status_device
+        → EndsAsking form (P.remaining program.old) arguments.now (L.remaining input.old)
+        device_line (E.contents err.old) (E.contents err.new)
+        ⊎ Rose (E.fault_count err.old) (E.fault_count err.new) }
     ensures no_further { IsReadToLimit form (P.remaining program.old) (P.remaining program.new) }
 {
     let bytes = match read_program(alloc, form, program) {
