@@ -81,11 +81,7 @@ pub fn place_words(
 
 /// The line of a step: `step 4 act 0 at 6:5 print 10`. Err where memory was refused.
 #[tactic(auto, unfolding(crate::specs::Events::event_line))]
-pub fn event_line(
-    alloc: Global,
-    places: &Places<'_>,
-    step: &RunStep,
-) -> Result<String, AllocError>
+pub fn event_line(alloc: Global, places: &Places<'_>, step: &RunStep) -> Result<String, AllocError>
     ensures { IfOk result (λ text. string_bytes text ≡ event_line places.now step.now) }
 {
     let number = step.number;
