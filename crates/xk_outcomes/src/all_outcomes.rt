@@ -25,18 +25,15 @@ pub struct Limit {
 /// How many worlds are kept at most, and how many outcomes are told, where nothing is said.
 const USUAL_LIMIT: u64 = 40_000;
 
-/// How many bytes these may take, and how many one takes for each activity and beside them, as far as can be said before.
-const USUAL_BYTES: u64 = 400_000_000;
-
-const BYTES_EACH: u64 = 1_000;
+/// How many steps are tried then at most, as far as can be said before: one of each activity from each world.
+const USUAL_TRIES: u64 = 4_000_000;
 
 impl Limit {
     /// The limit that was given, for both; or else the usual one of a module with so many activities at most.
     pub fn of(given: Option<u64>, activities: u32) -> Limit
         ensures { IfSome given (λ n. (result.entries ≡ n) × (result.outcomes ≡ n)) }
     {
-        let bytes = BYTES_EACH * (1 + u64::from(activities));
-        let usual = (USUAL_BYTES / bytes).min(USUAL_LIMIT);
+        let usual = (USUAL_TRIES / (1 + u64::from(activities))).min(USUAL_LIMIT);
         let most = given.unwrap_or(usual) as usize;
         Limit {
             entries: most,
