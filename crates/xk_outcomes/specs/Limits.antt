@@ -5,10 +5,10 @@ use Rattle.xk_outcomes.specs.declared.all_outcomes.Limit.{Limit}
 use Rattle.xk_outcomes.specs.declared.listing.Outcome.{Outcome}
 use Rattle.xk_outcomes.specs.Outcomes.{HasApart}
 
--- How many worlds are kept at most, and how many outcomes listed, where nothing is said of that: fewer where there may be many activities, since a
--- world takes time by them.
+-- How many worlds are kept at most, and how many outcomes listed, where nothing is said of that: fewer where there may be many activities, since from
+-- each world a step of each is tried.
 abbrev pub usual_limit : ℕ → ℕ
-usual_limit activities = min (400_000 / (1 + activities)) 40_000
+usual_limit activities = min (4_000_000 / (1 + activities)) 40_000
 
 -- the limit that was given, for both, or else the usual one of a module with so many activities at most
 abbrev pub limit_of : Option ℕ → ℕ → Limit

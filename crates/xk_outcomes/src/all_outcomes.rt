@@ -26,15 +26,15 @@ pub struct Limit {
 /// How many worlds are kept at most, and how many outcomes are told, where nothing is said.
 const USUAL_LIMIT: u64 = 40_000;
 
-/// The same, counted once for each activity that there may be, and once more.
-const USUAL_WEIGHT: u64 = 400_000;
+/// How many steps are tried then at most, as far as can be said before: one of each activity from each world.
+const USUAL_TRIES: u64 = 4_000_000;
 
 impl Limit {
     /// The limit that was given, for both; or else the usual one of a module with so many activities at most.
     pub fn of(given: Option<u64>, activities: u32) -> Limit
         ensures { result ≡ limit_of given activities }
     {
-        let usual = (USUAL_WEIGHT / (1 + u64::from(activities))).min(USUAL_LIMIT);
+        let usual = (USUAL_TRIES / (1 + u64::from(activities))).min(USUAL_LIMIT);
         let most = given.unwrap_or(usual) as usize;
         Limit {
             entries: most,

@@ -143,8 +143,22 @@ impl<'m> Entries<'m> {
         }
     }
 
-    /// Whether the new one, which has such a digest, is the same as the one of a number. Another core is led there only where their
-    /// digests are the same.
+    /// Whether the new one is the same as the one of a number, to which another core is led.
+    fn is_same_at(&self, alloc: Global, number: usize, new: &Found<'_>) -> Result<bool, AllocError>
+        requires { number < length self.now.all }
+        ensures yes { IfOk result (λ same. same ≡ true
+            → Has self.now.all new.now.core.world new.now.printed) }
+        ensures no { IsFound self.now.start new.now → IfOk result (λ same. same ≡ false
+            → (x : FoundValue) → slice_get self.now.all number ≡ Some x
+            → IsAt x new.now.core.world new.now.printed → ⊥) }
+    {
+        // For `no`: they are found.
+        let _count = self.len();
+        let x = self.get(alloc, number)?;
+        Ok(is_same(&x, new))
+    }
+
+    /// The same of a new one that has such a digest. No core is led where the digests differ.
     fn is_at(
         &self,
         alloc: Global,
@@ -163,8 +177,7 @@ impl<'m> Entries<'m> {
         if self.digests[number] != digest {
             return Ok(false);
         }
-        let x = self.get(alloc, number)?;
-        Ok(is_same(&x, new))
+        self.is_same_at(alloc, number, new)
     }
 
     /// Whether one like it, which has such a digest, is there already.
