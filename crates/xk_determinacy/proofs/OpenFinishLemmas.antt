@@ -2,7 +2,7 @@
 use Rattle.std.proofs.Common.{◌≡◌, ℕ, ℤ, zero, suc, ◌-◌, ◌<◌, ◌≤◌, ◌⊎◌, inl, inr, Bool, true, false, true≢false, List, [], ◌∷◌, ◌++◌, length, set, Some, refl, sym, ap, ◌∙◌, subst, arith}
 use Rattle.std.specs.Prelude.{slice_get, option_and_then}
 use Rattle.std.specs.Option.{option_map_or}
-use Rattle.std.proofs.lemmas.Bool.{cases_lt}
+use Rattle.std.proofs.lemmas.Bool.{cases_eq, cases_lt}
 use Rattle.std.proofs.lemmas.Option.{none-some, same_Some, slice_get_within}
 use Rattle.xk_types.specs.declared.instr.Instr.TheVariants as instr
 use Rattle.xk_types.specs.declared.world.Event.{Event}
@@ -12,7 +12,7 @@ use Rattle.xk_types.specs.Code.{ModuleValue, IsWithinLimits}
 use Rattle.xk_types.specs.World.{Activity, Finish, World, opening, root, main_of, is_ended, instruction_at}
 use Rattle.xk_types.specs.Step.{Outcome, Blocked, Wrong, Stepped, arrived, awaits, child, ended, innermost, left, onward, step}
 use Rattle.xk_types.specs.Schedule.{Through, run, run_on, IsReached}
-use Rattle.xk_types.proofs.ListLemmas.{get-append_left, get-set_same, get_inside}
+use Rattle.xk_types.proofs.ListLemmas.{get-append_left, get-push_other, get-set_other, get-set_same, get_inside, get_push}
 use Rattle.xk_laws.proofs.ReachabilityLemmas.{same_through, first_step, reached_sound, reached_scoped}
 use Rattle.xk_laws.proofs.SafetyLemmas.StepLemmas.{closed_at_end}
 use Rattle.xk_laws.proofs.ScopeLemmas.FinishOwnerLemmas.{AreOwned, under_governed}
@@ -99,6 +99,103 @@ module _ (m : ModuleValue) (w : World) (a : ℕ) where
     spawned = λ t args values at goes. not_over (onward act) (changed (onward act) ++ child m a act t values ∷ [])
         (pushed_at act (onward act) (child m a act t values) found) (ap is_ended goes.runs);
   })
+
+-- who is over behind a step was it before, or ends by it
+abbrev EndsOnly : World → ℕ → Outcome → Type 0
+EndsOnly w a Blocked = Unit {0}
+EndsOnly w a (Wrong c) = Unit {0}
+EndsOnly w a (Stepped u e) = (y : ℕ) (x : Activity) → slice_get u.activities y ≡ Some x → is_ended x.status ≡ true
+    → (slice_get w.activities y ≡ Some x) ⊎ ((y ≡ a) × (e ≡ event.Ended))
+
+module _ (m : ModuleValue) (w : World) (a : ℕ) where
+  never : (next : Activity) (e : Event) → is_ended next.status ≡ false → is_ended next.status ≡ true → e ≡ event.Ended
+  never next e lives over = absurd (true≢false (sym over ∙ lives))
+
+  kept_end : (act next : Activity) (e : Event) → slice_get w.activities a ≡ Some act → (is_ended next.status ≡ true → e ≡ event.Ended)
+      → (y : ℕ) (x : Activity) → slice_get (set w.activities a next) y ≡ Some x → is_ended x.status ≡ true
+      → (slice_get w.activities y ≡ Some x) ⊎ ((y ≡ a) × (e ≡ event.Ended))
+  kept_end act next e found ends y x at over = by (cases_eq y a)
+    where
+      by : (y ≡ a) ⊎ (y ≡ a → ⊥) → (slice_get w.activities y ≡ Some x) ⊎ ((y ≡ a) × (e ≡ event.Ended))
+      by (inl is) =
+          let one : next ≡ x = same_Some next x (sym (same_at m w a act next found) ∙ ap (slice_get (set w.activities a next)) (sym is) ∙ at) in
+          inr (is, ends (ap (λ (z : Activity). is_ended z.status) one ∙ over))
+      by (inr differs) = inl (sym (get-set_other w.activities a y next differs) ∙ at)
+
+  pushed_end : (act one : Activity) → slice_get w.activities a ≡ Some act → is_ended (onward act).status ≡ false → is_ended one.status ≡ false
+      → (y : ℕ) (x : Activity) → slice_get (set w.activities a (onward act) ++ one ∷ []) y ≡ Some x → is_ended x.status ≡ true
+      → (slice_get w.activities y ≡ Some x) ⊎ ((y ≡ a) × (event.Spawned ≡ event.Ended))
+  pushed_end act one found lives fresh y x at over = by (cases_eq y (length (set w.activities a (onward act))))
+    where
+      by : (y ≡ length (set w.activities a (onward act))) ⊎ (y ≡ length (set w.activities a (onward act)) → ⊥)
+          → (slice_get w.activities y ≡ Some x) ⊎ ((y ≡ a) × (event.Spawned ≡ event.Ended))
+      by (inl is) =
+          let last = get_push (set w.activities a (onward act)) one in
+          let same : one ≡ x = same_Some one x (sym last ∙ ap (slice_get (set w.activities a (onward act) ++ one ∷ [])) (sym is) ∙ at) in
+          absurd (true≢false (sym over ∙ ap (λ (z : Activity). is_ended z.status) (sym same) ∙ fresh))
+      by (inr differs) =
+          kept_end act (onward act) event.Spawned found (never (onward act) event.Spawned lives) y x
+          (sym (get-push_other (set w.activities a (onward act)) one y differs) ∙ at) over
+
+  ends_only : EndsOnly w a (step m w a)
+  ends_only = step_kind (EndsOnly w a) m w a tt (λ c. tt) (λ act found lives. record {
+    closed = λ n some nobody runs. kept_end act (left act n) event.Closed found (never (left act n) event.Closed (ap is_ended runs));
+    over = λ here none. kept_end act (ended act) event.Ended found (λ over. refl);
+    arrives = kept_end act (arrived act) event.Arrived found (never (arrived act) event.Arrived refl);
+    done = λ next change e goes quiet rests. kept_end act next e found (never next e (ap is_ended goes.runs));
+    made = λ next goes. kept_end act next event.Made found (never next event.Made (ap is_ended goes.runs));
+    stored = λ s n e goes quiet. kept_end act (onward act) e found (never (onward act) e (ap is_ended goes.runs));
+    spawned = λ t args values at goes. pushed_end act (child m a act t values) found (ap is_ended goes.runs) refl;
+  })
+
+-- a step of these ends activity x
+pub record IsEndedOn (m : ModuleValue) (list : List ℕ) (w : World) (x : ℕ) : Type 0 where
+  pub before : List ℕ
+  pub after : List ℕ
+  pub here : World
+  pub there : World
+  pub whole : list ≡ before ++ x ∷ after
+  pub leads : run m before w ≡ Through here
+  pub takes : step m here x ≡ Stepped there event.Ended
+
+-- who is over behind a run was it before, or ends on the way
+pub ended_on : (m : ModuleValue) (list : List ℕ) (w v : World) (x : ℕ) (act : Activity) → run m list w ≡ Through v → slice_get v.activities x ≡ Some act
+    → is_ended act.status ≡ true → (slice_get w.activities x ≡ Some act) ⊎ IsEndedOn m list w x
+ended_on m [] w v x act h at over = inl (ap (λ (z : World). slice_get z.activities x) (same_through w v h) ∙ at)
+ended_on m (b ∷ list) w v x act h at over = by (ended_on m list f.0 v x act f.3 at over)
+  where
+    f : (u : World) × (e : Event) × (step m w b ≡ Stepped u e) × (run m list u ≡ Through v)
+    f = first_step w v (step m w b) (run m list) h
+
+    here_or_before : (slice_get w.activities x ≡ Some act) ⊎ ((x ≡ b) × (f.1 ≡ event.Ended))
+        → (slice_get w.activities x ≡ Some act) ⊎ IsEndedOn m (b ∷ list) w x
+    here_or_before (inl was) = inl was
+    here_or_before (inr p) = inr (record {
+      before = [];
+      after = list;
+      here = w;
+      there = f.0;
+      whole = ap (λ i. i ∷ list) (sym p.0);
+      leads = refl;
+      takes = ap (step m w) p.0 ∙ f.2 ∙ ap (Stepped f.0) p.1;
+    })
+
+    by : (slice_get f.0.activities x ≡ Some act) ⊎ IsEndedOn m list f.0 x → (slice_get w.activities x ≡ Some act) ⊎ IsEndedOn m (b ∷ list) w x
+    by (inl there) = here_or_before (subst (EndsOnly w b) f.2 (ends_only m w b) x act there over)
+    by (inr r) = inr (record {
+      before = b ∷ r.before;
+      after = r.after;
+      here = r.here;
+      there = r.there;
+      whole = ap (λ l. b ∷ l) r.whole;
+      leads = ap (λ o. run_on w o (run m r.before)) f.2 ∙ r.leads;
+      takes = r.takes;
+    })
+
+-- where one closes a finish, nobody under it is left
+pub close_awaits : (m : ModuleValue) (w u : World) (a : ℕ) (e : Event) (act : Activity) → step m w a ≡ Stepped u e → slice_get w.activities a ≡ Some act
+    → opened_in u.activities a < act.opened → awaits w.activities (innermost a act) ≡ false
+close_awaits m w u a e act takes found less = subst (WaitsToClose w a) takes (waits_to_close m w a) act found less
 
 -- who ends has no finish open
 pub end_closed : (m : ModuleValue) (limits : IsWithinLimits m) (ok : IsAccepted m) (w u : World) (a : ℕ) (e : Event) (act next : Activity)
@@ -278,8 +375,8 @@ in_run m limits ok args list v reached was h =
 
 -- ---- open from here to there
 
--- a step of these closes the finish of activity a at depth d
-pub record IsClosedOn (m : ModuleValue) (list : List ℕ) (w : World) (a d : ℕ) : Type 0 where
+-- a step of these closes the finish of activity a at depth d, which has the same number up to there
+pub record IsClosedOn (m : ModuleValue) (list : List ℕ) (w : World) (q : Scopes) (a d : ℕ) : Type 0 where
   pub before : List ℕ
   pub after : List ℕ
   pub here : World
@@ -288,6 +385,8 @@ pub record IsClosedOn (m : ModuleValue) (list : List ℕ) (w : World) (a d : ℕ
   pub leads : run m before w ≡ Through here
   pub takes : step m here a ≡ Stepped there event.Closed
   pub depth : opened_in here.activities a ≡ d
+  pub same : number (nest (scopes_after (deeds m before w) q) here.activities) a 0
+      ≡ number (nest q w.activities) a (opened_in w.activities a - d)
 
 -- it is open behind the run, and has the same number
 abbrev pub StaysOpen : ℕ → ℕ → Scopes → World → Scopes → World → Type 0
@@ -297,7 +396,7 @@ StaysOpen a d q w r v = (d ≤ opened_in v.activities a)
 -- one that is open is closed by a step of the run, or it stays open
 pub open_or_closed : (m : ModuleValue) (a d : ℕ) → 0 < d → (list : List ℕ) (w v : World) (q : Scopes) → run m list w ≡ Through v
     → AreNumbered (nest q w.activities) → d ≤ opened_in w.activities a
-    → IsClosedOn m list w a d ⊎ StaysOpen a d q w (scopes_after (deeds m list w) q) v
+    → IsClosedOn m list w q a d ⊎ StaysOpen a d q w (scopes_after (deeds m list w) q) v
 open_or_closed m a d some [] w v q h was before = inr (subst (λ (z : World). StaysOpen a d q w q z) (same_through w v h) (before, refl))
 open_or_closed m a d some (b ∷ list) w v q h was before =
     by (cases_lt (opened_in x.0.activities a) d)
@@ -312,8 +411,12 @@ open_or_closed m a d some (b ∷ list) w v q h was before =
     change' : Change (nest q w.activities) (nest r x.0.activities) b x.1
     change' = change_step m w x.0 b x.1 q x.2
 
-    behind : d ≤ opened_in x.0.activities a → IsClosedOn m list x.0 a d ⊎ StaysOpen a d r x.0 (scopes_after (deeds m list x.0) r) v
-        → IsClosedOn m (b ∷ list) w a d ⊎ StaysOpen a d q w (scopes_after (deeds m (b ∷ list) w) q) v
+    stays : d ≤ opened_in x.0.activities a
+        → number (nest r x.0.activities) a (opened_in x.0.activities a - d) ≡ number (nest q w.activities) a (opened_in w.activities a - d)
+    stays le = number_stays (nest q w.activities) (nest r x.0.activities) b x.1 was change' a d some before le
+
+    behind : d ≤ opened_in x.0.activities a → IsClosedOn m list x.0 r a d ⊎ StaysOpen a d r x.0 (scopes_after (deeds m list x.0) r) v
+        → IsClosedOn m (b ∷ list) w q a d ⊎ StaysOpen a d q w (scopes_after (deeds m (b ∷ list) w) q) v
     behind le (inl c) = inl (record {
       before = b ∷ c.before;
       after = c.after;
@@ -323,17 +426,19 @@ open_or_closed m a d some (b ∷ list) w v q h was before =
       leads = ap (λ o. run_on w o (run m c.before)) x.2 ∙ c.leads;
       takes = c.takes;
       depth = c.depth;
+      same = subst (λ z. number (nest z c.here.activities) a 0 ≡ number (nest q w.activities) a (opened_in w.activities a - d))
+          (sym (scopes_first m c.before w x.0 b x.1 q x.2)) (c.same ∙ stays le);
     })
     behind le (inr p) = inr (
       p.0,
       subst (λ z. number (nest z v.activities) a (opened_in v.activities a - d) ≡ number (nest q w.activities) a (opened_in w.activities a - d))
           (sym (scopes_first m list w x.0 b x.1 q x.2))
-          (p.1 ∙ number_stays (nest q w.activities) (nest r x.0.activities) b x.1 was change' a d some before le),
+          (p.1 ∙ stays le),
     )
 
     by : (opened_in x.0.activities a < d) ⊎ (d ≤ opened_in x.0.activities a)
-        → (d ≤ opened_in x.0.activities a → IsClosedOn m list x.0 a d ⊎ StaysOpen a d r x.0 (scopes_after (deeds m list x.0) r) v)
-        → IsClosedOn m (b ∷ list) w a d ⊎ StaysOpen a d q w (scopes_after (deeds m (b ∷ list) w) q) v
+        → (d ≤ opened_in x.0.activities a → IsClosedOn m list x.0 r a d ⊎ StaysOpen a d r x.0 (scopes_after (deeds m list x.0) r) v)
+        → IsClosedOn m (b ∷ list) w q a d ⊎ StaysOpen a d q w (scopes_after (deeds m (b ∷ list) w) q) v
     by (inl fell) rest =
         let f = open_falls (nest q w.activities) (nest r x.0.activities) b x.1 was change' a d before fell in
         inl (record {
@@ -345,5 +450,6 @@ open_or_closed m a d some (b ∷ list) w v q h was before =
           leads = refl;
           takes = ap (step m w) f.0 ∙ x.2 ∙ ap (Stepped x.0) f.1;
           depth = f.2;
+          same = (let e = f.2 in let top : 0 ≡ opened_in w.activities a - d = omega (arith, e) in ap (number (nest q w.activities) a) top);
         })
     by (inr le) rest = behind le (rest le)

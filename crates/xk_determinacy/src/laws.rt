@@ -10,7 +10,8 @@ ghost use Rattle.xk_types.specs.World.{AreArguments, World, opening};
 ghost use Rattle.xk_types.specs.declared.world.Entry.{Entry};
 
 /// Of the deeds of a legal run of an accepted module, the order has the end of an activity right before the close of a finish exactly where
-/// that is the first one behind it to close the finish that governs the activity, by the worlds in which the two steps are taken.
+/// that is the first one behind it to close the finish that governs the activity, by the worlds in which the two steps are taken. And each
+/// activity that is under a finish where it is closed has an end that comes before the close. The call does nothing; its contract is the law.
 pub fn closes_are_exact()
     ensures { (m : ModuleValue) (args : List ℤ) (log : List Entry) (z : World)
         → IsWithinLimits m → IsAccepted m → AreArguments m args
