@@ -1,5 +1,5 @@
 -- What the program makes of words, and of files that it can't open. This project's own.
-use Rattle.std.specs.Prelude.{◌≡◌, ◌⊎◌, ℕ, List, Some, true, codes}
+use Rattle.std.specs.Prelude.{◌≡◌, ◌⊎◌, ℕ, List, [], Some, true, codes}
 use Rattle.std.specs.IoError.{error_kind}
 use Rattle.std.specs.declared.io.Error.{Error}
 use Rattle.std.specs.declared.io.ErrorKind.TheVariants as kind
@@ -19,13 +19,17 @@ no_text_line = codes "x10clock: a word is not in UTF-8\n"
 abbrev pub over_file_line : List ℕ
 over_file_line = codes "x10clock: --log would write over FILE\n"
 
+-- `clap` finds no mistake in these words, and no request for help
+abbrev pub AreUnderstood : List (List ℕ) → Type 0
+AreUnderstood given = WithOrders (λ names. faults_in names given ≡ [])
+
 -- these words ask for a job
 abbrev pub AskForJob : List (List ℕ) → Type 0
-AskForJob given = WithOrders (λ names. (job : Asked) × (job_of names given ≡ Some job))
+AskForJob given = AreUnderstood given × WithOrders (λ names. (job : Asked) × (job_of names given ≡ Some job))
 
 -- they ask for a job, and for a person that is asked for the order of its run
 abbrev pub AskSomebody : List (List ℕ) → Type 0
-AskSomebody given = WithOrders (λ names. (job : Asked) × (job_of names given ≡ Some job) × (job.asks ≡ true))
+AskSomebody given = AreUnderstood given × WithOrders (λ names. (job : Asked) × (job_of names given ≡ Some job) × (job.asks ≡ true))
 
 -- they are no job, for this reason
 abbrev pub AreNoJob : List (List ℕ) → WordsFault → Type 0
