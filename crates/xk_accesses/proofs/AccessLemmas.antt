@@ -8,8 +8,8 @@ use Rattle.xk_events.specs.declared.steps.RunStep.{RunStep}
 use Rattle.xk_accesses.specs.declared.access.Access.{Access}
 use Rattle.xk_accesses.specs.declared.access.Detail.{Detail}
 use Rattle.xk_accesses.specs.declared.access.Detail.TheVariants.{Activity, Place}
-use Rattle.xk_accesses.specs.declared.access.Kind.{Kind}
-use Rattle.xk_accesses.specs.declared.access.Kind.TheVariants.{Read, Addition, Write}
+use Rattle.xk_accesses.specs.declared.access.AccessKind.{AccessKind}
+use Rattle.xk_accesses.specs.declared.access.AccessKind.TheVariants.{Read, Addition, Write}
 use Rattle.xk_accesses.specs.Accesses.{kind_of, is_kind, is_at, is_like, is_same_place, covers, is_covered, later}
 
 -- ---- two that are alike
@@ -20,13 +20,13 @@ pub record Like (d : Detail) (r x : Access) : Type 0 where
   pub kind : kind_of r.step.event ≡ kind_of x.step.event
   pub at : is_at d r.step x.step ≡ true
 
-is_kind_true : (k l : Kind) → is_kind k l ≡ true → k ≡ l
+is_kind_true : (k l : AccessKind) → is_kind k l ≡ true → k ≡ l
 is_kind_true Read Read h = refl
 is_kind_true Addition Addition h = refl
 is_kind_true Write Write h = refl
 is_kind_true k l h = absurd (false≢true h)
 
-is_kind_same : (k : Kind) → is_kind k k ≡ true
+is_kind_same : (k : AccessKind) → is_kind k k ≡ true
 is_kind_same Read = refl
 is_kind_same Addition = refl
 is_kind_same Write = refl

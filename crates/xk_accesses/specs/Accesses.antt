@@ -8,19 +8,19 @@ use Rattle.xk_events.specs.declared.steps.RunStep.{RunStep}
 use Rattle.xk_accesses.specs.declared.access.Access.{Access}
 use Rattle.xk_accesses.specs.declared.access.Detail.{Detail}
 use Rattle.xk_accesses.specs.declared.access.Detail.TheVariants.{Activity, Place}
-use Rattle.xk_accesses.specs.declared.access.Kind.{Kind}
-use Rattle.xk_accesses.specs.declared.access.Kind.TheVariants.{Read, Addition, Write}
+use Rattle.xk_accesses.specs.declared.access.AccessKind.{AccessKind}
+use Rattle.xk_accesses.specs.declared.access.AccessKind.TheVariants.{Read, Addition, Write}
 
 -- ---- what an access does
 
 -- what was seen of it says whether it read the shared number, added to it or wrote it
-abbrev pub kind_of : Event → Kind
+abbrev pub kind_of : Event → AccessKind
 kind_of event.Got = Read
 kind_of event.Added = Addition
 kind_of e = Write
 
 -- both are the same
-abbrev pub is_kind : Kind → Kind → Bool
+abbrev pub is_kind : AccessKind → AccessKind → Bool
 is_kind Read Read = true
 is_kind Addition Addition = true
 is_kind Write Write = true

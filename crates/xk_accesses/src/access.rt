@@ -17,7 +17,7 @@ pub enum Detail {
 
 /// What an access does.
 #[derive(Clone, Copy)]
-pub enum Kind {
+pub enum AccessKind {
     /// It reads the shared number.
     Read,
     /// It adds to it.
@@ -38,24 +38,24 @@ pub struct Access {
 }
 
 /// What an access does, by what was seen of it.
-fn kind_of(event: Event) -> Kind
+fn kind_of(event: Event) -> AccessKind
     ensures { result ≡ kind_of event }
 {
     match event {
-        Event::Got => Kind::Read,
-        Event::Added => Kind::Addition,
-        _ => Kind::Write,
+        Event::Got => AccessKind::Read,
+        Event::Added => AccessKind::Addition,
+        _ => AccessKind::Write,
     }
 }
 
 /// Whether two kinds are the same.
-fn is_kind(one: Kind, other: Kind) -> bool
+fn is_kind(one: AccessKind, other: AccessKind) -> bool
     ensures { result ≡ is_kind one other }
 {
     match one {
-        Kind::Read => matches!(other, Kind::Read),
-        Kind::Addition => matches!(other, Kind::Addition),
-        Kind::Write => matches!(other, Kind::Write),
+        AccessKind::Read => matches!(other, AccessKind::Read),
+        AccessKind::Addition => matches!(other, AccessKind::Addition),
+        AccessKind::Write => matches!(other, AccessKind::Write),
     }
 }
 

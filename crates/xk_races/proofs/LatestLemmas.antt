@@ -13,8 +13,8 @@ use Rattle.xk_types.specs.declared.world.Event.TheVariants as event
 use Rattle.xk_accesses.specs.declared.access.Access.{Access}
 use Rattle.xk_accesses.specs.declared.access.Detail.{Detail}
 use Rattle.xk_accesses.specs.declared.access.Detail.TheVariants.{Activity, Place}
-use Rattle.xk_accesses.specs.declared.access.Kind.{Kind}
-use Rattle.xk_accesses.specs.declared.access.Kind.TheVariants.{Read, Addition}
+use Rattle.xk_accesses.specs.declared.access.AccessKind.{AccessKind}
+use Rattle.xk_accesses.specs.declared.access.AccessKind.TheVariants.{Read, Addition}
 use Rattle.xk_races.specs.declared.deeds.Part.{Part}
 use Rattle.xk_races.specs.declared.deeds.Part.TheVariants as part
 use Rattle.xk_races.specs.declared.pairs.Race.{Race}
@@ -30,7 +30,7 @@ use Rattle.xk_races.proofs.PlaceListLemmas.{some_tell_all}
 
 -- ---- one that stands for another is in the races of that one
 
-clash_kinds : Kind → Kind → Bool
+clash_kinds : AccessKind → AccessKind → Bool
 clash_kinds Read Read = false
 clash_kinds Addition Addition = false
 clash_kinds k l = true

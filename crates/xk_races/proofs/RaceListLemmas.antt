@@ -6,9 +6,10 @@ use Rattle.std.proofs.lemmas.Bool.{cases_lt, eq-eqb, false≢true}
 use Rattle.std.proofs.lemmas.List.{append_assoc}
 use Rattle.std.proofs.lemmas.Option.{same_Some}
 use Rattle.xk_events.specs.declared.steps.RunStep.{RunStep}
+use Rattle.xk_accesses.specs.Accesses.{is_same_place}
 use Rattle.xk_races.specs.declared.pairs.Race.{Race}
 use Rattle.xk_races.specs.Knowledge.{Sight}
-use Rattle.xk_races.specs.Races.{is_place_of, is_race, race, have_same_places, with_race, with_races_of, races_from}
+use Rattle.xk_races.specs.Races.{is_race, race, have_same_places, with_race, with_races_of, races_from}
 use Rattle.xk_races.specs.Exactness.{Has, AreSeenBefore, RacesAreExact}
 
 -- ---- lists
@@ -70,15 +71,15 @@ with_from q r list h = of (list_any (have_same_places q) list) h
 same_number : (n : ℕ) → nat_eq n n ≡ true
 same_number n = eq-eqb n n refl
 
-same_place : (s : RunStep) → is_place_of s s ≡ true
+same_place : (s : RunStep) → is_same_place s s ≡ true
 same_place s = ap (λ b. b && nat_eq s.place s.place) (same_number s.unit) ∙ same_number s.place
 
 pub same_places : (q : Race) → have_same_places q q ≡ true
 same_places q =
-    ap (λ b. b && ((is_place_of q.first q.first && is_place_of q.second q.second) || (is_place_of q.first q.second && is_place_of q.second q.first)))
+    ap (λ b. b && ((is_same_place q.first q.first && is_same_place q.second q.second) || (is_same_place q.first q.second && is_same_place q.second q.first)))
     (same_number q.cell)
-    ∙ ap (λ b. (b && is_place_of q.second q.second) || (is_place_of q.first q.second && is_place_of q.second q.first)) (same_place q.first)
-    ∙ ap (λ b. b || (is_place_of q.first q.second && is_place_of q.second q.first)) (same_place q.second)
+    ∙ ap (λ b. (b && is_same_place q.second q.second) || (is_same_place q.first q.second && is_same_place q.second q.first)) (same_place q.first)
+    ∙ ap (λ b. b || (is_same_place q.first q.second && is_same_place q.second q.first)) (same_place q.second)
 
 any_has : (q : Race) (list : List Race) → list_any (have_same_places q) list ≡ true → (r : Race) × Has list r × (have_same_places q r ≡ true)
 any_has q [] h = absurd (false≢true h)

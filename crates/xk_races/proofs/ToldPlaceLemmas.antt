@@ -10,8 +10,9 @@ use Rattle.std.proofs.lemmas.Bool.{ltb-true, ne_eqb}
 use Rattle.std.proofs.lemmas.Cmp.{nat_eq_equiv}
 use Rattle.std.proofs.lemmas.List.Folds.{list_any-append}
 use Rattle.xk_events.specs.declared.steps.RunStep.{RunStep}
+use Rattle.xk_accesses.specs.Accesses.{is_same_place}
 use Rattle.xk_races.specs.declared.pairs.Race.{Race}
-use Rattle.xk_races.specs.Races.{have_same_places, is_place_of}
+use Rattle.xk_races.specs.Races.{have_same_places}
 use Rattle.xk_races.specs.ToldPlaces.{Key, AreTold, key, key_back, key_cmp, text_place, text_place_cmp}
 
 -- ---- keys that are the same
@@ -32,19 +33,19 @@ tied m n = of (nat_lt m n) refl ∙ nat_eq_equiv.symm m n
     of true e = let lt = ltb-true m n e in sym (ne_eqb m n (λ same. omega (arith, lt, same)))
     of false e = last (nat_eq m n)
 
-same_place : (s t : RunStep) → is_eq (text_place_cmp (text_place s) (text_place t)) ≡ is_place_of t s
+same_place : (s t : RunStep) → is_eq (text_place_cmp (text_place s) (text_place t)) ≡ is_same_place t s
 same_place s t =
     tied_then (nat_cmp s.unit t.unit) (nat_cmp s.place t.place) ∙ ap (λ b. b && is_eq (nat_cmp s.place t.place)) (tied s.unit t.unit)
     ∙ ap (λ b. nat_eq t.unit s.unit && b) (tied s.place t.place)
 
 same_key : (c d : ℕ) (s t u v : RunStep) → is_eq (key_cmp (c, text_place s, text_place t) (d, text_place u, text_place v))
-    ≡ ((nat_eq d c && is_place_of u s) && is_place_of v t)
+    ≡ ((nat_eq d c && is_same_place u s) && is_same_place v t)
 same_key c d s t u v =
     tied_then (ordering_then (nat_cmp c d) (text_place_cmp (text_place s) (text_place u))) (text_place_cmp (text_place t) (text_place v))
     ∙ ap (λ b. b && is_eq (text_place_cmp (text_place t) (text_place v))) (tied_then (nat_cmp c d) (text_place_cmp (text_place s) (text_place u)))
     ∙ ap (λ b. (b && is_eq (text_place_cmp (text_place s) (text_place u))) && is_eq (text_place_cmp (text_place t) (text_place v))) (tied c d)
     ∙ ap (λ b. (nat_eq d c && b) && is_eq (text_place_cmp (text_place t) (text_place v))) (same_place s u)
-    ∙ ap (λ b. (nat_eq d c && is_place_of u s) && b) (same_place t v)
+    ∙ ap (λ b. (nat_eq d c && is_same_place u s) && b) (same_place t v)
 
 -- ---- one more
 
@@ -83,8 +84,8 @@ told_added races told new r old more =
     ∙ either_added first second had had_back
     ∙ ap (λ b. b || (first || second)) (old q)
     ∙ ap (λ b. list_any (have_same_places q) races || (b || second)) (same_key r.cell q.cell r.first r.second q.first q.second)
-    ∙ ap (λ b. list_any (have_same_places q) races || (((nat_eq q.cell r.cell && is_place_of q.first r.first) && is_place_of q.second r.second) || b))
+    ∙ ap (λ b. list_any (have_same_places q) races || (((nat_eq q.cell r.cell && is_same_place q.first r.first) && is_same_place q.second r.second) || b))
     (same_key r.cell q.cell r.first r.second q.second q.first)
     ∙ ap (λ b. list_any (have_same_places q) races || b)
-    (both_orders (nat_eq q.cell r.cell) (is_place_of q.first r.first) (is_place_of q.second r.second) (is_place_of q.first r.second) (is_place_of q.second r.first))
+    (both_orders (nat_eq q.cell r.cell) (is_same_place q.first r.first) (is_same_place q.second r.second) (is_same_place q.first r.second) (is_same_place q.second r.first))
     ∙ sym (list_any-append (have_same_places q) races (r ∷ []))

@@ -7,6 +7,7 @@ use Rattle.xk_types.specs.declared.world.Event.{Event}
 use Rattle.xk_types.specs.declared.world.Event.TheVariants as event
 use Rattle.xk_types.specs.Code.{ModuleValue}
 use Rattle.xk_events.specs.declared.steps.RunStep.{RunStep}
+use Rattle.xk_accesses.specs.Accesses.{is_same_place}
 use Rattle.xk_races.specs.declared.deeds.Part.{Part}
 use Rattle.xk_races.specs.declared.deeds.Part.TheVariants as part
 use Rattle.xk_races.specs.declared.pairs.Race.{Race}
@@ -40,14 +41,11 @@ race x y = record { cell = cell_in y.deed.part; first = x.deed.step; second = y.
 
 -- ---- the races, each two places once
 
-abbrev pub is_place_of : RunStep → RunStep → Bool
-is_place_of s t = nat_eq s.unit t.unit && nat_eq s.place t.place
-
 -- both are of the same two places and the same shared number
 abbrev pub have_same_places : Race → Race → Bool
 have_same_places r q =
     nat_eq r.cell q.cell
-    && ((is_place_of r.first q.first && is_place_of r.second q.second) || (is_place_of r.first q.second && is_place_of r.second q.first))
+    && ((is_same_place r.first q.first && is_same_place r.second q.second) || (is_same_place r.first q.second && is_same_place r.second q.first))
 
 -- the list with this race, unless it has one of the same places
 abbrev pub with_race : Race → List Race → List Race

@@ -31,7 +31,8 @@ use xk_types::{Sink, Source};
 /// done but its answer isn't whole, 1 where the program is refused, or is to be run and its
 /// main takes another number of arguments than it is given, 3 where the log or the list of outcomes is refused, 4 where memory ran out, 5 where a device failed. A run by workers is some run of the program: a call with such a job may wait for them, and
 /// what is said here holds where it returns. Whatever the answer but 5, no read or write failed. The result is written piece by piece, once
-/// all is known and no more memory is wanted, so `out` and `log_out` stay empty but at 0, 6 and 5, and `err` never gets more than one line.
+/// all is known and no more memory is wanted, so `out` and `log_out` stay empty but at 0, 6 and 5, and at 1 where `explain` says more of a fault;
+/// and `err` never gets more than one line.
 pub fn serve<R: Threads + Wait + Sync, P: Source, L: Source, O: Sink, E: Sink, K: Sink>(
     rt: &R,
     alloc: Global,
