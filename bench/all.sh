@@ -1,6 +1,6 @@
 #!/bin/sh
 # All figures of docs/PERFORMANCE.md in one run: sh bench/all.sh [PROGRAM]. PROGRAM is crates/x10clock/out/x10clock unless another is named.
-# Needs rustc, valgrind, lua5.4, spin and gcc, and about half an hour in which the machine has nothing else to do.
+# Needs rustc, valgrind, lua5.4, spin and gcc, and five minutes in which the machine has nothing else to do.
 set -eu
 cd "$(dirname "$0")/.."
 program=${1:-crates/x10clock/out/x10clock}

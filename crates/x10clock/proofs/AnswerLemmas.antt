@@ -1,37 +1,129 @@
--- An answer on open devices, told where the run's log isn't.
-use Rattle.std.proofs.Common.{◌≡◌, ◌≢◌, ℕ, Bool, true, false, if◌then◌else◌, List, [], Option, None, Some, inl, inr}
-use Rattle.std.specs.Prelude.{◌⊎◌, IfSome}
-use Rattle.xk_serve.specs.Answer.{Task, reads_more}
+-- An answer on open devices, told where less is known of them.
+use Rattle.std.proofs.Common.{◌≡◌, ◌≢◌, ℕ, ℤ, Bool, true, false, if◌then◌else◌, List, [], Option, None, Some, inl, inr}
+use Rattle.std.specs.Prelude.{◌⊎◌, IfSome, is_some}
+use Rattle.std.specs.Io.KnownBytes.{Appends}
+use Rattle.xk_cli.specs.declared.job.Form.{Form}
+use Rattle.xk_cli.specs.declared.job.Request.{Request}
+use Rattle.xk_cli.specs.declared.job.Request.TheVariants as request
+use Rattle.xk_serve.specs.Answer.{Task, reads_more, task_of}
+use Rattle.xk_serve.specs.Bytes.{kept}
 use Rattle.xk_serve.specs.Devices.{Answered, IfKnown, read_of}
 use Rattle.xk_serve.proofs.ReplyLemmas.{of_known}
 use Rattle.xk_serve.proofs.TaskLemmas.{of_each}
+use Rattle.xk_dialogue.specs.AskedRun.{IsHandReply}
+use Rattle.xk_dialogue.proofs.AskedRunLemmas.{unread_ends}
+use Rattle.x10clock.specs.Requests.{EndsIn, IsAnswered}
+
+-- ---- a run by hand
+
+-- whatever became of the log
+hand_unlogged : (form : Form) (bytes : List ℕ) (args : List ℤ) (keeps : Bool) (s : ℕ) (i j out out_new err err_new log log_new : Option (List ℕ))
+    → IsHandReply form bytes args keeps s i j out out_new err err_new log log_new → IsHandReply form bytes args keeps s i j out out_new err err_new None None
+hand_unlogged form bytes args keeps s i j out out_new err err_new log log_new (inl r) = inl (record {
+  log = r.log;
+  numbers = r.numbers;
+  steps = r.steps;
+  whole = r.whole;
+  by_hand = r.by_hand;
+  status_is = r.status_is;
+  out_is = r.out_is;
+  log_is = tt;
+})
+hand_unlogged form bytes args keeps s i j out out_new err err_new log log_new (inr f) =
+    inr (record { told = f.told; unfit = f.unfit; status_is = f.status_is; out_is = f.out_is; err_is = f.err_is; log_is = tt })
+
+-- whatever is read
+hand_unread : (form : Form) (bytes : List ℕ) (args : List ℤ) (keeps : Bool) (s : ℕ) (i j out out_new err err_new log log_new : Option (List ℕ))
+    → IsHandReply form bytes args keeps s i j out out_new err err_new log log_new → IsHandReply form bytes args keeps s None None out out_new err err_new log log_new
+hand_unread form bytes args keeps s i j out out_new err err_new log log_new (inl r) =
+    let p = r.by_hand in
+    let run = p.run in
+    inl (record {
+      log = r.log;
+      numbers = r.numbers;
+      steps = r.steps;
+      whole = r.whole;
+      by_hand = record {
+        told = p.told;
+        run = record {
+          of = run.of;
+          given = run.given;
+          accepted = run.accepted;
+          taken = run.taken;
+          played = run.played;
+          answers = run.answers;
+          are = tt;
+          log_is = run.log_is;
+          told_is = run.told_is;
+        };
+        rest_is = tt;
+        err_is = p.err_is;
+      };
+      status_is = r.status_is;
+      out_is = r.out_is;
+      log_is = r.log_is;
+    })
+hand_unread form bytes args keeps s i j out out_new err err_new log log_new (inr f) = inr f
+
+-- ---- what is asked for
 
 -- whatever became of the log, what was answered is so
-pub unlogged : (t : Task) (p l : Option (List ℕ)) (s : ℕ) (out out_new err err_new log log_new : Option (List ℕ)) (Told : Type 0)
+job_unlogged : (t : Task) (p l : Option (List ℕ)) (s : ℕ) (out out_new err err_new log log_new : Option (List ℕ))
     → IfKnown t p l (λ bytes logged. s ≢ 4 → s ≢ 5 → Answered t bytes logged s out out_new err err_new log log_new)
-    → IfKnown t p l (λ bytes logged. s ≢ 4 → s ≢ 5 → Answered t bytes logged s out out_new err err_new None None ⊎ Told)
-unlogged t p l s out out_new err err_new log log_new Told h =
+    → IfKnown t p l (λ bytes logged. s ≢ 4 → s ≢ 5 → Answered t bytes logged s out out_new err err_new None None)
+job_unlogged t p l s out out_new err err_new log log_new h =
     of_each _ _ p (λ bytes q. of_each _ _ (read_of t l) (λ logged answer memory device. let a = answer memory device in
-    inl (record { reply = a.reply; answers = a.answers; status_is = a.status_is; out_is = a.out_is; err_is = a.err_is; log_is = tt })) q) h
+    record { reply = a.reply; answers = a.answers; status_is = a.status_is; out_is = a.out_is; err_is = a.err_is; log_is = tt }) q) h
 
-module _ (t : Task) (p l : Option (List ℕ)) (s : ℕ) (out out_new err err_new : Option (List ℕ)) (Told : Type 0) where
-  -- the answer on known bytes, or what is told instead
-  abbrev IsAnswer : List ℕ → List ℕ → Type 0
-  IsAnswer bytes logged = s ≢ 4 → s ≢ 5 → Answered t bytes logged s out out_new err err_new None None ⊎ Told
+pub unlogged : (r : Request) (p i j : Option (List ℕ)) (s : ℕ) (out out_new err err_new log log_new : Option (List ℕ)) (Told : Type 0)
+    → IsAnswered r p i j s out out_new err err_new log log_new → IsAnswered r p i j s out out_new err err_new None None ⊎ Told
+unlogged (request.Job job) p i j s out out_new err err_new log log_new Told h =
+    inl (job_unlogged (task_of job) p i s out out_new err err_new log log_new h)
+unlogged (request.ByHand run) p i j s out out_new err err_new log log_new Told h =
+    inl (of_each _ _ p (λ bytes answer memory device.
+    hand_unlogged run.form (kept run.form bytes) run.arguments.items (is_some run.log) s i j out out_new err err_new log log_new (answer memory device)) h)
 
-  pub told_instead : Told → IfKnown t p l (λ bytes logged. s ≢ 4 → s ≢ 5 → Answered t bytes logged s out out_new err err_new None None ⊎ Told)
-  told_instead told = of_known t p l IsAnswer (λ bytes logged memory device. inr told)
+-- where no file was opened there is no answer
+not_both : (s : ℕ) → (s ≡ 4) ⊎ (s ≡ 5) → s ≢ 4 → s ≢ 5 → ⊥
+not_both s (inl e) memory device = memory e
+not_both s (inr e) memory device = device e
 
-  -- where no file was opened there is no answer
-  pub not_answered : (s ≡ 4) ⊎ (s ≡ 5) → IfKnown t p l (λ bytes logged. s ≢ 4 → s ≢ 5 → Answered t bytes logged s out out_new err err_new None None ⊎ Told)
-  not_answered (inl e) = of_known t p l IsAnswer (λ bytes logged memory device. absurd (memory e))
-  not_answered (inr e) = of_known t p l IsAnswer (λ bytes logged memory device. absurd (device e))
+of_any : (p : Option (List ℕ)) (P : List ℕ → Type 0) → ((xs : List ℕ) → P xs) → IfSome p P
+of_any None P h = tt
+of_any (Some xs) P h = h xs
+
+pub not_answered : (r : Request) (p i j : Option (List ℕ)) (s : ℕ) (out out_new err err_new log log_new : Option (List ℕ)) (Told : Type 0)
+    → (s ≡ 4) ⊎ (s ≡ 5) → IsAnswered r p i j s out out_new err err_new log log_new ⊎ Told
+not_answered (request.Job job) p i j s out out_new err err_new log log_new Told e =
+    inl (of_known (task_of job) p i _ (λ bytes logged memory device. absurd (not_both s e memory device)))
+not_answered (request.ByHand run) p i j s out out_new err err_new log log_new Told e =
+    inl (of_any p _ (λ bytes memory device. absurd (not_both s e memory device)))
 
 -- what holds of what may be read holds where nothing is known of it
 without : (reads : Bool) (known : Option (List ℕ)) (P : List ℕ → Type 0) → IfSome (if reads then known else Some []) P → IfSome (if reads then None else Some []) P
 without true known P h = tt
 without false known P h = h
 
-pub less_known : (t : Task) (program known : Option (List ℕ)) (P : List ℕ → List ℕ → Type 0) → IfKnown t program known P → IfKnown t program None P
+less_known : (t : Task) (program known : Option (List ℕ)) (P : List ℕ → List ℕ → Type 0) → IfKnown t program known P → IfKnown t program None P
 less_known t None known P h = tt
 less_known t (Some bytes) known P h = without (reads_more t.doing) known (P bytes) h
+
+pub unread : (r : Request) (p i j : Option (List ℕ)) (s : ℕ) (out out_new err err_new log log_new : Option (List ℕ)) (Told : Type 0)
+    → IsAnswered r p i j s out out_new err err_new log log_new ⊎ Told → IsAnswered r p None None s out out_new err err_new log log_new ⊎ Told
+unread r p i j s out out_new err err_new log log_new Told (inr told) = inr told
+unread (request.Job job) p i j s out out_new err err_new log log_new Told (inl h) = inl (less_known (task_of job) p i _ h)
+unread (request.ByHand run) p i j s out out_new err err_new log log_new Told (inl h) =
+    inl (of_each _ _ p (λ bytes answer memory device.
+    hand_unread run.form (kept run.form bytes) run.arguments.items (is_some run.log) s i j out out_new err err_new log log_new (answer memory device)) h)
+
+-- ---- the line that tells a fault
+
+-- it is the last one where it is the only one
+pub alone_ends : (r : Request) (p i : Option (List ℕ)) (line : List ℕ) (old new : Option (List ℕ)) → Appends old new line → EndsIn r p i line old new
+alone_ends (request.Job job) p i line old new wrote = wrote
+alone_ends (request.ByHand run) p i line old new wrote = unread_ends run.form p run.arguments.items i line old new wrote
+
+pub alone_ends_or : (r : Request) (p i : Option (List ℕ)) (line : List ℕ) (old new : Option (List ℕ)) (Other : Type 0)
+    → Appends old new line ⊎ Other → EndsIn r p i line old new ⊎ Other
+alone_ends_or r p i line old new Other (inl wrote) = inl (alone_ends r p i line old new wrote)
+alone_ends_or r p i line old new Other (inr other) = inr other

@@ -1,8 +1,12 @@
 -- Words that were read are those that were given.
-use Rattle.std.proofs.Common.{◌≡◌, ℕ, ◌⊎◌, inl, inr, true, List, Some, subst}
-use Rattle.xk_cli.specs.CommandLine.{Asked, IsRefused, WithOrders, crowds_in, excludes_in, faults_in, job_of, misplaces_in, strays_in}
+use Rattle.std.proofs.Common.{◌≡◌, ℕ, ◌⊎◌, inl, inr, List, Option, None, Some, refl, subst}
+use Rattle.std.specs.Io.KnownBytes.{Appends}
+use Rattle.xk_cli.specs.CommandLine.{Asked, IsRefused, WithOrders, asked_value, crowds_in, excludes_in, faults_in, job_of, misplaces_in, strays_in}
+use Rattle.xk_cli.specs.declared.job.Request.{Request}
+use Rattle.xk_cli.specs.declared.job.Request.TheVariants as request
 use Rattle.xk_cli.specs.declared.words_fault.WordsFault.{WordsFault}
-use Rattle.x10clock.specs.CommandLine.{AreNoJob, AreUnderstood, AskForJob, AskSomebody}
+use Rattle.x10clock.specs.CommandLine.{AreNoJob, AreUnderstood, AskForHand, AskForJob}
+use Rattle.x10clock.specs.Requests.{EndsIn, IsLastLine}
 
 -- they ask for a job
 pub asked : (found given : List (List ℕ)) (job : Asked) → found ≡ given → AreUnderstood found → WithOrders (λ names. job_of names found ≡ Some job)
@@ -11,13 +15,14 @@ asked found given job e understood h =
     let said = subst (λ words. WithOrders (λ names. job_of names words ≡ Some job)) e h in
     (subst AreUnderstood e understood, (said.0, said.1, (job, said.2)))
 
--- maybe for a person that is asked
-pub or_somebody : (A : Type 0) (found given : List (List ℕ)) (job : Asked) → found ≡ given → AreUnderstood found
-    → WithOrders (λ names. job_of names found ≡ Some job) → A ⊎ (job.asks ≡ true) → A ⊎ AskSomebody given
-or_somebody A found given job e understood h (inl a) = inl a
-or_somebody A found given job e understood h (inr asks) =
-    let said = subst (λ words. WithOrders (λ names. job_of names words ≡ Some job)) e h in
-    inr (subst AreUnderstood e understood, (said.0, said.1, (job, said.2, asks)))
+-- where somebody is asked, the line that tells a fault stands behind what is
+pub last_line : (r : Request) (found given : List (List ℕ)) (line : List ℕ) (old new : Option (List ℕ)) → found ≡ given → AreUnderstood found
+    → WithOrders (λ names. job_of names found ≡ Some (asked_value r)) → EndsIn r None None line old new
+    → Appends old new line ⊎ (AskForHand given × IsLastLine line old new)
+last_line (request.Job job) found given line old new e understood h ends = inl ends
+last_line (request.ByHand run) found given line old new e understood h ends =
+    let said = subst (λ words. WithOrders (λ names. job_of names words ≡ Some (asked_value (request.ByHand run)))) e h in
+    inr ((subst AreUnderstood e understood, (said.0, said.1, (asked_value (request.ByHand run), _, said.2, refl))), (ends.0, ends.2))
 
 -- they are no job for this reason
 pub refused : (found given : List (List ℕ)) (f : WordsFault) → found ≡ given

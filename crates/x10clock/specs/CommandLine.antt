@@ -1,9 +1,9 @@
 -- What the program makes of words, and of files that it can't open. This project's own.
-use Rattle.std.specs.Prelude.{◌≡◌, ◌⊎◌, ℕ, List, [], Some, true, codes}
+use Rattle.std.specs.Prelude.{◌≡◌, ◌⊎◌, ℕ, List, [], Option, Some, codes}
 use Rattle.std.specs.IoError.{error_kind}
 use Rattle.std.specs.declared.io.Error.{Error}
 use Rattle.std.specs.declared.io.ErrorKind.TheVariants as kind
-use Rattle.xk_cli.specs.CommandLine.{Asked, IsRefused, WithOrders, crowds_in, excludes_in, faults_in, job_of, misplaces_in, strays_in}
+use Rattle.xk_cli.specs.CommandLine.{Asked, ByHand, IsRefused, WithOrders, crowds_in, excludes_in, faults_in, job_of, misplaces_in, strays_in}
 use Rattle.xk_cli.specs.declared.words_fault.WordsFault.{WordsFault}
 use Rattle.xk_cli.specs.declared.words_fault.WordsFault.TheVariants as words
 
@@ -15,10 +15,6 @@ IsWantOfMemory e = error_kind e ≡ kind.OutOfMemory
 abbrev pub no_text_line : List ℕ
 no_text_line = codes "x10clock: a word is not in UTF-8\n"
 
--- the line where the log of a run would be written over the program
-abbrev pub over_file_line : List ℕ
-over_file_line = codes "x10clock: --log would write over FILE\n"
-
 -- `clap` finds no mistake in these words, and no request for help
 abbrev pub AreUnderstood : List (List ℕ) → Type 0
 AreUnderstood given = WithOrders (λ names. faults_in names given ≡ [])
@@ -27,9 +23,9 @@ AreUnderstood given = WithOrders (λ names. faults_in names given ≡ [])
 abbrev pub AskForJob : List (List ℕ) → Type 0
 AskForJob given = AreUnderstood given × WithOrders (λ names. (job : Asked) × (job_of names given ≡ Some job))
 
--- they ask for a job, and for a person that is asked for the order of its run
-abbrev pub AskSomebody : List (List ℕ) → Type 0
-AskSomebody given = AreUnderstood given × WithOrders (λ names. (job : Asked) × (job_of names given ≡ Some job) × (job.asks ≡ true))
+-- they ask for a run by hand
+abbrev pub AskForHand : List (List ℕ) → Type 0
+AskForHand given = AreUnderstood given × WithOrders (λ names. (job : Asked) × (log : Option (List ℕ)) × (job_of names given ≡ Some job) × (job.task ≡ ByHand log))
 
 -- they are no job, for this reason
 abbrev pub AreNoJob : List (List ℕ) → WordsFault → Type 0

@@ -1,19 +1,17 @@
 //! The program: words to a job, files and streams to devices, and the status that serving it answers.
 #![tactic(auto)]
 
-ghost use Rattle.std.specs.Prelude.{◌≡◌, ◌≢◌, ◌⊎◌, true, false, [], None, map, string_bytes, IfOk};
+ghost use Rattle.std.specs.Prelude.{◌≡◌, ◌≢◌, ◌⊎◌, [], None, map, string_bytes, IfOk};
 ghost use Rattle.std.specs.Io.KnownBytes.{Appends};
 ghost use Rattle.xk_types.specs.Device.{Rose};
-ghost use Rattle.xk_cli.specs.CommandLine.{texts};
+ghost use Rattle.xk_cli.specs.CommandLine.{asked_value, texts};
 ghost use Rattle.xk_cli.specs.Status.{status_device, status_memory, status_program, status_words};
-ghost use Rattle.xk_serve.specs.Answer.{reads_more, task_of};
-ghost use Rattle.xk_serve.specs.Bytes.{kept};
 ghost use Rattle.xk_serve.specs.Lines.{device_line};
 ghost use Rattle.xk_diagnostics.specs.Lines.{memory_line};
-ghost use Rattle.xk_serve.specs.Devices.{Answered, ErrBegins, IfKnown, OutBegins, Reports, Tells, TellsWords};
+ghost use Rattle.xk_serve.specs.Devices.{Reports, Tells, TellsWords};
 ghost use Rattle.xk_serve.specs.declared.fault.Fault.TheVariants as fault;
-ghost use Rattle.xk_dialogue.specs.AskedRun.{AnsweredAsked, IfBoth};
-ghost use Rattle.x10clock.specs.CommandLine.{AreTold, AskSomebody, IsWantOfMemory, no_text_line, over_file_line};
+ghost use Rattle.x10clock.specs.CommandLine.{AreTold, AskForHand, IsWantOfMemory, no_text_line};
+ghost use Rattle.x10clock.specs.Requests.{EndsIn, IsLastLine, ErrIsBegun, IsAnswered, OutIsBegun, ReadsNoMore, over_line};
 
 mod files;
 
@@ -25,7 +23,7 @@ use std::process::ExitCode;
 use std::sync::Wait;
 use std::thread::Threads;
 use std::{env, fs, io};
-use xk_cli::{Command, Job, WordsFault, read_job, status};
+use xk_cli::{Command, Request, WordsFault, read_job, status};
 use xk_dialogue::serve_asked;
 use xk_serve::{Fault, report, serve, tell, tell_words};
 use xk_types::{Counted, Sink, Source};
@@ -35,7 +33,9 @@ trait Runtime: AllocGlobal + Files + Input + Threads + Wait + Sync {}
 
 impl<R: AllocGlobal + Files + Input + Threads + Wait + Sync> Runtime for R {}
 
+/// Does what the words ask for, on files and the standard streams, and ends with its status.
 fn main(rt: HostRuntime) -> ExitCode {
+    // Kept up to the end: no file that is opened takes the place of a stream that the caller closed.
     let _held = hold_streams(&rt);
     let mut out = Counted::new(rt.stdout());
     let mut err = Counted::new(rt.stderr());
@@ -80,7 +80,8 @@ fn on_words<R: Runtime, O: Sink, E: Sink>(rt: &R, words: &[String], out: &mut O,
     // Where somebody is asked, questions stand before it.
     ensures memory_err { result ≡ status_memory
         → Appends (E.contents err.old) (E.contents err.new) memory_line
-        ⊎ AskSomebody (map string_bytes words.now) }
+        ⊎ (AskForHand (map string_bytes words.now)
+        × IsLastLine memory_line (E.contents err.old) (E.contents err.new)) }
     ensures faults { result ≢ status_device
         → (O.fault_count out.new ≡ O.fault_count out.old)
         × (E.fault_count err.new ≡ E.fault_count err.old) }
@@ -89,7 +90,7 @@ fn on_words<R: Runtime, O: Sink, E: Sink>(rt: &R, words: &[String], out: &mut O,
         return tell_words(&WordsFault::OutOfMemory, out, err);
     };
     match read_job(rt.alloc(), &texts) {
-        Ok(job) => on_request(rt, &job, out, err),
+        Ok(request) => on_request(rt, &request, out, err),
         Err(fault) => tell_words(&fault, out, err),
     }
 }
@@ -105,181 +106,108 @@ fn texts_of<'a>(alloc: Global, words: &'a [String]) -> Result<Vec<&'a str>, Allo
     Ok(found)
 }
 
-/// Does the job, or asks for the order of its run.
-fn on_request<R: Runtime, O: Sink, E: Sink>(rt: &R, job: &Job<'_>, out: &mut O, err: &mut E) -> u8
+/// Opens FILE, and does what is asked for.
+fn on_request<R: Runtime, O: Sink, E: Sink>(
+    rt: &R,
+    request: &Request<'_>,
+    out: &mut O,
+    err: &mut E,
+) -> u8
     ensures memory_out { result ≡ status_memory
         → Appends (O.contents out.old) (O.contents out.new) [] }
-    ensures memory_err { result ≡ status_memory
-        → Appends (E.contents err.old) (E.contents err.new) memory_line
-        ⊎ (job.now.asks ≡ true) }
+    ensures memory_err { result ≡ status_memory → EndsIn request.now None None memory_line
+        (E.contents err.old) (E.contents err.new) }
     ensures faults { result ≢ status_device
         → (O.fault_count out.new ≡ O.fault_count out.old)
         × (E.fault_count err.new ≡ E.fault_count err.old) }
-{
-    if job.asks {
-        return on_asked(rt, job, out, err);
-    }
-    on_job(rt, job, out, err)
-}
-
-/// Opens FILE, and does the job.
-fn on_job<R: Runtime, O: Sink, E: Sink>(rt: &R, job: &Job<'_>, out: &mut O, err: &mut E) -> u8
-    ensures memory_out { result ≡ status_memory
-        → Appends (O.contents out.old) (O.contents out.new) [] }
-    ensures memory_err { result ≡ status_memory
-        → Appends (E.contents err.old) (E.contents err.new) memory_line }
-    ensures faults { result ≢ status_device
-        → (O.fault_count out.new ≡ O.fault_count out.old)
-        × (E.fault_count err.new ≡ E.fault_count err.old) }
-    ensures device_err { result ≡ status_device
-        → Appends (E.contents err.old) (E.contents err.new) device_line
+    ensures device_err { result ≡ status_device → EndsIn request.now None None device_line
+        (E.contents err.old) (E.contents err.new)
         ⊎ Rose (E.fault_count err.old) (E.fault_count err.new) }
 {
-    if job.file == "-" {
-        return on_program(rt, job, rt.reader(), out, err);
+    let file = file_of(request);
+    if file == "-" {
+        return on_input(rt, request, out, err);
     }
-    match fs::open(rt, job.file) {
-        Ok(file) => on_program(rt, job, file, out, err),
+    match fs::open(rt, file) {
+        Ok(program) => on_program(rt, request, program, out, err),
         Err(e) => not_opened(rt, &e, err),
     }
 }
 
-/// Opens FILE, and plays a run of it whose order is asked for: the answers come from standard input, so FILE is none.
-fn on_asked<R: Runtime, O: Sink, E: Sink>(rt: &R, job: &Job<'_>, out: &mut O, err: &mut E) -> u8
+/// FILE's path.
+fn file_of<'a>(request: &Request<'a>) -> &'a str
+    ensures { result.now ≡ (asked_value request.now).file }
+{
+    match request {
+        Request::Job(job) => job.file,
+        Request::ByHand(run) => run.file,
+    }
+}
+
+/// Does what is asked for where FILE is standard input, which is to have the answers of a run by hand.
+fn on_input<R: Runtime, O: Sink, E: Sink>(
+    rt: &R,
+    request: &Request<'_>,
+    out: &mut O,
+    err: &mut E,
+) -> u8
     ensures memory_out { result ≡ status_memory
         → Appends (O.contents out.old) (O.contents out.new) [] }
+    ensures memory_err { result ≡ status_memory → EndsIn request.now None None memory_line
+        (E.contents err.old) (E.contents err.new) }
     ensures faults { result ≢ status_device
         → (O.fault_count out.new ≡ O.fault_count out.old)
         × (E.fault_count err.new ≡ E.fault_count err.old) }
+    ensures device_err { result ≡ status_device → EndsIn request.now None None device_line
+        (E.contents err.old) (E.contents err.new)
+        ⊎ Rose (E.fault_count err.old) (E.fault_count err.new) }
 {
-    let path = job.file;
-    if path == "-" {
-        return tell(
+    match request {
+        Request::Job(_) => on_program(rt, request, rt.reader(), out, err),
+        Request::ByHand(_) => tell(
             "x10clock: --order ask reads standard input, so FILE can't be -\n",
             status::WORDS,
             err,
-        );
-    }
-    match fs::open(rt, path) {
-        Ok(file) => on_game(rt, job, &mut Counted::new(file), out, err),
-        Err(e) => not_opened(rt, &e, err),
-    }
-}
-
-/// Makes the file of the log that is written, or empties it, where there is to be one, and plays a run of an open program.
-fn on_game<R: Runtime, P: Source, O: Sink, E: Sink>(
-    rt: &R,
-    job: &Job<'_>,
-    program: &mut P,
-    out: &mut O,
-    err: &mut E,
-) -> u8
-    ensures memory_out { result ≡ status_memory
-        → Appends (O.contents out.old) (O.contents out.new) [] }
-    ensures faults { result ≢ status_device
-        → (P.fault_count program.new ≡ P.fault_count program.old)
-        × (O.fault_count out.new ≡ O.fault_count out.old)
-        × (E.fault_count err.new ≡ E.fault_count err.old) }
-{
-    let mut input = Counted::new(rt.reader());
-    let Some(path) = path_of_log(job.command) else {
-        let mut log_out = Counted::new(io::sink());
-        return play(rt, job, false, program, &mut input, out, err, &mut log_out);
-    };
-    match log_beside(rt, path, job.file) {
-        Ok(Some(file)) => {
-            let mut log_out = Counted::new(file);
-            play(rt, job, true, program, &mut input, out, err, &mut log_out)
-        }
-        Ok(None) => tell(
-            "x10clock: --log would write over FILE or standard input\n",
-            status::WORDS,
-            err,
         ),
-        Err(e) => not_opened(rt, &e, err),
     }
 }
 
-/// The file of the log that is written, made or emptied; `None`, and nothing is emptied, where that is FILE itself, or what the answers are read from.
-fn log_beside<R: Files>(rt: &R, path: &str, file: &str) -> io::Result<Option<R::File>> {
-    if is_same_file(rt, path, "-")? {
-        return Ok(None);
-    }
-    log_file(rt, path, file)
-}
-
-/// Plays a run of an open program by the answers in the input.
-fn play<R: AllocGlobal, P: Source, L: Source, O: Sink, E: Sink, K: Sink>(
-    rt: &R,
-    job: &Job<'_>,
-    keeps_log: bool,
-    program: &mut P,
-    input: &mut L,
-    out: &mut O,
-    err: &mut E,
-    log_out: &mut K,
-) -> u8
-    ensures answered { IfBoth (P.remaining program.old) (L.remaining input.old)
-        (λ bytes answers. result ≢ status_memory → result ≢ status_device
-        → AnsweredAsked job.now.form (kept job.now.form bytes) job.now.arguments.items answers
-        keeps_log result (O.contents out.old) (O.contents out.new)
-        (E.contents err.old) (E.contents err.new) (K.contents log_out.old) (K.contents log_out.new)) }
-    ensures memory_out { result ≡ status_memory
-        → Appends (O.contents out.old) (O.contents out.new) [] }
-    ensures memory_log { result ≡ status_memory
-        → Appends (K.contents log_out.old) (K.contents log_out.new) [] }
-    ensures faults { result ≢ status_device
-        → (P.fault_count program.new ≡ P.fault_count program.old)
-        × (L.fault_count input.new ≡ L.fault_count input.old)
-        × (O.fault_count out.new ≡ O.fault_count out.old)
-        × (E.fault_count err.new ≡ E.fault_count err.old)
-        × (K.fault_count log_out.new ≡ K.fault_count log_out.old) }
-    ensures device { result ≡ status_device
-        → Rose (P.fault_count program.old) (P.fault_count program.new)
-        ⊎ (Rose (L.fault_count input.old) (L.fault_count input.new)
-        ⊎ (Rose (O.fault_count out.old) (O.fault_count out.new)
-        ⊎ (Rose (E.fault_count err.old) (E.fault_count err.new)
-        ⊎ Rose (K.fault_count log_out.old) (K.fault_count log_out.new)))) }
-{
-    let arguments = job.arguments.as_slice();
-    serve_asked(
-        rt.alloc(),
-        job.form,
-        arguments,
-        keeps_log,
-        program,
-        input,
-        out,
-        err,
-        log_out,
-    )
-}
-
-/// Opens the log or the list that is read, where there is one, and does the job on an open program.
+/// Opens the log, the list or the answers that are read, where any are, and does what is asked for on an open program.
 fn on_program<R: Runtime, P: Read + Drop, O: Sink, E: Sink>(
     rt: &R,
-    job: &Job<'_>,
+    request: &Request<'_>,
     program: P,
     out: &mut O,
     err: &mut E,
 ) -> u8
-    ensures answered { IfKnown (task_of job.now) (P.remaining program) None
-        (λ bytes logged. result ≢ status_memory → result ≢ status_device
-        → Answered (task_of job.now) bytes logged result (O.contents out.old)
-        (O.contents out.new) (E.contents err.old) (E.contents err.new) None None
-        ⊎ Tells over_file_line status_words (E.contents err.old) (E.contents err.new)
-        (E.fault_count err.old) (E.fault_count err.new) result) }
+    ensures answered { IsAnswered request.now (P.remaining program) None None result
+        (O.contents out.old) (O.contents out.new)
+        (E.contents err.old) (E.contents err.new) None None
+        ⊎ Tells (over_line request.now) status_words (E.contents err.old) (E.contents err.new)
+        (E.fault_count err.old) (E.fault_count err.new) result }
     ensures memory_out { result ≡ status_memory
         → Appends (O.contents out.old) (O.contents out.new) [] }
     ensures memory_err { result ≡ status_memory
-        → Appends (E.contents err.old) (E.contents err.new) memory_line }
+        → EndsIn request.now (P.remaining program) None memory_line
+        (E.contents err.old) (E.contents err.new) }
     ensures faults { result ≢ status_device
         → (O.fault_count out.new ≡ O.fault_count out.old)
         × (E.fault_count err.new ≡ E.fault_count err.old) }
     ensures device_err { result ≡ status_device
-        → Appends (E.contents err.old) (E.contents err.new) device_line
+        → EndsIn request.now (P.remaining program) None device_line
+        (E.contents err.old) (E.contents err.new)
         ⊎ Rose (E.fault_count err.old) (E.fault_count err.new) }
 {
+    let Request::Job(job) = request else {
+        return on_log(
+            rt,
+            request,
+            program,
+            &mut Counted::new(rt.reader()),
+            out,
+            err,
+        );
+    };
     let (Command::Replay { log: path }
     | Command::Chart { log: path }
     | Command::Events { log: path }
@@ -289,61 +217,73 @@ fn on_program<R: Runtime, P: Read + Drop, O: Sink, E: Sink>(
     | Command::Races { log: Some(path) }
     | Command::Expected { list: path, .. }) = job.command
     else {
-        return on_log(rt, job, program, &mut Counted::new(io::empty()), out, err);
+        return on_log(
+            rt,
+            request,
+            program,
+            &mut Counted::new(io::empty()),
+            out,
+            err,
+        );
     };
     match fs::open(rt, path) {
-        Ok(file) => on_log(rt, job, program, &mut Counted::new(file), out, err),
+        Ok(file) => on_log(rt, request, program, &mut Counted::new(file), out, err),
         Err(e) => not_opened(rt, &e, err),
     }
 }
 
-/// Makes the file of the log that is written, or empties it, where there is to be one, and does the job on an open program.
+/// Makes the file of the log that is written, or empties it, where there is to be one, and does what is asked for on an open program.
 fn on_log<R: Runtime, P: Read + Drop, L: Source, O: Sink, E: Sink>(
     rt: &R,
-    job: &Job<'_>,
+    request: &Request<'_>,
     program: P,
-    log_in: &mut L,
+    input: &mut L,
     out: &mut O,
     err: &mut E,
 ) -> u8
-    ensures answered { IfKnown (task_of job.now) (P.remaining program) (L.remaining log_in.old)
-        (λ bytes logged. result ≢ status_memory → result ≢ status_device
-        → Answered (task_of job.now) bytes logged result (O.contents out.old)
-        (O.contents out.new) (E.contents err.old) (E.contents err.new) None None
-        ⊎ Tells over_file_line status_words (E.contents err.old) (E.contents err.new)
-        (E.fault_count err.old) (E.fault_count err.new) result) }
+    ensures answered { IsAnswered request.now (P.remaining program)
+        (L.remaining input.old) (L.remaining input.new) result
+        (O.contents out.old) (O.contents out.new)
+        (E.contents err.old) (E.contents err.new) None None
+        ⊎ Tells (over_line request.now) status_words (E.contents err.old) (E.contents err.new)
+        (E.fault_count err.old) (E.fault_count err.new) result }
     ensures memory_out { result ≡ status_memory
         → Appends (O.contents out.old) (O.contents out.new) [] }
     ensures memory_err { result ≡ status_memory
-        → Appends (E.contents err.old) (E.contents err.new) memory_line }
+        → EndsIn request.now (P.remaining program) (L.remaining input.old) memory_line
+        (E.contents err.old) (E.contents err.new) }
     ensures faults { result ≢ status_device
-        → (L.fault_count log_in.new ≡ L.fault_count log_in.old)
+        → (L.fault_count input.new ≡ L.fault_count input.old)
         × (O.fault_count out.new ≡ O.fault_count out.old)
         × (E.fault_count err.new ≡ E.fault_count err.old) }
     ensures device_err { result ≡ status_device
-        → Appends (E.contents err.old) (E.contents err.new) device_line
+        → EndsIn request.now (P.remaining program) (L.remaining input.old) device_line
+        (E.contents err.old) (E.contents err.new)
         ⊎ Rose (E.fault_count err.old) (E.fault_count err.new) }
-    ensures log_in { reads_more (task_of job.now).doing ≡ false → log_in.new ≡ log_in.old }
-    ensures log_unread { result ≡ status_program → log_in.new ≡ log_in.old }
+    ensures no_more { ReadsNoMore request.now → input.new ≡ input.old }
+    ensures unread { result ≡ status_program → input.new ≡ input.old }
 {
-    let Some(path) = path_of_log(job.command) else {
+    let Some(path) = path_of_log(request) else {
         let mut log_out = Counted::new(io::sink());
-        return on_devices(rt, job, program, log_in, out, err, &mut log_out);
+        return on_devices(rt, request, program, input, out, err, &mut log_out);
     };
-    match log_file(rt, path, job.file) {
-        Ok(Some(file)) => on_devices(rt, job, program, log_in, out, err, &mut Counted::new(file)),
-        Ok(None) => tell(
-            "x10clock: --log would write over FILE\n",
-            status::WORDS,
-            err,
-        ),
+    match log_file(rt, path, request) {
+        Ok(Some(file)) => {
+            let mut log_out = Counted::new(file);
+            on_devices(rt, request, program, input, out, err, &mut log_out)
+        }
+        Ok(None) => tell(over_line(request), status::WORDS, err),
         Err(e) => not_opened(rt, &e, err),
     }
 }
 
 /// Where the log goes that is written, if one is.
-fn path_of_log<'a>(command: Command<'a>) -> Option<&'a str> {
-    match command {
+fn path_of_log<'a>(request: &Request<'a>) -> Option<&'a str> {
+    let job = match request {
+        Request::ByHand(run) => return run.log,
+        Request::Job(job) => job,
+    };
+    match job.command {
         Command::Run { log, .. } | Command::Outcomes { log, .. } => log,
         Command::Check
         | Command::Compile
@@ -361,12 +301,26 @@ fn path_of_log<'a>(command: Command<'a>) -> Option<&'a str> {
     }
 }
 
-/// The file of the log that is written, made or emptied; `None`, and nothing is emptied, where that is FILE itself.
-fn log_file<R: Files>(rt: &R, path: &str, file: &str) -> io::Result<Option<R::File>> {
-    if is_same_file(rt, path, file)? {
+/// The file of the log that is written, made or emptied; `None`, and nothing is emptied, where that is FILE itself, or what the answers of a run by hand
+/// are read from.
+fn log_file<R: Files>(rt: &R, path: &str, request: &Request<'_>) -> io::Result<Option<R::File>> {
+    if is_same_file(rt, path, file_of(request))? {
+        return Ok(None);
+    }
+    if matches!(request, Request::ByHand(_)) && is_same_file(rt, path, "-")? {
         return Ok(None);
     }
     Ok(Some(fs::create(rt, path)?))
+}
+
+/// What is told where the log would be written over what is read.
+fn over_line(request: &Request<'_>) -> &'static str
+    ensures { result.now ≡ over_line request.now }
+{
+    match request {
+        Request::Job(_) => "x10clock: --log would write over FILE\n",
+        Request::ByHand(_) => "x10clock: --log would write over FILE or standard input\n",
+    }
 }
 
 /// Says that a file can't be opened, or that memory was wanting for that.
@@ -391,7 +345,7 @@ fn not_opened<R: AllocGlobal, E: Sink>(rt: &R, e: &io::Error, err: &mut E) -> u8
     report(rt.alloc(), &Fault::Device, err)
 }
 
-/// Does the job on an open program and open logs.
+/// Does what is asked for on open devices: a job is served, and a run by hand is played by the answers in the input.
 fn on_devices<
     R: AllocGlobal + Threads + Wait + Sync,
     P: Read + Drop,
@@ -401,42 +355,58 @@ fn on_devices<
     K: Sink,
 >(
     rt: &R,
-    job: &Job<'_>,
+    request: &Request<'_>,
     program: P,
-    log_in: &mut L,
+    input: &mut L,
     out: &mut O,
     err: &mut E,
     log_out: &mut K,
 ) -> u8
-    ensures answered { IfKnown (task_of job.now) (P.remaining program) (L.remaining log_in.old)
-        (λ bytes logged. result ≢ status_memory → result ≢ status_device
-        → Answered (task_of job.now) bytes logged result
+    ensures answered { IsAnswered request.now (P.remaining program)
+        (L.remaining input.old) (L.remaining input.new) result
         (O.contents out.old) (O.contents out.new) (E.contents err.old) (E.contents err.new)
-        (K.contents log_out.old) (K.contents log_out.new)) }
-    ensures out_begins { IfKnown (task_of job.now) (P.remaining program) (L.remaining log_in.old)
-        (λ bytes logged. OutBegins (task_of job.now) bytes logged
+        (K.contents log_out.old) (K.contents log_out.new) }
+    ensures out_begins { OutIsBegun request.now (P.remaining program) (L.remaining input.old)
         (O.contents out.old) (O.contents out.new)
-        (K.contents log_out.old) (K.contents log_out.new)) }
-    ensures err_begins { IfKnown (task_of job.now) (P.remaining program) (L.remaining log_in.old)
-        (λ bytes logged. ErrBegins (task_of job.now) bytes logged
-        (E.contents err.old) (E.contents err.new)) }
+        (K.contents log_out.old) (K.contents log_out.new) }
+    ensures err_begins { ErrIsBegun request.now (P.remaining program) (L.remaining input.old)
+        (E.contents err.old) (E.contents err.new) }
     ensures memory_out { result ≡ status_memory
         → Appends (O.contents out.old) (O.contents out.new) [] }
     ensures memory_log { result ≡ status_memory
         → Appends (K.contents log_out.old) (K.contents log_out.new) [] }
     ensures memory_err { result ≡ status_memory
-        → Appends (E.contents err.old) (E.contents err.new) memory_line }
+        → EndsIn request.now (P.remaining program) (L.remaining input.old) memory_line
+        (E.contents err.old) (E.contents err.new) }
     ensures faults { result ≢ status_device
-        → (L.fault_count log_in.new ≡ L.fault_count log_in.old)
+        → (L.fault_count input.new ≡ L.fault_count input.old)
         × (O.fault_count out.new ≡ O.fault_count out.old)
         × (E.fault_count err.new ≡ E.fault_count err.old)
         × (K.fault_count log_out.new ≡ K.fault_count log_out.old) }
     ensures device_err { result ≡ status_device
-        → Appends (E.contents err.old) (E.contents err.new) device_line
+        → EndsIn request.now (P.remaining program) (L.remaining input.old) device_line
+        (E.contents err.old) (E.contents err.new)
         ⊎ Rose (E.fault_count err.old) (E.fault_count err.new) }
-    ensures log_in { reads_more (task_of job.now).doing ≡ false → log_in.new ≡ log_in.old }
-    ensures log_unread { result ≡ status_program → log_in.new ≡ log_in.old }
+    ensures no_more { ReadsNoMore request.now → input.new ≡ input.old }
+    ensures unread { result ≡ status_program → input.new ≡ input.old }
 {
     let mut source = Counted::new(program);
-    serve(rt, rt.alloc(), job, &mut source, log_in, out, err, log_out)
+    match request {
+        Request::Job(job) => serve(rt, rt.alloc(), job, &mut source, input, out, err, log_out),
+        Request::ByHand(run) => {
+            let arguments = run.arguments.as_slice();
+            let keeps_log = run.log.is_some();
+            serve_asked(
+                rt.alloc(),
+                run.form,
+                arguments,
+                keeps_log,
+                &mut source,
+                input,
+                out,
+                err,
+                log_out,
+            )
+        }
+    }
 }

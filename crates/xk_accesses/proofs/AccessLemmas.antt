@@ -2,7 +2,7 @@
 use Rattle.std.proofs.Common.{◌≡◌, ◌∙◌, ℕ, zero, suc, ◌≤◌, Bool, true, false, ◌&&◌, ◌||◌, List, [], ◌∷◌, Some, slice_get, ◌⊎◌, inl, inr, refl, sym, subst, arith}
 use Rattle.std.specs.Prelude.{if◌then◌else◌, nat_eq, nat_le, nat_lt, slice_set}
 use Rattle.std.specs.List.{list_any}
-use Rattle.std.proofs.lemmas.Bool.{and_parts, and_from, or_cases, eq-eqb, eqb-true, le-leb, leb-true, ltb-true, ltb-false, false≢true}
+use Rattle.std.proofs.lemmas.Bool.{and_parts, and_from, or_cases, eq-eqb, eqb-true, le-leb, leb-true, ltb-true, ltb-false, false≢true, or_left, or_right}
 use Rattle.std.proofs.lemmas.Option.{same_Some}
 use Rattle.xk_events.specs.declared.steps.RunStep.{RunStep}
 use Rattle.xk_accesses.specs.declared.access.Access.{Access}
@@ -105,21 +105,13 @@ later_covers_it d r x g = covers_from d (later r x) x (later_like d r x x g g) (
 
 -- ---- among others
 
-pub any_left : (b c : Bool) → b ≡ true → (b || c) ≡ true
-any_left true c h = refl
-any_left false c h = absurd (false≢true h)
-
-pub any_right : (b c : Bool) → c ≡ true → (b || c) ≡ true
-any_right true c h = refl
-any_right false c h = h
-
 pub any_from : {X : Type 0} (f g : X → Bool) (xs : List X) → ((x : X) → f x ≡ true → g x ≡ true) → list_any f xs ≡ true → list_any g xs ≡ true
 any_from f g [] more h = absurd (false≢true h)
 any_from f g (x ∷ xs) more h = of (or_cases (f x) (list_any f xs) h) (any_from f g xs more)
   where
     of : (f x ≡ true) ⊎ (list_any f xs ≡ true) → (list_any f xs ≡ true → list_any g xs ≡ true) → (g x || list_any g xs) ≡ true
-    of (inl e) rest = any_left (g x) (list_any g xs) (more x e)
-    of (inr e) rest = any_right (g x) (list_any g xs) (rest e)
+    of (inl e) rest = or_left (g x) (list_any g xs) (more x e)
+    of (inr e) rest = or_right (g x) (list_any g xs) (rest e)
 
 -- one that is passed by w where it was passed by r
 pub any_set : {X : Type 0} (test : X → Bool) (xs : List X) (i : ℕ) (r w : X) → slice_get xs i ≡ Some r → (test r ≡ true → test w ≡ true)
@@ -128,14 +120,14 @@ any_set test [] i r w at more h = absurd (false≢true h)
 any_set test (x ∷ xs) zero r w at more h = of (or_cases (test x) (list_any test xs) h)
   where
     of : (test x ≡ true) ⊎ (list_any test xs ≡ true) → (test w || list_any test xs) ≡ true
-    of (inl e) = any_left (test w) (list_any test xs) (more (subst (λ y. test y ≡ true) (same_Some x r at) e))
-    of (inr e) = any_right (test w) (list_any test xs) e
+    of (inl e) = or_left (test w) (list_any test xs) (more (subst (λ y. test y ≡ true) (same_Some x r at) e))
+    of (inr e) = or_right (test w) (list_any test xs) e
 any_set test (x ∷ xs) (suc i) r w at more h = of (or_cases (test x) (list_any test xs) h) (any_set test xs i r w at more)
   where
     of : (test x ≡ true) ⊎ (list_any test xs ≡ true) → (list_any test xs ≡ true → list_any test (slice_set xs i w) ≡ true)
         → (test x || list_any test (slice_set xs i w)) ≡ true
-    of (inl e) rest = any_left (test x) (list_any test (slice_set xs i w)) e
-    of (inr e) rest = any_right (test x) (list_any test (slice_set xs i w)) (rest e)
+    of (inl e) rest = or_left (test x) (list_any test (slice_set xs i w)) e
+    of (inr e) rest = or_right (test x) (list_any test (slice_set xs i w)) (rest e)
 
 pub any_set_there : {X : Type 0} (test : X → Bool) (xs : List X) (i : ℕ) (r w : X) → slice_get xs i ≡ Some r → test w ≡ true
     → list_any test (slice_set xs i w) ≡ true
@@ -143,8 +135,8 @@ any_set_there test [] i r w at h = absurd (none at)
   where
     none : slice_get [] i ≡ Some r → ⊥
     none e = cc
-any_set_there test (x ∷ xs) zero r w at h = any_left (test w) (list_any test xs) h
-any_set_there test (x ∷ xs) (suc i) r w at h = any_right (test x) (list_any test (slice_set xs i w)) (any_set_there test xs i r w at h)
+any_set_there test (x ∷ xs) zero r w at h = or_left (test w) (list_any test xs) h
+any_set_there test (x ∷ xs) (suc i) r w at h = or_right (test x) (list_any test (slice_set xs i w)) (any_set_there test xs i r w at h)
 
 pub raised : (d : Detail) (rows : List Access) (i : ℕ) (x z : Access) (r : Access) → slice_get rows i ≡ Some r → is_like d r x ≡ true
     → is_covered d rows z ≡ true → is_covered d (slice_set rows i (later r x)) z ≡ true

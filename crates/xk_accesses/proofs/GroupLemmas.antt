@@ -1,14 +1,14 @@
 -- The groups of accesses at one place.
-use Rattle.std.proofs.Common.{◌≡◌, ◌∙◌, ℕ, zero, suc, true, false, ◌||◌, List, [], ◌∷◌, ◌++◌, Some, get_or, slice_get, ◌⊎◌, inl, inr, length, refl, sym, subst, arith}
+use Rattle.std.proofs.Common.{◌≡◌, ◌∙◌, ℕ, true, false, ◌||◌, List, [], ◌∷◌, ◌++◌, Some, slice_get, ◌⊎◌, inl, inr, length, refl, sym, subst, arith}
 use Rattle.std.specs.Prelude.{nat_eq, nat_lt, slice_set}
 use Rattle.std.specs.List.{list_any}
-use Rattle.std.proofs.lemmas.Bool.{and_parts, and_from, or_cases, eq-eqb, eqb-true, lt-ltb, ltb-true, false≢true}
+use Rattle.std.proofs.lemmas.Bool.{and_parts, and_from, or_cases, eq-eqb, eqb-true, lt-ltb, false≢true, or_left, or_right}
 use Rattle.std.proofs.lemmas.List.Folds.{list_any-append}
-use Rattle.std.proofs.lemmas.Option.{same_Some}
+use Rattle.std.proofs.lemmas.Option.{slice_get_within}
 use Rattle.xk_accesses.specs.declared.access.Access.{Access}
 use Rattle.xk_accesses.specs.declared.access.Detail.TheVariants.{Place}
 use Rattle.xk_accesses.specs.Accesses.{Group, covers, has_member, is_like, is_placed, single, with_member}
-use Rattle.xk_accesses.proofs.AccessLemmas.{any_left, any_right, any_from, any_set, any_set_there, covers_on, later_covers, later_covers_it, like_true}
+use Rattle.xk_accesses.proofs.AccessLemmas.{any_from, any_set, any_set_there, covers_on, later_covers, later_covers_it, like_true}
 
 -- ---- one more member
 
@@ -18,15 +18,15 @@ member_kept x z g like h =
     and_from (covers Place (with_member x g).last z) (list_any (nat_eq z.position) (g.members ++ x.position ∷ []))
     (later_covers Place g.last x z (like_true Place g.last x like) b.0)
     (list_any-append (nat_eq z.position) g.members (x.position ∷ [])
-    ∙ any_left (list_any (nat_eq z.position) g.members) (nat_eq z.position x.position || false) b.1)
+    ∙ or_left (list_any (nat_eq z.position) g.members) (nat_eq z.position x.position || false) b.1)
 
 member_there : (x : Access) (g : Group) → is_like Place g.last x ≡ true → has_member x (with_member x g) ≡ true
 member_there x g like =
     and_from (covers Place (with_member x g).last x) (list_any (nat_eq x.position) (g.members ++ x.position ∷ []))
     (later_covers_it Place g.last x (like_true Place g.last x like))
     (list_any-append (nat_eq x.position) g.members (x.position ∷ [])
-    ∙ any_right (list_any (nat_eq x.position) g.members) (nat_eq x.position x.position || false)
-    (any_left (nat_eq x.position x.position) false (eq-eqb x.position x.position refl)))
+    ∙ or_right (list_any (nat_eq x.position) g.members) (nat_eq x.position x.position || false)
+    (or_left (nat_eq x.position x.position) false (eq-eqb x.position x.position refl)))
 
 pub group_kept : (groups : List Group) (i : ℕ) (x z : Access) (g : Group) → slice_get groups i ≡ Some g → is_like Place g.last x ≡ true
     → is_placed groups z ≡ true → is_placed (slice_set groups i (with_member x g)) z ≡ true
@@ -36,22 +36,9 @@ pub group_there : (groups : List Group) (i : ℕ) (x : Access) (g : Group) → s
     → is_placed (slice_set groups i (with_member x g)) x ≡ true
 group_there groups i x g at like = any_set_there (has_member x) groups i g (with_member x g) at (member_there x g like)
 
--- what a list has where it has something
-pub is_there : {X : Type 0} (xs : List X) (i : ℕ) (x d : X) → slice_get xs i ≡ Some x → get_or xs i d ≡ x
-is_there [] i x d h = absurd (none h)
-  where
-    none : slice_get [] i ≡ Some x → ⊥
-    none e = cc
-is_there (y ∷ xs) zero x d h = same_Some y x h
-is_there (y ∷ xs) (suc i) x d h = is_there xs i x d h
-
+-- a place in a list where something is
 pub is_within : {X : Type 0} (xs : List X) (i : ℕ) (x : X) → slice_get xs i ≡ Some x → nat_lt i (length xs) ≡ true
-is_within [] i x h = absurd (none h)
-  where
-    none : slice_get [] i ≡ Some x → ⊥
-    none e = cc
-is_within (y ∷ xs) zero x h = lt-ltb 0 (suc (length xs)) (omega arith)
-is_within (y ∷ xs) (suc i) x h = let lt = ltb-true i (length xs) (is_within xs i x h) in lt-ltb (suc i) (suc (length xs)) (omega (arith, lt))
+is_within xs i x h = lt-ltb i (length xs) (slice_get_within xs i x h)
 
 -- ---- a group of one
 

@@ -10,7 +10,7 @@ use Rattle.xk_types.specs.Schedule.{printed}
 use Rattle.xk_types.proofs.Examples.Notation.{main_with, body_with, module_with}
 use Rattle.xk_events.specs.Events.{no_text}
 use Rattle.xk_ask.specs.Answers.{answers}
-use Rattle.xk_ask.specs.Play.{act_line, played, question, told, unread}
+use Rattle.xk_ask.specs.Play.{able_line, all_said, played, question, unread}
 
 -- ---- lines
 
@@ -44,16 +44,16 @@ unfolding total_within
 two_printed = refl
 
 two_asked : question no_text two (opening two []) ≡ codes "act 0 unit 0 place 0\nwho steps?\n"
-unfolding act_line digits
+unfolding able_line digits
 two_asked = refl
 
-two_told : told no_text two (answers whole) (opening two []) ≡ codes "act 0 unit 0 place 1\nact 1 unit 1 place 0\nwho steps?\nact 0 unit 0 place 1\nact 1 unit 1 place 2\nwho steps?\nnone of these: who steps?\nact 0 unit 0 place 1\nwho steps?\nact 0 unit 0 place 3\nwho steps?\n"
-unfolding act_line digits total_within
+two_told : all_said no_text two (answers whole) (opening two []) ≡ codes "act 0 unit 0 place 1\nact 1 unit 1 place 0\nwho steps?\nact 0 unit 0 place 1\nact 1 unit 1 place 2\nwho steps?\nnone of these: who steps?\nact 0 unit 0 place 1\nwho steps?\nact 0 unit 0 place 3\nwho steps?\n"
+unfolding able_line digits total_within
 two_told = refl
 
 -- an answer behind the end is not looked at
-none_behind : told no_text two (answers (codes "0\n1\n1\n0\n0\n0\n")) (opening two []) ≡ told no_text two (answers (codes "0\n1\n1\n0\n0\n")) (opening two [])
-unfolding act_line digits total_within
+none_behind : all_said no_text two (answers (codes "0\n1\n1\n0\n0\n0\n")) (opening two []) ≡ all_said no_text two (answers (codes "0\n1\n1\n0\n0\n")) (opening two [])
+unfolding able_line digits total_within
 none_behind = refl
 
 -- the input ends before the run does

@@ -19,7 +19,7 @@ use Rattle.xk_log.proofs.DeviceLemmas.{appends_then, beginning_more, beginning_t
 use Rattle.xk_events.specs.Events.{PlacesValue}
 use Rattle.xk_ask.specs.Answers.{answers, answers_read, behind_lines, most_bytes}
 use Rattle.xk_ask.specs.Asking.{BeginsByAnswers, BeginsSome, EndAlike, FollowsSome, IsByAnswers, Leaves, TakesAnswer, TakesLine, to_come}
-use Rattle.xk_ask.specs.Play.{behind, looked_at, picked, played, played_log, question, said, taken, told, told_by, told_text, unread, unread_from}
+use Rattle.xk_ask.specs.Play.{all_said, behind, looked_at, picked, played, played_log, question, said, taken, told_by, told_text, unread, unread_from}
 use Rattle.xk_ask.proofs.LineLemmas.{passing_stops}
 
 -- ---- where all have ended
@@ -37,7 +37,7 @@ played_over m [] w over = refl
 played_over m (x ∷ xs) w over =
     ap (λ o. taken m w o ++ played m xs (behind m w o)) (picked_over m w x over) ∙ played_over m xs w over
 
-told_over : (p : PlacesValue) (m : ModuleValue) (xs : List (Option ℕ)) (w : World) → all_ended w ≡ true → told p m xs w ≡ []
+told_over : (p : PlacesValue) (m : ModuleValue) (xs : List (Option ℕ)) (w : World) → all_ended w ≡ true → all_said p m xs w ≡ []
 told_over p m [] w over = refl
 told_over p m (x ∷ xs) w over = cond-true (all_ended w) _ _ over
 
@@ -49,15 +49,15 @@ pub record IsOn (p : PlacesValue) (m : ModuleValue) (xs : List (Option ℕ)) (w 
   pub logged : more ++ map one_step_of (played m ys v) ≡ log ++ map one_step_of (played m xs w)
   pub words : List ℕ
   pub wrote : Appends err later words
-  pub words_are : words ++ told p m ys v ≡ told p m xs w
+  pub words_are : words ++ all_said p m ys v ≡ all_said p m xs w
 
 on_starts : (p : PlacesValue) (m : ModuleValue) (xs : List (Option ℕ)) (w : World) (log : List Entry) (err : Option (List ℕ)) → IsOn p m xs w log err xs w log err
 on_starts p m xs w log err = record { logged = refl; words = []; wrote = Appends-nil err; words_are = refl }
 
 -- what is told where an answer is looked at
 told_next : (p : PlacesValue) (m : ModuleValue) (x : Option ℕ) (ys zs : List (Option ℕ)) (v : World) → ys ≡ x ∷ zs → all_ended v ≡ false
-    → told p m ys v ≡ said p m v (picked m v x) ++ told p m zs (behind m v (picked m v x))
-told_next p m x ys zs v is goes = ap (λ l. told p m l v) is ∙ cond-false (all_ended v) _ _ goes
+    → all_said p m ys v ≡ said p m v (picked m v x) ++ all_said p m zs (behind m v (picked m v x))
+told_next p m x ys zs v is goes = ap (λ l. all_said p m l v) is ∙ cond-false (all_ended v) _ _ goes
 
 on_more : (p : PlacesValue) (m : ModuleValue) (xs : List (Option ℕ)) (w : World) (log : List Entry) (err : Option (List ℕ))
     (x : Option ℕ) (ys zs : List (Option ℕ)) (v u : World) (more next : List Entry) (later last : Option (List ℕ))
@@ -75,8 +75,8 @@ on_more p m xs w log err x ys zs v u more next later last i is goes led grown wr
           ∙ i.logged;
       words = i.words ++ said p m v o;
       wrote = appends_then err later last i.words (said p m v o) i.wrote wrote;
-      words_are = ap (λ z. (i.words ++ said p m v o) ++ told p m zs z) led
-          ∙ append_assoc i.words (said p m v o) (told p m zs (behind m v o))
+      words_are = ap (λ z. (i.words ++ said p m v o) ++ all_said p m zs z) led
+          ∙ append_assoc i.words (said p m v o) (all_said p m zs (behind m v o))
           ∙ ap (λ l. i.words ++ l) (sym (told_next p m x ys zs v is goes))
           ∙ i.words_are;
     }
@@ -84,11 +84,11 @@ on_more p m xs w log err x ys zs v u more next later last i is goes led grown wr
 on_breaks : (p : PlacesValue) (m : ModuleValue) (xs : List (Option ℕ)) (w : World) (log : List Entry) (err : Option (List ℕ))
     (x : Option ℕ) (ys zs : List (Option ℕ)) (v : World) (more : List Entry) (later last : Option (List ℕ))
     → IsOn p m xs w log err ys v more later → ys ≡ x ∷ zs → all_ended v ≡ false
-    → AppendsBeginning later last (said p m v (picked m v x)) → AppendsBeginning err last (told p m xs w)
+    → AppendsBeginning later last (said p m v (picked m v x)) → AppendsBeginning err last (all_said p m xs w)
 on_breaks p m xs w log err x ys zs v more later last i is goes wrote =
     let here = said p m v (picked m v x) in
-    let rest = told p m zs (behind m v (picked m v x)) in
-    let whole : (i.words ++ here) ++ rest ≡ told p m xs w =
+    let rest = all_said p m zs (behind m v (picked m v x)) in
+    let whole : (i.words ++ here) ++ rest ≡ all_said p m xs w =
     append_assoc i.words here rest ∙ ap (λ l. i.words ++ l) (sym (told_next p m x ys zs v is goes)) ∙ i.words_are in
     subst (AppendsBeginning err last) whole
     (beginning_more err last (i.words ++ here) rest (beginning_then err later last i.words here i.wrote wrote))
@@ -99,25 +99,25 @@ whole_beginning a b text h = (length text, subst (Appends a b) (sym (take-length
 
 on_stops : (p : PlacesValue) (m : ModuleValue) (xs : List (Option ℕ)) (w : World) (log : List Entry) (err : Option (List ℕ))
     (ys : List (Option ℕ)) (v : World) (more : List Entry) (later : Option (List ℕ))
-    → IsOn p m xs w log err ys v more later → AppendsBeginning err later (told p m xs w)
+    → IsOn p m xs w log err ys v more later → AppendsBeginning err later (all_said p m xs w)
 on_stops p m xs w log err ys v more later i =
     subst (AppendsBeginning err later) i.words_are
-    (beginning_more err later i.words (told p m ys v) (whole_beginning err later i.words i.wrote))
+    (beginning_more err later i.words (all_said p m ys v) (whole_beginning err later i.words i.wrote))
 
 -- no answer is left, or none is looked at
 on_ends : (p : PlacesValue) (m : ModuleValue) (xs : List (Option ℕ)) (w : World) (log : List Entry) (err : Option (List ℕ))
     (ys : List (Option ℕ)) (v : World) (more : List Entry) (later : Option (List ℕ))
     → IsOn p m xs w log err ys v more later → (all_ended v ≡ true) ⊎ (ys ≡ [])
-    → (more ≡ log ++ map one_step_of (played m xs w)) × Appends err later (told p m xs w)
+    → (more ≡ log ++ map one_step_of (played m xs w)) × Appends err later (all_said p m xs w)
 on_ends p m xs w log err ys v more later i ends =
     let none = none_left ends in (
       sym (append-nil more) ∙ ap (λ l. more ++ map one_step_of l) (sym none.0) ∙ i.logged,
       subst (Appends err later) (sym (append-nil i.words) ∙ ap (λ l. i.words ++ l) (sym none.1) ∙ i.words_are) i.wrote,
     )
   where
-    none_left : (all_ended v ≡ true) ⊎ (ys ≡ []) → (played m ys v ≡ []) × (told p m ys v ≡ [])
+    none_left : (all_ended v ≡ true) ⊎ (ys ≡ []) → (played m ys v ≡ []) × (all_said p m ys v ≡ [])
     none_left (inl over) = (played_over m ys v over, told_over p m ys v over)
-    none_left (inr is) = (ap (λ l. played m l v) is, ap (λ l. told p m l v) is)
+    none_left (inr is) = (ap (λ l. played m l v) is, ap (λ l. all_said p m l v) is)
 
 -- ---- by some answers
 
@@ -237,7 +237,7 @@ playing_on p first log err text x c d more longer later last now next i takes go
 are_on_breaks : (p : PlacesValue) (m : ModuleValue) (w : World) (log : List Entry) (err text : Option (List ℕ)) (x : Option ℕ) (v : World)
     (more : List Entry) (later last now next : Option (List ℕ))
     → AreOn p m w log err text v more later now → TakesAnswer x now next → all_ended v ≡ false
-    → AppendsBeginning later last (said p m v (picked m v x)) → IfSome text (λ t. AppendsBeginning err last (told p m (answers t) w))
+    → AppendsBeginning later last (said p m v (picked m v x)) → IfSome text (λ t. AppendsBeginning err last (all_said p m (answers t) w))
 are_on_breaks p m w log err None x v more later last now next on takes goes wrote = tt
 are_on_breaks p m w log err (Some text) x v more later last None next on takes goes wrote = absurd on
 are_on_breaks p m w log err (Some text) x v more later last (Some rest) None on takes goes wrote = absurd takes
@@ -249,7 +249,7 @@ pub playing_breaks : (p : PlacesValue) (first : CoreValue) (log : List Entry) (e
     (more : List Entry) (later last now next : Option (List ℕ))
     → IsPlaying p first log err text c more later now → TakesAnswer x now next → all_ended c.world ≡ false
     → AppendsBeginning later last (said p c.module_run c.world (picked c.module_run c.world x))
-    → IfSome text (λ t. AppendsBeginning err last (told p first.module_run (answers t) first.world))
+    → IfSome text (λ t. AppendsBeginning err last (all_said p first.module_run (answers t) first.world))
 playing_breaks p first log err text x c more later last now next i takes goes wrote =
     are_on_breaks p first.module_run first.world log err text x c.world more later last now next i.on takes goes
     (subst (λ k. AppendsBeginning later last (said p k c.world (picked k c.world x))) i.same_module wrote)
@@ -259,7 +259,7 @@ pub playing_breaks_some : (p : PlacesValue) (first : CoreValue) (log : List Entr
     (more : List Entry) (later last now : Option (List ℕ))
     → IsPlaying p first log err text c more later now → all_ended c.world ≡ false
     → AppendsBeginning later last (said p c.module_run c.world (picked c.module_run c.world x))
-    → BeginsSome (λ xs. told p first.module_run xs first.world) err last
+    → BeginsSome (λ xs. all_said p first.module_run xs first.world) err last
 playing_breaks_some p first log err text x c more later last now i goes wrote =
     let s = i.some in (
       s.followed ++ x ∷ [],
@@ -269,7 +269,7 @@ playing_breaks_some p first log err text x c more later last now i goes wrote =
 
 are_on_stops : (p : PlacesValue) (m : ModuleValue) (w : World) (log : List Entry) (err text : Option (List ℕ)) (v : World)
     (more : List Entry) (later now : Option (List ℕ))
-    → AreOn p m w log err text v more later now → IfSome text (λ t. AppendsBeginning err later (told p m (answers t) w))
+    → AreOn p m w log err text v more later now → IfSome text (λ t. AppendsBeginning err later (all_said p m (answers t) w))
 are_on_stops p m w log err None v more later now on = tt
 are_on_stops p m w log err (Some text) v more later None on = absurd on
 are_on_stops p m w log err (Some text) v more later (Some rest) on = on_stops p m (answers text) w log err (answers rest) v more later on
@@ -277,12 +277,12 @@ are_on_stops p m w log err (Some text) v more later (Some rest) on = on_stops p 
 -- so far a beginning was written
 pub playing_stops : (p : PlacesValue) (first : CoreValue) (log : List Entry) (err text : Option (List ℕ)) (c : CoreValue)
     (more : List Entry) (later now : Option (List ℕ))
-    → IsPlaying p first log err text c more later now → IfSome text (λ t. AppendsBeginning err later (told p first.module_run (answers t) first.world))
+    → IsPlaying p first log err text c more later now → IfSome text (λ t. AppendsBeginning err later (all_said p first.module_run (answers t) first.world))
 playing_stops p first log err text c more later now i = are_on_stops p first.module_run first.world log err text c.world more later now i.on
 
 pub playing_stops_some : (p : PlacesValue) (first : CoreValue) (log : List Entry) (err text : Option (List ℕ)) (c : CoreValue)
     (more : List Entry) (later now : Option (List ℕ))
-    → IsPlaying p first log err text c more later now → BeginsSome (λ xs. told p first.module_run xs first.world) err later
+    → IsPlaying p first log err text c more later now → BeginsSome (λ xs. all_said p first.module_run xs first.world) err later
 playing_stops_some p first log err text c more later now i =
     let s = i.some in
     (s.followed ++ [], on_stops p first.module_run (s.followed ++ []) first.world log err [] c.world more later (s.on []))
@@ -291,7 +291,7 @@ playing_stops_some p first log err text c more later now i =
 pub playing_some : (p : PlacesValue) (first : CoreValue) (log : List Entry) (err text : Option (List ℕ)) (c : CoreValue)
     (more : List Entry) (later now : Option (List ℕ))
     → IsPlaying p first log err text c more later now → FollowsSome first.module_run first.world log more
-    (λ xs. told p first.module_run xs first.world) err later
+    (λ xs. all_said p first.module_run xs first.world) err later
 playing_some p first log err text c more later now i =
     let s = i.some in
     let ends = on_ends p first.module_run (s.followed ++ []) first.world log err [] c.world more later (s.on []) (inr refl) in
@@ -300,7 +300,7 @@ playing_some p first log err text c more later now i =
 -- it is played to the end, and all is told
 abbrev pub AreOut : PlacesValue → ModuleValue → World → List Entry → Option (List ℕ) → Option (List ℕ) → List Entry → Option (List ℕ) → Type 0
 AreOut p m w log err text more later =
-    IfSome text (λ t. more ≡ log ++ map one_step_of (played m (answers t) w)) × IfSome text (λ t. Appends err later (told p m (answers t) w))
+    IfSome text (λ t. more ≡ log ++ map one_step_of (played m (answers t) w)) × IfSome text (λ t. Appends err later (all_said p m (answers t) w))
 
 are_on_ends : (p : PlacesValue) (m : ModuleValue) (w : World) (log : List Entry) (err text : Option (List ℕ)) (v : World)
     (more : List Entry) (later now : Option (List ℕ))
@@ -311,7 +311,7 @@ are_on_ends p m w log err (Some text) v more later (Some rest) on ends =
     on_ends p m (answers text) w log err (answers rest) v more later on ends
 
 -- no answer is wanted, or none comes
-pub playing_ends : (p : PlacesValue) (first : CoreValue) (log : List Entry) (err text : Option (List ℕ)) (c : CoreValue)
+playing_ends : (p : PlacesValue) (first : CoreValue) (log : List Entry) (err text : Option (List ℕ)) (c : CoreValue)
     (more : List Entry) (later now : Option (List ℕ))
     → IsPlaying p first log err text c more later now → (all_ended c.world ≡ true) ⊎ IfSome now (λ t. answers t ≡ [])
     → AreOut p first.module_run first.world log err text more later
@@ -372,7 +372,7 @@ begun_early a b text None rest begins = tt
 begun_early a b text (Some t) rest begins = beginning_more a b text (rest t) begins
 
 -- what holds of the bytes to come holds of the first of those that are known
-pub of_known : (n : ℕ) (known : Option (List ℕ)) (P : List ℕ → Type 0) → IfSome (option_map (take n) known) P → IfSome known (λ t. P (take n t))
+of_known : (n : ℕ) (known : Option (List ℕ)) (P : List ℕ → Type 0) → IfSome (option_map (take n) known) P → IfSome known (λ t. P (take n t))
 of_known n None P h = tt
 of_known n (Some t) P h = h
 
@@ -447,11 +447,11 @@ opened_log m args d known before log result start empty is h =
 
 -- and so is what is told
 pub opened_text : (Q : List ℕ → Type 0) (p : PlacesValue) (m : ModuleValue) (args : List ℤ) (d : CoreValue) (known : Option (List ℕ)) → d ≡ opening_core m args
-    → IfSome (to_come most_bytes known) (λ t. Q (question p d.module_run d.world ++ told p d.module_run (answers t) d.world))
+    → IfSome (to_come most_bytes known) (λ t. Q (question p d.module_run d.world ++ all_said p d.module_run (answers t) d.world))
     → IfSome known (λ t. Q (told_text p m args t))
 opened_text Q p m args d known start h =
-    of_known most_bytes known (λ t. Q (question p m (opening m args) ++ told p m (answers t) (opening m args)))
-    (subst (λ (x : CoreValue). IfSome (to_come most_bytes known) (λ t. Q (question p x.module_run x.world ++ told p x.module_run (answers t) x.world))) start h)
+    of_known most_bytes known (λ t. Q (question p m (opening m args) ++ all_said p m (answers t) (opening m args)))
+    (subst (λ (x : CoreValue). IfSome (to_come most_bytes known) (λ t. Q (question p x.module_run x.world ++ all_said p x.module_run (answers t) x.world))) start h)
 
 -- by the answers that are known, or by some
 by_answers : (p : PlacesValue) (m : ModuleValue) (args : List ℤ) (input : Option (List ℕ)) (log : List Entry) (old new : Option (List ℕ))
@@ -464,14 +464,14 @@ pub opened_by : (p : PlacesValue) (m : ModuleValue) (args : List ℤ) (d : CoreV
     (old new : Option (List ℕ))
     → d ≡ opening_core m args → before ≡ [] → result ≡ log
     → IfSome input (λ t. result ≡ played_log m args t) → IfSome input (λ t. Appends old new (told_text p m args t))
-    → FollowsSome d.module_run d.world before log (λ xs. question p d.module_run d.world ++ told p d.module_run xs d.world) old new
+    → FollowsSome d.module_run d.world before log (λ xs. question p d.module_run d.world ++ all_said p d.module_run xs d.world) old new
     → IsByAnswers p m args input result old new
 opened_by p m args d input before log result old new start empty is logged wrote some =
     by_answers p m args input result old new logged wrote
     (subst (λ (l : List Entry). FollowsSome m (opening m args) [] l (told_by p m args) old new) (sym is)
     (subst (λ (l : List Entry). FollowsSome m (opening m args) l log (told_by p m args) old new) empty
     (subst (λ (x : CoreValue). FollowsSome x.module_run x.world before log
-    (λ xs. question p x.module_run x.world ++ told p x.module_run xs x.world) old new) start some)))
+    (λ xs. question p x.module_run x.world ++ all_said p x.module_run xs x.world) old new) start some)))
 
 begins_by : (p : PlacesValue) (m : ModuleValue) (args : List ℤ) (input old new : Option (List ℕ))
     → IfSome input (λ t. AppendsBeginning old new (told_text p m args t))
@@ -481,10 +481,10 @@ begins_by p m args (Some t) old new known some = (answers_read t, refl, known)
 
 pub opened_begins : (p : PlacesValue) (m : ModuleValue) (args : List ℤ) (d : CoreValue) (input old new : Option (List ℕ)) → d ≡ opening_core m args
     → IfSome input (λ t. AppendsBeginning old new (told_text p m args t))
-    → BeginsSome (λ xs. question p d.module_run d.world ++ told p d.module_run xs d.world) old new → BeginsByAnswers p m args input old new
+    → BeginsSome (λ xs. question p d.module_run d.world ++ all_said p d.module_run xs d.world) old new → BeginsByAnswers p m args input old new
 opened_begins p m args d input old new start known some =
     begins_by p m args input old new known
-    (subst (λ (x : CoreValue). BeginsSome (λ xs. question p x.module_run x.world ++ told p x.module_run xs x.world) old new) start some)
+    (subst (λ (x : CoreValue). BeginsSome (λ xs. question p x.module_run x.world ++ all_said p x.module_run xs x.world) old new) start some)
 
 -- nothing was written, before any was read
 pub nothing_begun_by : (p : PlacesValue) (m : ModuleValue) (args : List ℤ) (input a : Option (List ℕ)) → BeginsByAnswers p m args input a a

@@ -1,15 +1,10 @@
 -- The lines of a question, one by one.
-use Rattle.std.proofs.Common.{◌≡◌, ◌∙◌, ℕ, zero, suc, ◌+◌, Bool, true, false, List, [], ◌∷◌, ◌++◌, refl, ap, arith, append-nil}
+use Rattle.std.proofs.Common.{◌≡◌, ◌∙◌, ℕ, ◌+◌, Bool, true, false, List, [], ◌∷◌, ◌++◌, refl, ap, append-nil}
 use Rattle.std.specs.Prelude.{filter, flat_map, if◌then◌else◌}
 use Rattle.std.proofs.lemmas.Grind.{flat_map-append}
 use Rattle.std.proofs.lemmas.List.Elements.{filter-append}
 use Rattle.xk_collections.specs.NumberSets.{numbers_from}
-
-numbers_end : (a n : ℕ) → numbers_from a (suc n) ≡ numbers_from a n ++ (a + n) ∷ []
-numbers_end a zero = let same : a ≡ a + 0 = omega arith in ap (λ k. k ∷ []) same
-numbers_end a (suc n) =
-    let same : suc a + n ≡ a + suc n = omega arith in
-    ap (λ l. a ∷ l) (numbers_end (suc a) n ∙ ap (λ k. numbers_from (suc a) n ++ k ∷ []) same)
+use Rattle.xk_collections.proofs.RisingListLemmas.{numbers_more}
 
 line_of : (f : ℕ → List ℕ) (test : ℕ → Bool) (n : ℕ) → flat_map f (filter test (n ∷ [])) ≡ (if test n then f n else [])
 line_of f test n = by (test n)
@@ -22,10 +17,7 @@ line_of f test n = by (test n)
 pub lines_more : (f : ℕ → List ℕ) (test : ℕ → Bool) (n : ℕ)
     → flat_map f (filter test (numbers_from 0 (n + 1))) ≡ flat_map f (filter test (numbers_from 0 n)) ++ (if test n then f n else [])
 lines_more f test n =
-    let next : n + 1 ≡ suc n = omega arith in
-    let here : 0 + n ≡ n = omega arith in
-    ap (λ k. flat_map f (filter test (numbers_from 0 k))) next
-    ∙ ap (λ l. flat_map f (filter test l)) (numbers_end 0 n ∙ ap (λ k. numbers_from 0 n ++ k ∷ []) here)
+    ap (λ l. flat_map f (filter test l)) (numbers_more n)
     ∙ ap (flat_map f) (filter-append test (numbers_from 0 n) (n ∷ []))
     ∙ flat_map-append f (filter test (numbers_from 0 n)) (filter test (n ∷ []))
     ∙ ap (λ l. flat_map f (filter test (numbers_from 0 n)) ++ l) (line_of f test n)

@@ -48,7 +48,7 @@ named (b ∷ bs) = if is_blank b then named bs else (if is_ascii_digit b then nu
 abbrev pub answers : List ℕ → List (Option ℕ)
 answers text = map named (lines_of text)
 
--- how many bytes are read at most
+-- How many bytes of an input are read at most: it may have no end, and a run by hand comes to one all the same.
 abbrev pub most_bytes : ℕ
 most_bytes = 2 ^ 64 - 1
 

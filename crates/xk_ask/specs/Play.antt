@@ -7,10 +7,11 @@ use Rattle.xk_types.specs.Code.{ModuleValue}
 use Rattle.xk_types.specs.World.{World, opening}
 use Rattle.xk_types.specs.Step.{Outcome, Blocked, Wrong, Stepped, step}
 use Rattle.xk_types.specs.Bound.{steps_bound}
-use Rattle.xk_types.specs.Schedule.{Course, Through, Held, Wronged, Leads, run, is_enabled, is_local, all_ended, printed}
+use Rattle.xk_types.specs.Schedule.{Leads, run, is_enabled, is_local, all_ended, printed}
 use Rattle.xk_types.specs.Logs.{schedule_of, one_step_of}
 use Rattle.xk_activity.specs.Activities.{act_at}
 use Rattle.xk_scheduler.specs.Choosers.{enabled_in}
+use Rattle.xk_events.specs.Worlds.{last_world}
 use Rattle.xk_events.specs.Events.{PlacesValue, origin_of, place_words}
 use Rattle.xk_ask.specs.Answers.{answers_read, behind_lines, most_bytes}
 
@@ -25,14 +26,19 @@ turn_by m a Blocked go = []
 turn_by m a (Wrong c) go = []
 turn_by m a (Stepped v e) go = a ∷ (if goes_on m a v e then go v else [])
 
--- the same where at most so many steps are left
+-- the steps of such a turn, of which no more are taken than this
 abbrev pub turn_within : ℕ → ModuleValue → ℕ → World → List ℕ
 turn_within zero m a w = []
 turn_within (suc left) m a w = turn_by m a (step m w a) (turn_within left m a)
 
--- The steps of activity a up to the first that others see, and that one, as far as it can take them. No run has more steps than its bound.
+-- how many steps of a run may come behind this world, by the verified number of steps
+abbrev pub steps_left : ModuleValue → World → ℕ
+steps_left m w = steps_bound m - w.steps
+
+-- The steps of activity a up to the first that others see, and that one, as far as it can take them. No run has more steps than the verified
+-- number: so the limit cuts no turn short, and is there since a definition has to come to its end by itself.
 abbrev pub turn : ModuleValue → ℕ → World → List ℕ
-turn m a w = turn_within (steps_bound m - w.steps) m a w
+turn m a w = turn_within (steps_left m w) m a w
 
 -- a step of activity a leads from w to v, and this is whether its turn goes on
 pub record IsTurnStep (m : ModuleValue) (a : ℕ) (w v : World) (more : Bool) : Type 0 where
@@ -52,12 +58,6 @@ abbrev pub taken : ModuleValue → World → Option ℕ → List ℕ
 taken m w None = []
 taken m w (Some a) = turn m a w
 
--- where a run comes to its end, or before the first step that can't be taken
-abbrev pub last_world : Course → World
-last_world (Through w) = w
-last_world (Held w) = w
-last_world (Wronged w c) = w
-
 -- the world behind these steps
 abbrev pub behind : ModuleValue → World → Option ℕ → World
 behind m w o = last_world (run m (taken m w o) w)
@@ -75,14 +75,14 @@ looked_at m (x ∷ xs) w = if all_ended w then 0 else suc (looked_at m xs (behin
 -- ---- what is asked
 
 -- an activity, and where it is, as `where` tells it: `act 0 at 8:13`
-unfoldable pub act_line : PlacesValue → World → ℕ → List ℕ
-act_line p w a =
+unfoldable pub able_line : PlacesValue → World → ℕ → List ℕ
+able_line p w a =
     codes "act " ++ (decimal a ++ (codes " " ++ (place_words (act_at w.activities a).frame.unit (act_at w.activities a).frame.place
     (origin_of p (act_at w.activities a).frame.unit (act_at w.activities a).frame.place) ++ codes "\n")))
 
 -- a line for each that can step, rising
 abbrev pub able_lines : PlacesValue → ModuleValue → World → List ℕ
-able_lines p m w = flat_map (act_line p w) (enabled_in m w)
+able_lines p m w = flat_map (able_line p w) (enabled_in m w)
 
 -- behind the lines of those who can step
 abbrev pub prompt_line : List ℕ
@@ -102,10 +102,10 @@ said p m w None = again_line
 said p m w (Some a) = question p m (behind m w (Some a))
 
 -- what is said to these answers, behind the question of this world; where all have ended no answer is looked at
-abbrev pub told : PlacesValue → ModuleValue → List (Option ℕ) → World → List ℕ
-told p m [] w = []
-told p m (x ∷ xs) w =
-    if all_ended w then [] else said p m w (picked m w x) ++ told p m xs (behind m w (picked m w x))
+abbrev pub all_said : PlacesValue → ModuleValue → List (Option ℕ) → World → List ℕ
+all_said p m [] w = []
+all_said p m (x ∷ xs) w =
+    if all_ended w then [] else said p m w (picked m w x) ++ all_said p m xs (behind m w (picked m w x))
 
 -- ---- by answers
 
@@ -115,7 +115,7 @@ log_by m args xs = map one_step_of (played m xs (opening m args))
 
 -- all that is asked and said
 abbrev pub told_by : PlacesValue → ModuleValue → List ℤ → List (Option ℕ) → List ℕ
-told_by p m args xs = question p m (opening m args) ++ told p m xs (opening m args)
+told_by p m args xs = question p m (opening m args) ++ all_said p m xs (opening m args)
 
 -- ---- by the bytes of the input
 

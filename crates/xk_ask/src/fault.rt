@@ -22,6 +22,7 @@ impl From<Failed> for AskFault {
 
     ghost from_gives = { λ _ e. e ≡ fault.Device };
 
+    /// A device that failed.
     fn from(_e: Failed) -> AskFault {
         AskFault::Device
     }
@@ -33,6 +34,7 @@ impl From<Device> for AskFault {
 
     ghost from_gives = { λ _ e. e ≡ fault.Device };
 
+    /// A device that failed to write.
     fn from(_e: Device) -> AskFault {
         AskFault::Device
     }
@@ -44,6 +46,7 @@ impl From<AllocError> for AskFault {
 
     ghost from_gives = { λ _ e. e ≡ fault.OutOfMemory };
 
+    /// Memory that was refused.
     fn from(_e: AllocError) -> AskFault {
         AskFault::OutOfMemory
     }

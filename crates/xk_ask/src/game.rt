@@ -9,7 +9,7 @@ ghost use Rattle.xk_types.specs.Schedule.{all_ended};
 ghost use Rattle.xk_log.specs.Writing.{AppendsBeginning};
 ghost use Rattle.xk_events.specs.Events.{no_text, places_of};
 ghost use Rattle.xk_ask.specs.Answers.{answers, most_bytes};
-ghost use Rattle.xk_ask.specs.Play.{IsPlayed, behind, picked, played, played_log, question, said, taken, told, told_text, unread, unread_from};
+ghost use Rattle.xk_ask.specs.Play.{IsPlayed, all_said, behind, picked, played, played_log, question, said, taken, told_text, unread, unread_from};
 ghost use Rattle.xk_ask.specs.Asking.{BeginsByAnswers, BeginsSome, FailsToAsk, FailsToWrite, FollowsSome, IsByAnswers, Leaves, TakesAnswer, TakesLine, to_come};
 
 use crate::answers::next_answer;
@@ -140,16 +140,16 @@ fn play_on<R: Source, E: Sink>(
         (played game.old.driver.module_run (answers text) game.old.driver.world))) }
     ensures told { OnOk result (IfSome (to_come most_bytes (R.remaining input.old)) (λ text.
         Appends (E.contents err.old) (E.contents err.new)
-        (told places.now game.old.driver.module_run (answers text) game.old.driver.world))) }
+        (all_said places.now game.old.driver.module_run (answers text) game.old.driver.world))) }
     ensures begins { IfSome (to_come most_bytes (R.remaining input.old)) (λ text.
         AppendsBeginning (E.contents err.old) (E.contents err.new)
-        (told places.now game.old.driver.module_run (answers text) game.old.driver.world)) }
+        (all_said places.now game.old.driver.module_run (answers text) game.old.driver.world)) }
     ensures by_some { OnOk result (FollowsSome game.old.driver.module_run game.old.driver.world
         game.old.log.items game.new.log.items
-        (λ xs. told places.now game.old.driver.module_run xs game.old.driver.world)
+        (λ xs. all_said places.now game.old.driver.module_run xs game.old.driver.world)
         (E.contents err.old) (E.contents err.new)) }
     ensures begins_some { BeginsSome
-        (λ xs. told places.now game.old.driver.module_run xs game.old.driver.world)
+        (λ xs. all_said places.now game.old.driver.module_run xs game.old.driver.world)
         (E.contents err.old) (E.contents err.new) }
     ensures unread { OnOk result (Leaves (unread_from game.old.driver.module_run
         game.old.driver.world (all_ended game.new.driver.world))
@@ -183,18 +183,18 @@ fn play<R: Source, E: Sink>(
     ensures told { OnOk result (IfSome (to_come most_bytes (R.remaining input.old)) (λ text.
         Appends (E.contents err.old) (E.contents err.new)
         (question places.now game.old.driver.module_run game.old.driver.world
-        ++ told places.now game.old.driver.module_run (answers text) game.old.driver.world))) }
+        ++ all_said places.now game.old.driver.module_run (answers text) game.old.driver.world))) }
     ensures begins { IfSome (to_come most_bytes (R.remaining input.old)) (λ text.
         AppendsBeginning (E.contents err.old) (E.contents err.new)
         (question places.now game.old.driver.module_run game.old.driver.world
-        ++ told places.now game.old.driver.module_run (answers text) game.old.driver.world)) }
+        ++ all_said places.now game.old.driver.module_run (answers text) game.old.driver.world)) }
     ensures by_some { OnOk result (FollowsSome game.old.driver.module_run game.old.driver.world
         game.old.log.items game.new.log.items
         (λ xs. question places.now game.old.driver.module_run game.old.driver.world
-        ++ told places.now game.old.driver.module_run xs game.old.driver.world)
+        ++ all_said places.now game.old.driver.module_run xs game.old.driver.world)
         (E.contents err.old) (E.contents err.new)) }
     ensures begins_some { BeginsSome (λ xs. question places.now game.old.driver.module_run
-        game.old.driver.world ++ told places.now game.old.driver.module_run xs
+        game.old.driver.world ++ all_said places.now game.old.driver.module_run xs
         game.old.driver.world) (E.contents err.old) (E.contents err.new) }
     ensures unread { OnOk result (Leaves (unread_from game.old.driver.module_run
         game.old.driver.world (all_ended game.new.driver.world))

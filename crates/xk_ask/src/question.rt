@@ -2,7 +2,7 @@
 
 ghost use Rattle.std.specs.Prelude.{◌≡◌, ◌<◌, ◌++◌, [], length, string_bytes, IfOk, OnOk, if◌then◌else◌};
 ghost use Rattle.xk_types.specs.Schedule.{is_enabled};
-ghost use Rattle.xk_ask.specs.Play.{able_lines, act_line, again_line, question};
+ghost use Rattle.xk_ask.specs.Play.{able_line, able_lines, again_line, question};
 
 use std::alloc::{AllocError, Global};
 use xk_core::Core;
@@ -17,8 +17,8 @@ pub(crate) fn again_line() -> &'static str
 }
 
 /// The line of an activity: `act 0 at 8:13`.
-#[tactic(auto, unfolding(crate::specs::Play::act_line))]
-fn act_line(
+#[tactic(auto, unfolding(crate::specs::Play::able_line))]
+fn able_line(
     alloc: Global,
     places: &Places<'_>,
     core: &Core<'_>,
@@ -26,7 +26,7 @@ fn act_line(
 ) -> Result<String, AllocError>
     requires { act < length core.now.world.activities }
     ensures { IfOk result (λ text. string_bytes text
-        ≡ act_line places.now core.now.world act) }
+        ≡ able_line places.now core.now.world act) }
 {
     let frames = core.frames(act);
     let unit = frames.unit();
@@ -47,12 +47,12 @@ fn push_able(
     requires { act < length core.now.world.activities }
     ensures { OnOk result (out.new.items ≡ out.old.items
         ++ (if is_enabled core.now.module_run core.now.world act
-        then act_line places.now core.now.world act else [])) }
+        then able_line places.now core.now.world act else [])) }
 {
     if !core.enabled(act) {
         return Ok(());
     }
-    out.extend_from_slice(act_line(alloc, places, core, act)?.as_bytes())
+    out.extend_from_slice(able_line(alloc, places, core, act)?.as_bytes())
 }
 
 /// The lines of those who can step, rising.

@@ -37,6 +37,7 @@ pub enum Refusal {
 impl From<ShapeError> for Refusal {
     ghost from_gives = { λ e r. r ≡ of_shape e };
 
+    /// A fault of the shape stays what it is, and want of memory is want of memory.
     fn from(e: ShapeError) -> Refusal {
         match e {
             ShapeError::Fault(fault) => Refusal::Shape(fault),
@@ -48,6 +49,7 @@ impl From<ShapeError> for Refusal {
 impl From<KindError> for Refusal {
     ghost from_gives = { λ e r. r ≡ of_kinds e };
 
+    /// A fault of the kinds stays what it is, and want of memory is want of memory.
     fn from(e: KindError) -> Refusal {
         match e {
             KindError::Fault(fault) => Refusal::Kind(fault),
@@ -59,6 +61,7 @@ impl From<KindError> for Refusal {
 impl From<AllocError> for Refusal {
     ghost from_gives = { λ _ r. r ≡ OutOfMemory };
 
+    /// Want of memory says nothing of the module.
     fn from(_e: AllocError) -> Refusal {
         Refusal::OutOfMemory
     }

@@ -173,7 +173,7 @@ main_none (y ∷ gs) g e h is = go (is_text y.text (codes "main")) refl e h (mai
     go false same e (inr q) later = later e q is
 
 -- one of some methods calls `main` there
-abbrev pub MainIn : List MethodValue → ℕ → Type 0
+abbrev MainIn : List MethodValue → ℕ → Type 0
 MainIn ms at = (i : ℕ) × (m : MethodValue) × (g : Word) × (slice_get ms i ≡ Some m) × Has (callees_all m.body) g × (g.text ≡ codes "main") × (g.at ≡ at)
 
 main_called : (ms : List MethodValue) (at : ℕ) → main_in (all_callees ms) ≡ Some at → MainIn ms at

@@ -2,9 +2,8 @@
 -- taken.
 use Rattle.std.proofs.Common.{◌≡◌, ℕ, zero, suc, ◌+◌, ◌<◌, ◌==◌, ◌⊎◌, inl, inr, Bool, true, false, true≢false, cond, List, [], ◌∷◌, ◌++◌, map, length, Option, Some, None, option_map, refl, sym, ap, ◌∙◌, subst, arith, eqb-true, append_assoc, length-append}
 use Rattle.std.specs.Prelude.{filter, slice_get, option_and_then}
-use Rattle.std.specs.List.{list_all}
 use Rattle.std.specs.Option.{option_map_or}
-use Rattle.std.proofs.lemmas.Bool.{and_parts, eqb-false}
+use Rattle.std.proofs.lemmas.Bool.{eqb-false}
 use Rattle.std.proofs.lemmas.List.Elements.{filter-append}
 use Rattle.std.proofs.lemmas.Option.{none-some, same_Some}
 use Rattle.xk_types.specs.declared.instr.Instr.{Instr}
@@ -14,11 +13,13 @@ use Rattle.xk_types.specs.Code.{ModuleValue, IsWithinLimits}
 use Rattle.xk_types.specs.World.{Activity, World, is_ended}
 use Rattle.xk_types.specs.Step.{Stepped, step}
 use Rattle.xk_types.specs.Schedule.{Through, run, IsReached, is_step, is_enabled, all_ended}
+pub use Rattle.xk_types.proofs.RunLemmas.{run_then as run_behind}
 use Rattle.xk_laws.proofs.ReachabilityLemmas.{same_through, first_step, reached_step}
 use Rattle.xk_squares.specs.Conflicts.{next_instruction, AreConflictFree}
 use Rattle.xk_squares.proofs.ChangeSquareLemmas.{found_of}
 use Rattle.xk_squares.proofs.StartSquareLemmas.{alive_of}
 use Rattle.xk_squares.proofs.QuietStepLaw.{enabled_step}
+use Rattle.xk_squares.proofs.ExplorationLaw.{ended_at}
 use Rattle.xk_renaming.specs.Names.{Exchange, all_named}
 use Rattle.xk_renaming.proofs.NameLaw.{same_ends, all_unnamed, named_unnamed}
 use Rattle.xk_renaming.proofs.ActivityNameOrderLaw.{run_first}
@@ -98,13 +99,6 @@ was_taken m (d ∷ before) w v a k legal is = by (d == a) refl k is (was_taken m
 
 -- ---- what is carried out
 
-pub run_behind : (m : ModuleValue) (before after : List ℕ) (w v : World) → run m before w ≡ Through v
-    → run m (before ++ after) w ≡ run m after v
-run_behind m [] after w v h = ap (run m after) (same_through w v h)
-run_behind m (d ∷ before) after w v h =
-    let x = first_step w v (step m w d) (run m before) h in
-    run_first m (before ++ after) w x.0 d x.1 x.2 ∙ run_behind m before after x.0 v x.3
-
 abbrev second_of : ℕ × Option Instr → Option Instr
 second_of x = x.1
 
@@ -169,16 +163,6 @@ at_turn m before after w v a h =
     ap (λ l. slice_get l (turns_of a before)) (done_on m before after w v a h)
     ∙ ap (slice_get (deeds m before w a ++ deeds m after v a)) (let e : turns_of a before ≡ turns_of a before + 0 = omega arith in e)
     ∙ get_back (deeds m before w a) (deeds m after v a) (turns_of a before) 0 (turns_done m before w v a h)
-
--- where all have ended, one has
-ended_at : (xs : List Activity) (a : ℕ) (x : Activity) → list_all (λ (act : Activity). is_ended act.status) xs ≡ true
-    → slice_get xs a ≡ Some x → is_ended x.status ≡ true
-ended_at [] a x h at = absurd (none-some x at)
-ended_at (z ∷ xs) zero x h at =
-    ap (λ (y : Activity). is_ended y.status) (sym (same_Some z x at))
-    ∙ (and_parts (is_ended z.status) (list_all (λ (act : Activity). is_ended act.status) xs) h).0
-ended_at (z ∷ xs) (suc a) x h at =
-    ended_at xs a x (and_parts (is_ended z.status) (list_all (λ (act : Activity). is_ended act.status) xs) h).1 at
 
 -- how one stands who does it
 abbrev pub state_in : Option Deed → Option State

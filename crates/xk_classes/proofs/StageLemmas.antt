@@ -7,6 +7,7 @@ use Rattle.std.specs.List.{list_any}
 use Rattle.std.specs.Option.{option_map_or}
 use Rattle.std.proofs.lemmas.Bool.{and_parts, not-true, or_parts}
 use Rattle.std.proofs.lemmas.Option.{slice_get_within}
+use Rattle.std.proofs.Math.ListN.{get_or-map}
 use Rattle.xk_types.specs.declared.world.Standing.{Standing}
 use Rattle.xk_types.specs.declared.world.Standing.TheVariants as standing
 use Rattle.xk_types.specs.declared.world.Event.{Event}
@@ -16,10 +17,10 @@ use Rattle.xk_types.specs.Code.{ModuleValue, IsWithinLimits}
 use Rattle.xk_types.specs.World.{Activity, Clock, World, standing_of}
 use Rattle.xk_types.specs.Step.{Stepped, is_signalled, is_pending, is_ready, resumed, passed, advanced, settled_clock, moved, moved_on, joined, joined_on, is_given, new_clock, step}
 use Rattle.xk_types.specs.Schedule.{IsReached}
+use Rattle.xk_types.proofs.ListLemmas.{none_at}
 use Rattle.xk_laws.proofs.Invariant.{Each}
 use Rattle.xk_laws.proofs.ReachabilityLemmas.{reached_sound}
 use Rattle.xk_laws.proofs.ClockLemmas.StandingLemmas.{stand_same, stand_other, new_same, new_other, stand_joined_new, stand_joined_old}
-use Rattle.xk_squares.proofs.ListLemmas.{get_or_map, none_at}
 use Rattle.xk_squares.proofs.StepEffect.{Move, Rests, Resumes, Drops, Arrives, Passes, Ends, change_by, enacted}
 use Rattle.xk_squares.proofs.ChangeSquareLemmas.{same_step, not_none, found_of}
 use Rattle.xk_squares.proofs.StartSquareLemmas.{made_world, started_world, maker}
@@ -57,7 +58,7 @@ settled_stage now c a = by (is_ready c) refl
         let none : list_any is_pending c.standings ≡ false =
         not-true (list_any is_pending c.standings)
         (and_parts (list_any is_signalled c.standings) (not (list_any is_pending c.standings)) h).1 in
-        ap (stage_by (c.phase + 1)) (get_or_map advanced c.standings a standing.Apart)
+        ap (stage_by (c.phase + 1)) (get_or-map advanced c.standings a standing.Apart)
         ∙ advance_stage c.phase (standing_of c a) (none_at is_pending c.standings a standing.Apart none refl)
     by false h = refl
 

@@ -11,6 +11,7 @@ use Rattle.xk_types.specs.World.{Activity, World, instruction_at}
 use Rattle.xk_types.specs.Step.{Outcome, Blocked, Wrong, Stepped, step}
 use Rattle.xk_types.specs.Schedule.{Through, run, IsReached, events, events_on}
 use Rattle.xk_laws.proofs.ReachabilityLemmas.{same_through, first_step, reached_step}
+pub use Rattle.xk_laws.proofs.ReachabilityLemmas.{reached_run}
 use Rattle.xk_squares.specs.Conflicts.{next_instruction}
 use Rattle.xk_squares.proofs.ChangeSquareLemmas.{found_of}
 use Rattle.xk_renaming.specs.Names.{Exchange, all_named, AreSameBy, exchange_of}
@@ -152,13 +153,6 @@ pub state_stays : (m : ModuleValue) → IsWithinLimits m → IsAccepted m → (w
 state_stays m limits ok w u a b e y reached h differs at = same_stand u w b (λ k. k)
     (ap (option_map nameless_activity) (others_stay m w u a b e y h differs at ∙ sym at))
     (λ k. (moves_on m limits ok w u a e reached h).others k b (slice_get_within w.activities b y at) differs)
-
--- what a run leads to is reached
-pub reached_run : (m : ModuleValue) (list : List ℕ) (w v : World) → IsReached m w → run m list w ≡ Through v → IsReached m v
-reached_run m [] w v reached h = subst (IsReached m) (same_through w v h) reached
-reached_run m (d ∷ list) w v reached h =
-    let x = first_step w v (step m w d) (run m list) h in
-    reached_run m list x.0 v (reached_step m w x.0 d x.1 reached x.2) x.3
 
 -- no run takes a clock away
 run_keeps : (m : ModuleValue) (list : List ℕ) (w v : World) → run m list w ≡ Through v → length w.clocks ≤ length v.clocks

@@ -20,9 +20,12 @@ use Rattle.xk_cli.specs.declared.job.Drive.{Drive}
 use Rattle.xk_cli.specs.declared.job.Drive.TheVariants as drive
 use Rattle.xk_cli.specs.declared.job.Form.{Form}
 use Rattle.xk_cli.specs.declared.job.Form.TheVariants as form
-use Rattle.xk_cli.specs.declared.job.Job.{Job}
 use Rattle.xk_cli.specs.declared.job.Order.{Order}
 use Rattle.xk_cli.specs.declared.job.Order.TheVariants as order
+use Rattle.xk_cli.specs.declared.job.Request.{Request}
+use Rattle.xk_cli.specs.declared.job.Request.TheVariants as request
+use Rattle.xk_cli.specs.declared.command_line.Found.{Found}
+use Rattle.xk_cli.specs.declared.command_line.Found.TheVariants as found
 use Rattle.xk_cli.specs.declared.words_fault.WordsFault.{WordsFault}
 use Rattle.xk_cli.specs.declared.words_fault.WordsFault.TheVariants as fault
 
@@ -264,16 +267,17 @@ way_value (drive.Order o) = In o
 way_value (drive.Workers w) = By w.count
 
 -- A command without where its texts lie in memory. What is explained may be a JSON value. A run has who takes its steps, and the log's path, where
--- they were given; a tally has the first seed, and how many runs there are. Lanes have the log's path, the first step and the last, where they were
--- given, and may be a picture; a page has the same steps; races have the log's path, where it was given; the others on a log have its path. Outcomes
--- have how many there are at most, which is picked, and the path of its log; numbers of them may have no order. Where they are held against a list they
--- have its path, how many there are at most, and whether numbers of them have no order.
+-- they were given; one by hand, whose order a person is asked for, has the log's path; a tally has the first seed, and how many runs there are. Lanes have
+-- the log's path, the first step and the last, where they were given, and may be a picture; a page has the same steps; races have the log's path, where it
+-- was given; the others on a log have its path. Outcomes have how many there are at most, which is picked, and the path of its log; numbers of them may
+-- have no order. Where they are held against a list they have its path, how many there are at most, and whether numbers of them have no order.
 pub data Task : Type 0 where
   Check : Task
   Compile : Task
   Explain : Bool → Task
   Listing : Task
   Run : Option Way → Option Text → Task
+  ByHand : Option Text → Task
   Tally : ℕ → ℕ → Task
   Replay : Text → Task
   Chart : Text → Task
@@ -302,16 +306,25 @@ task_value (command.Races log) = Races (option_map (λ s. s.now) log)
 task_value (command.Outcomes limit pick log sets) = Outcomes limit pick (option_map (λ s. s.now) log) sets
 task_value (command.Expected list limit sets) = Expected list.now limit sets
 
--- a job without where its texts and numbers lie in memory; a person is asked for the order of its run, or not
+-- a run by hand, without where the path of its log lies
+abbrev pub hand_task : Option (Bor Text) → Task
+hand_task log = ByHand (option_map (λ s. s.now) log)
+
+-- one of both
+abbrev pub found_task : Found → Task
+found_task (found.Command c) = task_value c
+found_task (found.ByHand log) = hand_task log
+
+-- what is asked for, without where its texts and numbers lie in memory
 pub record Asked : Type 0 where
   pub task : Task
   pub form : Form
   pub file : Text
   pub arguments : List ℤ
-  pub asks : Bool
 
-abbrev pub asked_value : Job → Asked
-asked_value job = record { task = task_value job.command; form = job.form; file = job.file.now; arguments = job.arguments.items; asks = job.asks }
+abbrev pub asked_value : Request → Asked
+asked_value (request.Job job) = record { task = task_value job.command; form = job.form; file = job.file.now; arguments = job.arguments.items }
+asked_value (request.ByHand run) = record { task = hand_task run.log; form = run.form; file = run.file.now; arguments = run.arguments.items }
 
 -- the value of a flag is `true` where it was given
 abbrev pub is_true : Text → Bool
@@ -394,13 +407,17 @@ abbrev pub runs_of : Option ℕ → ℕ → Option Way → Option Text → Task
 runs_of (Some runs) seed given log = Tally seed runs
 runs_of None seed given log = Run given log
 
--- `run` with what was given to it
+-- `run` with what was given to it, where no person is asked for the order
 abbrev pub run_in : List Row → Task
 run_in given = runs_of (count_in (codes "RUNS") given) (seed_in given) (drive_in given) (first_of (codes "PATH") given)
 
+-- `run` with what was given to it
+abbrev pub run_asked : List Row → Task
+run_asked given = if is_asked given then ByHand (first_of (codes "PATH") given) else run_in given
+
 -- An order and workers exclude each other, a seed is for an order by chance, and so is a number of runs, which have no log.
 abbrev pub run_by : List Row → Option Task
-run_by given = if is_both given || is_seed_alone given || are_runs_misplaced given then None else Some (run_in given)
+run_by given = if is_both given || is_seed_alone given || are_runs_misplaced given then None else Some (run_asked given)
 
 -- a list was given, and an outcome to pick or a log's path
 abbrev pub is_list_misplaced : List Row → Bool
@@ -442,24 +459,27 @@ command_on name log given =
 abbrev pub command_by_log : Text → List Row → Option Task
 command_by_log name given = option_and_then (λ log. command_on name log given) (first_of (codes "LOG") given)
 
--- the command of a name, with what else was given to it
+-- the command of a name other than `run`, with what else was given to it
 abbrev pub command_by : Text → List Row → Option Task
 command_by name given =
     if bytes_eq name (codes "check") then Some Check
     else (if bytes_eq name (codes "compile") then Some Compile
     else (if bytes_eq name (codes "explain") then Some (Explain (is_flagged (codes "json") given))
     else (if bytes_eq name (codes "listing") then Some Listing
-    else (if bytes_eq name (codes "run") then run_by given
     else (if bytes_eq name (codes "outcomes") then outcomes_by given
-    else (if bytes_eq name (codes "races") then Some (Races (first_of (codes "LOG") given)) else command_by_log name given))))))
+    else (if bytes_eq name (codes "races") then Some (Races (first_of (codes "LOG") given)) else command_by_log name given)))))
+
+-- what the command of a name does, with what else was given to it
+abbrev pub task_by : Text → List Row → Option Task
+task_by name given = if bytes_eq name (codes "run") then run_by given else command_by name given
 
 -- this command on this file, with what else was given to it
 abbrev pub asked_of : Task → Text → List Row → Option Asked
-asked_of t file given = option_map (λ args. record { task = t; form = form_in given; file = file; arguments = args; asks = is_asked given }) (arguments_in given)
+asked_of t file given = option_map (λ args. record { task = t; form = form_in given; file = file; arguments = args }) (arguments_in given)
 
 -- the job of a command's name and what was given with it
 abbrev pub asked_by : Text → List Row → Option Asked
-asked_by name given = option_and_then (λ t. option_and_then (λ file. asked_of t file given) (first_of (codes "FILE") given)) (command_by name given)
+asked_by name given = option_and_then (λ t. option_and_then (λ file. asked_of t file given) (first_of (codes "FILE") given)) (task_by name given)
 
 abbrev pub asked_in : Option (Text × List Row) → Option Asked
 asked_in found = option_and_then (λ p. asked_by p.0 p.1) found

@@ -2,9 +2,9 @@
 
 ghost use Rattle.std.specs.Prelude.{◌≡◌, [], false, Some, None, IfOk, OnOk, IfErr, IsOkAnd, option_map};
 ghost use Rattle.clap.specs.Words.{app_of, first_of, found_of, kind_of, rows_of, rule_of, subcommand_rows_of, with_subcommand};
-ghost use Rattle.xk_cli.specs.CommandLine.{FitsKind, HasNoGlobals, IsRefused, WithOrders, are_runs_misplaced, arg_option, arguments_in, asked_by, asked_in, asked_of, asked_value, by_chance, by_order, by_workers, command_by, command_by_log, command_line, command_on, count_in, count_option, crowds_by, crowds_in, drawn_from, drawn_within, drive_in, excludes_by, excludes_in, expect_option, explain_line, faults_in, flag, form_in, form_named, from_option, is_asked, is_both, is_flagged, is_list_misplaced, is_random, is_seed_alone, is_true, job_of, json_flag, lanes_line, limit_option, limited, log_choice, log_option, maybe_on_log, misplaces_by, misplaces_in, module_flag, on_either, on_file, on_log, on_run, option, order_in, order_named, order_option, outcomes_by, outcomes_in, outcomes_line, outcomes_of, page_on, pick_option, picked, place, program, races_line, repeated, run_by, run_in, run_line, runs_option, seed_in, seed_option, sets_flag, strays_by, strays_in, svg_flag, task_value, texts, to_option, way_value, with_expected, with_log, with_outcome_log, with_sets, without_logs, workers_in, workers_named, workers_option};
+ghost use Rattle.xk_cli.specs.CommandLine.{FitsKind, HasNoGlobals, IsRefused, WithOrders, are_runs_misplaced, arg_option, arguments_in, asked_by, asked_in, asked_of, asked_value, by_chance, by_order, by_workers, command_by, command_by_log, command_line, command_on, count_in, count_option, crowds_by, crowds_in, drawn_from, drawn_within, drive_in, excludes_by, excludes_in, expect_option, explain_line, faults_in, flag, found_task, form_in, form_named, from_option, is_asked, is_both, is_flagged, is_list_misplaced, is_random, is_seed_alone, is_true, job_of, json_flag, lanes_line, limit_option, limited, log_choice, log_option, maybe_on_log, misplaces_by, misplaces_in, module_flag, on_either, on_file, on_log, on_run, option, order_in, order_named, order_option, outcomes_by, outcomes_in, outcomes_line, outcomes_of, page_on, pick_option, picked, place, program, races_line, repeated, run_asked, run_by, run_in, run_line, runs_option, seed_in, seed_option, sets_flag, strays_by, strays_in, svg_flag, task_by, task_value, texts, to_option, way_value, with_expected, with_log, with_outcome_log, with_sets, without_logs, workers_in, workers_named, workers_option};
 
-use crate::job::{Command, Drive, Form, Job, MOST_WORKERS, Order, Workers};
+use crate::job::{Command, Drive, Form, HandRun, Job, MOST_WORKERS, Order, Request, Workers};
 use crate::numbers::{count_named, numbers_named};
 use crate::words_fault::WordsFault;
 use clap::builder::ValueParser;
@@ -18,11 +18,19 @@ const VERSION: &str = "1.0.0";
 /// The names of the orders.
 static ORDERS: [&str; 5] = ["first", "last", "round", "random", "ask"];
 
-/// The job that the words ask for; the first word is the program's name. Where they ask for help or aren't understood,
-/// the fault has `clap`'s text.
-pub fn read_job<'a>(alloc: Global, words: &'a [&'a str]) -> Result<Job<'a>, WordsFault>
-    ensures job { IfOk result (λ job. WithOrders (λ names.
-        job_of names (texts words.entry.now) ≡ Some (asked_value job))) }
+/// What is to be done with a file.
+#[derive(Clone, Copy)]
+enum Found<'a> {
+    /// What the program does by itself.
+    Command(Command<'a>),
+    /// A run whose order a person is asked for, and where its log goes, if anywhere: a file's path.
+    ByHand(Option<&'a str>),
+}
+
+/// What the words ask for; the first word is the program's name. Where they ask for help or aren't understood, the fault has `clap`'s text.
+pub fn read_job<'a>(alloc: Global, words: &'a [&'a str]) -> Result<Request<'a>, WordsFault>
+    ensures job { IfOk result (λ asked. WithOrders (λ names.
+        job_of names (texts words.entry.now) ≡ Some (asked_value asked))) }
     ensures understood { OnOk result (WithOrders (λ names.
         faults_in names (texts words.entry.now) ≡ [])) }
     ensures refused { IfErr result (λ fault. WithOrders (λ names. IsRefused
@@ -577,70 +585,92 @@ fn place<'a>(alloc: Global, name: &'a str, help: &'a str) -> Arg<'a>
         .action(ArgAction::Set)
 }
 
-/// The job in what `clap` found, or why there is none.
-fn asked<'a>(alloc: Global, matches: &ArgMatches<'a>) -> Result<Job<'a>, WordsFault>
+/// What is asked for in what `clap` found, or why that is no job.
+fn asked<'a>(alloc: Global, matches: &ArgMatches<'a>) -> Result<Request<'a>, WordsFault>
     ensures job { IfOk result
-        (λ job. asked_in (subcommand_rows_of matches.now) ≡ Some (asked_value job)) }
+        (λ asked. asked_in (subcommand_rows_of matches.now) ≡ Some (asked_value asked)) }
     ensures refused { IfErr result (IsRefused [] (asked_in (subcommand_rows_of matches.now))
         (excludes_by (subcommand_rows_of matches.now))
         (strays_by (subcommand_rows_of matches.now))
         (misplaces_by (subcommand_rows_of matches.now))
         (crowds_by (subcommand_rows_of matches.now))) }
 {
-    match job_in(alloc, matches)? {
-        Some(job) => Ok(job),
+    match request_in(alloc, matches)? {
+        Some(request) => Ok(request),
         None => Err(no_job(alloc, matches)),
     }
 }
 
-/// The job in what `clap` found.
-fn job_in<'a>(alloc: Global, matches: &ArgMatches<'a>) -> Result<Option<Job<'a>>, AllocError>
+/// What is asked for in what `clap` found.
+fn request_in<'a>(
+    alloc: Global,
+    matches: &ArgMatches<'a>,
+) -> Result<Option<Request<'a>>, AllocError>
     ensures { IfOk result
-        (λ job. option_map asked_value job ≡ asked_in (subcommand_rows_of matches.now)) }
+        (λ asked. option_map asked_value asked ≡ asked_in (subcommand_rows_of matches.now)) }
 {
     match matches.subcommand() {
-        Some((name, given)) => job_by(alloc, name, given),
+        Some((name, given)) => request_by(alloc, name, given),
         None => Ok(None),
     }
 }
 
-/// The job of a command's name and what was given with it.
-fn job_by<'a>(
+/// What a command's name and what was given with it ask for.
+fn request_by<'a>(
     alloc: Global,
     name: &str,
     given: &ArgMatches<'a>,
-) -> Result<Option<Job<'a>>, AllocError>
+) -> Result<Option<Request<'a>>, AllocError>
     ensures { IfOk result
-        (λ job. option_map asked_value job ≡ asked_by name.now (rows_of (found_of given.now))) }
+        (λ asked. option_map asked_value asked ≡ asked_by name.now (rows_of (found_of given.now))) }
 {
-    let Some(command) = command_by(name, given) else {
+    let Some(task) = task_by(name, given) else {
         return Ok(None);
     };
     match given_in(given, "FILE") {
-        Some(file) => job_of(alloc, command, file, given),
+        Some(file) => request_of(alloc, task, file, given),
         None => Ok(None),
     }
 }
 
-/// This command on this file, with what else was given to it.
-fn job_of<'a>(
+/// This task on this file, with what else was given to it.
+fn request_of<'a>(
     alloc: Global,
-    command: Command<'a>,
+    task: Found<'a>,
     file: &'a str,
     given: &ArgMatches<'a>,
-) -> Result<Option<Job<'a>>, AllocError>
-    ensures { IfOk result (λ job. option_map asked_value job
-        ≡ asked_of (task_value command.entry) file.entry.now (rows_of (found_of given.now))) }
+) -> Result<Option<Request<'a>>, AllocError>
+    ensures { IfOk result (λ asked. option_map asked_value asked
+        ≡ asked_of (found_task task.entry) file.entry.now (rows_of (found_of given.now))) }
 {
     match arguments_in(alloc, given)? {
-        Some(arguments) => Ok(Some(Job {
+        Some(arguments) => Ok(Some(request_with(task, form_in(given), file, arguments))),
+        None => Ok(None),
+    }
+}
+
+/// This task on this file, with what stands there and the numbers that main is given.
+fn request_with<'a>(task: Found<'a>, form: Form, file: &'a str, arguments: Vec<i64>) -> Request<'a>
+    ensures { asked_value result ≡ record {
+      task = found_task task.entry;
+      form = form;
+      file = file.entry.now;
+      arguments = arguments.items;
+    } }
+{
+    match task {
+        Found::Command(command) => Request::Job(Job {
             command,
-            form: form_in(given),
+            form,
             file,
             arguments,
-            asks: is_asked(given),
-        })),
-        None => Ok(None),
+        }),
+        Found::ByHand(log) => Request::ByHand(HandRun {
+            form,
+            file,
+            arguments,
+            log,
+        }),
     }
 }
 
@@ -655,7 +685,17 @@ fn arguments_in(alloc: Global, given: &ArgMatches<'_>) -> Result<Option<Vec<i64>
     }
 }
 
-/// The command of this name, with what else was given to it.
+/// What the command of this name does, with what else was given to it.
+fn task_by<'a>(name: &str, given: &ArgMatches<'a>) -> Option<Found<'a>>
+    ensures { option_map found_task result ≡ task_by name.now (rows_of (found_of given.now)) }
+{
+    match name {
+        "run" => run_by(given),
+        _ => Some(Found::Command(command_by(name, given)?)),
+    }
+}
+
+/// The command of this name, which isn't `run`, with what else was given to it.
 fn command_by<'a>(name: &str, given: &ArgMatches<'a>) -> Option<Command<'a>>
     ensures { option_map task_value result ≡ command_by name.now (rows_of (found_of given.now)) }
 {
@@ -666,7 +706,6 @@ fn command_by<'a>(name: &str, given: &ArgMatches<'a>) -> Option<Command<'a>>
             json: is_flagged(given, "json"),
         }),
         "listing" => Some(Command::Listing),
-        "run" => run_by(given),
         "outcomes" => outcomes_by(given),
         "races" => Some(Command::Races {
             log: given_in(given, "LOG"),
@@ -754,16 +793,26 @@ fn is_list_misplaced(given: &ArgMatches<'_>) -> bool
 }
 
 /// The command `run` with what was given to it. None where both an order and workers were, or a seed or a number of runs that has no place there.
-fn run_by<'a>(given: &ArgMatches<'a>) -> Option<Command<'a>>
-    ensures { option_map task_value result ≡ run_by (rows_of (found_of given.now)) }
+fn run_by<'a>(given: &ArgMatches<'a>) -> Option<Found<'a>>
+    ensures { option_map found_task result ≡ run_by (rows_of (found_of given.now)) }
 {
     if is_both(given) || is_seed_alone(given) || are_runs_misplaced(given) {
         return None;
     }
-    Some(run_in(given))
+    Some(run_asked(given))
 }
 
-/// The command `run` with what was given to it: one run, or so many as were asked for.
+/// The command `run` with what was given to it: by hand, or not.
+fn run_asked<'a>(given: &ArgMatches<'a>) -> Found<'a>
+    ensures { found_task result ≡ run_asked (rows_of (found_of given.now)) }
+{
+    if is_asked(given) {
+        return Found::ByHand(given_in(given, "PATH"));
+    }
+    Found::Command(run_in(given))
+}
+
+/// The command `run` where no person is asked for the order: one run, or so many as were asked for.
 fn run_in<'a>(given: &ArgMatches<'a>) -> Command<'a>
     ensures { task_value result ≡ run_in (rows_of (found_of given.now)) }
 {

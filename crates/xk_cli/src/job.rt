@@ -161,7 +161,7 @@ impl Workers {
     }
 }
 
-/// One command on one file.
+/// One command on one file: what the program does by itself.
 #[derive(Debug, Drop)]
 pub struct Job<'a> {
     pub command: Command<'a>,
@@ -170,6 +170,25 @@ pub struct Job<'a> {
     pub file: &'a str,
     /// `--arg`: the numbers that main is given, in order. `check`, `compile`, `explain` and `listing` are given none.
     pub arguments: Vec<i64>,
-    /// `--order ask`: a person is asked for the order of the run.
-    pub asks: bool,
+}
+
+/// `run --order ask`: a run of one file, by a person who is asked for its order.
+#[derive(Debug, Drop)]
+pub struct HandRun<'a> {
+    pub form: Form,
+    /// The file's path; standard input has the answers.
+    pub file: &'a str,
+    /// `--arg`: the numbers that main is given, in order.
+    pub arguments: Vec<i64>,
+    /// Where the run's log goes, if anywhere: a file's path.
+    pub log: Option<&'a str>,
+}
+
+/// What the words ask for.
+#[derive(Debug, Drop)]
+pub enum Request<'a> {
+    /// What the program does by itself.
+    Job(Job<'a>),
+    /// A run whose order a person is asked for.
+    ByHand(HandRun<'a>),
 }

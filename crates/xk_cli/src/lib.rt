@@ -1,4 +1,4 @@
-//! The program's command line: words to a job, or to the text that says why not.
+//! The program's command line: words to what they ask for, or to the text that says why not.
 #![tactic(auto)]
 
 mod command_line;
@@ -8,5 +8,5 @@ pub mod status;
 mod words_fault;
 
 pub use command_line::read_job;
-pub use job::{Command, Drive, Form, Job, MOST_WORKERS, Order, Workers};
+pub use job::{Command, Drive, Form, HandRun, Job, MOST_WORKERS, Order, Request, Workers};
 pub use words_fault::WordsFault;

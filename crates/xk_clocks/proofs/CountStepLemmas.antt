@@ -22,7 +22,7 @@ settled_is clock c is now = go (is_ready clock) refl
     go false e = rw (ready_is clock c is, e) is
 
 -- after an advance all who are registered keep it back
-unready_after : (r : ℕ) → (not (r == 0) && (r == 0)) ≡ false
+pub unready_after : (r : ℕ) → (not (r == 0) && (r == 0)) ≡ false
 unready_after zero = refl
 unready_after (suc r) = rw (suc_zero r) refl
 

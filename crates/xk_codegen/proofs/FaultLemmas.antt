@@ -100,7 +100,7 @@ either P (Some other) at old new = go (ltb at other) refl
     go false e = let more = ltb-false at other e in let same : other ≡ min at other = omega arith in subst P same (old other refl)
 
 -- an offset was found, and it is no greater
-abbrev pub IsNoMore : Option ℕ → ℕ → Type 0
+abbrev IsNoMore : Option ℕ → ℕ → Type 0
 IsNoMore None at = ⊥
 IsNoMore (Some worst) at = worst ≤ at
 

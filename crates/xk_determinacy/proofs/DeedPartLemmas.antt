@@ -13,7 +13,7 @@ use Rattle.xk_events.specs.Steps.{run_step}
 use Rattle.xk_races.specs.declared.deeds.Deed.{Deed}
 use Rattle.xk_races.specs.declared.deeds.Part.{Part}
 use Rattle.xk_races.specs.declared.deeds.Part.TheVariants as part
-use Rattle.xk_races.specs.Lists.{each_below}
+use Rattle.xk_events.specs.Worlds.{each_below}
 use Rattle.xk_races.specs.Deeds.{awaits, awaiting, gives_way, deed, cell_at, signal, advance, pass, plain, signals, at_clocks, tell_deeds}
 use Rattle.xk_determinacy.proofs.TurnLemmas.{get_split}
 

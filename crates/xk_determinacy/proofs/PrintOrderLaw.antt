@@ -26,10 +26,9 @@ use Rattle.xk_races.specs.declared.deeds.Deed.{Deed}
 use Rattle.xk_races.specs.declared.deeds.Part.TheVariants as part
 use Rattle.xk_races.specs.declared.pairs.Gap.{Gap}
 use Rattle.xk_races.specs.Knowledge.{Sight, sights_of, comes_before, is_sight}
-use Rattle.xk_races.specs.Order.{Leads, Before}
 use Rattle.xk_races.specs.Races as races
 use Rattle.xk_races.specs.Races.{gap_behind, gap_in}
-use Rattle.xk_races.proofs.OrderLemmas.{IsUpTo}
+use Rattle.xk_races.proofs.OrderLemmas.{IsUpTo, up_to_through}
 use Rattle.xk_races.proofs.SightLemmas.{order_is_exact}
 use Rattle.xk_events.specs.declared.steps.RunStep.{RunStep}
 use Rattle.xk_events.specs.Steps.{run_step}
@@ -39,17 +38,6 @@ use Rattle.xk_determinacy.proofs.EdgeListLemmas.{Edges, no_cause, before_more, I
 use Rattle.xk_determinacy.proofs.LinkLemmas.{says, up_led}
 use Rattle.xk_determinacy.proofs.SeenLemmas.{IsSight, sight_of}
 use Rattle.xk_determinacy.proofs.StepDeedLemmas.{event_at, IsDeedOf, first_deed}
-
--- ---- the order of deeds leads on
-
-leads_on : (ds : List Deed) (i k : ℕ) (ks js : List ℕ) (m : ℕ) → Leads ds i ks k → Leads ds k js m → Leads ds i (js ++ k ∷ ks) m
-leads_on ds i k ks [] m h g = (h, g)
-leads_on ds i k ks (j ∷ js) m h g = (leads_on ds i k ks js j h g.0, g.1)
-
-up_on : (ds : List Deed) (i k m : ℕ) → IsUpTo ds i k → IsUpTo ds k m → IsUpTo ds i m
-up_on ds i k m (inl is) g = subst (λ j. IsUpTo ds j m) (sym is) g
-up_on ds i k m (inr h) (inl is) = inr (subst (λ j. Before ds i j) is h)
-up_on ds i k m (inr h) (inr g) = inr (g.0 ++ k ∷ h.0, leads_on ds i k h.0 g.0 m h.1 g.1)
 
 -- ---- prints that are told to be in one order
 
@@ -130,7 +118,7 @@ prints_up : (ds : List Deed) → gap_in (sights_of ds) ≡ None → (k j : ℕ) 
     → d.part ≡ part.Print → e.part ≡ part.Print → IsUpTo ds k j
 prints_up ds none k j d e x y less first second =
     subst (λ n. IsUpTo ds n j) (ap pred x.number) (subst (λ n. IsUpTo ds (pred x.sight.number) n) (ap pred y.number)
-    (pairs AreUpTo (λ a b c. up_on ds (pred a.number) (pred b.number) (pred c.number)) Seen
+    (pairs AreUpTo (λ a b c. up_to_through ds (pred a.number) (pred b.number) (pred c.number)) Seen
     (λ a b p q before. (order_is_exact ds).sound p.0 q.0 a b p.1 q.1 before) None (sights_of ds)
     (λ i v at. (i, at)) none x.place y.place x.sight y.sight less
     x.there y.there

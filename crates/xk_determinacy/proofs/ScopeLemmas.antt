@@ -128,9 +128,6 @@ push_last (y ∷ xs) x = push_last xs x
 
 -- ---- one step
 
-some_open : (n : ℕ) → (suc n == 0) ≡ false
-some_open n = ne_eqb (suc n) 0 (λ e. absurd (omega (arith, e)))
-
 module _ (m : ModuleValue) (acts : List Activity) (a : ℕ) (act : Activity) (found : slice_get acts a ≡ Some act) (s : Scopes) where
   own_opened : opened_in acts a ≡ act.opened
   own_opened = ap (λ o. option_map_or (λ (x : Activity). x.opened) o 0) found
@@ -224,7 +221,7 @@ module _ (m : ModuleValue) (acts : List Activity) (a : ℕ) (act : Activity) (fo
   }
     where
       by : (o n : ℕ) → o ≡ suc n → cond (o == 0) act.governed (finish a o) ≡ finish a (suc n)
-      by o n is = ap (λ k. cond (k == 0) act.governed (finish a k)) is ∙ ap (λ q. cond q act.governed (finish a (suc n))) (some_open n)
+      by o n is = ap (λ k. cond (k == 0) act.governed (finish a k)) is ∙ ap (λ q. cond q act.governed (finish a (suc n))) (ne_eqb (suc n) 0 (λ e. absurd (omega (arith, e))))
 
 -- what a step changes of them
 pub change_step : (m : ModuleValue) (w u : World) (a : ℕ) (e : Event) (s : Scopes) → step m w a ≡ Stepped u e

@@ -24,7 +24,6 @@ impl Row {
             form: Form::Source,
             file: "-",
             arguments: Vec::new(alloc),
-            asks: false,
         }
     }
 }

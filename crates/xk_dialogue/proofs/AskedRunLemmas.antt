@@ -22,76 +22,14 @@ use Rattle.xk_ask.specs.Asking.{BeginsByAnswers, IsByAnswers, Leaves}
 use Rattle.xk_ask.specs.Play.{IsPlayed, log_by, told_by, unread}
 use Rattle.xk_serve.specs.declared.fault.Fault.{Fault}
 use Rattle.xk_serve.specs.declared.fault.Fault.TheVariants as fault
-use Rattle.xk_serve.specs.Answer.{fault_reply, whole_status}
+use Rattle.xk_serve.specs.Answer.{whole_status}
 use Rattle.xk_serve.specs.Bytes.{FailsRead, kept}
 use Rattle.xk_serve.specs.Devices.{Reports}
 use Rattle.xk_serve.specs.Explanation.{HaveOrigins, places_in}
 use Rattle.xk_serve.specs.Lines.{device_line, fault_line, status_of}
 use Rattle.xk_serve.specs.Programs.{Gives}
 use Rattle.xk_serve.proofs.ReplyLemmas.{appends_none, tells_begins}
-use Rattle.xk_dialogue.specs.AskedRun.{AnsweredAsked, AreBegun, BeginsAsking, BeginsToAsk, EndsAsking, FailsWhile, IfBoth, IsAskedBy, IsAskedFirst, IsFaultReply, IsHandRun, IsPlayedByHand, IsRunReply, IsUnfitFor, IsWrittenBy, OutBeginsRun, StandsAgainstAsked, asked_reply, last_line}
-
--- ---- the answers
-
--- a run by hand, or what stands against one
-abbrev AreReplies : Form → List ℕ → List ℤ → Bool → ℕ → Option (List ℕ) → Option (List ℕ) → Option (List ℕ) → Option (List ℕ) → Option (List ℕ)
-    → Option (List ℕ)
-    → Option (List ℕ) → Option (List ℕ) → Type 0
-AreReplies form bytes args keeps result in_old in_new out_old out_new err_old err_new log_old log_new =
-    IsRunReply form bytes args keeps result in_old in_new out_old out_new err_old err_new log_old log_new
-    ⊎ IsFaultReply form bytes args result out_old out_new err_old err_new log_old log_new
-
--- where the answers are known, it is the run by these
-hand_answer : (form : Form) (bytes answers : List ℕ) (args : List ℤ) (keeps : Bool) (result : ℕ)
-    (in_new out_old out_new err_old err_new log_old log_new : Option (List ℕ))
-    → AreReplies form bytes args keeps result (Some answers) in_new out_old out_new err_old err_new log_old log_new
-    → AnsweredAsked form bytes args answers keeps result out_old out_new err_old err_new log_old log_new
-hand_answer form bytes answers args keeps result in_new out_old out_new err_old err_new log_old log_new (inl r) =
-    let told = r.by_hand.told in
-    let run = r.by_hand.run in
-    record {
-      reply = asked_reply keeps told r.log r.numbers r.steps r.whole;
-      answered = inl (
-        told,
-        r.log,
-        r.numbers,
-        r.steps,
-        r.whole,
-        record {
-          of = run.of;
-          given = run.given;
-          accepted = run.accepted;
-          taken = run.taken;
-          played = run.played;
-          log_is = run.log_is ∙ ap (log_by run.of args) run.are;
-          told_is = subst (λ xs. IsAskedBy form bytes run.of args xs told) run.are run.told_is;
-        },
-        refl,
-      );
-      status_is = r.status_is;
-      out_is = r.out_is;
-      err_is = r.by_hand.err_is;
-      log_is = r.log_is;
-    }
-hand_answer form bytes answers args keeps result in_new out_old out_new err_old err_new log_old log_new (inr f) = record {
-  reply = fault_reply [] f.told;
-  answered = inr (f.told, f.unfit, refl);
-  status_is = f.status_is;
-  out_is = f.out_is;
-  err_is = f.err_is;
-  log_is = f.log_is;
-}
-
-pub hand_answers : (form : Form) (program input : Option (List ℕ)) (args : List ℤ) (keeps : Bool) (result : ℕ)
-    (in_new out_old out_new err_old err_new log_old log_new : Option (List ℕ))
-    → IfSome program (λ b. result ≢ 4 → result ≢ 5
-    → AreReplies form (kept form b) args keeps result input in_new out_old out_new err_old err_new log_old log_new)
-    → IfBoth program input (λ b answers. result ≢ 4 → result ≢ 5
-    → AnsweredAsked form (kept form b) args answers keeps result out_old out_new err_old err_new log_old log_new)
-hand_answers form None input args keeps result in_new out_old out_new err_old err_new log_old log_new h = tt
-hand_answers form (Some b) None args keeps result in_new out_old out_new err_old err_new log_old log_new h = tt
-hand_answers form (Some b) (Some answers) args keeps result in_new out_old out_new err_old err_new log_old log_new h = λ memory device.
-    hand_answer form (kept form b) answers args keeps result in_new out_old out_new err_old err_new log_old log_new (h memory device)
+use Rattle.xk_dialogue.specs.AskedRun.{AreBegun, BeginsAsking, BeginsToAsk, EndsAsking, FailsWhile, IsAskedBy, IsAskedFirst, IsFaultReply, IsHandReply, IsHandRun, IsPlayedByHand, IsRunReply, IsUnfitFor, IsWrittenBy, OutBeginsRun, StandsAgainstAsked, last_line}
 
 -- ---- what was written of a run
 
@@ -112,7 +50,7 @@ pub run_replies : {D : Type 0} (contents : D → Option (List ℕ)) (first mid n
     → ending ≡ last_line whole steps
     → IsOut mid new log numbers ending whole keeps out_old out_new log_old log_new o_old o_new k_old k_new result
     → IfSome program (λ b. result ≢ 4 → result ≢ 5
-    → AreReplies form (kept form b) args keeps result in_old in_new out_old out_new (contents first) (contents new) log_old log_new)
+    → IsHandReply form (kept form b) args keeps result in_old in_new out_old out_new (contents first) (contents new) log_old log_new)
 run_replies contents first mid new form None bytes args in_old in_new log numbers steps whole keeps ending out_old out_new log_old log_new o_old o_new k_old
     k_new
     result is done last out = tt
@@ -490,7 +428,7 @@ told_at_read i j f old new faults_old faults_new result came (inr (other, inr br
 
 pub unread_replies : (form : Form) (program : Option (List ℕ)) (args : List ℤ) (keeps : Bool) (i j : ℕ) (f : Fault) (input old new out log : Option (List ℕ))
     (faults_old faults_new result : ℕ) → FailsRead i j f → Reports f old new faults_old faults_new result
-    → IfSome program (λ b. result ≢ 4 → result ≢ 5 → AreReplies form (kept form b) args keeps result input input out out old new log log)
+    → IfSome program (λ b. result ≢ 4 → result ≢ 5 → IsHandReply form (kept form b) args keeps result input input out out old new log log)
 unread_replies form None args keeps i j f input old new out log faults_old faults_new result came told = tt
 unread_replies form (Some b) args keeps i j f input old new out log faults_old faults_new result came told = λ memory device.
     absurd (by memory device (told_at_read i j f old new faults_old faults_new result came told))
@@ -544,7 +482,7 @@ pub fault_replies : (form : Form) (program : Option (List ℕ)) (bytes : List �
     → IfSome program (λ k. bytes ≡ kept form k)
     → StandsAgainstAsked form bytes args i j e g first mid f
     → Reports f mid new faults_old faults_new result
-    → IfSome program (λ b. result ≢ 4 → result ≢ 5 → AreReplies form (kept form b) args keeps result in_old in_new out out first new log log)
+    → IfSome program (λ b. result ≢ 4 → result ≢ 5 → IsHandReply form (kept form b) args keeps result in_old in_new out out first new log log)
 fault_replies form program bytes args keeps f i j e g in_old in_new first mid new out log faults_old faults_new result is against told =
-    of_known form program bytes (λ x. result ≢ 4 → result ≢ 5 → AreReplies form x args keeps result in_old in_new out out first new log log) is
+    of_known form program bytes (λ x. result ≢ 4 → result ≢ 5 → IsHandReply form x args keeps result in_old in_new out out first new log log) is
     (λ memory device. inr (fault_reply_of form bytes args f i j e g first mid new out log faults_old faults_new result against told memory device))

@@ -13,12 +13,12 @@ use Rattle.xk_diagnostics.specs.Lines.{ended_line}
 use Rattle.xk_log.specs.Writing.{AppendsBeginning}
 use Rattle.xk_ask.specs.Answers.{AreAnswers}
 use Rattle.xk_ask.specs.Asking.{Leaves}
-use Rattle.xk_ask.specs.Play.{IsPlayed, log_by, played_log, told_by, told_text, unread}
+use Rattle.xk_ask.specs.Play.{IsPlayed, log_by, told_by, unread}
 use Rattle.xk_ask.specs.declared.fault.AskFault.{AskFault}
 use Rattle.xk_ask.specs.declared.fault.AskFault.TheVariants as ask
 use Rattle.xk_serve.specs.declared.fault.Fault.{Fault}
 use Rattle.xk_serve.specs.declared.fault.Fault.TheVariants as fault
-use Rattle.xk_serve.specs.Answer.{IsNotRun, Reply, fault_reply, whole_status}
+use Rattle.xk_serve.specs.Answer.{IsNotRun, whole_status}
 use Rattle.xk_serve.specs.Explanation.{IsByOrigins, places_in}
 use Rattle.xk_serve.specs.Bytes.{kept}
 use Rattle.xk_serve.specs.Faults.{GivesNoModule}
@@ -38,40 +38,9 @@ stopped_line steps = codes "stopped steps " ++ (decimal steps ++ codes "\n")
 abbrev pub last_line : Bool → ℕ → List ℕ
 last_line whole steps = if whole then ended_line steps else stopped_line steps
 
--- this is told of the run by these answers, by the lines of a source text
-abbrev pub IsAskedText : Form → List ℕ → ModuleValue → List ℤ → List ℕ → List ℕ → Type 0
-IsAskedText form bytes m args answers told = IsByOrigins form bytes (λ origins. told_text (places_in bytes origins) m args answers) told
-
--- The bytes give a module that is accepted and whose main takes these numbers; by these answers its run has this log, prints these numbers and takes so
--- many steps, and all have ended or not; and this is told meanwhile.
-pub record IsAskedRun (form : Form) (bytes : List ℕ) (args : List ℤ) (answers told : List ℕ) (log : List Entry) (numbers : List ℤ) (steps : ℕ) (whole : Bool) : Type 0 where
-  pub of : ModuleValue
-  pub given : Gives form bytes of
-  pub accepted : IsAccepted of
-  pub taken : AreArguments of args
-  pub played : IsPlayed of args log numbers steps whole
-  pub log_is : log ≡ played_log of args answers
-  pub told_is : IsAskedText form bytes of args answers told
-
--- what goes to the devices then; the log is kept or not
-abbrev pub asked_reply : Bool → List ℕ → List Entry → List ℤ → ℕ → Bool → Reply
-asked_reply keeps told log numbers steps whole = record {
-  status = whole_status whole;
-  out = number_lines numbers ++ last_line whole steps;
-  err = told;
-  log = if keeps then log_text log else [];
-}
-
 -- the bytes give no module, or one that isn't run with these arguments
 abbrev pub IsUnfitFor : Form → List ℕ → List ℤ → Fault → Type 0
 IsUnfitFor form bytes args f = GivesNoModule form bytes f ⊎ ((m : ModuleValue) × Gives form bytes m × IsNotRun m args f)
-
--- the program may answer so: by such a run, or by what stands against it
-abbrev pub AnswersAsked : Form → List ℕ → List ℤ → List ℕ → Bool → Reply → Type 0
-AnswersAsked form bytes args answers keeps r =
-    ((told : List ℕ) × (log : List Entry) × (numbers : List ℤ) × (steps : ℕ) × (whole : Bool) × IsAskedRun form bytes args answers told log numbers steps whole
-    × (r ≡ asked_reply keeps told log numbers steps whole))
-    ⊎ ((f : Fault) × IsUnfitFor form bytes args f × (r ≡ fault_reply [] f))
 
 -- some text of which this holds was written
 abbrev pub IsWrittenBy : (List ℕ → Type 0) → Option (List ℕ) → Option (List ℕ) → Type 0
@@ -87,22 +56,6 @@ FailsWhile in_old in_new err_old err_new _ = ⊥
 abbrev pub StandsAgainstAsked : Form → List ℕ → List ℤ → ℕ → ℕ → ℕ → ℕ → Option (List ℕ) → Option (List ℕ) → Fault → Type 0
 StandsAgainstAsked form bytes args in_old in_new err_old err_new old new f =
     FailsWhile in_old in_new err_old err_new f ⊎ (IsUnfitFor form bytes args f × (in_new ≡ in_old) × (err_new ≡ err_old) × Appends old new [])
-
--- what an answer was written of is one to these bytes
-pub record AnsweredAsked (form : Form) (bytes : List ℕ) (args : List ℤ) (answers : List ℕ) (keeps : Bool) (status : ℕ)
-    (out_old out_new err_old err_new log_old log_new : Option (List ℕ)) : Type 0 where
-  pub reply : Reply
-  pub answered : AnswersAsked form bytes args answers keeps reply
-  pub status_is : status ≡ reply.status
-  pub out_is : Appends out_old out_new reply.out
-  pub err_is : Appends err_old err_new reply.err
-  pub log_is : Appends log_old log_new reply.log
-
--- both are known, and this holds of them
-abbrev pub IfBoth : Option (List ℕ) → Option (List ℕ) → (List ℕ → List ℕ → Type 0) → Type 0
-IfBoth a b P = IfSome a (λ x. IfSome b (λ y. P x y))
-
--- ---- whatever the input
 
 -- this is told of the run by these answers, by the lines of a source text
 abbrev pub IsAskedBy : Form → List ℕ → ModuleValue → List ℤ → List (Option ℕ) → List ℕ → Type 0
@@ -151,6 +104,13 @@ pub record IsFaultReply (form : Form) (bytes : List ℕ) (args : List ℤ) (stat
   pub out_is : Appends out_old out_new []
   pub err_is : Appends err_old err_new (fault_line told)
   pub log_is : Appends log_old log_new []
+
+-- the answer is a run by hand, or what stands against one
+abbrev pub IsHandReply : Form → List ℕ → List ℤ → Bool → ℕ → Option (List ℕ) → Option (List ℕ) → Option (List ℕ) → Option (List ℕ) → Option (List ℕ)
+    → Option (List ℕ) → Option (List ℕ) → Option (List ℕ) → Type 0
+IsHandReply form bytes args keeps status in_old in_new out_old out_new err_old err_new log_old log_new =
+    IsRunReply form bytes args keeps status in_old in_new out_old out_new err_old err_new log_old log_new
+    ⊎ IsFaultReply form bytes args status out_old out_new err_old err_new log_old log_new
 
 -- ---- where memory is wanting, or a device fails
 

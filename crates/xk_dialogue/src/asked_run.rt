@@ -14,7 +14,7 @@ ghost use Rattle.xk_ask.specs.Play.{IsPlayed, log_by, unread};
 ghost use Rattle.xk_serve.specs.Answer.{whole_status};
 ghost use Rattle.xk_serve.specs.Lines.{device_line, status_of};
 ghost use Rattle.xk_ask.specs.Answers.{AreAnswers};
-ghost use Rattle.xk_dialogue.specs.AskedRun.{AnsweredAsked, AreBegun, BeginsAsking, BeginsToAsk, EndsAsking, FailsWhile, fault_of, IfBoth, IsAskedBy, IsAskedFirst, IsFaultReply, IsPlayedByHand, IsRunReply, IsWrittenBy, OutBeginsRun, StandsAgainstAsked, last_line};
+ghost use Rattle.xk_dialogue.specs.AskedRun.{AreBegun, BeginsAsking, BeginsToAsk, EndsAsking, FailsWhile, fault_of, IsAskedBy, IsAskedFirst, IsHandReply, IsPlayedByHand, IsWrittenBy, OutBeginsRun, StandsAgainstAsked, last_line};
 ghost use Rattle.xk_serve.specs.Bytes.{IsReadToLimit, kept};
 
 use std::alloc::{AllocError, Global};
@@ -247,19 +247,10 @@ pub fn serve_asked<P: Source, L: Source, O: Sink, E: Sink, K: Sink>(
     err: &mut E,
     log_out: &mut K,
 ) -> u8
-    ensures answered { IfBoth (P.remaining program.old) (L.remaining input.old)
-        (λ bytes answers. result ≢ status_memory → result ≢ status_device
-        → AnsweredAsked form (kept form bytes) arguments.now answers keeps_log result
-        (O.contents out.old) (O.contents out.new) (E.contents err.old) (E.contents err.new)
-        (K.contents log_out.old) (K.contents log_out.new)) }
-    // Whatever the input.
     ensures by_hand { IfSome (P.remaining program.old) (λ bytes.
         result ≢ status_memory → result ≢ status_device
-        → IsRunReply form (kept form bytes) arguments.now keeps_log result
+        → IsHandReply form (kept form bytes) arguments.now keeps_log result
         (L.remaining input.old) (L.remaining input.new)
-        (O.contents out.old) (O.contents out.new) (E.contents err.old) (E.contents err.new)
-        (K.contents log_out.old) (K.contents log_out.new)
-        ⊎ IsFaultReply form (kept form bytes) arguments.now result
         (O.contents out.old) (O.contents out.new) (E.contents err.old) (E.contents err.new)
         (K.contents log_out.old) (K.contents log_out.new)) }
     ensures unread { result ≡ status_program → input.new ≡ input.old }

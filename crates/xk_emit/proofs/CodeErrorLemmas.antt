@@ -208,7 +208,7 @@ low_more : (scope : Scope) (x : List ℕ) (n : ℕ) → AreLow scope → n < 64 
 low_more [] x n low h = (h, tt)
 low_more (e ∷ scope) x n low h = (low.0, low_more scope x n low.1 h)
 
-abbrev pub RoomOf : Setting → ℕ → Scope → ℕ → ℕ → Statement → Type 0
+abbrev RoomOf : Setting → ℕ → Scope → ℕ → ℕ → Statement → Type 0
 RoomOf cx t scope n size s = HasRoom scope size (code_of cx t scope n size s) × (n + count s ≤ 64)
 
 -- the slots of a loop's names are low

@@ -16,10 +16,10 @@ use Rattle.xk_names.specs.WellScoped.{IsScoped, method_scope}
 use Rattle.xk_names.specs.Captures.{outer_among, shared_texts}
 use Rattle.xk_names.proofs.TreeFaultLemmas.{names_found}
 use Rattle.xk_names.proofs.CaptureVisibilityLemmas.{among_found}
-use Rattle.xk_emit.specs.CodeOf.{Setting, body_params}
+use Rattle.xk_emit.specs.CodeOf.{Setting}
 use Rattle.xk_emit.specs.Unit.{scope_from, names_of_params}
 use Rattle.xk_emit.specs.NameCoverage.{IsFound, IsUnitCovered}
-use Rattle.xk_emit.specs.CodeReferences.{AsyncBody, bodies_in_all, IsSettingFor}
+use Rattle.xk_emit.specs.CodeReferences.{bodies_in_all, IsSettingFor}
 use Rattle.xk_emit.proofs.CoverageLemmas.TableLemmas.{Differ, differ_new, param_found}
 use Rattle.xk_emit.proofs.CoverageLemmas.ScopeSlotLemmas.{Texts, Fits, is_known_shared}
 use Rattle.xk_emit.proofs.CoverageLemmas.StatementLemmas.{IsTaken, AreBodiesCovered, all_covered}
@@ -165,8 +165,3 @@ method_and_bodies cx t m scoped there setting =
 pub method_covered : (cx : Setting) (t : TreeValue) (m : MethodValue) → IsScoped t → Has t.methods m → IsSettingFor cx t m
     → IsUnitCovered cx (names_of_params m.params) (Block m.close m.body)
 method_covered cx t m scoped there setting = (method_and_bodies cx t m scoped there setting).0
-
--- nor does that of a body of `async` which the method leads to
-pub body_covered : (cx : Setting) (t : TreeValue) (m : MethodValue) → IsScoped t → Has t.methods m → IsSettingFor cx t m
-    → (b : AsyncBody) → Has (bodies_in_all m.body) b → IsUnitCovered cx (body_params cx b.at b.clocks) b.body
-body_covered cx t m scoped there setting b h = (method_and_bodies cx t m scoped there setting).1 b h

@@ -23,6 +23,7 @@ pub enum CodeError {
 impl From<AllocError> for CodeError {
     ghost from_gives = { λ _ e. e ≡ error.OutOfMemory };
 
+    /// Want of memory says nothing of the program.
     fn from(_e: AllocError) -> CodeError {
         CodeError::OutOfMemory
     }
@@ -31,6 +32,7 @@ impl From<AllocError> for CodeError {
 impl<T: Drop> From<AllocFailed<T>> for CodeError {
     ghost from_gives = { λ _ e. e ≡ error.OutOfMemory };
 
+    /// The same; what couldn't be put in is let go.
     fn from(_e: AllocFailed<T>) -> CodeError {
         CodeError::OutOfMemory
     }

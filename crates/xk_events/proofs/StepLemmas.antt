@@ -21,7 +21,7 @@ use Rattle.xk_events.specs.Steps.{Teller, told, told_on, told_of_run}
 -- ---- runs in two parts
 
 -- a front of a legal list is legal
-pub legal_front : (m : ModuleValue) (xs ys : List ℕ) (w v : World) → run m (xs ++ ys) w ≡ Through v → (u : World) × (run m xs w ≡ Through u)
+legal_front : (m : ModuleValue) (xs ys : List ℕ) (w v : World) → run m (xs ++ ys) w ≡ Through v → (u : World) × (run m xs w ≡ Through u)
 legal_front m [] ys w v h = (w, refl)
 legal_front m (a ∷ xs) ys w v h =
     let f = first_step w v (step m w a) (run m (xs ++ ys)) h in

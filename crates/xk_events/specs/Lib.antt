@@ -1,2 +1,3 @@
+pub mod Worlds
 pub mod Steps
 pub mod Events

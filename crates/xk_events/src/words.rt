@@ -17,6 +17,7 @@ pub fn is_seen(event: Event) -> bool
     !matches!(event, Event::Local)
 }
 
+/// What a step did, in a word.
 fn event_name(event: Event) -> &'static str
     ensures { result.now ≡ event_name event }
 {

@@ -1,1 +1,6 @@
 mod Examples
+mod TakenLemmas
+mod ExpressionsTaken
+mod StatementsTaken
+mod TextTaken
+mod PlacesTaken

@@ -1,4 +1,5 @@
 pub mod Grammar
 pub mod Views
 pub mod Expected
+pub mod Laws
 pub mod Notes

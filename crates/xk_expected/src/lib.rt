@@ -4,6 +4,7 @@
 mod choices;
 mod faults;
 mod grammar;
+pub mod laws;
 mod machine;
 mod notes;
 mod terminal;

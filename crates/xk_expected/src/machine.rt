@@ -1,6 +1,6 @@
 //! The machine: the stack behind a token, and which tokens it takes.
 
-ghost use Rattle.std.specs.Prelude.{◌≡◌, [], ◌∷◌, ◌++◌, map, option_map, IfOk};
+ghost use Rattle.std.specs.Prelude.{◌≡◌, [], ◌∷◌, ◌++◌, map, reverse, Some, None, option_map, if◌then◌else◌, IfOk, OnOk};
 ghost use Rattle.xk_lexer.specs.Tokens.{token_value};
 ghost use Rattle.xk_expected.specs.Expected.{stack_at, taken, taken_before, takes};
 ghost use Rattle.xk_expected.specs.declared.grammar.Symbol.TheVariants as symbol;
@@ -10,56 +10,49 @@ use crate::terminal::{Terminal, terminal_of};
 use std::alloc::{AllocError, Global};
 use xk_lexer::Token;
 
-/// What comes to stand on the stack in place of the symbols down to the one that begins with this token, and those below.
-#[derive(Clone, Copy, Debug)]
-struct Found<'s> {
-    row: &'static [Symbol],
-    more: &'static [Symbol],
-    below: &'s [Symbol],
-}
-
-/// What a token makes of a stack whose top comes first, if it can stand here.
-fn taken<'s>(stack: &'s [Symbol], t: Terminal) -> Option<Found<'s>>
-    ensures { option_map (λ x. (x.row.now ++ x.more.now) ++ x.below.now) result
-        ≡ taken stack.now t }
-{
-    let mut rest = stack;
-    while let [top, below @ ..] = rest {
-        match produced(*top, t) {
-            Entry::Refused => return None,
-            Entry::Skipped => rest = below,
-            Entry::Behind(row, more) => return Some(Found { row, more, below }),
-        }
-    }
-    None
-}
-
-/// Whether a token can stand here.
+/// Whether a token can stand on a stack whose top comes first.
 pub(crate) fn takes(stack: &[Symbol], t: Terminal) -> bool
     ensures { result ≡ takes stack.now t }
 {
-    match taken(stack, t) {
-        Some(_) => true,
-        None => false,
+    for symbol in stack {
+        match produced(*symbol, t) {
+            Entry::Refused => return false,
+            Entry::Skipped => {}
+            Entry::Behind(_, _) => return true,
+        }
     }
+    false
 }
 
-/// The stack behind a token, if it can stand here.
-fn stack_behind(
-    alloc: Global,
-    stack: &[Symbol],
-    t: Terminal,
-) -> Result<Option<Vec<Symbol>>, AllocError>
-    ensures { IfOk result (λ o. option_map (λ v. v.items) o ≡ taken stack.now t) }
+/// Puts symbols on a stack whose top comes last: the first of them is its top then.
+fn put(stack: &mut Vec<Symbol>, row: &[Symbol]) -> Result<(), AllocError>
+    ensures { OnOk result (reverse stack.new.items ≡ row.now ++ reverse stack.old.items) }
 {
-    let Some(found) = taken(stack, t) else {
-        return Ok(None);
-    };
-    let mut next = Vec::new(alloc);
-    next.extend_from_slice(found.row)?;
-    next.extend_from_slice(found.more)?;
-    next.extend_from_slice(found.below)?;
-    Ok(Some(next))
+    let mut rest = row;
+    while let Some((last, before)) = rest.split_last() {
+        stack.push(*last)?;
+        rest = before;
+    }
+    Ok(())
+}
+
+/// Takes a token off a stack whose top comes last; false where it can't stand here.
+fn take(stack: &mut Vec<Symbol>, t: Terminal) -> Result<bool, AllocError>
+    ensures { IfOk result (λ fits. taken (reverse stack.old.items) t
+        ≡ if fits then Some (reverse stack.new.items) else None) }
+{
+    while let Some(top) = stack.pop() {
+        match produced(top, t) {
+            Entry::Refused => return Ok(false),
+            Entry::Skipped => {}
+            Entry::Behind(row, more) => {
+                put(stack, more)?;
+                put(stack, row)?;
+                return Ok(true);
+            }
+        }
+    }
+    Ok(false)
 }
 
 /// The stack behind those tokens that stand before an offset, if they can stand so.
@@ -77,11 +70,11 @@ fn stack_before(
         if token.at >= at {
             break;
         }
-        match stack_behind(alloc, &stack, terminal_of(token.kind))? {
-            Some(next) => stack = next,
-            None => return Ok(None),
+        if !take(&mut stack, terminal_of(token.kind))? {
+            return Ok(None);
         }
     }
+    stack.reverse();
     Ok(Some(stack))
 }
 

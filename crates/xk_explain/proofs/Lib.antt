@@ -1,1 +1,2 @@
 mod ExcerptLemmas
+mod TitleLemmas

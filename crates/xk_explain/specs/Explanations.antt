@@ -14,23 +14,25 @@ use Rattle.xk_typestate.specs.declared.fault.KindFault.{KindFault}
 use Rattle.xk_bounds.specs.declared.refusal.BoundFault.{BoundFault}
 use Rattle.xk_bounds.specs.declared.refusal.Refusal.{Refusal}
 use Rattle.xk_bounds.specs.declared.refusal.Refusal.TheVariants as refusal
-use Rattle.xk_module.specs.declared.fault.ModuleFault.{ModuleFault}
-use Rattle.xk_module.specs.Faults.{fault_label}
 use Rattle.xk_positions.specs.declared.lines.Position.{Position}
 use Rattle.xk_positions.specs.Lines.{position_of}
 use Rattle.xk_positions.specs.Excerpts.{excerpt}
 use Rattle.xk_repairs.specs.Repairs.{repair_at}
+use Rattle.xk_explain.specs.declared.module_rule.ModuleRule.{ModuleRule}
 use Rattle.xk_explain.specs.Notes.{NoteValue, note_lines, plain_lines}
-use Rattle.xk_explain.specs.Messages.{front_message, front_repair, kind_message, module_message, module_repair, rule_message, rule_repair}
+use Rattle.xk_explain.specs.Messages.{front_message, front_repair, kind_message, module_message, module_name, module_number, module_repair, rule_message, rule_repair}
 
 -- ---- lines
 
--- the rule with its number: `F2 Syntax`, `V9 Registers`
+-- the rule with its number: `F2 Syntax`, `V9 Registers`, `M1 NotJson`
 abbrev pub front_title : FrontRule → List ℕ
 front_title r = codes "F" ++ (decimal (front_number r) ++ (codes " " ++ front_name r))
 
 abbrev pub rule_title : Rule → List ℕ
 rule_title r = codes "V" ++ (decimal (rule_number r) ++ (codes " " ++ rule_name r))
+
+abbrev pub module_title : ModuleRule → List ℕ
+module_title r = codes "M" ++ (decimal (module_number r) ++ (codes " " ++ module_name r))
 
 -- a line of its own behind the first one: `   = usual repair: ..`
 unfoldable pub repair_line : List ℕ → List ℕ
@@ -91,9 +93,9 @@ front_explanation file text f notes =
 
 -- ---- module texts
 
--- all that is said of bytes that are no module: its title is `M1 NotJson`
-abbrev pub module_explanation : List ℕ → List ℕ → ModuleFault → List ℕ
-module_explanation file title f = head file title (module_message f) ++ repair_line (module_repair f)
+-- all that is said of bytes that are no module, by the rule that they break
+abbrev pub module_explanation : List ℕ → ModuleRule → List ℕ
+module_explanation file r = head file (module_title r) (module_message r) ++ repair_line (module_repair r)
 
 -- ---- programs that the verifier refuses, by unit and place
 

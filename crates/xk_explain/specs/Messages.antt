@@ -1,5 +1,5 @@
 -- What is said of each rule that is broken: what is wrong, and how it is usually repaired. This project's own.
-use Rattle.std.specs.Prelude.{ℕ, List, codes}
+use Rattle.std.specs.Prelude.{ℕ, List, Option, Some, None, codes}
 use Rattle.xk_types.specs.declared.rules.Rule.{Rule}
 use Rattle.xk_types.specs.declared.rules.Rule.TheVariants as rule
 use Rattle.xk_types.specs.declared.rules.Kind.{Kind}
@@ -7,7 +7,9 @@ use Rattle.xk_types.specs.declared.rules.Kind.TheVariants as kind
 use Rattle.xk_tree.specs.declared.fault.FrontRule.{FrontRule}
 use Rattle.xk_tree.specs.declared.fault.FrontRule.TheVariants as front
 use Rattle.xk_module.specs.declared.fault.ModuleFault.{ModuleFault}
-use Rattle.xk_module.specs.declared.fault.ModuleFault.TheVariants as text
+use Rattle.xk_module.specs.declared.fault.ModuleFault.TheVariants as fault
+use Rattle.xk_explain.specs.declared.module_rule.ModuleRule.{ModuleRule}
+use Rattle.xk_explain.specs.declared.module_rule.ModuleRule.TheVariants as text
 pub use Rattle.xk_repairs.specs.Rules.{front_repair}
 
 -- ---- source texts
@@ -80,18 +82,33 @@ kind_message kind.Live = codes "a clock, registered"
 kind_message kind.Resumed = codes "a clock, registered and resumed"
 kind_message kind.Out = codes "a clock, dropped"
 
--- ---- module texts; of want of memory nothing is said
+-- ---- module texts
+
+-- the rule that bytes break which are no module; want of memory says nothing of them
+abbrev pub module_rule : ModuleFault → Option ModuleRule
+module_rule fault.NotJson = Some text.NotJson
+module_rule fault.NotAModule = Some text.NotAModule
+module_rule fault.Limit = Some text.Limit
+module_rule fault.OutOfMemory = None
+
+abbrev pub module_number : ModuleRule → ℕ
+module_number text.NotJson = 1
+module_number text.NotAModule = 2
+module_number text.Limit = 3
+
+abbrev pub module_name : ModuleRule → List ℕ
+module_name text.NotJson = codes "NotJson"
+module_name text.NotAModule = codes "NotAModule"
+module_name text.Limit = codes "Limit"
 
 -- what is wrong with the bytes of a module
-abbrev pub module_message : ModuleFault → List ℕ
+abbrev pub module_message : ModuleRule → List ℕ
 module_message text.NotJson = codes "this is no JSON text"
 module_message text.NotAModule = codes "this is JSON, and names no module"
 module_message text.Limit = codes "the module goes beyond a limit"
-module_message text.OutOfMemory = codes ""
 
 -- the usual repair
-abbrev pub module_repair : ModuleFault → List ℕ
+abbrev pub module_repair : ModuleRule → List ℕ
 module_repair text.NotJson = codes "`x10clock compile` prints modules as they are read; without --module a file is a source text"
 module_repair text.NotAModule = codes "`x10clock compile` prints modules as they are read"
 module_repair text.Limit = codes "it has 1 to 1024 units of 64 slots, 4096 instructions and 64 arguments at most, and 256 shared numbers"
-module_repair text.OutOfMemory = codes ""

@@ -1,14 +1,14 @@
 //! What is said of bytes that give no program.
 
 ghost use Rattle.std.specs.Prelude.{◌≡◌, ◌≤◌, length, IfOk, string_bytes};
-ghost use Rattle.xk_explain.specs.Explanations.{front_explanation, front_title, has_place, module_explanation, placed_explanation, shown_at, unplaced_explanation};
+ghost use Rattle.xk_explain.specs.Explanations.{front_explanation, front_title, has_place, module_explanation, module_title, placed_explanation, shown_at, unplaced_explanation};
 
 use crate::lines::{push_head, push_repair};
 use crate::messages::{front_message, module_message, module_repair};
+use crate::module_rule::ModuleRule;
 use crate::note::{Note, note_lines};
 use crate::places::{push_excerpt, push_head_at};
 use std::alloc::{AllocError, Global};
-use xk_module::ModuleFault;
 use xk_positions::LineStarts;
 use xk_repairs::{front_repair, repair_at};
 use xk_tree::{FrontFault, FrontRule};
@@ -78,18 +78,15 @@ fn explain_unplaced(
     Ok(out)
 }
 
-/// All that is said of the bytes in FILE that are no module, by this title, as `M1 NotJson`. Err where memory was refused.
-pub fn explain_module(
-    alloc: Global,
-    file: &str,
-    title: &str,
-    fault: ModuleFault,
-) -> Result<Vec<u8>, AllocError>
-    ensures { IfOk result (λ v. v.items ≡ module_explanation file.now title.now fault) }
+/// All that is said of the bytes in FILE that are no module, by the rule that they break: `FILE: M1 NotJson: ..`, and the usual repair. Err where
+/// memory was refused.
+pub fn explain_module(alloc: Global, file: &str, rule: ModuleRule) -> Result<Vec<u8>, AllocError>
+    ensures { IfOk result (λ v. v.items ≡ module_explanation file.now rule) }
 {
+    let title = module_title(alloc, rule)?;
     let mut out = Vec::new(alloc);
-    push_head(alloc, &mut out, file, title, module_message(fault))?;
-    push_repair(alloc, &mut out, module_repair(fault))?;
+    push_head(alloc, &mut out, file, title.as_str(), module_message(rule))?;
+    push_repair(alloc, &mut out, module_repair(rule))?;
     Ok(out)
 }
 
@@ -100,6 +97,15 @@ fn front_title(alloc: Global, rule: FrontRule) -> Result<String, AllocError>
     let number = rule.number();
     let name = rule.name();
     format!(in alloc; "F{number} {name}")
+}
+
+/// The same of a rule on module texts: `M1 NotJson`.
+fn module_title(alloc: Global, rule: ModuleRule) -> Result<String, AllocError>
+    ensures { IfOk result (λ text. string_bytes text ≡ module_title rule) }
+{
+    let number = rule.number();
+    let name = rule.name();
+    format!(in alloc; "M{number} {name}")
 }
 
 /// Whether faults of this rule have a place in the text.

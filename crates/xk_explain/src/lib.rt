@@ -4,6 +4,7 @@
 mod fronts;
 mod lines;
 mod messages;
+mod module_rule;
 mod note;
 mod places;
 mod refusals;
@@ -14,6 +15,7 @@ pub use fronts::{explain_front, explain_module, has_place, shown_at};
 pub use messages::{
     front_message, kind_message, module_message, module_repair, rule_message, rule_repair,
 };
+pub use module_rule::ModuleRule;
 pub use note::{Note, note_lines, place_title, plain_lines};
 pub use refusals::explain_refusal;
 pub use source_refusals::{explain_source, origin_at};

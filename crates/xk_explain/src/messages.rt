@@ -3,7 +3,7 @@
 ghost use Rattle.std.specs.Prelude.{◌≡◌};
 ghost use Rattle.xk_explain.specs.Messages.{front_message, kind_message, module_message, module_repair, rule_message, rule_repair};
 
-use xk_module::ModuleFault;
+use crate::module_rule::ModuleRule;
 use xk_tree::FrontRule;
 use xk_types::{Kind, Rule};
 
@@ -109,27 +109,25 @@ pub fn kind_message(kind: Kind) -> &'static str
 }
 
 /// What is wrong with the bytes of a module.
-pub fn module_message(fault: ModuleFault) -> &'static str
-    ensures { result.now ≡ module_message fault }
+pub fn module_message(rule: ModuleRule) -> &'static str
+    ensures { result.now ≡ module_message rule }
 {
-    match fault {
-        ModuleFault::NotJson => "this is no JSON text",
-        ModuleFault::NotAModule => "this is JSON, and names no module",
-        ModuleFault::Limit => "the module goes beyond a limit",
-        ModuleFault::OutOfMemory => "",
+    match rule {
+        ModuleRule::NotJson => "this is no JSON text",
+        ModuleRule::NotAModule => "this is JSON, and names no module",
+        ModuleRule::Limit => "the module goes beyond a limit",
     }
 }
 
 /// The usual repair of a module's bytes.
-pub fn module_repair(fault: ModuleFault) -> &'static str
-    ensures { result.now ≡ module_repair fault }
+pub fn module_repair(rule: ModuleRule) -> &'static str
+    ensures { result.now ≡ module_repair rule }
 {
-    match fault {
-        ModuleFault::NotJson =>
+    match rule {
+        ModuleRule::NotJson =>
             "`x10clock compile` prints modules as they are read; without --module a file is a source text",
-        ModuleFault::NotAModule => "`x10clock compile` prints modules as they are read",
-        ModuleFault::Limit =>
+        ModuleRule::NotAModule => "`x10clock compile` prints modules as they are read",
+        ModuleRule::Limit =>
             "it has 1 to 1024 units of 64 slots, 4096 instructions and 64 arguments at most, and 256 shared numbers",
-        ModuleFault::OutOfMemory => "",
     }
 }

@@ -7,7 +7,7 @@ use Rattle.serde_json.specs.Written.{compact_text}
 use Rattle.serde_json.proofs.OnLiterals.{serde_json_on_literals}
 use Rattle.xk_types.specs.declared.rules.Rule.TheVariants as rule
 use Rattle.xk_tree.specs.declared.fault.FrontRule.TheVariants as front
-use Rattle.xk_module.specs.declared.fault.ModuleFault.TheVariants as fault
+use Rattle.xk_explain.specs.declared.module_rule.ModuleRule.TheVariants as text
 use Rattle.xk_explain_json.specs.Explanations.{accepted_value, bound_groups, front_value, module_value, notes_alone}
 use Rattle.xk_explain_json.specs.Objects.{object_of}
 
@@ -21,7 +21,7 @@ bound_text : compact_text (object_of (notes_alone [] ∷ bound_groups (codes "a.
 unfolding serde_json_on_literals digits
 bound_text = refl
 
-module_text : compact_text (module_value (codes "a.json") fault.NotAModule)
+module_text : compact_text (module_value (codes "a.json") text.NotAModule)
     ≡ codes "{\"accepted\":false,\"file\":\"a.json\",\"message\":\"this is JSON, and names no module\",\"name\":\"NotAModule\",\"repair\":\"`x10clock compile` prints modules as they are read\",\"rule\":\"M2\"}"
 unfolding serde_json_on_literals digits
 module_text = refl

@@ -13,12 +13,11 @@ use Rattle.xk_typestate.specs.declared.fault.KindFault.{KindFault}
 use Rattle.xk_bounds.specs.declared.refusal.BoundFault.{BoundFault}
 use Rattle.xk_bounds.specs.declared.refusal.Refusal.{Refusal}
 use Rattle.xk_bounds.specs.declared.refusal.Refusal.TheVariants as refusal
-use Rattle.xk_module.specs.declared.fault.ModuleFault.{ModuleFault}
-use Rattle.xk_module.specs.declared.fault.ModuleFault.TheVariants as fault
 use Rattle.xk_positions.specs.declared.lines.Position.{Position}
 use Rattle.xk_positions.specs.Lines.{position_of}
 use Rattle.xk_origins.specs.UnitOrigins.{Head, UnitOrigins}
-use Rattle.xk_explain.specs.Messages.{front_message, kind_message, module_message, module_repair, rule_message, rule_repair}
+use Rattle.xk_explain.specs.declared.module_rule.ModuleRule.{ModuleRule}
+use Rattle.xk_explain.specs.Messages.{front_message, kind_message, module_message, module_name, module_number, module_repair, rule_message, rule_repair}
 use Rattle.xk_repairs.specs.Repairs.{repair_at}
 use Rattle.xk_explain.specs.Explanations.{has_place, shown_at}
 use Rattle.xk_explain.specs.SourceExplanations.{is_name, origin_at, slot_name}
@@ -42,6 +41,10 @@ refused file rule name message repair =
 abbrev pub refused_by_front : List ℕ → List ℕ → FrontFault → Group
 refused_by_front file text f =
     refused file (codes "F" ++ decimal (front_number f.rule)) (front_name f.rule) (front_message f.rule) (repair_at text f.rule (shown_at text f))
+
+-- by a rule on module texts
+abbrev pub refused_by_module : List ℕ → ModuleRule → Group
+refused_by_module file r = refused file (codes "M" ++ decimal (module_number r)) (module_name r) (module_message r) (module_repair r)
 
 -- by a rule of the verifier
 abbrev pub refused_by : List ℕ → Rule → Group
@@ -85,22 +88,9 @@ front_value file text f notes = object_of (notes_in text notes ∷ refused_by_fr
 
 -- ---- module texts
 
--- the number and the name of a rule on module texts; want of memory has none
-abbrev pub module_rule : ModuleFault → List ℕ
-module_rule fault.NotJson = codes "M1"
-module_rule fault.NotAModule = codes "M2"
-module_rule fault.Limit = codes "M3"
-module_rule fault.OutOfMemory = codes ""
-
-abbrev pub module_rule_name : ModuleFault → List ℕ
-module_rule_name fault.NotJson = codes "NotJson"
-module_rule_name fault.NotAModule = codes "NotAModule"
-module_rule_name fault.Limit = codes "Limit"
-module_rule_name fault.OutOfMemory = codes ""
-
--- all that is said of bytes that are no module
-abbrev pub module_value : List ℕ → ModuleFault → Data
-module_value file f = object_of (refused file (module_rule f) (module_rule_name f) (module_message f) (module_repair f) ∷ [])
+-- all that is said of bytes that are no module, by the rule that they break
+abbrev pub module_value : List ℕ → ModuleRule → Data
+module_value file r = object_of (refused_by_module file r ∷ [])
 
 -- ---- programs that the verifier refuses, by unit and place
 

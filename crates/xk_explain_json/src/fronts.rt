@@ -1,15 +1,14 @@
 //! What is said of bytes that give no program.
 
 ghost use Rattle.std.specs.Prelude.{◌≡◌, IfOk, OnOk};
-ghost use Rattle.xk_explain_json.specs.Explanations.{front_place, front_value, module_rule, module_rule_name, module_value};
+ghost use Rattle.xk_explain_json.specs.Explanations.{front_place, front_value, module_value};
 ghost use Rattle.xk_explain_json.specs.Objects.{json_line, Gains, IsReadBack};
 
-use crate::members::{put_position, put_refused, put_refused_by_front};
+use crate::members::{put_position, put_refused_by_front, put_refused_by_module};
 use crate::notes::put_notes_in;
 use crate::object::Object;
 use std::alloc::{AllocError, Global};
-use xk_explain::{Note, has_place, module_message, module_repair, shown_at};
-use xk_module::ModuleFault;
+use xk_explain::{ModuleRule, Note, has_place, shown_at};
 use xk_positions::LineStarts;
 use xk_tree::FrontFault;
 
@@ -53,45 +52,13 @@ fn put_front_place(
     Ok(())
 }
 
-/// All that is said of the bytes in FILE that are no module: a JSON object in one line, `{"accepted":false,"file":"FILE","message":..,"name":
-/// "NotJson","repair":..,"rule":"M1"}`. Of want of memory rule, name, message and repair are empty. Err where memory was refused.
-pub fn module_json(alloc: Global, file: &str, fault: ModuleFault) -> Result<Vec<u8>, AllocError>
-    ensures text { IfOk result (λ v. v.items ≡ json_line (module_value file.now fault)) }
-    ensures reads_back { OnOk result (IsReadBack (module_value file.now fault)) }
+/// All that is said of the bytes in FILE that are no module, by the rule that they break: a JSON object in one line, `{"accepted":false,"file":"FILE",
+/// "message":..,"name":"NotJson","repair":..,"rule":"M1"}`. Err where memory was refused.
+pub fn module_json(alloc: Global, file: &str, rule: ModuleRule) -> Result<Vec<u8>, AllocError>
+    ensures text { IfOk result (λ v. v.items ≡ json_line (module_value file.now rule)) }
+    ensures reads_back { OnOk result (IsReadBack (module_value file.now rule)) }
 {
     let mut object = Object::new(alloc);
-    put_refused(
-        alloc,
-        &mut object,
-        file,
-        module_rule(fault),
-        module_rule_name(fault),
-        module_message(fault),
-        module_repair(fault),
-    )?;
+    put_refused_by_module(alloc, &mut object, file, rule)?;
     object.line(alloc)
-}
-
-/// The number of a rule on module texts.
-fn module_rule(fault: ModuleFault) -> &'static str
-    ensures { result.now ≡ module_rule fault }
-{
-    match fault {
-        ModuleFault::NotJson => "M1",
-        ModuleFault::NotAModule => "M2",
-        ModuleFault::Limit => "M3",
-        ModuleFault::OutOfMemory => "",
-    }
-}
-
-/// Its name.
-fn module_rule_name(fault: ModuleFault) -> &'static str
-    ensures { result.now ≡ module_rule_name fault }
-{
-    match fault {
-        ModuleFault::NotJson => "NotJson",
-        ModuleFault::NotAModule => "NotAModule",
-        ModuleFault::Limit => "Limit",
-        ModuleFault::OutOfMemory => "",
-    }
 }

@@ -2,13 +2,16 @@
 
 ghost use Rattle.std.specs.Prelude.{[], ◌∷◌, codes, OnOk};
 ghost use Rattle.serde_json.specs.Data.{boolean};
-ghost use Rattle.xk_explain_json.specs.Explanations.{instruction_members, limit_member, position_members, refused, refused_by, refused_by_front, slot_members};
+ghost use Rattle.xk_explain_json.specs.Explanations.{instruction_members, limit_member, position_members, refused, refused_by, refused_by_front, refused_by_module, slot_members};
 ghost use Rattle.xk_explain_json.specs.Objects.{Gains};
 
 use crate::object::Object;
 use serde_json::Value;
 use std::alloc::{AllocError, Global};
-use xk_explain::{front_message, kind_message, rule_message, rule_repair, shown_at};
+use xk_explain::{
+    ModuleRule, front_message, kind_message, module_message, module_repair, rule_message,
+    rule_repair, shown_at,
+};
 use xk_positions::Position;
 use xk_repairs::repair_at;
 use xk_tree::FrontFault;
@@ -27,7 +30,7 @@ pub(crate) fn put_accepted(
 }
 
 /// Adds a refusal: by which rule, what is wrong, and how it is usually repaired.
-pub(crate) fn put_refused(
+fn put_refused(
     alloc: Global,
     object: &mut Object,
     file: &str,
@@ -69,6 +72,28 @@ pub(crate) fn put_refused_by_front(
         rule.name(),
         front_message(rule),
         repair_at(text, rule, shown_at(text, fault)),
+    )
+}
+
+/// Adds a refusal by a rule on module texts.
+pub(crate) fn put_refused_by_module(
+    alloc: Global,
+    object: &mut Object,
+    file: &str,
+    rule: ModuleRule,
+) -> Result<(), AllocError>
+    ensures { OnOk result (Gains (refused_by_module file.now rule) object.old object.new) }
+{
+    let number = rule.number();
+    let title = format!(in alloc; "M{number}")?;
+    put_refused(
+        alloc,
+        object,
+        file,
+        title.as_str(),
+        rule.name(),
+        module_message(rule),
+        module_repair(rule),
     )
 }
 

@@ -1,5 +1,5 @@
 -- The longest of some texts; clocks that advanced, and where none did.
-use Rattle.std.proofs.Common.{◌≡◌, ◌∙◌, ℕ, suc, ◌+◌, ◌<◌, List, [], ◌∷◌, ◌++◌, length, map, filter, take, get_or, slice_get, Bool, true, false, not, ◌&&◌, ◌==◌, zero, refl, sym, ap, arith}
+use Rattle.std.proofs.Common.{◌≡◌, ◌∙◌, ℕ, suc, ◌+◌, ◌<◌, List, [], ◌∷◌, ◌++◌, length, map, take, get_or, slice_get, Bool, true, false, not, ◌&&◌, ◌==◌, zero, refl, sym, ap, arith}
 use Rattle.std.specs.Prelude.{max}
 use Rattle.std.proofs.Math.Seq.{take-suc}
 use Rattle.std.proofs.lemmas.List.{map-append}
@@ -12,6 +12,7 @@ use Rattle.xk_types.specs.World.{Clock, World}
 use Rattle.xk_core.specs.Core.{advanced_now, has_advanced, is_quiet}
 use Rattle.xk_collections.specs.NumberSets.{numbers_from}
 use Rattle.xk_collections.proofs.RisingListLemmas.{member_passes}
+use Rattle.xk_scheduler.proofs.WakeLemmas.{none_pass}
 use Rattle.xk_lanes.specs.Fields.{longest}
 
 longest_append : (xs : List (List ℕ)) (x : List ℕ) → longest (xs ++ x ∷ []) ≡ max (longest xs) (length x)
@@ -39,10 +40,6 @@ quiet_at : (now : ℕ) (ks : List Clock) (c : ℕ) → list_all (λ (k : Clock).
 quiet_at now [] c h = refl
 quiet_at now (k ∷ ks) zero h = (apart (k.last == now) (list_all (λ (x : Clock). not (x.last == now)) ks) h).0
 quiet_at now (k ∷ ks) (suc c) h = quiet_at now ks c (apart (k.last == now) (list_all (λ (x : Clock). not (x.last == now)) ks) h).1
-
-none_pass : (p : ℕ → Bool) (row : List ℕ) → ((c : ℕ) → p c ≡ false) → filter p row ≡ []
-none_pass p [] none = refl
-none_pass p (c ∷ row) none = rw (none c) (none_pass p row none)
 
 -- where none did, nothing is told
 pub quiet_nothing : (f : ℕ → List ℕ) (v : World) (out : List ℕ) → is_quiet v ≡ true → out ≡ out ++ flat_map f (advanced_now v)

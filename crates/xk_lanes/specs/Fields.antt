@@ -1,12 +1,7 @@
 -- Fields of a line, and lines without blanks at their end. This project's own.
-use Rattle.std.specs.Prelude.{ℕ, zero, suc, ◌-◌, max, List, [], ◌∷◌, ◌++◌, length, take, replicate, codes}
+use Rattle.std.specs.Prelude.{ℕ, ◌-◌, max, List, [], ◌∷◌, ◌++◌, length, take, replicate, codes}
 use Rattle.std.specs.List.{suffix_len}
 use Rattle.std.specs.Char.{is_ascii_whitespace}
-
--- something for each number below this one, in order
-abbrev pub each_below : (ℕ → List ℕ) → ℕ → List ℕ
-each_below told zero = []
-each_below told (suc n) = each_below told n ++ told n
 
 -- how long the longest of these is
 abbrev pub longest : List (List ℕ) → ℕ

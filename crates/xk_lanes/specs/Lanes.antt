@@ -1,7 +1,6 @@
 -- The lanes of a run: a column for each activity, a row for each step that others can see, and a bar where a clock advanced. What steps are,
 -- who can take one, and when clocks advance, `xk_types` says in `Step.antt`; that it is drawn so is this project's own.
-use Rattle.std.specs.Prelude.{ℕ, zero, suc, ◌+◌, ◌-◌, ◌^◌, nat_eq, nat_lt, nat_le, Bool, false, ◌&&◌, ◌||◌, List, [], ◌∷◌, ◌++◌, length, map, min, max, filter, flat_map, replicate, Option, Some, None, slice_get, codes, decimal, if◌then◌else◌}
-use Rattle.std.specs.Option.{option_map_or}
+use Rattle.std.specs.Prelude.{ℕ, zero, suc, ◌+◌, ◌-◌, ◌^◌, nat_eq, nat_lt, nat_le, Bool, false, ◌&&◌, ◌||◌, List, [], ◌∷◌, ◌++◌, length, map, min, max, filter, flat_map, replicate, Option, Some, None, codes, decimal, if◌then◌else◌}
 use Rattle.xk_types.specs.declared.world.Entry.{Entry}
 use Rattle.xk_types.specs.Code.{ModuleValue}
 use Rattle.xk_types.specs.World.{World}
@@ -9,11 +8,12 @@ use Rattle.xk_types.specs.Schedule.{is_enabled, is_local}
 use Rattle.xk_positions.specs.declared.lines.Position.{Position}
 use Rattle.xk_core.specs.Core.{advanced_now, is_living, is_registered_on}
 use Rattle.xk_events.specs.declared.steps.RunStep.{RunStep}
+use Rattle.xk_events.specs.Worlds.{each_below, phase_of}
 use Rattle.xk_events.specs.Steps.{Teller, run_step, seen_steps, told_of_run}
 use Rattle.xk_events.specs.Events.{PlacesValue, event_words, origin_of}
 use Rattle.xk_lanes.specs.declared.grid.Grid.{Grid}
 use Rattle.xk_lanes.specs.declared.window.Window.{Window}
-use Rattle.xk_lanes.specs.Fields.{at_left, at_right, blanks, each_below, longest, whole_line}
+use Rattle.xk_lanes.specs.Fields.{at_left, at_right, blanks, longest, whole_line}
 
 -- ---- the part of a run that is drawn
 
@@ -40,14 +40,18 @@ spot_by unit place None = decimal unit ++ (codes "." ++ decimal place)
 unfoldable pub spot : PlacesValue → RunStep → List ℕ
 spot p s = spot_by s.unit s.place (origin_of p s.unit s.place)
 
--- Lanes of the first 64 of so many activities. A column is two wider than the longest that stands in it, its title too: so a lane is no
+-- how many lanes are drawn at most
+abbrev pub most_lanes : ℕ
+most_lanes = 64
+
+-- Lanes of the first of so many activities. A column is two wider than the longest that stands in it, its title too: so a lane is no
 -- narrower than 8.
 abbrev pub grid_of : PlacesValue → Window → List RunStep → ℕ → Grid
 grid_of p w steps n = record {
   window = w;
   place = max 4 (2 + longest (map (spot p) steps));
   lane = max 8 (2 + longest (map event_words steps));
-  lanes = min 64 n;
+  lanes = min most_lanes n;
 }
 
 -- `main`, `act 1`
@@ -107,10 +111,6 @@ is_on v c b = nat_lt b (length v.activities) && is_registered_on v b c
 unfoldable pub bar_lane : Grid → World → ℕ → ℕ → List ℕ
 bar_lane g v c b = bar_cell g.lane (is_on v c b) (any_below (is_on v c) b) (any_behind (is_on v c) b g.lanes)
 
--- the phase of clock c
-abbrev pub phase_of : World → ℕ → ℕ
-phase_of v c = option_map_or (λ k. k.phase) (slice_get v.clocks c) 0
-
 -- `clock 0 phase 1 by 1`: the phase from then on, and in whose step the clock advanced
 unfoldable pub bar_label : World → ℕ → ℕ → List ℕ
 bar_label v a c = codes "clock " ++ (decimal c ++ (codes " phase " ++ (decimal (phase_of v c) ++ (codes " by " ++ decimal a))))
@@ -137,11 +137,11 @@ left_out_by k = if nat_eq k 0 then [] else codes "lanes left out: " ++ (decimal 
 
 -- each activity has one
 abbrev pub are_lanes_whole : World → Bool
-are_lanes_whole last = nat_lt (length last.activities) 65
+are_lanes_whole last = nat_le (length last.activities) most_lanes
 
 abbrev pub lanes_in : Grid → PlacesValue → ModuleValue → List Entry → World → List ℕ
 lanes_in g p m log last =
-    (head_line g ++ told_of_run (tell_lanes g p m) m last.arguments log) ++ left_out_by (length last.activities - 64)
+    (head_line g ++ told_of_run (tell_lanes g p m) m last.arguments log) ++ left_out_by (length last.activities - most_lanes)
 
 -- the columns for these steps of the run that a log stands for, which ends in this world
 abbrev pub grid_for : PlacesValue → Window → ModuleValue → List Entry → World → Grid

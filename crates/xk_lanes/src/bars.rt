@@ -2,7 +2,7 @@
 
 ghost use Rattle.std.specs.Prelude.{◌≡◌, ◌<◌, ◌++◌, length, flat_map, IfOk, OnOk, string_bytes};
 ghost use Rattle.xk_core.specs.Core.{advanced_now};
-ghost use Rattle.xk_lanes.specs.Fields.{each_below};
+ghost use Rattle.xk_events.specs.Worlds.{each_below};
 ghost use Rattle.xk_lanes.specs.Lanes.{any_behind, any_below, bar, bar_cell, bar_label, bar_lane, is_on};
 
 use crate::fields::{push_text, push_times};

@@ -11,7 +11,7 @@ use xk_events::{Places, RunStep, event_words};
 use xk_positions::Position;
 
 /// How many lanes are drawn at most.
-const DRAWN: u32 = 64;
+pub(crate) const DRAWN: u32 = 64;
 
 /// Which steps are drawn, how wide the column of places is, and each lane, and how many lanes are drawn.
 #[derive(Clone, Copy)]

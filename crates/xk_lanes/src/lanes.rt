@@ -9,7 +9,7 @@ ghost use Rattle.xk_lanes.specs.Lanes.{are_lanes_whole, grid_for, is_asked, lane
 
 use crate::bars::push_bars;
 use crate::fields::push_text;
-use crate::grid::{Grid, grid_of};
+use crate::grid::{DRAWN, Grid, grid_of};
 use crate::rows::{push_head, push_row_if_seen};
 use crate::window::Window;
 use std::alloc::{AllocError, Global};
@@ -132,7 +132,11 @@ fn lanes_in(
     let mut out = Vec::new(alloc);
     push_head(alloc, &mut out, grid)?;
     push_run(alloc, &mut out, grid, places, ended)?;
-    push_left_out(alloc, &mut out, ended.core.activities().saturating_sub(64))?;
+    push_left_out(
+        alloc,
+        &mut out,
+        ended.core.activities().saturating_sub(DRAWN),
+    )?;
     Ok(out)
 }
 
@@ -176,7 +180,7 @@ fn lanes(
 {
     let grid = grid_for(alloc, places, ended, window)?;
     let text = lanes_in(alloc, grid, places, ended)?;
-    let whole = ended.core.activities() < 65;
+    let whole = ended.core.activities() <= DRAWN;
     Ok(Drawing { text, whole })
 }
 

@@ -2,7 +2,8 @@
 
 ghost use Rattle.std.specs.Prelude.{◌≡◌, ◌++◌, decimal, IfOk, OnOk, string_bytes};
 ghost use Rattle.xk_events.specs.Events.{event_words};
-ghost use Rattle.xk_lanes.specs.Fields.{at_left, at_right, each_below};
+ghost use Rattle.xk_events.specs.Worlds.{each_below};
+ghost use Rattle.xk_lanes.specs.Fields.{at_left, at_right};
 ghost use Rattle.xk_lanes.specs.Lanes.{cell, head_line, lane_line, line_front, mark, row, row_if_seen, spot, title, words_behind};
 
 use crate::fields::{push_at_left, push_at_right, push_line, push_text};

@@ -5,9 +5,10 @@ use Rattle.xk_types.specs.declared.world.Event.{Event}
 use Rattle.xk_types.specs.Code.{ModuleValue, IsWithinLimits}
 use Rattle.xk_types.specs.World.{World, opening, AreArguments}
 use Rattle.xk_types.specs.Step.{Cause, Outcome, Blocked, Wrong, Stepped, step}
-use Rattle.xk_types.specs.Schedule.{Course, Through, Wronged, run, run_on, IsReached, is_enabled, all_ended}
+use Rattle.xk_types.specs.Schedule.{Through, Wronged, run, run_on, IsReached, is_enabled, all_ended}
 use Rattle.xk_types.specs.Bound.{steps_bound, activities_bound, clocks_bound}
 use Rattle.xk_types.specs.Acceptance.{IsAccepted}
+pub use Rattle.xk_types.proofs.RunLemmas.{same_through, first_step}
 use Rattle.xk_laws.proofs.Invariant.{IsSound}
 use Rattle.xk_laws.proofs.StepCountLemmas.{step_counts}
 use Rattle.xk_laws.proofs.StepFormLemmas.{step_kind}
@@ -18,16 +19,6 @@ use Rattle.xk_laws.proofs.ScopeLemmas.Invariant.{IsScoped, Scopes}
 use Rattle.xk_laws.proofs.ScopeLemmas.StepLemmas.{step_scopes}
 
 -- ---- runs
-
--- two courses that come through come to one world
-pub same_through : (w v : World) → Through w ≡ Through v → w ≡ v
-same_through w v e = cc
-
--- a run that comes through took its first step
-pub first_step : (w v : World) (o : Outcome) (go : World → Course) → run_on w o go ≡ Through v → (x : World) × (e : Event) × (o ≡ Stepped x e) × (go x ≡ Through v)
-first_step w v Blocked go h = absurd (grind arith)
-first_step w v (Wrong c) go h = absurd (grind arith)
-first_step w v (Stepped x e) go h = (x, e, refl, h)
 
 -- a run goes on by a step
 pub run_more : (m : ModuleValue) (list : List ℕ) (w v x : World) (a : ℕ) (e : Event) → run m list w ≡ Through v → step m v a ≡ Stepped x e
@@ -115,6 +106,13 @@ reached_step m w v a e r h =
         subst (λ args. run m (r.0 ++ a ∷ []) (opening m args) ≡ Through v) (sym same) (run_more m r.0 (opening m w.arguments) w v a e r.1.1 h),
       ),
     )
+
+-- what a run leads to is reached
+pub reached_run : (m : ModuleValue) (list : List ℕ) (w v : World) → IsReached m w → run m list w ≡ Through v → IsReached m v
+reached_run m [] w v reached h = subst (IsReached m) (same_through w v h) reached
+reached_run m (d ∷ list) w v reached h =
+    let x = first_step w v (step m w d) (run m list) h in
+    reached_run m list x.0 v (reached_step m w x.0 d x.1 reached x.2) x.3
 
 -- a world that is reached after no step is the opening one
 pub opening_only : (m : ModuleValue) (w : World) → IsReached m w → w.steps ≡ 0 → w ≡ opening m w.arguments

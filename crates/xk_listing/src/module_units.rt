@@ -11,6 +11,7 @@ use std::alloc::{AllocError, Global};
 use xk_types::{Instr, ParamKind, Unit, UnitKind};
 use xk_typestate::KindTables;
 
+/// What sort of unit it is: `main`, `method` or `body`.
 fn kind_word(kind: UnitKind) -> &'static str
     ensures { result.now ≡ kind_word kind }
 {

@@ -1,7 +1,7 @@
 //! Slots by their names, and the kinds of clocks.
 
 ghost use Rattle.std.specs.Prelude.{◌≡◌, [], ◌++◌, IfOk, OnOk, codes, decimal, flat_map, map, if◌then◌else◌};
-ghost use Rattle.xk_listing.specs.Fields.{clock_at, clock_if_any, clock_item, clocks_field, if_in, is_name, kinds_in, kinds_text, may_be_clock, next_kind, slot_item, slot_name, slot_title, slots_field};
+ghost use Rattle.xk_listing.specs.Fields.{clock_at, clock_if_any, clock_item, clocks_field, if_in, is_name, kinds_text, may_be_clock, next_kind, slot_item, slot_name, slot_title, slots_field};
 
 use crate::fields::push_text;
 use std::alloc::{AllocError, Global};
@@ -123,13 +123,6 @@ fn kinds_among(alloc: Global, set: KindSet, among: &[Kind]) -> Result<Vec<Kind>,
     Ok(kinds)
 }
 
-/// The kinds of a set, in their order.
-fn kinds_in(alloc: Global, set: KindSet) -> Result<Vec<Kind>, AllocError>
-    ensures { IfOk result (λ v. v.items ≡ kinds_in set) }
-{
-    kinds_among(alloc, set, &KINDS)
-}
-
 /// Whether a slot with these kinds may hold a clock.
 fn may_be_clock(set: KindSet) -> bool
     ensures { result ≡ may_be_clock set }
@@ -177,7 +170,7 @@ fn push_clock(
     ensures { OnOk result (out.new.items
         ≡ out.old.items ++ clock_item (map (λ x. x.now) names.now) slot set) }
 {
-    let kinds = kinds_in(alloc, set)?;
+    let kinds = kinds_among(alloc, set, &KINDS)?;
     push_text(out, " ")?;
     push_slot_title(alloc, out, names, slot)?;
     push_text(out, ":")?;

@@ -46,6 +46,7 @@ fn push_lit(alloc: Global, out: &mut Vec<u8>, d: u16, n: i64) -> Result<(), Allo
     push_text(out, format!(in alloc; "lit {d} {n}")?.as_str())
 }
 
+/// How two numbers are compared: `le` where the first is to be no greater.
 fn comparison_name(op: Comparison) -> &'static str
     ensures { result.now ≡ comparison_name op }
 {

@@ -12,6 +12,7 @@ pub struct Device;
 impl From<Failed> for Device {
     ghost from_gives = { λ _ _. Unit {0} };
 
+    /// There is one way to fail, so nothing is lost.
     fn from(_e: Failed) -> Device {
         Device
     }
@@ -40,6 +41,7 @@ impl From<Failed> for LogFault {
 
     ghost from_gives = { λ _ e. e ≡ fault.Device };
 
+    /// A read failed.
     fn from(_e: Failed) -> LogFault {
         LogFault::Device
     }
@@ -51,6 +53,7 @@ impl From<AllocError> for LogFault {
 
     ghost from_gives = { λ _ e. e ≡ fault.OutOfMemory };
 
+    /// Want of memory says nothing of the text.
     fn from(_e: AllocError) -> LogFault {
         LogFault::OutOfMemory
     }
@@ -62,6 +65,7 @@ impl<T: Drop> From<AllocFailed<T>> for LogFault {
 
     ghost from_gives = { λ _ e. e ≡ fault.OutOfMemory };
 
+    /// The same; what couldn't be put in is let go.
     fn from(_e: AllocFailed<T>) -> LogFault {
         LogFault::OutOfMemory
     }

@@ -51,6 +51,7 @@ pub(crate) enum Refusal {
 impl From<AllocError> for Refusal {
     ghost from_gives = { λ _ e. e ≡ refusal.Memory };
 
+    /// Want of memory says nothing of the value.
     fn from(_e: AllocError) -> Refusal {
         Refusal::Memory
     }
@@ -59,6 +60,7 @@ impl From<AllocError> for Refusal {
 impl<T: Drop> From<AllocFailed<T>> for Refusal {
     ghost from_gives = { λ _ e. e ≡ refusal.Memory };
 
+    /// The same; what couldn't be put in is let go.
     fn from(_e: AllocFailed<T>) -> Refusal {
         Refusal::Memory
     }
@@ -69,6 +71,7 @@ impl From<Refusal> for ModuleFault {
 
     ghost use Rattle.xk_module.specs.Faults.{fault_of};
 
+    /// A text with an unfit part is no module.
     fn from(r: Refusal) -> ModuleFault {
         match r {
             Refusal::Unfit => ModuleFault::NotAModule,

@@ -46,6 +46,7 @@ impl Named for i64 {
 
     ghost named = { long_at };
 
+    /// A whole number that an `i64` holds.
     fn read(_alloc: Global, value: &Value) -> Result<i64, Refusal> {
         long(value).ok_or(Refusal::Unfit)
     }
@@ -56,6 +57,7 @@ impl Named for u16 {
 
     ghost named = { word_at };
 
+    /// A whole number from 0 to 65,535.
     fn read(_alloc: Global, value: &Value) -> Result<u16, Refusal> {
         word(value).ok_or(Refusal::Unfit)
     }
@@ -66,6 +68,7 @@ impl Named for Instr {
 
     ghost named = { instr_at };
 
+    /// An array of the instruction's name and its operands.
     #[tactic(auto, unfolding(crate::specs::ModuleReader::instr_at))]
     fn read(alloc: Global, value: &Value) -> Result<Instr, Refusal> {
         let (name, operands) = name_and_operands(value).ok_or(Refusal::Unfit)?;
@@ -78,6 +81,7 @@ impl Named for Unit {
 
     ghost named = { unit_at };
 
+    /// An object of the unit's code, kind, parameters and slots.
     #[tactic(auto, unfolding(crate::specs::ModuleReader::unit_at, crate::specs::ModuleReader::code_at))]
     fn read(alloc: Global, value: &Value) -> Result<Unit, Refusal> {
         let (code, kind, params, slots) = unit_members(value).ok_or(Refusal::Unfit)?;
@@ -209,6 +213,7 @@ fn instr_of_three(name: &str, d: u16, a: u16, b: u16) -> Option<Instr>
     }
 }
 
+/// A slot and a number.
 #[tactic(auto, unfolding(crate::specs::ModuleReader::lit_at))]
 fn slot_and_number(operands: &[Value]) -> Option<(u16, i64)>
     ensures { result ≡ lit_at (views operands.now) }
@@ -219,6 +224,7 @@ fn slot_and_number(operands: &[Value]) -> Option<(u16, i64)>
     }
 }
 
+/// The comparison that a text names.
 #[tactic(auto, unfolding(crate::specs::ModuleReader::comparison_at))]
 fn comparison(value: &Value) -> Option<Comparison>
     ensures { result ≡ comparison_at (view value.now) }
@@ -282,6 +288,7 @@ fn unit_and_args(alloc: Global, operands: &[Value]) -> Result<(u16, Args), Refus
     }
 }
 
+/// The kind of unit that a text names.
 #[tactic(auto, unfolding(crate::specs::ModuleReader::kind_at))]
 fn unit_kind(value: &Value) -> Option<UnitKind>
     ensures { result ≡ kind_at (view value.now) }
@@ -307,6 +314,7 @@ fn param_kinds(alloc: Global, value: &Value) -> Result<Vec<ParamKind>, Refusal>
     Ok(kinds)
 }
 
+/// The kind of parameter that a letter stands for.
 fn param_kind(letter: u8) -> Option<ParamKind>
     ensures { result ≡ param_at letter }
 {

@@ -37,6 +37,7 @@ impl Version {
     }
 }
 
+/// Whether an instruction is a `forto`, which version 1 doesn't have.
 fn is_forto(instr: &Instr) -> bool
     ensures { result ≡ is_forto instr.now }
 {

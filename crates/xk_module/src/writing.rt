@@ -72,6 +72,7 @@ impl Written for i64 {
 
     ghost in_range = { IsLong };
 
+    /// The number itself; no memory is taken.
     fn json(&self, _alloc: Global) -> Result<Value, AllocError> {
         Ok(Value::from(*self))
     }
@@ -84,6 +85,7 @@ impl Written for u16 {
 
     ghost in_range = { IsWord };
 
+    /// The number itself; no memory is taken.
     fn json(&self, _alloc: Global) -> Result<Value, AllocError> {
         Ok(Value::from(*self))
     }
@@ -96,6 +98,7 @@ impl Written for Instr {
 
     ghost in_range = { IsInstrInRange };
 
+    /// An array of the instruction's name and its operands.
     fn json(&self, alloc: Global) -> Result<Value, AllocError> {
         match self {
             Instr::Lit { d, n } => slot_and_number(alloc, "lit", *d, *n),
@@ -134,6 +137,7 @@ impl Written for Unit {
 
     ghost in_range = { IsUnitInRange };
 
+    /// An object of the unit's code, kind, parameters and slots.
     fn json(&self, alloc: Global) -> Result<Value, AllocError> {
         let code = array(alloc, &self.code)?;
         let params = letters(alloc, &self.params)?;
@@ -163,6 +167,7 @@ fn two_words(alloc: Global, name: &str, a: u16, b: u16) -> Result<Value, AllocEr
     operation(alloc, name, &[Operand::Word(a), Operand::Word(b)])
 }
 
+/// An instruction with three slots.
 fn three_slots(alloc: Global, name: &str, a: u16, b: u16, c: u16) -> Result<Value, AllocError>
     ensures { IfOk result (λ v. view v ≡ named name.now (word a ∷ word b ∷ word c ∷ [])) }
 {
@@ -170,6 +175,7 @@ fn three_slots(alloc: Global, name: &str, a: u16, b: u16, c: u16) -> Result<Valu
     operation(alloc, name, &operands)
 }
 
+/// An instruction with a slot and a number.
 fn slot_and_number(alloc: Global, name: &str, d: u16, n: i64) -> Result<Value, AllocError>
     ensures { IfOk result (λ v. view v ≡ named name.now (word d ∷ long n ∷ [])) }
 {

@@ -2,6 +2,7 @@
 use Rattle.std.proofs.Common.{◌≡◌, ℕ, suc, nat_eq, Bool, true, false, List, [], ◌∷◌, ◌++◌, map, length, Option, Some, refl, sym, ap, ◌∙◌}
 use Rattle.std.specs.Prelude.{not}
 use Rattle.std.specs.List.{flat_map}
+use Rattle.std.proofs.lemmas.List.{length-map}
 use Rattle.xk_tree.specs.declared.fault.FrontRule.TheVariants as rule
 use Rattle.xk_tree.specs.declared.fault.FrontFault.{FrontFault}
 use Rattle.xk_tree.specs.declared.tree.Param.{Param}
@@ -13,10 +14,6 @@ use Rattle.xk_names.specs.Faults.{fault}
 use Rattle.xk_names.specs.StatementParts.{call_all}
 use Rattle.xk_names.specs.FaultList.{least, use_faults, unless, when, repeats}
 use Rattle.xk_names.proofs.FaultAppendLemmas.{least_append}
-
-length_params : (ps : List Param) → length (map param_value ps) ≡ length ps
-length_params [] = refl
-length_params (p ∷ ps) = ap (λ n. suc n) (length_params ps)
 
 length_expressions : (es : List Expr) → length (expressions es) ≡ length es
 length_expressions [] = refl
@@ -50,6 +47,6 @@ call_found sc g ps es list w w1 w2 w3 w4 is a b c d =
     ∙ sym (least_append w (uses list) (wrong list ++ (count m n ++ twice list)))
     ∙ ap (λ k. least w (uses k ++ (wrong k ++ (count m n ++ twice k)))) is
     ∙ ap (λ k. least w (uses (given (map param_value ps) (expressions es)) ++ (wrong (given (map param_value ps) (expressions es)) ++ (count k n ++ twice
-    (given (map param_value ps) (expressions es)))))) (sym (length_params ps))
+    (given (map param_value ps) (expressions es)))))) (sym (length-map ps param_value))
     ∙ ap (λ k. least w (uses (given (map param_value ps) (expressions es)) ++ (wrong (given (map param_value ps) (expressions es)) ++ (count
     (length (map param_value ps)) k ++ twice (given (map param_value ps) (expressions es)))))) (sym (length_expressions es))

@@ -31,7 +31,7 @@ pub record IsNumberAt (names : Table Known) (x : List ℕ) : Type 0 where
 abbrev pub AreRight : Scope → List Use → Type 0
 AreRight sc us = (u : Use) → Has us u → IsRight sc u
 
-abbrev pub AreNumbers : Scope → List Word → Type 0
+abbrev AreNumbers : Scope → List Word → Type 0
 AreNumbers sc ws = (w : Word) → Has ws w → IsNumberAt sc.names w.text
 
 pub number_kind : (k : NameKind) → is_number k ≡ true → is_clock k ≡ false

@@ -133,10 +133,6 @@ pub none_there : {A : Type 0} (o : Option A) → is_some o ≡ false → o ≡ N
 none_there None h = refl
 none_there (Some v) h = cc
 
-is_there : {A : Type 0} (o : Option A) → o ≡ None → is_some o ≡ true → ⊥
-is_there None e h = cc
-is_there (Some v) e h = none-some v (sym e)
-
 pub put_placed : {A : Type 0} (es more : List (Bor (List ℕ) × A)) (x : Bor (List ℕ)) (a : A) (n : ℕ) (old new : BTreeMap (Bor (List ℕ)) ℕ)
     → ArePlaces (shown es) old → is_some (place old x.now) ≡ false → n ≡ length es → Changes old new x.now (Some n) → more ≡ es ++ (x, a) ∷ [] → ArePlaces (shown more) new
 put_placed {A} es more x a n old new is none e changes grown =

@@ -156,13 +156,13 @@ to_methods kept seen (b ∷ before) m after f same h e =
 
 -- ---- methods
 
-abbrev pub outside : TreeValue → Table Known
+abbrev outside : TreeValue → Table Known
 outside t = put_all [] (map shared_declaration t.shared)
 
 abbrev pub called : TreeValue → Signatures
 called t = put_methods [] t.methods
 
-abbrev pub inside_kept : TreeValue → MethodValue → Scope
+abbrev inside_kept : TreeValue → MethodValue → Scope
 inside_kept t m = record { names = put_all (outside t) (map param_declaration m.params); bodies = [] }
 
 pub called_same : (t : TreeValue) → FindsSame (called t) (signatures t.methods)

@@ -19,14 +19,14 @@ use std::alloc::{AllocError, Global};
 use xk_tree::{Expr, FrontFault, FrontRule, Name, Param};
 use xk_types::ParamKind;
 
-// An argument, and the kind of its parameter.
+/// An argument, and the kind of its parameter.
 #[derive(Clone, Copy)]
 pub struct Argument<'a, 't> {
     pub takes: ParamKind,
     pub value: &'a Expr<'t>,
 }
 
-// The arguments beside the kinds of their parameters, as far as both go.
+/// Pairs the arguments with the kinds of their parameters, as far as both lists go.
 pub fn arguments<'a, 't>(
     alloc: Global,
     params: &[Param<'t>],
@@ -50,7 +50,7 @@ pub fn arguments<'a, 't>(
     Ok(given)
 }
 
-// The names that an argument uses.
+/// Each name that an argument uses must be visible and of the kind that its place wants.
 fn check_argument<'t>(
     worst: &mut Option<FrontFault>,
     scope: &Scope<'t>,
@@ -69,7 +69,7 @@ fn check_argument<'t>(
     }
 }
 
-// An argument that had to be a clock's bare name.
+/// Where the parameter is a clock, the argument must be a bare name.
 fn check_misfit(worst: &mut Option<FrontFault>, takes: ParamKind, value: &Expr<'_>)
     ensures { worst.new ≡ least worst.old
         (map (fault FrontRule.WrongKind) (argument_misfits takes (expression value.now))) }
@@ -83,7 +83,7 @@ fn check_misfit(worst: &mut Option<FrontFault>, takes: ParamKind, value: &Expr<'
     }
 }
 
-// A clock that stands behind these.
+/// A clock must not be listed twice: it must not be among `clocks`, to which it is added.
 fn check_again<'t>(
     worst: &mut Option<FrontFault>,
     clocks: &mut Texts<'t>,
@@ -98,7 +98,7 @@ fn check_again<'t>(
     Ok(())
 }
 
-// The clock that an argument gives.
+/// Applies `check_again` to the clock that an argument gives, if it gives one.
 fn check_clock<'t>(
     worst: &mut Option<FrontFault>,
     clocks: &mut Texts<'t>,
@@ -119,6 +119,7 @@ fn check_clock<'t>(
     }
 }
 
+/// Applies `check_argument` to each argument.
 fn check_uses<'t>(worst: &mut Option<FrontFault>, scope: &Scope<'t>, given: &[Argument<'_, 't>])
     ensures { worst.new ≡ least worst.old
         (flat_map (use_faults scope.now)
@@ -129,6 +130,7 @@ fn check_uses<'t>(worst: &mut Option<FrontFault>, scope: &Scope<'t>, given: &[Ar
     }
 }
 
+/// Applies `check_misfit` to each argument.
 fn check_misfits(worst: &mut Option<FrontFault>, given: &[Argument<'_, '_>])
     ensures { worst.new ≡ least worst.old
         (map (fault FrontRule.WrongKind)
@@ -139,7 +141,7 @@ fn check_misfits(worst: &mut Option<FrontFault>, given: &[Argument<'_, '_>])
     }
 }
 
-// The clocks that arguments give, which have to be different from these and from each other.
+/// The clocks that the arguments give must differ from each other and from those in `clocks`, to which they are added.
 fn check_clocks<'t>(
     worst: &mut Option<FrontFault>,
     clocks: &mut Texts<'t>,
@@ -156,7 +158,7 @@ fn check_clocks<'t>(
     Ok(())
 }
 
-// The clocks of a list, which have to be different from these and from each other.
+/// The clocks of a list must differ from each other and from those in `clocks`, to which they are added.
 pub fn check_list<'t>(
     worst: &mut Option<FrontFault>,
     clocks: &mut Texts<'t>,
@@ -172,7 +174,7 @@ pub fn check_list<'t>(
     Ok(())
 }
 
-// The names of a list, which have to be clocks'.
+/// The names of a list must be visible clocks.
 pub fn check_listed<'t>(worst: &mut Option<FrontFault>, scope: &Scope<'t>, names: &[Name<'t>])
     ensures { worst.new ≡ least worst.old
         (flat_map (use_faults scope.now) (map (use_as Want.Clock) (words names.now))) }
@@ -182,7 +184,8 @@ pub fn check_listed<'t>(worst: &mut Option<FrontFault>, scope: &Scope<'t>, names
     }
 }
 
-// A call's arguments, where the method takes these.
+/// The arguments of a call of the method `g`, which has these parameters: the names that they use, their kinds, their number, and
+/// that no clock is given twice.
 fn check_arguments<'t>(
     alloc: Global,
     worst: &mut Option<FrontFault>,
@@ -203,7 +206,7 @@ fn check_arguments<'t>(
     check_clocks(worst, &mut Texts::new(alloc), given)
 }
 
-// A call.
+/// A call: a method of that name must exist, and the arguments must fit its parameters.
 pub fn check_call<'t>(
     alloc: Global,
     worst: &mut Option<FrontFault>,
@@ -225,7 +228,7 @@ pub fn check_call<'t>(
     }
 }
 
-// The clocks that an `async` is given, each once.
+/// The clocks that an `async` is given, each once.
 pub fn clocks_of<'t>(alloc: Global, names: &[Name<'t>]) -> Result<Texts<'t>, AllocError>
     ensures { IfOk result (λ clocks. clocks ≡ put_texts [] (words names.now)) }
 {

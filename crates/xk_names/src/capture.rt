@@ -19,7 +19,7 @@ use std::alloc::{AllocError, Global};
 use xk_tree::{Bound, Expr, Name, Right, Shared, Stmt};
 use xk_types::ParamKind;
 
-// A number that is used.
+/// Adds a number to `out`, unless it is one of the body's own.
 fn take<'t>(own: &Texts<'t>, out: &mut Texts<'t>, x: Name<'t>) -> Result<(), AllocError>
     ensures { OnOk result (out.new
         ≡ put_texts out.old (words_besides own.now (word x.entry ∷ []))) }
@@ -30,7 +30,7 @@ fn take<'t>(own: &Texts<'t>, out: &mut Texts<'t>, x: Name<'t>) -> Result<(), All
     Ok(())
 }
 
-// The numbers of an expression.
+/// Adds the numbers that an expression uses.
 fn take_numbers<'t>(own: &Texts<'t>, out: &mut Texts<'t>, e: &Expr<'t>) -> Result<(), AllocError>
     ensures { OnOk result (out.new ≡ put_texts out.old
         (words_besides own.now (number_words (expression e.now)))) }
@@ -47,7 +47,7 @@ fn take_numbers<'t>(own: &Texts<'t>, out: &mut Texts<'t>, e: &Expr<'t>) -> Resul
     }
 }
 
-// The two sides of a comparison.
+/// Adds the numbers that the two sides of a comparison use.
 fn take_both<'t>(
     own: &Texts<'t>,
     out: &mut Texts<'t>,
@@ -63,6 +63,7 @@ fn take_both<'t>(
     Ok(())
 }
 
+/// Adds the numbers that the right side of a declaration uses. `Clock.make()` uses none.
 fn take_right<'t>(own: &Texts<'t>, out: &mut Texts<'t>, r: &Right<'t>) -> Result<(), AllocError>
     ensures { OnOk result (out.new ≡ put_texts out.old
         (words_besides own.now (source_words (source r.now)))) }
@@ -73,7 +74,7 @@ fn take_right<'t>(own: &Texts<'t>, out: &mut Texts<'t>, r: &Right<'t>) -> Result
     }
 }
 
-// The numbers of a loop's bound.
+/// Adds the numbers that a loop's bound uses.
 fn take_bound<'t>(own: &Texts<'t>, out: &mut Texts<'t>, limit: &Bound<'t>) -> Result<(), AllocError>
     ensures { OnOk result (out.new ≡ put_texts out.old
         (words_besides own.now (bound_words (bound limit.now)))) }
@@ -84,7 +85,7 @@ fn take_bound<'t>(own: &Texts<'t>, out: &mut Texts<'t>, limit: &Bound<'t>) -> Re
     }
 }
 
-// Adds the names that a loop declares.
+/// Makes the names that a loop declares the body's own: its variable, and its limit if it has one.
 fn put_loop<'t>(own: &mut Texts<'t>, x: Name<'t>, limit: &Bound<'t>) -> Result<(), AllocError>
     ensures { OnOk result (own.new ≡ put_texts own.old
         (loop_words (word x.entry) (bound limit.now))) }
@@ -99,6 +100,7 @@ fn put_loop<'t>(own: &mut Texts<'t>, x: Name<'t>, limit: &Bound<'t>) -> Result<(
     }
 }
 
+/// Adds the numbers that an argument uses. A clock is no number, so an argument for a clock adds none.
 fn take_argument<'t>(
     own: &Texts<'t>,
     out: &mut Texts<'t>,
@@ -114,6 +116,7 @@ fn take_argument<'t>(
     }
 }
 
+/// Adds the numbers that the arguments of a call use.
 fn take_arguments<'t>(
     own: &Texts<'t>,
     out: &mut Texts<'t>,
@@ -128,6 +131,7 @@ fn take_arguments<'t>(
     Ok(())
 }
 
+/// Adds the numbers that a call uses. Where the method doesn't exist nobody knows which arguments are numbers, and none is added.
 fn take_call<'t>(
     alloc: Global,
     own: &Texts<'t>,
@@ -150,7 +154,7 @@ fn take_call<'t>(
     }
 }
 
-// The numbers that a statement itself uses.
+/// Adds the numbers that a statement uses, without the statements inside it.
 fn take_own<'t>(
     alloc: Global,
     own: &Texts<'t>,
@@ -183,7 +187,7 @@ fn take_own<'t>(
     }
 }
 
-// The numbers from outside that a statement uses, and those that the statements use which it holds. Then `own` has also what it declares.
+/// Adds the numbers that a statement takes from outside, with the statements inside it. Behind it `own` has what it declares, too.
 #[cycle(taken)]
 fn take_all<'t>(
     alloc: Global,
@@ -222,6 +226,7 @@ fn take_all<'t>(
     }
 }
 
+/// Adds what the statements of a block take from outside. What they declare is forgotten at the end of the block.
 #[cycle(taken)]
 fn take_block<'t>(
     alloc: Global,
@@ -242,6 +247,7 @@ fn take_block<'t>(
     Ok(())
 }
 
+/// Adds what an inner statement takes from outside. What it declares is forgotten behind it.
 #[cycle(taken)]
 fn take_held<'t>(
     alloc: Global,
@@ -260,6 +266,7 @@ fn take_held<'t>(
     Ok(())
 }
 
+/// Adds what the body of a loop takes from outside; the names that the loop declares are its own.
 #[cycle(taken)]
 fn take_loop<'t>(
     alloc: Global,
@@ -282,7 +289,7 @@ fn take_loop<'t>(
     Ok(())
 }
 
-// Adds the names of the shared numbers.
+/// Makes the shared numbers the body's own: they are read where they are, and never taken.
 fn put_shared<'t>(own: &mut Texts<'t>, shared: &[Shared<'t>]) -> Result<(), AllocError>
     ensures { OnOk result (own.new ≡ put_texts own.old (map (λ s. word s.name) shared.now)) }
 {
@@ -292,7 +299,8 @@ fn put_shared<'t>(own: &mut Texts<'t>, shared: &[Shared<'t>]) -> Result<(), Allo
     Ok(())
 }
 
-// The numbers that a statement takes from outside, where `own` has these of its own beside the shared ones, and `out` was taken before.
+/// What `out` has then, as a list: what it had, and behind that what the body takes from outside, but for the names in `own` and
+/// the shared numbers.
 fn take_listed<'t>(
     alloc: Global,
     own: &mut Texts<'t>,

@@ -11,7 +11,7 @@ use crate::least_fault::{note, note_if};
 use crate::scope::Scope;
 use xk_tree::{Expr, FrontFault, FrontRule, Name};
 
-// A name that is used.
+/// A name that is used must be visible, fit what its place wants, and be seen from inside the `async` bodies round it.
 pub fn check_use<'t>(worst: &mut Option<FrontFault>, scope: &Scope<'t>, name: Name<'t>, want: Want)
     ensures { worst.new ≡ least worst.old (use_faults scope.now (use_as want (word name.entry))) }
 {
@@ -34,7 +34,7 @@ pub fn check_use<'t>(worst: &mut Option<FrontFault>, scope: &Scope<'t>, name: Na
     }
 }
 
-// The names of an expression, which have to be numbers'.
+/// Each name in an expression must be a number of the activity's own.
 pub fn check_numbers<'t>(worst: &mut Option<FrontFault>, scope: &Scope<'t>, e: &Expr<'t>)
     ensures { worst.new ≡ least worst.old
         (flat_map (use_faults scope.now) (numbers (expression e.now))) }
@@ -51,7 +51,7 @@ pub fn check_numbers<'t>(worst: &mut Option<FrontFault>, scope: &Scope<'t>, e: &
     }
 }
 
-// The same where a shared number may stand alone.
+/// The same, but where the whole expression is one name, it may be a shared number, too.
 pub fn check_values<'t>(worst: &mut Option<FrontFault>, scope: &Scope<'t>, e: &Expr<'t>)
     ensures { worst.new ≡ least worst.old
         (flat_map (use_faults scope.now) (values (expression e.now))) }
@@ -62,7 +62,7 @@ pub fn check_values<'t>(worst: &mut Option<FrontFault>, scope: &Scope<'t>, e: &E
     }
 }
 
-// Where an expression begins.
+/// The offset at which an expression begins.
 pub fn start_of(e: &Expr<'_>) -> usize
     ensures { result ≡ start_of (expression e.now) }
 {

@@ -6,7 +6,7 @@ ghost use Rattle.xk_names.specs.FaultList.{least, lesser, when};
 
 use xk_tree::{FrontFault, FrontRule};
 
-// One fault more.
+/// Keeps the lesser of the worst fault so far and this one: the one with the least offset, and at one offset the one with the least number.
 pub fn note(worst: &mut Option<FrontFault>, rule: FrontRule, at: usize)
     ensures { worst.new ≡ lesser worst.old (fault rule at) }
 {
@@ -23,7 +23,7 @@ pub fn note(worst: &mut Option<FrontFault>, rule: FrontRule, at: usize)
     }
 }
 
-// One fault more, if there is one.
+/// Notes the fault where the condition holds.
 pub fn note_if(is_there: bool, worst: &mut Option<FrontFault>, rule: FrontRule, at: usize)
     ensures { worst.new ≡ least worst.old (when is_there rule at) }
 {

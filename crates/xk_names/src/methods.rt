@@ -24,6 +24,7 @@ impl<'a, 't> Model for Methods<'a, 't> {
 }
 
 impl<'a, 't> Methods<'a, 't> {
+    /// No methods.
     pub(crate) fn new(alloc: Global) -> Self
         ensures { result ≡ [] }
     {
@@ -39,7 +40,7 @@ impl<'a, 't> Methods<'a, 't> {
         self.params.find(name)
     }
 
-    // Adds a method, unless one of its name is there. Where memory is wanting nothing changes.
+    /// Adds a method, unless one of its name is there. Where memory is wanting nothing changes.
     pub(crate) fn put(&mut self, name: &'t [u8], params: &'a [Param<'t>]) -> Result<(), AllocError>
         ensures entry { OnOk result
             (self.new ≡ put self.old name.now (map param_value params.now)) }

@@ -20,7 +20,7 @@ use std::alloc::{AllocError, Global};
 use xk_tree::{FrontError, FrontFault, FrontRule, Method, Name, Param, Shared, Tree};
 use xk_types::ParamKind;
 
-// A name that is declared before a method's body.
+/// Declares a name that every statement of a method's body sees: a shared number or a parameter. It must be new.
 fn declare_outside<'t>(
     worst: &mut Option<FrontFault>,
     scope: &mut Scope<'t>,
@@ -37,7 +37,7 @@ fn declare_outside<'t>(
     scope.declare(name, kind)
 }
 
-// The shared numbers.
+/// Declares the shared numbers, each of which must be new.
 fn declare_shared<'t>(
     worst: &mut Option<FrontFault>,
     scope: &mut Scope<'t>,
@@ -55,6 +55,7 @@ fn declare_shared<'t>(
     Ok(())
 }
 
+/// What a parameter's name stands for inside the body.
 fn kind_of(takes: ParamKind) -> NameKind
     ensures { result ≡ param_kind takes }
 {
@@ -64,7 +65,7 @@ fn kind_of(takes: ParamKind) -> NameKind
     }
 }
 
-// A method's parameters.
+/// Declares a method's parameters, each of which must be new.
 fn declare_params<'t>(
     worst: &mut Option<FrontFault>,
     scope: &mut Scope<'t>,
@@ -82,7 +83,7 @@ fn declare_params<'t>(
     Ok(())
 }
 
-// Puts the methods in by their names.
+/// Adds the methods by their names, of which none may be there already.
 fn put_methods<'a, 't>(
     worst: &mut Option<FrontFault>,
     found: &mut Methods<'a, 't>,
@@ -114,7 +115,7 @@ pub fn methods_of<'a, 't>(alloc: Global, tree: &'a Tree<'t>) -> Result<Methods<'
     Ok(methods)
 }
 
-// A method's parameters and body.
+/// Checks a method's parameters and body. The scope is behind it what it was before.
 fn check_method<'t>(
     alloc: Global,
     worst: &mut Option<FrontFault>,
@@ -134,7 +135,7 @@ fn check_method<'t>(
     Ok(())
 }
 
-// The methods' parameters and bodies, in the scope of what is declared outside.
+/// Checks the parameters and bodies of all methods, each in the scope of the shared numbers.
 fn check_methods<'t>(
     alloc: Global,
     worst: &mut Option<FrontFault>,
@@ -153,7 +154,7 @@ fn check_methods<'t>(
     Ok(())
 }
 
-// The least fault of names, F9 aside; and whether there is a method `main` none of whose parameters takes a clock.
+/// The least fault of names, a missing `main` aside; and whether there is a method `main` none of whose parameters takes a clock.
 fn least_fault(alloc: Global, tree: &Tree<'_>) -> Result<(Option<FrontFault>, bool), AllocError>
     ensures worst { IfOk result (λ r. r.0 ≡ least None (name_faults (tree_value tree.now))) }
     ensures main { IfOk result (λ r. IsTrue r.1 ↔
@@ -164,7 +165,7 @@ fn least_fault(alloc: Global, tree: &Tree<'_>) -> Result<(Option<FrontFault>, bo
     least_within(alloc, &mut scope, &mut methods, tree)
 }
 
-// The same, where nothing is visible yet and there are no methods.
+/// The same, where nothing is visible yet and there are no methods.
 fn least_within<'a, 't>(
     alloc: Global,
     scope: &mut Scope<'t>,
@@ -185,7 +186,7 @@ fn least_within<'a, 't>(
     Ok((worst, has_main))
 }
 
-// Whether a parameter takes a clock.
+/// Whether a parameter takes a clock.
 fn takes_clock(param: &Param<'_>) -> bool
     ensures { result ≡ wants_clock (param_value param.now) }
 {
@@ -195,7 +196,7 @@ fn takes_clock(param: &Param<'_>) -> bool
     }
 }
 
-// Whether one of the parameters takes a clock.
+/// Whether one of the parameters takes a clock.
 fn any_takes_clock(params: &[Param<'_>]) -> bool
     ensures { result ≡ list_any wants_clock (map param_value params.now) }
 {
@@ -205,7 +206,7 @@ fn any_takes_clock(params: &[Param<'_>]) -> bool
     }
 }
 
-// Whether there is a method `main` none of whose parameters takes a clock.
+/// Whether there is a method `main` none of whose parameters takes a clock.
 fn has_main<'t>(methods: &Methods<'_, 't>) -> bool
     ensures { IsTrue result ↔ (MayBegin (find methods.now (codes "main"))) }
 {

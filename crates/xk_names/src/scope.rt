@@ -13,7 +13,7 @@ use std::marker::Model;
 use xk_tree::Name;
 
 impl NameKind {
-    // Whether a name of this kind may stand where that is wanted.
+    /// Whether a name of this kind may stand where `want` is wanted.
     pub fn fits(self, want: Want) -> bool
         ensures { result ≡ fits want self }
     {
@@ -27,7 +27,7 @@ impl NameKind {
     }
 }
 
-// The names that are visible at a place, and the bodies of `async` that hold it, the innermost first, with the clocks that each was given.
+/// The names that are visible at a place, and the bodies of `async` that hold it, the innermost first, with the clocks that each was given.
 #[derive(Drop)]
 pub struct Scope<'t> {
     names: Table<'t, Known>,
@@ -41,6 +41,7 @@ impl<'t> Model for Scope<'t> {
 }
 
 impl<'t> Scope<'t> {
+    /// Nothing is visible, and no `async` body is round it.
     pub fn new(alloc: Global) -> Self
         ensures { result ≡ record { names = []; bodies = [] } }
     {
@@ -50,19 +51,21 @@ impl<'t> Scope<'t> {
         }
     }
 
+    /// What is known of a name, or `None` where it isn't visible.
     pub fn find(&self, text: &'t [u8]) -> Option<Known>
         ensures { result ≡ find self.now.names text.now }
     {
         self.names.find(text)
     }
 
-    // How many names are visible.
+    /// How many names are visible.
     pub fn len(&self) -> usize
         ensures { result ≡ length self.now.names }
     {
         self.names.len()
     }
 
+    /// Whether the innermost `async` body was given this clock.
     fn is_given(&self, text: &'t [u8]) -> bool
         ensures { result ≡ is_given self.now text.now }
     {
@@ -72,7 +75,8 @@ impl<'t> Scope<'t> {
         }
     }
 
-    // Whether what is known of a name is seen from here.
+    /// Whether a visible name can be used from here: a `var` only in the body that declares it, a clock there and where the innermost
+    /// body was given it.
     pub fn sees(&self, text: &'t [u8], known: Known) -> bool
         ensures { result ≡ sees self.now text.now known }
     {
@@ -84,7 +88,7 @@ impl<'t> Scope<'t> {
         }
     }
 
-    // Declares a name, unless one of the same text is visible.
+    /// Declares a name, unless one of the same text is visible.
     pub fn declare(&mut self, name: Name<'t>, kind: NameKind) -> Result<(), AllocError>
         ensures { OnOk result (self.new ≡ with_declared self.old
             (declared (word name.entry) kind (length self.old.bodies) ∷ [])) }
@@ -93,7 +97,7 @@ impl<'t> Scope<'t> {
         self.names.put(name.text, Known { kind, depth })
     }
 
-    // Forgets what was declared since so many names were visible.
+    /// Forgets what was declared since `len` names were visible.
     pub fn cut(&mut self, len: usize)
         ensures behind { (before : Seen) (ds : List Declaration)
             → self.old ≡ with_declared before ds
@@ -104,7 +108,7 @@ impl<'t> Scope<'t> {
         self.names.truncate(len);
     }
 
-    // Goes into the body of an `async` that is given these clocks.
+    /// Goes into the body of an `async` that is given these clocks.
     pub fn enter(&mut self, clocks: Texts<'t>) -> Result<(), AllocError>
         ensures { OnOk result (self.new ≡ with_clocks self.old clocks.entry) }
     {
@@ -112,7 +116,7 @@ impl<'t> Scope<'t> {
         Ok(())
     }
 
-    // Leaves it, where so many names were visible outside.
+    /// Leaves the innermost `async` body, and forgets what was declared since `len` names were visible.
     pub fn leave(&mut self, len: usize)
         ensures { (before : Seen) (clocks : List (List ℕ)) (ds : List Declaration)
             → self.old ≡ with_declared (with_clocks before clocks) ds

@@ -22,7 +22,7 @@ use xk_tree::{
 };
 use xk_types::ParamKind;
 
-// A name that is declared.
+/// A name that is declared must not be visible already.
 pub fn check_new<'t>(worst: &mut Option<FrontFault>, scope: &Scope<'t>, name: Name<'t>)
     ensures { worst.new ≡ least worst.old
         (when (is_some (find scope.now.names name.entry.text.now))
@@ -32,6 +32,7 @@ pub fn check_new<'t>(worst: &mut Option<FrontFault>, scope: &Scope<'t>, name: Na
     note_if(is_visible, worst, FrontRule::DuplicateName, name.at);
 }
 
+/// The names that the right side of a declaration uses, of which one alone may be a shared number.
 fn check_right<'t>(worst: &mut Option<FrontFault>, scope: &Scope<'t>, r: &Right<'t>)
     ensures { worst.new ≡ least worst.old
         (flat_map (use_faults scope.now) (source_uses (source r.now))) }
@@ -42,7 +43,7 @@ fn check_right<'t>(worst: &mut Option<FrontFault>, scope: &Scope<'t>, r: &Right<
     }
 }
 
-// The type of a declaration.
+/// The type of a declaration, where it has one, must fit its right side: `Clock` for a clock that is made, a number's type for all else.
 fn check_type(worst: &mut Option<FrontFault>, ty: Option<TypeName>, r: &Right<'_>)
     ensures { worst.new ≡ least worst.old
         (map (fault FrontRule.WrongKind) (type_misfits ty (source r.now))) }
@@ -58,7 +59,7 @@ fn check_type(worst: &mut Option<FrontFault>, ty: Option<TypeName>, r: &Right<'_
     }
 }
 
-// A clock that is made for a `var`.
+/// A clock can be made for a `val`, not for a `var`.
 fn check_make(worst: &mut Option<FrontFault>, b: Binding, r: &Right<'_>)
     ensures { worst.new ≡ least worst.old
         (map (fault FrontRule.WrongKind) (make_misfits b (source r.now))) }
@@ -73,6 +74,7 @@ fn check_make(worst: &mut Option<FrontFault>, b: Binding, r: &Right<'_>)
     }
 }
 
+/// Whether a visible name is a `var`.
 fn is_var(known: Option<Known>) -> bool
     ensures { result ≡ is_var known }
 {
@@ -82,7 +84,7 @@ fn is_var(known: Option<Known>) -> bool
     }
 }
 
-// What is assigned to a name; a shared number may stand alone behind a `var`.
+/// The names in what is assigned to a name. A `var` can be assigned a shared number that stands alone.
 fn check_assigned<'t>(
     worst: &mut Option<FrontFault>,
     scope: &Scope<'t>,
@@ -99,7 +101,7 @@ fn check_assigned<'t>(
     }
 }
 
-// The two sides of a comparison.
+/// The names in the two sides of a comparison.
 fn check_sides<'t>(worst: &mut Option<FrontFault>, scope: &Scope<'t>, l: &Expr<'t>, r: &Expr<'t>)
     ensures { worst.new ≡ least worst.old
         (flat_map (use_faults scope.now)
@@ -109,7 +111,7 @@ fn check_sides<'t>(worst: &mut Option<FrontFault>, scope: &Scope<'t>, l: &Expr<'
     check_numbers(worst, scope, r);
 }
 
-// `atomic x = y + e;`
+/// `atomic x = y + e;`: both names must be shared numbers, and the same one.
 fn check_atomic<'t>(
     worst: &mut Option<FrontFault>,
     scope: &Scope<'t>,
@@ -126,7 +128,7 @@ fn check_atomic<'t>(
     note_if(x.text != y.text, worst, FrontRule::WrongKind, y.at);
 }
 
-// The names that a loop declares, and those that its bound uses.
+/// The range of a loop: the names that it declares must be new and differ, and its bound may use only numbers.
 fn check_range<'t>(
     worst: &mut Option<FrontFault>,
     scope: &Scope<'t>,
@@ -147,7 +149,7 @@ fn check_range<'t>(
     }
 }
 
-// `val x: T = r;` or `var x: T = r;`
+/// `val x: T = r;` or `var x: T = r;`
 fn check_declaration<'t>(
     worst: &mut Option<FrontFault>,
     scope: &Scope<'t>,
@@ -165,7 +167,7 @@ fn check_declaration<'t>(
     check_make(worst, b, r);
 }
 
-// The clocks of an `async`.
+/// The clocks that an `async` is given: each must be a visible clock, and none may be listed twice.
 fn check_given<'t>(
     alloc: Global,
     worst: &mut Option<FrontFault>,
@@ -184,7 +186,7 @@ fn check_given<'t>(
     }
 }
 
-// What a statement itself does with names.
+/// Checks a statement by itself, without the statements inside it.
 #[tactic(auto, unfolding(crate::specs::FaultList::own))]
 pub fn check_own<'t>(
     alloc: Global,
@@ -210,11 +212,7 @@ pub fn check_own<'t>(
             check_atomic(worst, scope, *x, *y, e);
             Ok(())
         }
-        Stmt::If(_, l, _, r, _) => {
-            check_sides(worst, scope, l, r);
-            Ok(())
-        }
-        Stmt::IfElse(_, l, _, r, _, _) => {
+        Stmt::If(_, l, _, r, _) | Stmt::IfElse(_, l, _, r, _, _) => {
             check_sides(worst, scope, l, r);
             Ok(())
         }
@@ -224,11 +222,7 @@ pub fn check_own<'t>(
         }
         Stmt::Async(_, clocks, _) => check_given(alloc, worst, scope, clocks),
         Stmt::Call(g, _, values) => check_call(alloc, worst, scope, methods, *g, values.as_slice()),
-        Stmt::Resume(c, _) => {
-            check_use(worst, scope, *c, Want::Clock);
-            Ok(())
-        }
-        Stmt::Drop(c, _) => {
+        Stmt::Resume(c, _) | Stmt::Drop(c, _) => {
             check_use(worst, scope, *c, Want::Clock);
             Ok(())
         }
@@ -236,9 +230,6 @@ pub fn check_own<'t>(
             check_numbers(worst, scope, e);
             Ok(())
         }
-        Stmt::Block(..) => Ok(()),
-        Stmt::Empty => Ok(()),
-        Stmt::Finish(..) => Ok(()),
-        Stmt::AdvanceAll(_, _) => Ok(()),
+        Stmt::Block(..) | Stmt::Empty | Stmt::Finish(..) | Stmt::AdvanceAll(_, _) => Ok(()),
     }
 }

@@ -16,6 +16,7 @@ use crate::table::Texts;
 use std::alloc::{AllocError, Global};
 use xk_tree::{Binding, Bound, ClockList, FrontFault, Name, Right, Stmt};
 
+/// What the name of a declaration stands for.
 fn kind_of(b: Binding, r: &Right<'_>) -> NameKind
     ensures { result ≡ kind_of b (source r.now) }
 {
@@ -29,6 +30,7 @@ fn kind_of(b: Binding, r: &Right<'_>) -> NameKind
     }
 }
 
+/// The clocks that an `async` is given, each once; none where it has no list.
 fn given<'t>(alloc: Global, clocks: &Option<ClockList<'t>>) -> Result<Texts<'t>, AllocError>
     ensures { IfOk result (λ texts. texts ≡
         put_texts [] (clocks_listed (option_map clock_list clocks.now))) }
@@ -39,7 +41,7 @@ fn given<'t>(alloc: Global, clocks: &Option<ClockList<'t>>) -> Result<Texts<'t>,
     }
 }
 
-// Declares the name of a loop's limit, if it has one.
+/// Declares the name of a loop's limit, if it has one.
 fn declare_limit<'t>(scope: &mut Scope<'t>, limit: &Bound<'t>) -> Result<(), AllocError>
     ensures { OnOk result (scope.new ≡ with_declared scope.old
         (bound_declares (length scope.old.bodies) (bound limit.now))) }
@@ -50,7 +52,7 @@ fn declare_limit<'t>(scope: &mut Scope<'t>, limit: &Bound<'t>) -> Result<(), All
     }
 }
 
-// The faults of a statement; the scope is then that of what stands behind it.
+/// Checks a statement and all inside it. Behind it, the scope has what the statement declares, too.
 #[cycle(statements)]
 fn check<'t>(
     alloc: Global,
@@ -90,7 +92,7 @@ fn check<'t>(
     }
 }
 
-// Statements that are a scope.
+/// Checks the statements of a block. What they declare is forgotten at its end.
 #[cycle(statements)]
 pub fn check_block<'t>(
     alloc: Global,
@@ -111,7 +113,7 @@ pub fn check_block<'t>(
     Ok(())
 }
 
-// A statement that is a scope.
+/// Checks an inner statement. What it declares is forgotten behind it.
 #[cycle(statements)]
 fn check_held<'t>(
     alloc: Global,
@@ -130,7 +132,7 @@ fn check_held<'t>(
     Ok(())
 }
 
-// The body of a loop whose name is x, with such a bound.
+/// Checks the body of a loop over `x` with this bound. What the loop declares is forgotten behind it.
 #[cycle(statements)]
 fn check_loop<'t>(
     alloc: Global,
@@ -155,7 +157,7 @@ fn check_loop<'t>(
     Ok(())
 }
 
-// The body of an `async`.
+/// Checks the body of an `async` that is given these clocks.
 #[cycle(statements)]
 fn check_body<'t>(
     alloc: Global,

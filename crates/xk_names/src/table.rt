@@ -80,7 +80,7 @@ impl<'t, A: Copy> Table<'t, A> {
     }
 }
 
-// Names, each once.
+/// Names, each once.
 #[derive(Drop)]
 pub struct Texts<'t> {
     names: Table<'t, ()>,
@@ -93,6 +93,7 @@ impl<'t> Model for Texts<'t> {
 }
 
 impl<'t> Texts<'t> {
+    /// No names.
     pub fn new(alloc: Global) -> Self
         ensures { result ≡ [] }
     {
@@ -101,13 +102,14 @@ impl<'t> Texts<'t> {
         }
     }
 
+    /// Whether the name is there.
     pub fn contains(&self, text: &'t [u8]) -> bool
         ensures { result ≡ has self.now text.now }
     {
         self.names.find(text).is_some()
     }
 
-    // Adds a name, and says whether it is new. Where memory is wanting nothing changes.
+    /// Adds a name, and says whether it is new. Where memory is wanting nothing changes.
     pub fn put(&mut self, text: &'t [u8]) -> Result<bool, AllocError>
         ensures new { IfOk result (λ new. new ≡ not (has self.old text.now)) }
         ensures texts { OnOk result (self.new ≡ put_text self.old text.now) }
@@ -118,14 +120,14 @@ impl<'t> Texts<'t> {
         Ok(before < self.names.len())
     }
 
-    // How many names there are.
+    /// How many names there are.
     pub fn len(&self) -> usize
         ensures { result ≡ length self.now }
     {
         self.names.len()
     }
 
-    // Forgets what was added since there were so many.
+    /// Forgets the names that were added since there were `len`.
     pub fn cut(&mut self, len: usize)
         ensures behind { (before : List (List ℕ)) (ws : List Word) → self.old ≡ put_texts before ws
             → len ≡ length before → self.new ≡ before }
@@ -135,7 +137,7 @@ impl<'t> Texts<'t> {
         self.names.truncate(len);
     }
 
-    // The names, in the order in which they were added.
+    /// The names, in the order in which they were added.
     pub fn to_vec(&self, alloc: Global) -> Result<Vec<&'t [u8]>, AllocError>
         ensures { IfOk result (λ names. map (λ x. x.now) names.items ≡ self.now) }
     {

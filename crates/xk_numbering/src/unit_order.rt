@@ -48,6 +48,7 @@ fn order_by<'t>(
     requires begins { place_of (parts (tree_value tree.now)) opening ≡ Some main }
     ensures order { IfOk result (λ order. IsOrder (tree_value tree.now) order.items) }
 {
+    // Read for the fact that each tree keeps, on which `unreachable!()` rests: the offsets of its bodies rise.
     let _tree = tree;
     let order = order_from(alloc, lists, main)?;
     match order {

@@ -8,9 +8,9 @@ use Rattle.xk_core.specs.Core.{CoreValue}
 use Rattle.xk_outcomes.specs.declared.entries.Edge.{Edge}
 use Rattle.xk_outcomes.specs.Entries.{AreBehind, AreEntries, led_by, with_edge}
 use Rattle.xk_outcomes.specs.Found.{FoundValue, along, first_found, next}
-use Rattle.xk_outcomes.specs.Search.{AreFound, Has, IsFound, found_digest}
-use Rattle.xk_outcomes.proofs.FoundLemmas.{along_push, found_first, found_next}
-use Rattle.xk_outcomes.proofs.SearchLemmas.{different_push, digests_push, found_push, place}
+use Rattle.xk_outcomes.specs.Search.{AreFound, AreSettled, Has, IsFound, IsSettled, found_digest}
+use Rattle.xk_outcomes.proofs.FoundLemmas.{along_push, settled_first, settled_found, settled_next}
+use Rattle.xk_outcomes.proofs.SearchLemmas.{different_push, digests_push, each_push, place}
 
 -- what is in a list, or stands for what isn't
 each_or : {X : Type 0} (P : X → Type 0) (xs : List X) (d : X) → ((k : ℕ) (x : X) → slice_get xs k ≡ Some x → P x) → P d → (k : ℕ) → P (get_or xs k d)
@@ -94,21 +94,26 @@ way_more start edges at e way more behind within some is longer =
           ∙ ap (along way) (sym (edge_leads start edges (at - 1) e behind there) ∙ ap (λ k. get_or (led_by start edges) k (first_found start)) same),
     )
 
--- all that edges lead to are found
-pub all_led : (start : CoreValue) (edges : List Edge) → AreFound start (led_by start edges)
-all_led start edges = by (first_found start ∷ []) edges (found_push start [] (first_found start ∷ []) (first_found start) refl (λ k x h. absurd (none-some x h)) (found_first start))
+-- all that edges lead to are settled
+pub all_settled : (start : CoreValue) (edges : List Edge) → AreSettled start (led_by start edges)
+all_settled start edges =
+    by (first_found start ∷ []) edges (each_push (IsSettled start) [] (first_found start) (λ k x h. absurd (none-some x h)) (settled_first start))
   where
-    by : (acc : List FoundValue) (more : List Edge) → AreFound start acc → AreFound start (fold (with_edge (first_found start)) acc more)
+    by : (acc : List FoundValue) (more : List Edge) → AreSettled start acc → AreSettled start (fold (with_edge (first_found start)) acc more)
     by acc [] all = all
     by acc (e ∷ more) all =
         let from = get_or acc e.from (first_found start) in
-        let new = next e.act from in
-        by (acc ++ new ∷ []) more
-        (found_push start acc (acc ++ new ∷ []) new refl all (found_next start from e.act (each_or (IsFound start) acc (first_found start) all (found_first start) e.from)))
+        let known = each_or (IsSettled start) acc (first_found start) all (settled_first start) e.from in
+        by (acc ++ next e.act from ∷ []) more
+        (each_push (IsSettled start) acc (next e.act from) all (settled_next start from e.act (settled_found start from known)))
+
+-- so they are found
+pub all_led : (start : CoreValue) (edges : List Edge) → AreFound start (led_by start edges)
+all_led start edges k x there = settled_found start x (all_settled start edges k x there)
 
 -- so is what a step leads to from one of them
 pub new_found : (start : CoreValue) (edges : List Edge) (k a : ℕ) (x new : FoundValue) → slice_get (led_by start edges) k ≡ Some x → new ≡ next a x → IsFound start new
-new_found start edges k a x new there is = subst (IsFound start) (sym is) (found_next start x a (all_led start edges k x there))
+new_found start edges k a x new there is = settled_found start new (subst (IsSettled start) (sym is) (settled_next start x a (all_led start edges k x there)))
 
 -- ---- one more
 

@@ -15,7 +15,7 @@ use Rattle.xk_squares.specs.QuietSteps.{has_quiet_step}
 use Rattle.xk_squares.proofs.QuietStepLaw.{enabled_step, quiet_enabled, quiet_steps_go_first}
 use Rattle.xk_core.specs.Core.{CoreValue}
 use Rattle.xk_outcomes.specs.Found.{FoundValue, along, at_rest, first_found, least, least_quiet, next, one_more, or_this, settled, with_outcome, with_step}
-use Rattle.xk_outcomes.specs.Search.{Has, HasAfter, IsFound, IsGrown, IsKnown, LeadsQuietly}
+use Rattle.xk_outcomes.specs.Search.{Has, HasAfter, IsFound, IsGrown, IsKnown, IsSettled, LeadsQuietly}
 use Rattle.xk_outcomes.proofs.SearchLemmas.{printed_more}
 
 -- ---- the least that passes
@@ -40,7 +40,7 @@ least_found passes a n within none here =
 pub least_more : (passes : ℕ → Bool) (a : ℕ) → least passes a ≡ None → passes a ≡ false → least passes (a + 1) ≡ None
 least_more passes a none not_here = rw add-one (ap (λ o. or_this o (passes a) a) none ∙ ap (λ b. or_this None b a) not_here)
 
-least_passes : (passes : ℕ → Bool) (n a : ℕ) → least passes n ≡ Some a → passes a ≡ true
+pub least_passes : (passes : ℕ → Bool) (n a : ℕ) → least passes n ≡ Some a → passes a ≡ true
 least_passes passes zero a h = absurd (none-some a h)
 least_passes passes (suc n) a h = by (least_passes passes n a) (least passes n) (passes n) refl refl h
   where
@@ -51,7 +51,7 @@ least_passes passes (suc n) a h = by (least_passes passes n a) (least passes n) 
 
 -- ---- a step
 
-pub found_one_more : (start : CoreValue) (x : FoundValue) (a : ℕ) → IsFound start x → IsFound start (one_more a x)
+found_one_more : (start : CoreValue) (x : FoundValue) (a : ℕ) → IsFound start x → IsFound start (one_more a x)
 found_one_more start x a f = by (step x.core.module_run x.core.world a) refl
   where
     by : (o : Outcome) → step x.core.module_run x.core.world a ≡ o → IsFound start (with_outcome x a o)
@@ -68,20 +68,23 @@ found_one_more start x a f = by (step x.core.module_run x.core.world a) refl
 
 -- ---- quiet steps
 
-found_with_step : (start : CoreValue) (x : FoundValue) (o : Option ℕ) → IsFound start x → IsFound start (with_step x o)
+pub found_with_step : (start : CoreValue) (x : FoundValue) (o : Option ℕ) → IsFound start x → IsFound start (with_step x o)
 found_with_step start x None f = f
 found_with_step start x (Some a) f = found_one_more start x a f
 
-found_settled : (start : CoreValue) (x : FoundValue) (n : ℕ) → IsFound start x → IsFound start (settled n x)
+pub found_settled : (start : CoreValue) (x : FoundValue) (n : ℕ) → IsFound start x → IsFound start (settled n x)
 found_settled start x zero f = f
 found_settled start x (suc n) f = found_with_step start (settled n x) (least_quiet (settled n x).core) (found_settled start x n f)
 
-pub found_next : (start : CoreValue) (x : FoundValue) (a : ℕ) → IsFound start x → IsFound start (next a x)
-found_next start x a f = found_settled start (one_more a x) (steps_bound (one_more a x).core.module_run) (found_one_more start x a f)
+-- who is settled was found
+pub settled_found : (start : CoreValue) (x : FoundValue) → IsSettled start x → IsFound start x
+settled_found start x s = subst (IsFound start) (sym s.2) (found_settled start s.0 (steps_bound s.0.core.module_run) s.1)
 
-pub found_first : (start : CoreValue) → IsFound start (first_found start)
-found_first start =
-    found_settled start (record { core = start; printed = []; schedule = [] }) (steps_bound start.module_run) (record { module_is = refl; legal = refl; prints = refl })
+pub settled_next : (start : CoreValue) (x : FoundValue) (a : ℕ) → IsFound start x → IsSettled start (next a x)
+settled_next start x a f = (one_more a x, found_one_more start x a f, refl)
+
+pub settled_first : (start : CoreValue) → IsSettled start (first_found start)
+settled_first start = (record { core = start; printed = []; schedule = [] }, record { module_is = refl; legal = refl; prints = refl }, refl)
 
 -- where there is no quiet step, no more are taken
 pub settled_all : (x y : FoundValue) (k n : ℕ) → k ≤ n → y ≡ settled k x → least_quiet y.core ≡ None → y ≡ settled n x

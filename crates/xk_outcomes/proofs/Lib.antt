@@ -1,6 +1,7 @@
 mod DigestLemmas
 mod SearchLemmas
 mod FoundLemmas
+mod RestLemmas
 mod EntriesLemmas
 mod ExplorationLemmas
 mod RisingLemmas

@@ -15,10 +15,10 @@ use Rattle.xk_outcomes.specs.Found.{FoundValue}
 use Rattle.xk_outcomes.specs.declared.listing.Outcome.{Outcome}
 use Rattle.xk_outcomes.specs.declared.order.Order.{Order}
 use Rattle.xk_outcomes.specs.declared.order.Order.TheVariants as order
-use Rattle.xk_outcomes.specs.Search.{AreFound, AreAllFound, AreDifferent}
+use Rattle.xk_outcomes.specs.Search.{AreFound, AreAllFound, AreAtRest, AreDifferent}
 use Rattle.xk_outcomes.specs.Rising.{ordered}
 use Rattle.xk_outcomes.specs.Listing.{IsOf, AreOf, AreNoted, AreShownIn, AreAllIn, KeepsListed}
-use Rattle.xk_outcomes.specs.Outcomes.{IsListed, IsOutcome, AreDistinct, AreShown, HasApart}
+use Rattle.xk_outcomes.specs.Outcomes.{IsAtRest, IsListed, IsOutcome, AreDistinct, AreShown, HasApart}
 use Rattle.xk_outcomes.specs.Sets.{IsRising, AreSetsShown, AreSetsDistinct, AreSetsAll}
 use Rattle.xk_outcomes.proofs.RisingLemmas.{is_rising, same_rising, one_rising}
 use Rattle.xk_outcomes.proofs.SearchLemmas.{stays, at_end, place}
@@ -100,24 +100,33 @@ all_listed order m args all list found noted schedule numbers o =
     let h = found schedule o.last o.legal o.over in
     subst (λ p. IsListed list (ordered order p)) (h.3 ∙ o.prints) (noted h.0 h.1 (slice_get_within all h.0 h.1 h.2) h.2 h.4)
 
--- each that was found has a schedule, and no two have the same world and numbers
-of_map : {X Y : Type 0} (f : X → Y) (xs : List X) (k : ℕ) (y : Y) → slice_get (map f xs) k ≡ Some y → (x : X) × (slice_get xs k ≡ Some x) × (f x ≡ y)
-of_map f [] k y h = absurd (none-some y h)
-of_map f (x ∷ xs) zero y h = (x, refl, same_Some (f x) y h)
-of_map f (x ∷ xs) (suc k) y h = of_map f xs k y h
+-- their schedules
+abbrev schedules : List FoundValue → List (List ℕ)
+schedules all = map (λ (x : FoundValue). x.schedule) all
 
-pub all_apart : (m : ModuleValue) (args : List ℤ) (all : List FoundValue) → AreFound (opening_core m args) all → AreDifferent all → HasApart m args (length all)
-all_apart m args all found different = (
-  map (λ (x : FoundValue). x.schedule) all,
+-- each is that of one of them
+scheduled : (all : List FoundValue) (k : ℕ) (p : List ℕ) → slice_get (schedules all) k ≡ Some p → (x : FoundValue) × (slice_get all k ≡ Some x) × (x.schedule ≡ p)
+scheduled [] k p h = absurd (none-some p h)
+scheduled (x ∷ all) zero p h = (x, refl, same_Some x.schedule p h)
+scheduled (x ∷ all) (suc k) p h = scheduled all k p h
+
+-- each that was found has a schedule and is at rest, and no two have the same world and numbers
+pub all_apart : (m : ModuleValue) (args : List ℤ) (all : List FoundValue) → AreFound (opening_core m args) all → AreAtRest all → AreDifferent all
+    → HasApart m args (length all)
+all_apart m args all found rest different = (
+  schedules all,
   length-map all (λ (x : FoundValue). x.schedule),
   record {
     legal = λ k p there.
-        let x = of_map (λ (x : FoundValue). x.schedule) all k p there in
-        let f = found k x.0 x.1 in
-        (x.0.core.world, ap (λ (l : List ℕ). run m l (opening m args)) (sym x.2) ∙ f.legal);
+        let x = scheduled all k p there in
+        let f = found k x.0 x.1 in (
+          x.0.core.world,
+          ap (λ (l : List ℕ). run m l (opening m args)) (sym x.2) ∙ f.legal,
+          subst (λ k. IsAtRest k x.0.core.world) f.module_is (rest k x.0 x.1),
+        );
     apart = λ i j p q w v hi hj lead_w lead_v alike same.
-        let x = of_map (λ (x : FoundValue). x.schedule) all i p hi in
-        let y = of_map (λ (x : FoundValue). x.schedule) all j q hj in
+        let x = scheduled all i p hi in
+        let y = scheduled all j q hj in
         let f = found i x.0 x.1 in
         let g = found j y.0 y.1 in
         let to_w : w ≡ x.0.core.world = same_through w x.0.core.world (sym lead_w ∙ (ap (λ (l : List ℕ). run m l (opening m args)) (sym x.2) ∙ f.legal)) in

@@ -13,15 +13,14 @@ use Rattle.xk_types.specs.Step.{Stepped, step}
 use Rattle.xk_types.specs.Schedule.{Through, run, is_local, events, events_on, number_printed, printed}
 use Rattle.xk_laws.proofs.ReachabilityLemmas.{same_through, first_step}
 use Rattle.xk_squares.proofs.ChangeSquareLemmas.{found_of}
-use Rattle.xk_core.specs.Core.{CoreValue}
 use Rattle.xk_outcomes.specs.Found.{FoundValue}
 use Rattle.xk_outcomes.specs.Digest.{world_digest}
-use Rattle.xk_outcomes.specs.Search.{IsFound, AreFound, IsGrown, Has, HasAfter, IsAt, IsKnown, AreDifferent, AreDigests, AreExpanded, found_digest}
+use Rattle.xk_outcomes.specs.Search.{IsGrown, Has, HasAfter, IsAt, IsKnown, AreDifferent, AreDigests, AreExpanded, found_digest}
 use Rattle.xk_outcomes.proofs.DigestLemmas.{alike_digests}
 
 -- ---- lists by number
 
-each_push : {X : Type 0} (P : X → Type 0) (xs : List X) (new : X) → ((k : ℕ) (x : X) → slice_get xs k ≡ Some x → P x) → P new → (k : ℕ) (x : X) → slice_get (xs ++ new ∷ []) k ≡ Some x → P x
+pub each_push : {X : Type 0} (P : X → Type 0) (xs : List X) (new : X) → ((k : ℕ) (x : X) → slice_get xs k ≡ Some x → P x) → P new → (k : ℕ) (x : X) → slice_get (xs ++ new ∷ []) k ≡ Some x → P x
 each_push P [] new all here zero x h = subst P (same_Some new x h) here
 each_push P [] new all here (suc i) x h = absurd (none-some x h)
 each_push P (z ∷ xs) new all here zero x h = all zero x h
@@ -84,9 +83,6 @@ printed_more m (b ∷ list) w v x a e h g =
 
 pub grown_push : (old new : List FoundValue) (x : FoundValue) → new ≡ old ++ x ∷ [] → IsGrown old new
 grown_push old new x e k y h = subst (λ l. slice_get l k ≡ Some y) (sym e) (stays old (x ∷ []) k y h)
-
-pub found_push : (start : CoreValue) (old new : List FoundValue) (x : FoundValue) → new ≡ old ++ x ∷ [] → AreFound start old → IsFound start x → AreFound start new
-found_push start old new x e all here k y h = each_push (IsFound start) old x all here k y (subst (λ l. slice_get l k ≡ Some y) e h)
 
 pub has_push : (old new : List FoundValue) (x : FoundValue) → new ≡ old ++ x ∷ [] → Has new x.core.world x.printed
 has_push old new x e = (length old, x, subst (λ l. slice_get l (length old) ≡ Some x) (sym e) (at_end old x), (refl, refl))

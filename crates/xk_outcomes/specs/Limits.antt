@@ -14,8 +14,8 @@ usual_limit activities = min (4_000_000 / (1 + activities)) 40_000
 abbrev pub limit_of : Option ℕ → ℕ → Limit
 limit_of given activities = record { entries = unwrap_or given (usual_limit activities); outcomes = unwrap_or given (usual_limit activities) }
 
--- So many worlds were kept, no two of which are alike where the same was printed. If these outcomes aren't said to be all, those worlds are as many as
--- the limit says, or these outcomes are.
+-- So many worlds at rest were kept, no two of which are alike where the same was printed. If these outcomes aren't said to be all, those worlds are as
+-- many as the limit says, or these outcomes are.
 pub record GoesFar (m : ModuleValue) (args : List ℤ) (limit : Limit) (list : List Outcome) (complete : Bool) : Type 0 where
   pub entries : ℕ
   pub apart : HasApart m args entries

@@ -1,11 +1,12 @@
 -- What the runs of a module print: all that a program can print, in whichever order its activities take their steps. X10 Language
 -- Specification 2.4, chapter Activities, leaves that order open, and the program ends when all have ended (Initial activity).
-use Rattle.std.specs.Prelude.{◌≡◌, ℕ, ℤ, true, List, length, Some, slice_get}
+use Rattle.std.specs.Prelude.{◌≡◌, ℕ, ℤ, true, false, List, length, Some, slice_get}
 use Rattle.xk_types.specs.Code.{ModuleValue}
 use Rattle.xk_types.specs.World.{World, opening}
 use Rattle.xk_types.specs.Schedule.{Through, run, all_ended, printed}
 use Rattle.xk_types.specs.Logs.{schedule_of}
 use Rattle.xk_squares.specs.PlainWorlds.{AreAlike}
+use Rattle.xk_squares.specs.QuietSteps.{has_quiet_step}
 use Rattle.xk_outcomes.specs.declared.listing.Outcome.{Outcome}
 
 -- a legal schedule of the module with these arguments, after which all have ended, and which prints these numbers
@@ -33,9 +34,14 @@ AreAll m args list = (schedule : List ℕ) (numbers : List ℤ) → IsOutcome m 
 
 -- ---- how far a search went
 
--- These schedules are legal, and no two of them lead to worlds that are alike (but for numbers of steps and phases) and print the same on the way.
+-- nobody has a quiet step: whoever can take a step is about to print, to make a clock, to start an activity, or to read or change a shared number
+abbrev pub IsAtRest : ModuleValue → World → Type 0
+IsAtRest m w = (a : ℕ) → has_quiet_step m w a ≡ false
+
+-- These schedules are legal and lead to worlds at rest, and no two of them lead to worlds that are alike (but for numbers of steps and phases) and print
+-- the same on the way.
 pub record AreApart (m : ModuleValue) (args : List ℤ) (schedules : List (List ℕ)) : Type 0 where
-  pub legal : (k : ℕ) (p : List ℕ) → slice_get schedules k ≡ Some p → (w : World) × (run m p (opening m args) ≡ Through w)
+  pub legal : (k : ℕ) (p : List ℕ) → slice_get schedules k ≡ Some p → (w : World) × (run m p (opening m args) ≡ Through w) × IsAtRest m w
   pub apart : (i j : ℕ) (p q : List ℕ) (w v : World) → slice_get schedules i ≡ Some p → slice_get schedules j ≡ Some q
       → run m p (opening m args) ≡ Through w → run m q (opening m args) ≡ Through v
       → AreAlike w v → printed m p (opening m args) ≡ printed m q (opening m args) → i ≡ j

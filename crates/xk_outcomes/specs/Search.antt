@@ -9,8 +9,9 @@ use Rattle.xk_types.specs.Schedule.{Through, run, all_ended, number_printed, pri
 use Rattle.xk_squares.specs.PlainWorlds.{AreAlike}
 use Rattle.xk_squares.specs.QuietSteps.{has_quiet_step}
 use Rattle.xk_core.specs.Core.{CoreValue}
-use Rattle.xk_outcomes.specs.Found.{FoundValue}
+use Rattle.xk_outcomes.specs.Found.{FoundValue, at_rest}
 use Rattle.xk_outcomes.specs.Digest.{world_digest}
+use Rattle.xk_outcomes.specs.Outcomes.{IsAtRest}
 
 -- ---- one that was found
 
@@ -29,6 +30,17 @@ LeadsQuietly m (a ∷ list) w v = (has_quiet_step m w a ≡ true) × (u : World)
 
 abbrev pub AreFound : CoreValue → List FoundValue → Type 0
 AreFound start all = (k : ℕ) (x : FoundValue) → slice_get all k ≡ Some x → IsFound start x
+
+-- it was found, and then quiet steps were taken as long as there was one
+abbrev pub IsSettled : CoreValue → FoundValue → Type 0
+IsSettled start x = (y : FoundValue) × IsFound start y × (x ≡ at_rest y)
+
+abbrev pub AreSettled : CoreValue → List FoundValue → Type 0
+AreSettled start all = (k : ℕ) (x : FoundValue) → slice_get all k ≡ Some x → IsSettled start x
+
+-- nobody has a quiet step in any of their worlds
+abbrev pub AreAtRest : List FoundValue → Type 0
+AreAtRest all = (k : ℕ) (x : FoundValue) → slice_get all k ≡ Some x → IsAtRest x.core.module_run x.core.world
 
 -- what was there stays where it is
 abbrev pub IsGrown : List FoundValue → List FoundValue → Type 0

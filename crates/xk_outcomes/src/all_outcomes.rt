@@ -59,7 +59,7 @@ pub fn outcomes(
     // A limit was met where it isn't complete: so many are kept, or so many are listed.
     ensures limit { IfOk result (λ r. r.complete ≡ false
         → (limit.entries ≤ r.entries) ⊎ (limit.outcomes ≤ length r.list.items)) }
-    // There are as many as are kept: no two of them are alike and have printed the same.
+    // There are as many as are kept, each at rest: no two of them are alike and have printed the same.
     ensures kept { IfOk result (λ r. HasApart verified.now arguments.now r.entries) }
 {
     let found = told_in(alloc, Order::Printed, verified, arguments, limit)?;

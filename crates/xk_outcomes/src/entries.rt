@@ -4,7 +4,7 @@ ghost use Rattle.std.specs.Prelude.{◌≡◌, ◌<◌, true, false, length, sli
 ghost use Rattle.std.specs.Bool.{Decides};
 ghost use Rattle.xk_outcomes.specs.Entries.{first_entry};
 ghost use Rattle.xk_outcomes.specs.Found.{FoundValue, along, first_found, next};
-ghost use Rattle.xk_outcomes.specs.Search.{AreDifferent, AreFound, Has, IsAt, IsFound, IsGrown, found_digest};
+ghost use Rattle.xk_outcomes.specs.Search.{AreDifferent, AreFound, AreSettled, Has, IsAt, IsFound, IsGrown, found_digest};
 
 use crate::digest::digest_of;
 use crate::found::{Found, beginning};
@@ -96,6 +96,7 @@ impl<'m> Entries<'m> {
     pub fn len(&self) -> usize
         ensures count { result ≡ length self.now.all }
         ensures found { AreFound self.now.start self.now.all }
+        ensures settled { AreSettled self.now.start self.now.all }
         ensures different { AreDifferent self.now.all }
     {
         self.digests.len()

@@ -24,6 +24,7 @@ impl<T: Drop> From<AllocFailed<T>> for ListFault {
 
     ghost from_gives = { λ _ e. e ≡ fault.OutOfMemory };
 
+    /// Whatever was to be kept: its memory was refused.
     fn from(_e: AllocFailed<T>) -> ListFault {
         ListFault::OutOfMemory
     }

@@ -2,7 +2,7 @@
 
 ghost use Rattle.std.specs.Prelude.{◌≡◌, ◌<◌, ◌≤◌, ℕ, true, false, length, slice_get, IfOk, OnOk, Some};
 ghost use Rattle.xk_outcomes.specs.Found.{FoundValue};
-ghost use Rattle.xk_outcomes.specs.Search.{AreAllFound, AreDifferent, AreExpanded, AreFound, HasAfter, IsGrown};
+ghost use Rattle.xk_outcomes.specs.Search.{AreAllFound, AreAtRest, AreDifferent, AreExpanded, AreFound, HasAfter, IsGrown};
 
 use crate::entries::Entries;
 use crate::found::Found;
@@ -95,6 +95,7 @@ pub fn explore<'m>(alloc: Global, start: Core<'m>, limit: usize) -> Result<Explo
     ensures found { IfOk result (λ r. AreFound start.entry r.found.all) }
     ensures all { IfOk result (λ r. r.complete ≡ true → AreAllFound start.entry r.found.all) }
     ensures limit { IfOk result (λ r. r.complete ≡ false → limit ≤ length r.found.all) }
+    ensures rest { IfOk result (λ r. AreAtRest r.found.all) }
     ensures different { IfOk result (λ r. AreDifferent r.found.all) }
 {
     let verified = start.module();
@@ -102,7 +103,7 @@ pub fn explore<'m>(alloc: Global, start: Core<'m>, limit: usize) -> Result<Explo
     let _accepted = verified.module();
     let mut found = Entries::open(alloc, start)?;
     let complete = search(alloc, &mut found, limit)?;
-    // For `found` and `different`.
+    // For `found`, `rest` and `different`.
     let _count = found.len();
     Ok(Explored { found, complete })
 }

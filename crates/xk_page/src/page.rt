@@ -5,8 +5,9 @@ ghost use Rattle.xk_events.specs.Events.{no_text, places_of};
 ghost use Rattle.xk_picture.specs.Picture.{is_drawn};
 ghost use Rattle.xk_page.specs.Page.{behind_picture, behind_source, escaped, moments, page_by, page_head, page_of, page_text};
 
+use crate::furniture::{BEHIND, LISTS};
 use crate::moments::push_moments;
-use crate::texts::{push_behind_picture, push_behind_source, push_escaped, push_head, push_tail};
+use crate::texts::{push_escaped, push_head, push_tail, put};
 use std::alloc::{AllocError, Global};
 use xk_events::Places;
 use xk_lanes::{Drawing, Window};
@@ -15,15 +16,16 @@ use xk_picture::{module_picture, source_picture};
 use xk_scheduler::Ended;
 
 /// Adds all that stands before the moments.
+#[tactic(auto, unfolding(crate::specs::Page::behind_source, crate::specs::Page::behind_picture))]
 fn push_front(out: &mut Vec<u8>, text: &[u8], picture: &[u8]) -> Result<(), AllocError>
     ensures { OnOk result (out.new.items ≡ ((((out.old.items ++ page_head)
         ++ escaped text.now) ++ behind_source) ++ picture.now) ++ behind_picture) }
 {
     push_head(out)?;
     push_escaped(out, text)?;
-    push_behind_source(out)?;
+    put(out, LISTS)?;
     out.extend_from_slice(picture)?;
-    push_behind_picture(out)
+    put(out, BEHIND)
 }
 
 /// The page of a run, by its source text and its picture.

@@ -1,11 +1,9 @@
 //! Pieces of the page.
 
 ghost use Rattle.std.specs.Prelude.{◌≡◌, ◌++◌, OnOk};
-ghost use Rattle.xk_page.specs.Page.{behind_picture, behind_source, escaped, escaped_byte, page_head, page_tail};
+ghost use Rattle.xk_page.specs.Page.{escaped, escaped_byte, page_head, page_tail};
 
-use crate::furniture::{
-    BEGINNING, BEHIND, COLOURS, LISTS, MARKS, MOVER, PLACES, READER, SHOWER, TOP,
-};
+use crate::furniture::{BEGINNING, COLOURS, MARKS, MOVER, PLACES, READER, SHOWER, TOP};
 use std::alloc::AllocError;
 
 /// Adds a text.
@@ -25,22 +23,6 @@ pub(crate) fn push_head(out: &mut Vec<u8>) -> Result<(), AllocError>
     put(out, PLACES)?;
     put(out, MARKS)?;
     put(out, BEGINNING)
-}
-
-/// Adds what stands between the source text and the picture.
-#[tactic(auto, unfolding(crate::specs::Page::behind_source))]
-pub(crate) fn push_behind_source(out: &mut Vec<u8>) -> Result<(), AllocError>
-    ensures { OnOk result (out.new.items ≡ out.old.items ++ behind_source) }
-{
-    put(out, LISTS)
-}
-
-/// Adds what stands between the picture and the moments.
-#[tactic(auto, unfolding(crate::specs::Page::behind_picture))]
-pub(crate) fn push_behind_picture(out: &mut Vec<u8>) -> Result<(), AllocError>
-    ensures { OnOk result (out.new.items ≡ out.old.items ++ behind_picture) }
-{
-    put(out, BEHIND)
 }
 
 /// Adds what stands behind the moments.

@@ -13,8 +13,8 @@ use Rattle.xk_events.specs.declared.steps.RunStep.{RunStep}
 use Rattle.xk_events.specs.Steps.{Teller, run_step, told_of_run}
 use Rattle.xk_events.specs.Events.{PlacesValue, event_words}
 use Rattle.xk_lanes.specs.declared.window.Window.{Window}
-use Rattle.xk_lanes.specs.Fields.{each_below}
-use Rattle.xk_lanes.specs.Lanes.{any_behind, any_below, bar_label, grid_for, is_asked, is_on, phase_of, spot, title}
+use Rattle.xk_events.specs.Worlds.{each_below, phase_of}
+use Rattle.xk_lanes.specs.Lanes.{any_behind, any_below, bar_label, grid_for, is_asked, is_on, most_lanes, spot, title}
 use Rattle.xk_picture.specs.declared.sheet.Sheet.{Sheet}
 use Rattle.xk_picture.specs.Sheet.{band_left, labels, lane_left, middle, sheet_of, wide}
 use Rattle.xk_picture.specs.Shapes.{arrow, box_frame, box_head, box_words, described, front, label, lane_title, shape, stroke, svg_head, too_large, top}
@@ -37,13 +37,17 @@ tell_rows window a w v e = rows_told window v e
 abbrev pub rows_of : Window → ModuleValue → List ℤ → List Entry → List ℕ
 rows_of window m args log = told_of_run (tell_rows window) m args log
 
--- in which row step n is drawn; there are 2,000 at most
+-- How many rows are drawn at most: where there are more there is no picture (`fits`), and so no row of one stands further down.
+abbrev pub most_rows : ℕ
+most_rows = 2000
+
+-- in which row step n is drawn: behind those of earlier steps
 abbrev pub row_of : List ℕ → ℕ → ℕ
-row_of rows n = min (count_by (λ k. nat_lt k n) rows) 2000
+row_of rows n = min (count_by (λ k. nat_lt k n) rows) most_rows
 
 -- in which row the bar of clock c is drawn, which advanced in the step that led here: below the step, and those of smaller clocks
 abbrev pub bar_row : List ℕ → World → ℕ → ℕ
-bar_row rows v c = row_of rows v.steps + (1 + min (count_by (λ d. nat_lt d c) (advanced_now v)) 2000)
+bar_row rows v c = row_of rows v.steps + (1 + min (count_by (λ d. nat_lt d c) (advanced_now v)) most_rows)
 
 -- ---- what stands in each row
 
@@ -97,12 +101,12 @@ start_by s k r _ = []
 abbrev pub other_line : Sheet → ModuleValue → World → RunStep → ℕ → ℕ → List ℕ
 other_line s m v r k b = if nat_eq b r.act then [] else line s m v k b
 
-unfoldable pub row_at : Sheet → PlacesValue → ModuleValue → World → RunStep → ℕ → List ℕ
-row_at s p m v r k =
+unfoldable pub drawn_row : Sheet → PlacesValue → ModuleValue → World → RunStep → ℕ → List ℕ
+drawn_row s p m v r k =
     (((each_below (other_line s m v r k) s.lanes ++ bands s v k) ++ front (top k + 16) r.number (spot p r)) ++ boxed s k r (spot p r) (event_words r)) ++ start_by s k r r.event
 
 abbrev pub step_row : Sheet → List ℕ → PlacesValue → ModuleValue → World → RunStep → List ℕ
-step_row s rows p m v r = if is_local r.event then [] else row_at s p m v r (row_of rows r.number)
+step_row s rows p m v r = if is_local r.event then [] else drawn_row s p m v r (row_of rows r.number)
 
 -- ---- the row of a bar
 
@@ -118,31 +122,31 @@ bar_piece s k b here before behind =
     stroke_if (before && (here || behind)) (lane_left s b) (top k + 12) s.half
     ++ (stroke_if (behind && (here || before)) (middle s b) (top k + 12) s.half ++ ring_if here (middle s b) (top k + 12))
 
-abbrev pub bar_lane : Sheet → World → ℕ → ℕ → ℕ → List ℕ
-bar_lane s v c k b = bar_piece s k b (is_on v c b) (any_below (is_on v c) b) (any_behind (is_on v c) b s.lanes)
+abbrev pub lane_strokes : Sheet → World → ℕ → ℕ → ℕ → List ℕ
+lane_strokes s v c k b = bar_piece s k b (is_on v c b) (any_below (is_on v c) b) (any_behind (is_on v c) b s.lanes)
 
-unfoldable pub bar_at : Sheet → ModuleValue → World → ℕ → ℕ → ℕ → List ℕ
-bar_at s m v a c k =
-    ((each_below (line s m v k) s.lanes ++ bands s v k) ++ each_below (bar_lane s v c k) s.lanes) ++ label (labels s) (top k + 16) (bar_label v a c)
+unfoldable pub drawn_bar : Sheet → ModuleValue → World → ℕ → ℕ → ℕ → List ℕ
+drawn_bar s m v a c k =
+    ((each_below (line s m v k) s.lanes ++ bands s v k) ++ each_below (lane_strokes s v c k) s.lanes) ++ label (labels s) (top k + 16) (bar_label v a c)
 
-abbrev pub bar : Sheet → List ℕ → ModuleValue → World → ℕ → ℕ → List ℕ
-bar s rows m v a c = bar_at s m v a c (bar_row rows v c)
+abbrev pub clock_bar : Sheet → List ℕ → ModuleValue → World → ℕ → ℕ → List ℕ
+clock_bar s rows m v a c = drawn_bar s m v a c (bar_row rows v c)
 
 -- ---- the picture
 
-abbrev pub row_and_bars : Sheet → List ℕ → PlacesValue → ModuleValue → World → RunStep → List ℕ
-row_and_bars s rows p m v r = step_row s rows p m v r ++ flat_map (bar s rows m v r.act) (advanced_now v)
+abbrev pub rows_of_step : Sheet → List ℕ → PlacesValue → ModuleValue → World → RunStep → List ℕ
+rows_of_step s rows p m v r = step_row s rows p m v r ++ flat_map (clock_bar s rows m v r.act) (advanced_now v)
 
 -- of a step that is shown: its row, and below it the bars
 abbrev pub tell_picture : Sheet → List ℕ → PlacesValue → ModuleValue → Teller ℕ
-tell_picture s rows p m a w v e = if is_shown s.window v e then row_and_bars s rows p m v (run_step a w v e) else []
+tell_picture s rows p m a w v e = if is_shown s.window v e then rows_of_step s rows p m v (run_step a w v e) else []
 
 abbrev pub lane_head : Sheet → ℕ → List ℕ
 lane_head s b = lane_title (middle s b) (title b)
 
 -- how high the picture is
 abbrev pub high : ℕ → ℕ
-high rows = top (min rows 2000) + 16
+high rows = top (min rows most_rows) + 16
 
 -- what stands in each picture
 abbrev pub furniture : List ℕ
@@ -152,9 +156,9 @@ unfoldable pub head : Sheet → ℕ → ℕ → List ℕ
 head s activities rows =
     (((svg_head (wide s) (high rows) ++ described activities rows) ++ furniture) ++ each_below (lane_head s) s.lanes)
 
--- there are no more than 2,000 rows and 64 activities
+-- there are no more rows and activities than are drawn
 abbrev pub fits : ℕ → ℕ → Bool
-fits rows activities = nat_le rows 2000 && nat_le activities 64
+fits rows activities = nat_le rows most_rows && nat_le activities most_lanes
 
 abbrev pub picture_in : Sheet → List ℕ → PlacesValue → ModuleValue → List Entry → World → List ℕ
 picture_in s rows p m log last =

@@ -2,8 +2,8 @@
 
 ghost use Rattle.std.specs.Prelude.{◌≡◌, ◌<◌, ◌++◌, length, flat_map, IfOk, OnOk, string_bytes};
 ghost use Rattle.xk_core.specs.Core.{advanced_now};
-ghost use Rattle.xk_lanes.specs.Fields.{each_below};
-ghost use Rattle.xk_picture.specs.Picture.{bar, bar_at, bar_lane, bar_piece, ring_if, stroke_if};
+ghost use Rattle.xk_events.specs.Worlds.{each_below};
+ghost use Rattle.xk_picture.specs.Picture.{bar_piece, clock_bar, drawn_bar, lane_strokes, ring_if, stroke_if};
 
 use crate::layout::bar_row;
 use crate::lines::{push_bands, push_lines, put};
@@ -58,7 +58,7 @@ fn bar_piece(
 }
 
 /// What the bar of a clock shows in a lane.
-fn bar_lane(
+fn lane_strokes(
     alloc: Global,
     core: &Core<'_>,
     sheet: Sheet,
@@ -68,7 +68,7 @@ fn bar_lane(
 ) -> Result<String, AllocError>
     requires { clock < length core.now.world.clocks }
     ensures { IfOk result (λ t. string_bytes t
-        ≡ bar_lane sheet core.now.world clock row lane) }
+        ≡ lane_strokes sheet core.now.world clock row lane) }
 {
     let here = is_on(core, clock, lane);
     let before = any_below(core, clock, lane);
@@ -87,17 +87,17 @@ fn push_bar_lanes(
 ) -> Result<(), AllocError>
     requires { clock < length core.now.world.clocks }
     ensures { OnOk result (out.new.items ≡ out.old.items
-        ++ each_below (bar_lane sheet core.now.world clock row) sheet.lanes) }
+        ++ each_below (lane_strokes sheet core.now.world clock row) sheet.lanes) }
 {
     for lane in 0..sheet.lanes {
-        let text = bar_lane(alloc, core, sheet, clock, row, lane)?;
+        let text = lane_strokes(alloc, core, sheet, clock, row, lane)?;
         put(out, text.as_str())?;
     }
     Ok(())
 }
 
 /// Adds the row of the bar of a clock that advanced in the last step, which this activity took.
-#[tactic(auto, unfolding(crate::specs::Picture::bar_at))]
+#[tactic(auto, unfolding(crate::specs::Picture::drawn_bar))]
 fn push_bar_at(
     alloc: Global,
     out: &mut Vec<u8>,
@@ -109,7 +109,7 @@ fn push_bar_at(
 ) -> Result<(), AllocError>
     requires { clock < length core.now.world.clocks }
     ensures { OnOk result (out.new.items ≡ out.old.items
-        ++ bar_at sheet core.now.module_run core.now.world act clock row) }
+        ++ drawn_bar sheet core.now.module_run core.now.world act clock row) }
 {
     let words = bar_label(alloc, core, act, clock)?;
     let text = label(alloc, labels(sheet), top(row) + 16, words.as_str())?;
@@ -131,7 +131,7 @@ fn push_bars_of(
 ) -> Result<(), AllocError>
     requires { clocks.now ≡ advanced_now core.now.world }
     ensures { OnOk result (out.new.items ≡ out.old.items
-        ++ flat_map (bar sheet rows.now core.now.module_run core.now.world act) clocks.now) }
+        ++ flat_map (clock_bar sheet rows.now core.now.module_run core.now.world act) clocks.now) }
 {
     for clock in clocks {
         let row = bar_row(rows, core, clocks, *clock);
@@ -150,7 +150,7 @@ pub(crate) fn push_bars(
     act: u32,
 ) -> Result<(), AllocError>
     ensures { OnOk result (out.new.items ≡ out.old.items
-        ++ flat_map (bar sheet rows.now core.now.module_run core.now.world act)
+        ++ flat_map (clock_bar sheet rows.now core.now.module_run core.now.world act)
         (advanced_now core.now.world)) }
 {
     let clocks = advanced(alloc, core)?;

@@ -1,7 +1,7 @@
 //! What stands in each row: how activities stand, and the phases of clocks.
 
 ghost use Rattle.std.specs.Prelude.{◌≡◌, ◌++◌, IfOk, OnOk, string_bytes};
-ghost use Rattle.xk_lanes.specs.Fields.{each_below};
+ghost use Rattle.xk_events.specs.Worlds.{each_below};
 ghost use Rattle.xk_picture.specs.Picture.{band, bands, line, other_line, parity};
 
 use crate::shapes::{shape, top};

@@ -5,8 +5,8 @@ ghost use Rattle.xk_types.specs.Schedule.{Through, is_enabled, run};
 ghost use Rattle.xk_core.specs.Core.{StepsTo};
 ghost use Rattle.xk_events.specs.Steps.{IsLegalFrom, told, told_of_run};
 ghost use Rattle.xk_events.specs.Events.{no_text, places_of};
-ghost use Rattle.xk_lanes.specs.Fields.{each_below};
-ghost use Rattle.xk_picture.specs.Picture.{fits, furniture, head, high, is_drawn, lane_head, picture_by, picture_in, picture_text, row_and_bars, sheet_for, tell_picture};
+ghost use Rattle.xk_events.specs.Worlds.{each_below};
+ghost use Rattle.xk_picture.specs.Picture.{fits, furniture, head, high, is_drawn, lane_head, picture_by, picture_in, picture_text, rows_of_step, sheet_for, tell_picture};
 
 use crate::bars::push_bars;
 use crate::furniture::{legend, shapes, style};
@@ -39,7 +39,7 @@ fn push_row_and_bars(
     places: &Places<'_>,
     step: &RunStep,
 ) -> Result<(), AllocError>
-    ensures { OnOk result (out.new.items ≡ out.old.items ++ row_and_bars
+    ensures { OnOk result (out.new.items ≡ out.old.items ++ rows_of_step
         sheet rows.now places.now core.now.module_run core.now.world step.now) }
 {
     push_row(alloc, out, core, sheet, rows, places, step)?;

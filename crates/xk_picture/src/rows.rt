@@ -4,7 +4,7 @@ ghost use Rattle.std.specs.Prelude.{◌≡◌, ◌+◌, ◌++◌, IfOk, OnOk, st
 ghost use Rattle.xk_events.specs.Events.{event_words};
 ghost use Rattle.xk_lanes.specs.Lanes.{spot};
 ghost use Rattle.xk_picture.specs.Shapes.{front, top};
-ghost use Rattle.xk_picture.specs.Picture.{boxed, kind, row_at, start_by, step_row};
+ghost use Rattle.xk_picture.specs.Picture.{boxed, drawn_row, kind, start_by, step_row};
 
 use crate::layout::row_of;
 use crate::lines::{push_bands, push_other_lines, put};
@@ -102,7 +102,7 @@ fn push_step_itself(
 }
 
 /// Adds the row of a step that led to the core.
-#[tactic(auto, unfolding(crate::specs::Picture::row_at))]
+#[tactic(auto, unfolding(crate::specs::Picture::drawn_row))]
 fn push_row_at(
     alloc: Global,
     out: &mut Vec<u8>,
@@ -113,7 +113,7 @@ fn push_row_at(
     row: u32,
 ) -> Result<(), AllocError>
     ensures { OnOk result (out.new.items ≡ out.old.items
-        ++ row_at sheet places.now core.now.module_run core.now.world step.now row) }
+        ++ drawn_row sheet places.now core.now.module_run core.now.world step.now row) }
 {
     push_other_lines(alloc, out, core, sheet, step, row)?;
     push_bands(alloc, out, core, sheet, row)?;

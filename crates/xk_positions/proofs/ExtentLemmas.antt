@@ -10,7 +10,7 @@ use Rattle.xk_positions.specs.Lines.{first_line, is_blank, line_start, line_star
 use Rattle.xk_positions.proofs.Fronts.{blanks_inside, line_inside, words_are}
 
 -- as many extents as lines
-pub extent_there : (text : List ℕ) (extents : List Extent) (k start : ℕ) → extents ≡ map (extent_of text) (line_starts text)
+extent_there : (text : List ℕ) (extents : List Extent) (k start : ℕ) → extents ≡ map (extent_of text) (line_starts text)
     → slice_get (line_starts text) k ≡ Some start → k < length extents
 extent_there text extents k start are listed =
     let within = slice_get_within (line_starts text) k start listed in

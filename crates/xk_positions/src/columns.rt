@@ -8,7 +8,7 @@ use std::alloc::{AllocError, Global};
 use std::marker::Model;
 
 /// How far two marks are from one another.
-const STEP: usize = 256;
+const STEP: usize = 64;
 
 /// How many columns the bytes take.
 pub(crate) fn columns(bytes: &[u8]) -> usize
@@ -53,7 +53,7 @@ fn marks_of(alloc: Global, text: &[u8]) -> Result<Vec<usize>, AllocError>
 /// What stands from a mark up to the next one, or to the text's end.
 fn stretch(text: &[u8], from: usize) -> &[u8]
     requires { from ≤ length text.now }
-    ensures { result.now ≡ take 256 (drop from text.now) }
+    ensures { result.now ≡ take 64 (drop from text.now) }
 {
     let rest = &text[from..];
     &rest[..rest.len().min(STEP)]

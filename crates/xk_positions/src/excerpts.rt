@@ -62,6 +62,7 @@ fn push_times(out: &mut Vec<u8>, byte: u8, times: usize) -> Result<(), AllocErro
     Ok(())
 }
 
+/// Adds blanks as wide as the line's number with a blank on each side.
 fn push_margin(out: &mut Vec<u8>, line: usize) -> Result<(), AllocError>
     ensures { OnOk result (out.new.items ≡ out.old.items ++ margin line) }
 {
@@ -70,6 +71,7 @@ fn push_margin(out: &mut Vec<u8>, line: usize) -> Result<(), AllocError>
     push_times(out, b' ', width)
 }
 
+/// Adds the line with the bar alone, which stands above the text.
 fn push_rule_line(out: &mut Vec<u8>, line: usize) -> Result<(), AllocError>
     ensures { OnOk result (out.new.items ≡ out.old.items ++ rule_line line) }
 {
@@ -96,6 +98,7 @@ fn push_text_line(
     out.extend_from_slice(b"\n")
 }
 
+/// Adds the line below the text: so many carets, `indent` columns in.
 fn push_caret_line(
     out: &mut Vec<u8>,
     line: usize,

@@ -21,6 +21,7 @@ fn continuation_len(first: u8) -> usize
     }
 }
 
+/// Whether the bytes are UTF-8 as a whole.
 fn is_utf8(bytes: &[u8]) -> bool
     ensures { result ≡ is_utf8 bytes.now }
 {
@@ -37,6 +38,7 @@ fn is_control_pair(bytes: &[u8]) -> bool
     }
 }
 
+/// Whether the bytes can be shown as they are: UTF-8, and no control sign of two bytes.
 fn is_character(bytes: &[u8]) -> bool
     ensures { result ≡ is_character bytes.now }
 {
@@ -93,6 +95,7 @@ pub(crate) fn skip_signs(text: &[u8], count: usize) -> &[u8]
     rest
 }
 
+/// The sign for a hexadecimal digit.
 fn hex_digit(digit: u8) -> u8
     requires { digit < 16 }
     ensures { result ≡ hex_digit digit }
@@ -104,6 +107,7 @@ fn hex_digit(digit: u8) -> u8
     }
 }
 
+/// How a byte is shown that can't be shown as it is: `\xNN`.
 fn told(byte: u8) -> [u8; 4]
     ensures { result ≡ told byte }
 {

@@ -6,7 +6,7 @@ use Rattle.xk_races.specs.declared.deeds.Deed.{Deed}
 use Rattle.xk_races.specs.declared.deeds.Part.{Part}
 use Rattle.xk_races.specs.declared.deeds.Part.TheVariants as part
 use Rattle.xk_races.specs.Lists.{number_at, row_at, with_at, joined}
-use Rattle.xk_races.specs.Knowledge.{Known, Scopes, scoped, nothing_known, told_to, finish_of, heard, marked, told, with_acts, after}
+use Rattle.xk_races.specs.Knowledge.{Known, Scopes, scoped, nothing_known, told_to, finish_of, heard, marked, taught, with_acts, after}
 use Rattle.xk_races.specs.Order.{IsAt, IsOf, IsSignal, IsCounted, IsEnd, Reason, Own, Passed, Closed, Edge, finish_at, scopes_after}
 use Rattle.xk_races.proofs.RowLemmas.{with_at_same, with_at_other}
 use Rattle.xk_races.proofs.OrderLemmas.{Reaches, Tells, tells_none, tells_same, tells_joined, tells_marked, tells_within}
@@ -308,7 +308,7 @@ acts_plain ds n y e k h never =
     from m (inr (inr is, at)) = apart is_start e.part (part.Start y) never refl is
 
 acts_told : (ds : List Deed) (n y : ℕ) (e : Deed) (k : Known) → IsHeard ds n e k → (p : Part) → e.part ≡ p
-    → Tells ds (row_at (told e.step.act p k).acts y) (IsOf ds (suc n) y)
+    → Tells ds (row_at (taught e.step.act p k).acts y) (IsOf ds (suc n) y)
 acts_told ds n y e k h (part.Start b) is =
     tells_same ds (row_at (told_to k.acts b (row_at k.acts e.step.act)) y) (λ m. (IsOf ds n y m ⊎ ((e.step.act ≡ y) × (m ≡ n))) ⊎ ((y ≡ b) × (m ≡ n)))
     (IsOf ds (suc n) y) (λ m x. of_more ds n y e h.here m (to m x)) (λ m x. from m (of_less ds n y e h.here m x))
@@ -345,7 +345,7 @@ signals_plain ds n c e k h never =
     from m (inr x) = apart is_signal e.part (part.Signal c) never refl x.0
 
 signals_told : (ds : List Deed) (n c : ℕ) (e : Deed) (k : Known) → IsHeard ds n e k → (p : Part) → e.part ≡ p
-    → Tells ds (row_at (told e.step.act p k).signals c) (IsSignal ds (suc n) c)
+    → Tells ds (row_at (taught e.step.act p k).signals c) (IsSignal ds (suc n) c)
 signals_told ds n c e k h (part.Signal b) is =
     tells_same ds (row_at (told_to k.signals b (row_at k.acts e.step.act)) c) (λ m. IsSignal ds n c m ⊎ ((c ≡ b) × (m ≡ n))) (IsSignal ds (suc n) c)
     (λ m x. signal_more ds n c e h.here m (to m x)) (λ m x. from m (signal_less ds n c e h.here m x))
@@ -378,7 +378,7 @@ advances_plain ds n c e k h never =
     from m (inr x) = apart is_advance e.part (part.Advance c) never refl x.0
 
 advances_told : (ds : List Deed) (n c : ℕ) (e : Deed) (k : Known) → IsHeard ds n e k → (p : Part) → e.part ≡ p
-    → Tells ds (row_at (told e.step.act p k).advances c) (IsCounted ds (suc n) c)
+    → Tells ds (row_at (taught e.step.act p k).advances c) (IsCounted ds (suc n) c)
 advances_told ds n c e k h (part.Advance b) is =
     tells_same ds (row_at (told_to k.advances b (row_at k.signals b)) c) (λ m. IsCounted ds n c m ⊎ ((c ≡ b) × IsSignal ds n b m)) (IsCounted ds (suc n) c)
     (λ m x. counted_more ds n c e h.here m (to m x)) (λ m x. from m (counted_less ds n c e h.here m x))
@@ -410,7 +410,7 @@ ends_plain ds n f e k h never =
     from m (inr x) = apart is_end e.part part.End never refl x.0
 
 ends_told : (ds : List Deed) (n f : ℕ) (e : Deed) (k : Known) → IsHeard ds n e k → (p : Part) → e.part ≡ p
-    → Tells ds (row_at (told e.step.act p k).ends f) (IsEnd ds (suc n) f)
+    → Tells ds (row_at (taught e.step.act p k).ends f) (IsEnd ds (suc n) f)
 ends_told ds n f e k h part.End is =
     tells_same ds (row_at (told_to k.ends (finish_of e.step.act k) (row_at k.acts e.step.act)) f)
     (λ m. IsEnd ds n f m ⊎ ((f ≡ finish_of e.step.act k) × (m ≡ n))) (IsEnd ds (suc n) f)

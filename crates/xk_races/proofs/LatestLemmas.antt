@@ -5,7 +5,7 @@ use Rattle.std.specs.List.{list_any}
 use Rattle.std.specs.List.Sorted.{IsPermutation, IsSorted}
 use Rattle.std.specs.Ordering.{nat_cmp}
 use Rattle.std.proofs.lemmas.List.Sorted.{IsNonDecreasingBy-from_sort, list_any-IsPermutation}
-use Rattle.std.proofs.lemmas.Bool.{cases_eq, and_parts, and_from, or_cases, eqb-true, leb-false, lt-leb, false≢true, true≢false, not-true}
+use Rattle.std.proofs.lemmas.Bool.{cases_eq, and_parts, and_from, or_cases, eqb-true, leb-false, lt-leb, false≢true, true≢false, not-true, or_left, or_right}
 use Rattle.std.proofs.lemmas.List.{append-nil, get_or-set_same, get_or-set_other}
 use Rattle.std.proofs.lemmas.List.Folds.{list_any-append}
 use Rattle.xk_types.specs.declared.world.Event.{Event}
@@ -23,7 +23,7 @@ use Rattle.xk_races.specs.Knowledge.{Sight}
 use Rattle.xk_races.specs.Races.{clash, have_one_number, have_same_places, is_race, race, with_race, with_races_of}
 use Rattle.xk_races.specs.Accesses.{AreAllCovered, AreCovered, access_of, cell_accessed, is_new, is_race_of, latest_at, new_members, race_of, sights_at}
 use Rattle.xk_accesses.specs.Accesses.{Group, IsCovered, Latest, covers, groups_of, has_member, is_placed, is_same_place, kind_of, none_yet, single}
-use Rattle.xk_accesses.proofs.AccessLemmas.{any_from, any_left, any_right, covers_parts, place_true}
+use Rattle.xk_accesses.proofs.AccessLemmas.{any_from, covers_parts, place_true}
 use Rattle.xk_races.proofs.RowLemmas.{padded}
 use Rattle.xk_races.proofs.RaceListLemmas.{one_behind}
 use Rattle.xk_races.proofs.PlaceListLemmas.{some_tell_all}
@@ -100,10 +100,10 @@ new_among list y z (g ∷ groups) new h =
         → (list_any (nat_eq z.position) (new_members list y g) || list_any (nat_eq z.position) (flat_map (new_members list y) groups)) ≡ true
     of (inl e) rest =
         let b = and_parts (covers Place g.last z) (list_any (nat_eq z.position) g.members) e in
-        any_left (list_any (nat_eq z.position) (new_members list y g)) (list_any (nat_eq z.position) (flat_map (new_members list y) groups))
+        or_left (list_any (nat_eq z.position) (new_members list y g)) (list_any (nat_eq z.position) (flat_map (new_members list y) groups))
         (ap (λ c. list_any (nat_eq z.position) (if c then g.members else [])) (new g b.0) ∙ b.1)
     of (inr e) rest =
-        any_right (list_any (nat_eq z.position) (new_members list y g)) (list_any (nat_eq z.position) (flat_map (new_members list y) groups)) (rest e)
+        or_right (list_any (nat_eq z.position) (new_members list y g)) (list_any (nat_eq z.position) (flat_map (new_members list y) groups)) (rest e)
 
 -- ---- where nothing is added
 

@@ -33,7 +33,7 @@ leads_less : (ds : List Deed) (i : ℕ) (ks : List ℕ) (j : ℕ) → Leads ds i
 leads_less ds i [] j h = reason_less ds i j h.0 h.2
 leads_less ds i (k ∷ ks) j h = let a = leads_less ds i ks k h.0 in let b = reason_less ds k j h.1.0 h.1.2 in omega (arith, a, b)
 
-pub before_less : (ds : List Deed) (i j : ℕ) → Before ds i j → i < j
+before_less : (ds : List Deed) (i j : ℕ) → Before ds i j → i < j
 before_less ds i j h = leads_less ds i h.0 j h.1
 
 up_to_le : (ds : List Deed) (i k : ℕ) → IsUpTo ds i k → i ≤ k
@@ -117,7 +117,7 @@ leads_through : (ds : List Deed) (i k : ℕ) (ks js : List ℕ) (m : ℕ) → Le
 leads_through ds i k ks [] m h g = (h, g)
 leads_through ds i k ks (j ∷ js) m h g = (leads_through ds i k ks js j h g.0, g.1)
 
-up_to_through : (ds : List Deed) (i k m : ℕ) → IsUpTo ds i k → IsUpTo ds k m → IsUpTo ds i m
+pub up_to_through : (ds : List Deed) (i k m : ℕ) → IsUpTo ds i k → IsUpTo ds k m → IsUpTo ds i m
 up_to_through ds i k m (inl is) g = subst (λ j. IsUpTo ds j m) (sym is) g
 up_to_through ds i k m (inr h) (inl is) = inr (subst (λ j. Before ds i j) is h)
 up_to_through ds i k m (inr h) (inr g) = inr (g.0 ++ k ∷ h.0, leads_through ds i k h.0 g.0 m h.1 g.1)

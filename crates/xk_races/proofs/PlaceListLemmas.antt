@@ -4,14 +4,13 @@ use Rattle.std.specs.Prelude.{if◌then◌else◌, nat_eq}
 use Rattle.std.specs.Option.{option_to_list}
 use Rattle.std.specs.List.{list_any}
 use Rattle.std.specs.List.Sorted.{IsNonDecreasing}
-use Rattle.std.proofs.lemmas.Bool.{cases_order, eqb-true, or_cases, false≢true, true≢false}
+use Rattle.std.proofs.lemmas.Bool.{cases_order, eqb-true, or_cases, false≢true, true≢false, or_left, or_right}
 use Rattle.std.proofs.lemmas.List.Folds.{list_any-append}
 use Rattle.std.proofs.lemmas.Option.{same_Some}
 use Rattle.xk_races.specs.declared.pairs.Race.{Race}
 use Rattle.xk_races.specs.Knowledge.{Sight}
 use Rattle.xk_races.specs.Races.{have_same_places, is_race, race, with_race, with_races_of}
 use Rattle.xk_races.specs.Accesses.{sights_at}
-use Rattle.xk_accesses.proofs.AccessLemmas.{any_left, any_right}
 use Rattle.xk_races.proofs.RaceListLemmas.{same_places}
 
 -- ---- one race, told once
@@ -26,7 +25,7 @@ with_told r list = of (list_any (have_same_places r) list) refl
     of true e = e
     of false e =
         list_any-append (have_same_places r) list (r ∷ [])
-        ∙ any_right (list_any (have_same_places r) list) (have_same_places r r || false) (any_left (have_same_places r r) false (same_places r))
+        ∙ or_right (list_any (have_same_places r) list) (have_same_places r r || false) (or_left (have_same_places r r) false (same_places r))
 
 with_grows : (q r : Race) (list : List Race) → list_any (have_same_places q) list ≡ true → list_any (have_same_places q) (with_race r list) ≡ true
 with_grows q r list h = of (list_any (have_same_places r) list)
@@ -34,7 +33,7 @@ with_grows q r list h = of (list_any (have_same_places r) list)
     of : (b : Bool) → list_any (have_same_places q) (if b then list else list ++ r ∷ []) ≡ true
     of true = h
     of false =
-        list_any-append (have_same_places q) list (r ∷ []) ∙ any_left (list_any (have_same_places q) list) (have_same_places q r || false) h
+        list_any-append (have_same_places q) list (r ∷ []) ∙ or_left (list_any (have_same_places q) list) (have_same_places q r || false) h
 
 with_again : (r : Race) (list : List Race) → with_race r (with_race r list) ≡ with_race r list
 with_again r list = ap (λ b. if b then with_race r list else with_race r list ++ r ∷ []) (with_told r list)

@@ -4,7 +4,8 @@ use Rattle.std.specs.Prelude.{if◌then◌else◌, nat_eq}
 use Rattle.std.specs.List.{list_any}
 use Rattle.std.proofs.lemmas.Bool.{cases_lt, eq-eqb, false≢true}
 use Rattle.std.proofs.lemmas.List.{append_assoc}
-use Rattle.std.proofs.lemmas.Option.{same_Some}
+use Rattle.std.proofs.lemmas.Option.{same_Some, slice_get_within}
+use Rattle.xk_types.proofs.ListLemmas.{get-append_left}
 use Rattle.xk_events.specs.declared.steps.RunStep.{RunStep}
 use Rattle.xk_accesses.specs.Accesses.{is_same_place}
 use Rattle.xk_races.specs.declared.pairs.Race.{Race}
@@ -14,25 +15,9 @@ use Rattle.xk_races.specs.Exactness.{Has, AreSeenBefore, RacesAreExact}
 
 -- ---- lists
 
-in_front : {X : Type 0} (xs ys : List X) (i : ℕ) (x : X) → slice_get xs i ≡ Some x → slice_get (xs ++ ys) i ≡ Some x
-in_front [] ys i x h = absurd (none h)
-  where
-    none : slice_get [] i ≡ Some x → ⊥
-    none e = cc
-in_front (y ∷ xs) ys zero x h = h
-in_front (y ∷ xs) ys (suc i) x h = in_front xs ys i x h
-
 at_end : {X : Type 0} (xs ys : List X) (x : X) → slice_get (xs ++ x ∷ ys) (length xs) ≡ Some x
 at_end [] ys x = refl
 at_end (y ∷ xs) ys x = at_end xs ys x
-
-within : {X : Type 0} (xs : List X) (i : ℕ) (x : X) → slice_get xs i ≡ Some x → i < length xs
-within [] i x h = absurd (none h)
-  where
-    none : slice_get [] i ≡ Some x → ⊥
-    none e = cc
-within (y ∷ xs) zero x h = omega arith
-within (y ∷ xs) (suc i) x h = let lt = within xs i x h in omega (arith, lt)
 
 back_front : {X : Type 0} (xs ys : List X) (i : ℕ) (x : X) → i < length xs → slice_get (xs ++ ys) i ≡ Some x → slice_get xs i ≡ Some x
 back_front [] ys i x lt h = absurd (omega (arith, lt))
@@ -55,7 +40,7 @@ with_kept q r list h = of (list_any (have_same_places q) list)
   where
     of : (b : Bool) → Has (if b then list else list ++ q ∷ []) r
     of true = h
-    of false = (h.0, in_front list (q ∷ []) h.0 r h.1)
+    of false = (h.0, get-append_left list (q ∷ []) h.0 r h.1)
 
 with_from : (q r : Race) (list : List Race) → Has (with_race q list) r → Has list r ⊎ (r ≡ q)
 with_from q r list h = of (list_any (have_same_places q) list) h
@@ -68,16 +53,13 @@ with_from q r list h = of (list_any (have_same_places q) list) h
     of true g = inl g
     of false g = back g.0 (one_behind list q g.0 r g.1)
 
-same_number : (n : ℕ) → nat_eq n n ≡ true
-same_number n = eq-eqb n n refl
-
 same_place : (s : RunStep) → is_same_place s s ≡ true
-same_place s = ap (λ b. b && nat_eq s.place s.place) (same_number s.unit) ∙ same_number s.place
+same_place s = ap (λ b. b && nat_eq s.place s.place) (eq-eqb s.unit s.unit refl) ∙ eq-eqb s.place s.place refl
 
 pub same_places : (q : Race) → have_same_places q q ≡ true
 same_places q =
     ap (λ b. b && ((is_same_place q.first q.first && is_same_place q.second q.second) || (is_same_place q.first q.second && is_same_place q.second q.first)))
-    (same_number q.cell)
+    (eq-eqb q.cell q.cell refl)
     ∙ ap (λ b. (b && is_same_place q.second q.second) || (is_same_place q.first q.second && is_same_place q.second q.first)) (same_place q.first)
     ∙ ap (λ b. b || (is_same_place q.first q.second && is_same_place q.second q.first)) (same_place q.second)
 
@@ -165,7 +147,7 @@ from_from earlier (y ∷ ys) list r h = behind (from_from (earlier ++ y ∷ []) 
   where
     first : Has list r ⊎ IsOf y earlier r → Has list r ⊎ AreSeenBefore (earlier ++ y ∷ ys) r
     first (inl g) = inl g
-    first (inr g) = inr (g.0, length earlier, g.1, y, within earlier g.0 g.1 g.2, in_front earlier (y ∷ ys) g.0 g.1 g.2, at_end earlier ys y, g.3, g.4)
+    first (inr g) = inr (g.0, length earlier, g.1, y, slice_get_within earlier g.0 g.1 g.2, get-append_left earlier (y ∷ ys) g.0 g.1 g.2, at_end earlier ys y, g.3, g.4)
 
     behind : Has (with_races_of y earlier list) r ⊎ AreSeenBefore ((earlier ++ y ∷ []) ++ ys) r → Has list r ⊎ AreSeenBefore (earlier ++ y ∷ ys) r
     behind (inl g) = first (of_from y earlier list r g)
@@ -175,7 +157,7 @@ from_has : (earlier ys : List Sight) (list : List Race) (p q : ℕ) (x y : Sight
     → slice_get (earlier ++ ys) q ≡ Some y → is_race x y ≡ true
     → (r : Race) × Has (races_from earlier ys list) r × (have_same_places (race x y) r ≡ true)
 from_has earlier [] list p q x y lt le here there is =
-    absurd (omega (arith, le, within (earlier ++ []) q y there, length-append earlier []))
+    absurd (omega (arith, le, slice_get_within (earlier ++ []) q y there, length-append earlier []))
 from_has earlier (z ∷ ys) list p q x y lt le here there is =
     of (λ less. from_has (earlier ++ z ∷ []) ys (with_races_of z earlier list) p q x y lt (omega (arith, less, length-append earlier (z ∷ [])))
     (subst (λ xs. slice_get xs p ≡ Some x) (sym (regroup earlier z ys)) here) (subst (λ xs. slice_get xs q ≡ Some y) (sym (regroup earlier z ys)) there) is)

@@ -3,7 +3,8 @@ use Rattle.std.proofs.Common.{◌≡◌, ◌∙◌, ℕ, zero, suc, ◌-◌, ◌
 use Rattle.std.proofs.lemmas.Bool.{cases_lt}
 use Rattle.std.proofs.lemmas.List.{get_or-set_same, get_or-set_other, get_or_past, get_or-replicate, get_or-append_right, get_or_append_left, length-replicate}
 use Rattle.std.proofs.Math.Seq.{get_or-append_seam}
-use Rattle.xk_races.specs.Lists.{each_below, number_at, row_at, with_at, joined}
+use Rattle.xk_events.specs.Worlds.{each_below}
+use Rattle.xk_races.specs.Lists.{number_at, with_at, joined}
 
 filler : {X : Type 0} (d : X) (n i : ℕ) → get_or (replicate n d) i d ≡ d
 filler d n i = of (cases_lt i n)
@@ -27,9 +28,6 @@ with_at_same d xs k x = get_or-set_same (xs ++ replicate (suc k - length xs) d) 
 
 pub with_at_other : {X : Type 0} (d : X) (xs : List X) (k j : ℕ) (x : X) → (j ≡ k → ⊥) → get_or (with_at d xs k x) j d ≡ get_or xs j d
 with_at_other d xs k j x ne = get_or-set_other (xs ++ replicate (suc k - length xs) d) k j x d ne ∙ padded d xs (suc k - length xs) j
-
-pub behind_empty : (rows : List (List ℕ)) (j : ℕ) → row_at (rows ++ [] ∷ []) j ≡ row_at rows j
-behind_empty rows j = padded [] rows 1 j
 
 below_length : (f : ℕ → ℕ) (n : ℕ) → length (each_below (λ k. f k ∷ []) n) ≡ n
 below_length f zero = refl

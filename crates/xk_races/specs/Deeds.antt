@@ -14,8 +14,8 @@ use Rattle.xk_types.specs.World.{World, standing_of}
 use Rattle.xk_types.specs.Step.{is_pending}
 use Rattle.xk_core.specs.Core.{advanced_now, has_advanced}
 use Rattle.xk_events.specs.declared.steps.RunStep.{RunStep}
+use Rattle.xk_events.specs.Worlds.{those_below}
 use Rattle.xk_events.specs.Steps.{Teller, run_step, told_of_run}
-use Rattle.xk_races.specs.Lists.{each_below}
 use Rattle.xk_races.specs.declared.deeds.Deed.{Deed}
 use Rattle.xk_races.specs.declared.deeds.Part.{Part}
 use Rattle.xk_races.specs.declared.deeds.Part.TheVariants as part
@@ -28,7 +28,7 @@ awaits w a c = nat_lt a (length w.activities) && option_map_or (λ k. is_pending
 
 -- the clocks that can't advance before activity a does something; where it passes, they are those whose advance it waited for
 abbrev pub awaiting : World → ℕ → List ℕ
-awaiting w a = each_below (λ c. if awaits w a c then c ∷ [] else []) (length w.clocks)
+awaiting w a = those_below (awaits w a) (length w.clocks)
 
 -- behind a step of activity a, clock c doesn't await it any more: it has resumed or left the clock, which may have advanced by that
 abbrev pub gives_way : World → ℕ → ℕ → Bool

@@ -79,16 +79,16 @@ started a b k = record k { acts = told_to k.acts b (row_at k.acts a) }
 
 -- who learns by a deed of activity a what it knows: whom it starts; the signals of the clock that it resumes or leaves, which tell its advance; the
 -- finish that it ends in
-abbrev pub told : ℕ → Part → Known → Known
-told a (part.Start b) k = started a b k
-told a (part.Signal c) k = record k { signals = told_to k.signals c (row_at k.acts a) }
-told a (part.Advance c) k = record k { advances = told_to k.advances c (row_at k.signals c) }
-told a part.End k = record k { ends = told_to k.ends (finish_of a k) (row_at k.acts a) }
-told a part.Open k = k
-told a (part.Pass c) k = k
-told a part.Close k = k
-told a (part.Access x) k = k
-told a part.Print k = k
+abbrev pub taught : ℕ → Part → Known → Known
+taught a (part.Start b) k = started a b k
+taught a (part.Signal c) k = record k { signals = told_to k.signals c (row_at k.acts a) }
+taught a (part.Advance c) k = record k { advances = told_to k.advances c (row_at k.signals c) }
+taught a part.End k = record k { ends = told_to k.ends (finish_of a k) (row_at k.acts a) }
+taught a part.Open k = k
+taught a (part.Pass c) k = k
+taught a part.Close k = k
+taught a (part.Access x) k = k
+taught a part.Print k = k
 
 abbrev pub with_acts : Known → List (List ℕ) → Known
 with_acts k acts = record k { acts = acts }
@@ -99,7 +99,7 @@ with_scopes k s = record k { scopes = s }
 -- behind deed number n: its activity learns, knows the deed itself, and tells others
 abbrev pub after : ℕ → Deed → Known → Known
 after n d k =
-    with_scopes (told d.step.act d.part (with_acts k (marked d.step.act n (heard d.step.act d.part k)))) (scoped d.step.act d.part k.scopes)
+    with_scopes (taught d.step.act d.part (with_acts k (marked d.step.act n (heard d.step.act d.part k)))) (scoped d.step.act d.part k.scopes)
 
 -- ---- what is known where a shared number is read or changed, or a number is printed
 

@@ -1,10 +1,6 @@
 -- Lists that read as if they went on for ever. This project's own.
-use Rattle.std.specs.Prelude.{ℕ, zero, suc, ◌-◌, max, List, [], ◌∷◌, ◌++◌, length, replicate, slice_index_or, slice_set}
-
--- what comes of each number below this one, in order
-abbrev pub each_below : {X : Type 0} → (ℕ → List X) → ℕ → List X
-each_below told zero = []
-each_below told (suc n) = each_below told n ++ told n
+use Rattle.std.specs.Prelude.{ℕ, suc, ◌-◌, max, List, [], ◌∷◌, ◌++◌, length, replicate, slice_index_or, slice_set}
+use Rattle.xk_events.specs.Worlds.{each_below}
 
 -- number k of a list in which all that isn't there is 0
 abbrev pub number_at : List ℕ → ℕ → ℕ

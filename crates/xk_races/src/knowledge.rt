@@ -2,7 +2,7 @@
 
 ghost use Rattle.std.specs.Prelude.{◌≡◌, IfOk, OnOk};
 ghost use Rattle.xk_races.specs.Lists.{number_at, row_at};
-ghost use Rattle.xk_races.specs.Knowledge.{after, heard, nothing_known, scope_closed, scope_opened, scoped, started, told, with_acts};
+ghost use Rattle.xk_races.specs.Knowledge.{after, heard, nothing_known, scope_closed, scope_opened, scoped, started, taught, with_acts};
 
 use crate::deeds::{Deed, Part};
 use crate::rows::{Row, copied, number_at, row_at, set_in, set_number, tell};
@@ -147,7 +147,7 @@ impl Knowledge {
 
     /// Who learns by a deed what its activity knows.
     fn tell(&mut self, alloc: Global, act: u32, part: Part) -> Result<(), AllocError>
-        ensures { OnOk result (self.new ≡ told act part self.old) }
+        ensures { OnOk result (self.new ≡ taught act part self.old) }
     {
         let row = row_at(&self.acts, act as usize);
         match part {

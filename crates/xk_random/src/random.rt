@@ -108,6 +108,7 @@ impl Chooser for Random {
 
     ghost after = { chance_after };
 
+    /// Draws a number, and chooses by it and by who was taken before.
     fn choose(&mut self, enabled: &[u32]) -> u32 {
         self.state = next_state(self.state);
         let place = place_by(drawn(self.state), self.taken, enabled);

@@ -1,12 +1,12 @@
 -- Calls of the clocks, one registration after the other.
 use Rattle.std.proofs.Common.{◌≡◌, ℕ, zero, suc, ◌+◌, ◌<◌, ◌==◌, ◌&&◌, Bool, true, false, cond, List, [], ◌∷◌, ◌++◌, length, get_or, set, take, drop, is_none, Option, Some, None, refl, sym, ap, ◌∙◌, subst, arith, add-one, drop-cons, length-set, length-drop, get_or-set_other}
 use Rattle.std.proofs.lemmas.Bool.{eqb-true, eqb-false}
-use Rattle.std.proofs.lemmas.Bool.Decides.{nat_tests}
 use Rattle.std.proofs.lemmas.List.{append-nil, take_all, drop-drop}
 use Rattle.std.proofs.lemmas.Option.{none-some}
 use Rattle.xk_clocks.specs.Table.{CountValue, count_at, count_settled}
 use Rattle.xk_registrations.specs.View.{Registration, reg_on, AreDistinct}
 use Rattle.xk_registrations.specs.RegistrationChanges.{ClocksValue, is_open, regs_where, regs_open, called, calls, call_resume, mark_resumed, regs_resumed, regs_passed, phase_at, reg_resumed, regs_resumed_in_turn, Allows, AreAllowed, AreAllowedInTurn}
+use Rattle.xk_registrations.proofs.StandingLemmas.{same_number}
 
 -- ---- the first one, then the others
 
@@ -38,9 +38,6 @@ pub allowed_in_turn : (owes : Registration → CountValue → Type 0) (f : Regis
     → AreDistinct rs → AreAllowed owes cs rs → AreAllowedInTurn owes f rs cs
 allowed_in_turn owes f rs cs distinct each = turn rs cs distinct (λ k r is at. each k r is)
   where
-    same_number : (m : ℕ) → (m == m) ≡ true
-    same_number m = grind (arith, nat_tests)
-
     turn : (rs : List Registration) (cs : List CountValue) → AreDistinct rs
         → ((k : ℕ) (r : Registration) → reg_on rs k ≡ Some r → r.clock ≡ k → Allows owes cs r) → AreAllowedInTurn owes f rs cs
     turn [] cs distinct each = tt

@@ -4,6 +4,7 @@ use Rattle.std.specs.List.{list_any}
 use Rattle.std.specs.Option.{option_to_list}
 use Rattle.std.proofs.lemmas.Bool.{eqb-true}
 use Rattle.std.proofs.lemmas.Option.{none-some}
+use Rattle.std.proofs.Math.Bool.{or-false}
 use Rattle.xk_types.specs.declared.world.Value.{Value}
 use Rattle.xk_types.specs.declared.world.Value.TheVariants as value
 use Rattle.xk_types.specs.Step.{names_clock, is_given}
@@ -83,10 +84,6 @@ taken_distinct rs from c r distinct none is = distinct_push rs r distinct (ap (r
 
 -- ---- all of them
 
-or_false : (b : Bool) → (b || false) ≡ b
-or_false true = refl
-or_false false = refl
-
 or_further : (a b c : Bool) → (a || (b || c)) ≡ ((a || b) || c)
 or_further true b c = refl
 or_further false b c = refl
@@ -96,7 +93,7 @@ any_more test xs i x h is = rw add-one (go xs i h is)
   where
     go : (xs : List Value) (i : ℕ) → i < length xs → x ≡ get_or xs i x → list_any test (take (suc i) xs) ≡ (list_any test (take i xs) || test x)
     go [] i h is = absurd (omega arith)
-    go (y ∷ xs) zero h is = or_false (test y) ∙ ap test (sym is)
+    go (y ∷ xs) zero h is = or-false (test y) ∙ ap test (sym is)
     go (y ∷ xs) (suc i) h is = ap (λ b. test y || b) (go xs i (omega arith) is) ∙ or_further (test y) (list_any test (take i xs)) (test x)
 
 pub more_given : (from rs : List Registration) (values : List Value) (i : ℕ) (v : Value) → i < length values → v ≡ get_or values i v

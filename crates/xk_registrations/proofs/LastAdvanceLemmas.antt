@@ -9,7 +9,7 @@ use Rattle.xk_collections.specs.NumberSets.{numbers_from, with_member, SetValue}
 use Rattle.xk_collections.proofs.RisingListLemmas.{member_added, member_changed, member_passes, members_few, members_none, numbers_more, same_members}
 use Rattle.xk_clocks.specs.Table.{TableValue}
 use Rattle.xk_registrations.specs.RegistrationChanges.{noted_in, IsUpToDate}
-use Rattle.xk_registrations.proofs.RegistrationListLemmas.{other_number}
+use Rattle.xk_registrations.proofs.StandingLemmas.{other_number}
 
 -- ---- the clocks whose last advance was in a step
 

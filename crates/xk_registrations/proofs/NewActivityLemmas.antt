@@ -2,6 +2,7 @@
 use Rattle.std.proofs.Common.{◌≡◌, ℕ, ◌+◌, ◌-◌, ◌<◌, ◌≤◌, Bool, true, false, cond, List, [], ◌∷◌, ◌++◌, map, length, get_or, Option, Some, None, refl, sym, ap, ◌∙◌, subst, arith, slice_get, slice_index_or}
 use Rattle.std.specs.Option.{option_map_or}
 use Rattle.std.proofs.lemmas.List.{length-map}
+use Rattle.std.proofs.lemmas.Option.{slice_get_within}
 use Rattle.xk_types.specs.declared.world.Standing.{Standing}
 use Rattle.xk_types.specs.declared.world.Standing.TheVariants as standing
 use Rattle.xk_types.specs.Step.{is_pending, is_registered, advanced, settled_clock, joined}
@@ -13,7 +14,7 @@ use Rattle.xk_clocks.proofs.TallyLemmas.{tally-set}
 use Rattle.xk_registrations.proofs.StandingChangeLemmas.{row_at, held_push, Begins, joined_told}
 use Rattle.xk_registrations.proofs.TableCallLemmas.{called_at, noted_at, changed_is, length-called, length-noted}
 use Rattle.xk_registrations.proofs.StandingLemmas.{stands_reg, count_same, same_numbers, registered_mark}
-use Rattle.xk_registrations.proofs.StepLemmas.{settled_calls, noted_calls, inside_of}
+use Rattle.xk_registrations.proofs.StepLemmas.{settled_calls, noted_calls}
 
 -- ---- what calls of the table owe
 
@@ -82,7 +83,7 @@ spawned_told now a given new ls acts cs kept sound is = (
     begins k c at = record {
       reads = given_stands given (held acts a) new k c.phase is;
       ahead = given_ahead given (held acts a) new k c.phase is ((kept.fit k c at).ahead a);
-      noted = noted_at now call_register new sound.distinct cs ls k c at (omega (arith, inside_of cs k c at, kept.lasts))
+      noted = noted_at now call_register new sound.distinct cs ls k c at (omega (arith, slice_get_within cs k c at, kept.lasts))
           ∙ noted_calls now call_register (reg_on new k) c (slice_index_or ls k 0) (kept.fit k c at).kept ∙ ap (λ d. last_settled now d (slice_index_or ls k 0)) (between k c);
     }
 

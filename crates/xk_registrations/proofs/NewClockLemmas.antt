@@ -19,7 +19,7 @@ use Rattle.xk_registrations.proofs.StepLemmas.{Works, step_told}
 
 -- ---- a clock that nobody is registered on
 
-abbrev pub no_count : CountValue
+abbrev no_count : CountValue
 no_count = record { phase = 0; registered = 0; pending = 0 }
 
 stands_apart : (rs : List Registration) (k p : ℕ) → reg_on rs k ≡ None → stands rs k p ≡ standing.Apart
@@ -88,7 +88,7 @@ told_more ls acts cs kept =
 -- ---- its maker's registration
 
 -- open on the new clock, and all others as they were
-abbrev pub made_on : ℕ → ℕ → Standing → Standing
+abbrev made_on : ℕ → ℕ → Standing → Standing
 made_on n k s = cond (n == k) standing.Open s
 
 stands_push : (rs : List Registration) (n k p : ℕ) → reg_on rs n ≡ None → stands (rs ++ record { clock = n; resumed = None } ∷ []) k p ≡ made_on n k (stands rs k p)

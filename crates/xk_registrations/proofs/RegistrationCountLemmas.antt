@@ -2,7 +2,6 @@
 use Rattle.std.proofs.Common.{◌≡◌, ℕ, zero, suc, ◌+◌, ◌<◌, ◌≤◌, ◌==◌, Bool, true, false, cond, List, [], ◌∷◌, length, Option, Some, None, is_some, inl, inr, refl, sym, ap, ◌∙◌, arith, slice_index_or}
 use Rattle.std.specs.Option.{option_map_or}
 use Rattle.std.proofs.lemmas.Bool.{false≢true, cases_lt}
-use Rattle.std.proofs.lemmas.Bool.Decides.{nat_tests}
 use Rattle.std.proofs.lemmas.Option.{none-some}
 use Rattle.std.proofs.lemmas.List.Sums.{sum_by-cons}
 use Rattle.xk_types.specs.declared.world.Standing.TheVariants as standing
@@ -12,7 +11,7 @@ use Rattle.xk_clocks.specs.Table.{CountValue}
 use Rattle.xk_registrations.specs.View.{Registration, standing_at, reg_on, told, told_by, told_clock, held, AreDistinct, IsKept}
 use Rattle.xk_registrations.specs.Standings.{registrations}
 use Rattle.xk_registrations.proofs.StandingChangeLemmas.{row_at}
-use Rattle.xk_registrations.proofs.StandingLemmas.{stands_reg}
+use Rattle.xk_registrations.proofs.StandingLemmas.{stands_reg, same_number}
 
 -- how many of the first n numbers pass the test
 abbrev how_many : (ℕ → Bool) → ℕ → ℕ
@@ -51,9 +50,6 @@ more p q (suc c) (suc n) lt passes new h =
     let here = one_more (q 0) (p 0) (h 0) in
     let rest = more (λ k. p (suc k)) (λ k. q (suc k)) c n (omega arith) passes new (λ k. h (suc k)) in
     omega arith
-
-same_number : (n : ℕ) → (n == n) ≡ true
-same_number n = grind (arith, nat_tests)
 
 -- these are on so many clocks
 on_clocks : (rs : List Registration) (n : ℕ) → AreDistinct rs → ((k : ℕ) → n ≤ k → reg_on rs k ≡ None) → length rs ≤ how_many (λ k. is_some (reg_on rs k)) n

@@ -1,14 +1,13 @@
 -- The list in which an activity's registrations stand.
-use Rattle.std.proofs.Common.{◌≡◌, ℕ, suc, ◌<◌, ◌≤◌, ◌==◌, Bool, true, false, not, List, [], ◌∷◌, length, cond, Option, refl, sym, ap, ◌∙◌, subst, arith, All}
+use Rattle.std.proofs.Common.{◌≡◌, ℕ, suc, ◌<◌, ◌≤◌, ◌==◌, Bool, true, not, List, [], ◌∷◌, length, cond, Option, refl, sym, ap, ◌∙◌, subst, arith, All}
 use Rattle.std.specs.List.{list_all}
-use Rattle.std.proofs.lemmas.Bool.Decides.{nat_tests}
 use Rattle.std.proofs.lemmas.List.{length-map}
 use Rattle.std.specs.List.Retain.{RetainsInTurn}
 use Rattle.smallvec.specs.SmallVec.{SmallVec, with_items}
 use Rattle.smallvec.proofs.SmallVecLemmas.{items-with_items}
 use Rattle.xk_registrations.specs.View.{Registration, AreDistinct}
 use Rattle.xk_registrations.specs.RegistrationChanges.{marked, regs_where}
-use Rattle.xk_registrations.proofs.StandingLemmas.{distinct_marked}
+use Rattle.xk_registrations.proofs.StandingLemmas.{distinct_marked, other_number}
 
 -- with other marks written to it, no two are on one clock still
 pub marked_distinct : (v : SmallVec Registration) (ws xs : List Registration) (f : ℕ → Option ℕ → Option ℕ) → xs ≡ v.items → ws ≡ marked f xs → AreDistinct v.items
@@ -29,9 +28,6 @@ where-from_retain R test f says (x ∷ xs) ys h =
     h.6 ∙ (λ i. cond (said.0 i) (said.2 i ∷ rest i) (rest i))
 
 -- ---- steps of last advances
-
-pub other_number : (m n : ℕ) → m < n → (m == n) ≡ false
-other_number m n h = grind (arith, nat_tests)
 
 -- none is a step behind all of them
 pub quiet_behind : (ls : List ℕ) (newest step : ℕ) → All (λ l. l ≤ newest) ls → newest < step → true ≡ list_all (λ l. not (l == step)) ls

@@ -3,29 +3,19 @@ use Rattle.std.proofs.Common.{◌≡◌, ℕ, zero, suc, ◌<◌, ◌≤◌, ◌
 use Rattle.std.specs.List.{list_any, find as find_in}
 use Rattle.std.specs.Option.{option_map_or}
 use Rattle.std.proofs.lemmas.Bool.{eqb-true}
-use Rattle.std.proofs.lemmas.Bool.Decides.{nat_tests}
-use Rattle.std.proofs.lemmas.Option.{none-some, same_Some}
+use Rattle.std.proofs.lemmas.Option.{none-some, same_Some, get_or_from_slice_get}
 use Rattle.xk_types.specs.declared.world.Standing.TheVariants as standing
 use Rattle.xk_types.specs.World.{Clock, standing_of}
 use Rattle.xk_types.specs.Step.{is_signalled}
+use Rattle.xk_types.proofs.MembershipLemmas.{same_test}
 use Rattle.xk_clocks.specs.Table.{CountValue, count_at}
 use Rattle.xk_registrations.specs.View.{Registration, standing_at, reg_on, AreDistinct, AreSound, told, told_by, told_clock, held, IsKept}
 use Rattle.xk_registrations.specs.RegistrationChanges.{RegistrationsValue, phase_at, is_signalled_in}
 use Rattle.xk_registrations.specs.Standings.{lists, is_held_by}
 use Rattle.xk_registrations.proofs.StandingChangeLemmas.{row_at}
-use Rattle.xk_registrations.proofs.StandingLemmas.{stands_reg, reg_clock}
-use Rattle.xk_registrations.proofs.TableCallLemmas.{get_or_get}
+use Rattle.xk_registrations.proofs.StandingLemmas.{stands_reg, reg_clock, same_number}
 use Rattle.xk_registrations.proofs.CallPreconditionLemmas.{found, get_there}
 use Rattle.xk_registrations.proofs.AllRegistrationsLemmas.{held_item, told_at}
-
-same_number : (n : ℕ) → (n == n) ≡ true
-same_number n = grind (arith, nat_tests)
-
-both : (a b : Bool) → (a ≡ true → b ≡ true) → (b ≡ true → a ≡ true) → a ≡ b
-both true true f g = refl
-both true false f g = sym (f refl)
-both false true f g = g refl
-both false false f g = refl
 
 -- ---- among registrations
 
@@ -102,7 +92,7 @@ stood ls acts a k c = ap is_signalled (row_at acts k c.phase a ∙ stands_reg (h
 pub waits_in : (ls : List ℕ) (acts : List (List Registration)) (cs : List CountValue) (a : ℕ) → IsKept ls acts cs
     → list_any (is_signalled_in cs) (held acts a) ≡ list_any (λ c. is_signalled (standing_of c a)) (told ls acts cs)
 waits_in ls acts cs a kept =
-    both (list_any (is_signalled_in cs) (held acts a)) (list_any (λ c. is_signalled (standing_of c a)) (told ls acts cs)) there back
+    same_test (list_any (is_signalled_in cs) (held acts a)) (list_any (λ c. is_signalled (standing_of c a)) (told ls acts cs)) there back
   where
     last : ℕ → ℕ
     last k = slice_index_or ls k 0
@@ -121,7 +111,7 @@ waits_in ls acts cs a kept =
         let one = signalled_by clock.c.phase (reg_on (held acts a) clock.k) (sym (stood ls acts a clock.k clock.c) ∙ clock.passes) in
         any_at (is_signalled_in cs) (held acts a) clock.k one.0 one.1
         (ap (λ n. is_signalled (standing_at (phase_at cs n) one.0.resumed)) (reg_clock (held acts a) clock.k one.0 one.1)
-        ∙ ap (λ (c : CountValue). is_signalled (standing_at c.phase one.0.resumed)) (get_or_get cs clock.k clock.c _ clock.at) ∙ one.2)
+        ∙ ap (λ (c : CountValue). is_signalled (standing_at c.phase one.0.resumed)) (get_or_from_slice_get cs clock.k clock.c _ clock.at) ∙ one.2)
 
 -- ---- the first that holds an activity back
 

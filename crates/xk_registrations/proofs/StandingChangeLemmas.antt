@@ -1,15 +1,17 @@
 -- One change of one activity's standings: the counters, and the view.
-use Rattle.std.proofs.Common.{◌≡◌, ℕ, zero, suc, ◌+◌, ◌-◌, ◌<◌, ◌==◌, Bool, true, false, not, cond, ◌&&◌, List, [], ◌∷◌, ◌++◌, map, length, get_or, set, Some, refl, sym, ap, ◌∙◌, subst, arith, slice_get}
+use Rattle.std.proofs.Common.{◌≡◌, ℕ, zero, suc, ◌+◌, ◌-◌, ◌<◌, Bool, true, false, cond, List, [], ◌∷◌, ◌++◌, map, length, get_or, set, Some, refl, sym, ap, ◌∙◌, subst, arith, slice_get}
 use Rattle.std.proofs.lemmas.List.{map-set, map_push, length-map}
 use Rattle.std.proofs.lemmas.Option.{none-some, same_Some}
 use Rattle.xk_types.specs.declared.world.Standing.{Standing}
 use Rattle.xk_types.specs.declared.world.Standing.TheVariants as standing
 use Rattle.xk_types.specs.World.{Clock}
 use Rattle.xk_types.specs.Step.{is_pending, is_registered, is_ready, advanced, settled_clock, moved_on, moved, joined_on, joined}
+use Rattle.xk_types.proofs.StandingLemmas.{advanced_twice}
 use Rattle.xk_clocks.specs.Table.{CountValue, is_ready_count, count_settled, one_if}
 use Rattle.xk_registrations.specs.View.{Registration, stands, row, told_clock, told_by, held, WillAdvance, IsNear, IsFit, AreFit, last_settled, changed_by, count_between, count_after, counts_after}
 use Rattle.xk_clocks.specs.StandingCounts.{tally}
-use Rattle.xk_clocks.proofs.TallyLemmas.{tally-set, tally-push, ready_same, counts_advanced, suc_zero}
+use Rattle.xk_clocks.proofs.TallyLemmas.{tally-set, tally-push, ready_same, counts_advanced}
+use Rattle.xk_clocks.proofs.CountStepLemmas.{unready_after}
 
 -- ---- rows
 
@@ -24,22 +26,10 @@ row_advanced : (acts : List (List Registration)) (k p q : ℕ) → p < q → ((a
 row_advanced [] k p q h ahead = refl
 row_advanced (rs ∷ acts) k p q h ahead = rw (ahead 0 q h, row_advanced acts k p q h (λ a. ahead (suc a))) refl
 
--- an advance of an advanced standing
-advanced_twice : (s : Standing) → advanced (advanced s) ≡ advanced s
-advanced_twice standing.Apart = refl
-advanced_twice standing.Open = refl
-advanced_twice standing.Signalled = refl
-advanced_twice standing.Ahead = refl
-
 will_still : (rs : List Registration) (k p q : ℕ) → p < q → WillAdvance rs k p → WillAdvance rs k q
 will_still rs k p q h ahead r g = ahead r (omega arith) ∙ sym (advanced_twice (stands rs k p)) ∙ ap advanced (sym (ahead q h))
 
 -- ---- the end of a step
-
--- a clock that has advanced isn't ready: its pending are its registered
-unready_after : (r : ℕ) → (not (r == 0) && (r == 0)) ≡ false
-unready_after zero = refl
-unready_after (suc r) = rw (suc_zero r) refl
 
 -- the view of a settled clock is the settled view
 told_settled : (acts : List (List Registration)) (k : ℕ) (c : CountValue) (now : ℕ) (last after : ℕ → ℕ) → IsNear acts k c → after k ≡ last_settled now c (last k)

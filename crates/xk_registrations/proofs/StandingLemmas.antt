@@ -26,7 +26,7 @@ stands_marked f h (r ∷ rs) k p apart each = go (r.clock == k) refl each (stand
     go false e here later = later here
 
 -- a mark will read rightly
-abbrev pub WillBe : Option ℕ → ℕ → Type 0
+abbrev WillBe : Option ℕ → ℕ → Type 0
 WillBe m p = (q : ℕ) → p < q → standing_at q m ≡ advanced (standing_at p m)
 
 ahead_marked : (f : ℕ → Option ℕ → Option ℕ) (rs : List Registration) (k p : ℕ) → ((m : Option ℕ) → WillBe m p → WillBe (f k m) p)
@@ -67,10 +67,10 @@ ahead_left test rs k p ahead q h = stands_left test rs k q ∙ go (test k) ∙ a
 
 -- ---- a resume
 
-same_number : (n : ℕ) → (n == n) ≡ true
+pub same_number : (n : ℕ) → (n == n) ≡ true
 same_number n = grind (arith, nat_tests)
 
-other_number : (m n : ℕ) → m < n → (m == n) ≡ false
+pub other_number : (m n : ℕ) → m < n → (m == n) ≡ false
 other_number m n h = grind (arith, nat_tests)
 
 resumed_mark : (p : ℕ) (m : Option ℕ) → standing_at p (mark_resumed p m) ≡ resumed (standing_at p m)

@@ -1,7 +1,7 @@
 -- Each step's part on clocks, over the table and the registrations, is the definitions'.
 use Rattle.std.proofs.Common.{◌≡◌, ℕ, zero, suc, ◌+◌, ◌-◌, ◌<◌, ◌&&◌, Bool, true, false, not, cond, List, [], ◌∷◌, map, length, set, Option, Some, None, refl, sym, ap, ◌∙◌, subst, arith, slice_get, slice_index_or}
 use Rattle.std.specs.Option.{option_map_or}
-use Rattle.std.proofs.lemmas.Option.{none-some, same_Some}
+use Rattle.std.proofs.lemmas.Option.{none-some, same_Some, slice_get_within, get_or_from_slice_get}
 use Rattle.xk_types.specs.declared.world.Standing.{Standing}
 use Rattle.xk_types.specs.declared.world.Standing.TheVariants as standing
 use Rattle.xk_types.specs.World.{Clock, standing_of}
@@ -10,7 +10,7 @@ use Rattle.xk_clocks.specs.Table.{CountValue, is_ready_count, count_settled}
 use Rattle.xk_registrations.specs.View.{Registration, stands, told, told_clock, told_by, held, WillAdvance, AreFit, IsKept, AreSound, AreDistinct, reg_on, count_between, count_after, counts_after, last_settled, count_moved}
 use Rattle.xk_registrations.specs.RegistrationChanges.{called, noted, regs_resumed, regs_passed, regs_open, regs_on, call_resume, call_drop, marked, mark_resumed, is_open, regs_where, phase_at}
 use Rattle.xk_registrations.proofs.StandingChangeLemmas.{held_set, row_at, Becomes, moved_told}
-use Rattle.xk_registrations.proofs.TableCallLemmas.{called_at, noted_at, changed_is, length-called, length-noted, get_or_get}
+use Rattle.xk_registrations.proofs.TableCallLemmas.{called_at, noted_at, changed_is, length-called, length-noted}
 use Rattle.std.specs.List.{list_any}
 use Rattle.std.proofs.lemmas.Bool.{or_parts}
 use Rattle.xk_registrations.proofs.StandingLemmas.{stands_resumed, ahead_resumed, resumed_on, resume_between, left_on, leave_between, distinct_where, distinct_marked, reg_where, reg_marked, if_passes, stands_left, ahead_left, stands_passed, ahead_passed, count_same, same_numbers}
@@ -36,11 +36,6 @@ pub noted_calls : (now : ℕ) (f : Registration → CountValue → CountValue) (
     → option_map_or (λ r. last_settled now (f r c) l) o l ≡ last_settled now (option_map_or (λ r. f r c) o c) l
 noted_calls now f None c l e = rw e refl
 noted_calls now f (Some r) c l e = refl
-
-pub inside_of : {X : Type 0} (xs : List X) (k : ℕ) (x : X) → slice_get xs k ≡ Some x → k < length xs
-inside_of [] k x h = absurd (none-some x h)
-inside_of (y ∷ xs) zero x h = omega arith
-inside_of (y ∷ xs) (suc k) x h = omega (arith, inside_of xs k x h)
 
 -- A step that changes one activity's standings, by calls of the table.
 pub step_told : (now a : ℕ) (h : ℕ → Standing → Standing) (f : Registration → CountValue → CountValue) (calls new : List Registration)
@@ -68,7 +63,7 @@ step_told now a h f calls new ls acts cs kept inside distinct sound works = (
     becomes k c at = record {
       reads = (works k c at).reads;
       ahead = (works k c at).ahead;
-      noted = noted_at now f calls distinct cs ls k c at (omega (arith, inside_of cs k c at, kept.lasts))
+      noted = noted_at now f calls distinct cs ls k c at (omega (arith, slice_get_within cs k c at, kept.lasts))
           ∙ noted_calls now f (reg_on calls k) c (slice_index_or ls k 0) (kept.fit k c at).kept ∙ ap (λ d. last_settled now d (slice_index_or ls k 0)) (works k c at).between;
     }
 
@@ -97,7 +92,7 @@ resumed_told now a test ls acts cs kept inside =
     step_told now a (resumed_on test) call_resume (regs_open test (held acts a)) (regs_resumed test (phase_at cs) (held acts a)) ls acts cs kept inside
     (distinct_where (λ r. test r.clock && is_open r) (held acts a) (kept.sound a).distinct)
     (sound_marked (length cs) (λ k m. cond (test k) (mark_resumed (phase_at cs k) m) m) (held acts a) (kept.sound a))
-    (λ k c at. here k c at (ap (λ (d : CountValue). d.phase) (get_or_get cs k c _ at)))
+    (λ k c at. here k c at (ap (λ (d : CountValue). d.phase) (get_or_from_slice_get cs k c _ at)))
   where
     here : (k : ℕ) (c : CountValue) → slice_get cs k ≡ Some c → phase_at cs k ≡ c.phase
         → Works (resumed_on test) call_resume (regs_open test (held acts a)) (held acts a) (regs_resumed test (phase_at cs) (held acts a)) k c

@@ -2,17 +2,13 @@
 use Rattle.std.proofs.Common.{◌≡◌, ℕ, zero, suc, ◌<◌, ◌==◌, Bool, true, false, cond, List, [], ◌∷◌, length, get_or, set, Some, None, refl, sym, ap, ◌∙◌, subst, arith, slice_get, length-set, get_or-set_same, get_or-set_other}
 use Rattle.std.specs.Option.{option_map_or}
 use Rattle.std.proofs.lemmas.Bool.{eqb-true, eqb-false}
-use Rattle.std.proofs.lemmas.Option.{none-some, same_Some}
+use Rattle.std.proofs.lemmas.Option.{same_Some, get_or_from_slice_get}
+use Rattle.xk_types.proofs.ListLemmas.{get-set_same}
 use Rattle.xk_clocks.specs.Table.{CountValue, is_ready_count, count_settled, count_at}
 use Rattle.xk_registrations.specs.View.{Registration, reg_on, AreDistinct, changed_by, last_settled}
 use Rattle.xk_registrations.specs.RegistrationChanges.{called, noted}
 
 -- ---- lists by number
-
-get-set_same : {X : Type 0} (xs : List X) (i : ℕ) (x y : X) → slice_get xs i ≡ Some x → slice_get (set xs i y) i ≡ Some y
-get-set_same [] i x y h = absurd (none-some x h)
-get-set_same (z ∷ xs) zero x y h = refl
-get-set_same (z ∷ xs) (suc i) x y h = get-set_same xs i x y h
 
 set_there : {X : Type 0} (xs : List X) (i j : ℕ) (x y z : X) → i ≡ j → y ≡ z → slice_get xs j ≡ Some x → slice_get (set xs i y) j ≡ Some z
 set_there xs i j x y z e same h = subst (λ n. slice_get (set xs n y) j ≡ Some z) (sym e) (get-set_same xs j x y h ∙ ap Some same)
@@ -23,11 +19,6 @@ get-set_other (z ∷ xs) zero zero y h = absurd (h refl)
 get-set_other (z ∷ xs) zero (suc j) y h = refl
 get-set_other (z ∷ xs) (suc i) zero y h = refl
 get-set_other (z ∷ xs) (suc i) (suc j) y h = get-set_other xs i j y (λ e. h (ap suc e))
-
-pub get_or_get : {X : Type 0} (xs : List X) (i : ℕ) (x d : X) → slice_get xs i ≡ Some x → get_or xs i d ≡ x
-get_or_get [] i x d h = absurd (none-some x h)
-get_or_get (z ∷ xs) zero x d h = same_Some z x h
-get_or_get (z ∷ xs) (suc i) x d h = get_or_get xs i x d h
 
 -- a list that is another one changed at each number
 pub changed_is : (change : ℕ → CountValue → CountValue) (cs ds : List CountValue) → length ds ≡ length cs
@@ -66,7 +57,7 @@ called_at f (r ∷ rs) distinct cs k c at = go (r.clock == k) refl (called_at f 
         → slice_get (called f rs (set cs r.clock (count_settled (f r (count_at cs r.clock))))) k ≡ Some (option_map_or (λ r. count_settled (f r c)) (cond b (Some r) (reg_on rs k)) c)
     go true e again =
         let same : r.clock ≡ k = eqb-true r.clock k e in
-        let here : count_at cs r.clock ≡ c = ap (count_at cs) same ∙ get_or_get cs k c _ at in
+        let here : count_at cs r.clock ≡ c = ap (count_at cs) same ∙ get_or_from_slice_get cs k c _ at in
         let alone : reg_on rs k ≡ None = ap (reg_on rs) (sym same) ∙ distinct.0 in
         again (count_settled (f r c))
         (set_there cs r.clock k c (count_settled (f r (count_at cs r.clock))) (count_settled (f r c)) same (ap (λ x. count_settled (f r x)) here) at)
@@ -95,7 +86,7 @@ noted_at now f (r ∷ rs) distinct cs ls k c at inside =
         ≡ option_map_or (λ r. last_settled now (f r c) (get_or ls k 0)) (cond b (Some r) (reg_on rs k)) (get_or ls k 0)
     go true e a is again =
         let same : r.clock ≡ k = eqb-true r.clock k e in
-        let here : count_at cs r.clock ≡ c = ap (count_at cs) same ∙ get_or_get cs k c _ at in
+        let here : count_at cs r.clock ≡ c = ap (count_at cs) same ∙ get_or_from_slice_get cs k c _ at in
         let alone : reg_on rs k ≡ None = ap (reg_on rs) (sym same) ∙ distinct.0 in
         let ready : is_ready_count (f r c) ≡ a = ap (λ x. is_ready_count (f r x)) (sym here) ∙ is in
         again (cond a (set ls r.clock now) ls) (count_settled (f r c))

@@ -145,6 +145,7 @@ impl Standings {
         ensures { (now a : ℕ)
             → map (settled_clock now) (moved a none (told_of self.now)) ≡ told_of self.now }
     {
+        // Read for the invariant: no clock is left ready.
         let _clocks = &self.clocks;
     }
 

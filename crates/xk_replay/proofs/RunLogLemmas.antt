@@ -10,11 +10,10 @@ use Rattle.xk_types.specs.Step.{step}
 use Rattle.xk_types.specs.Schedule.{Through, Leads, IsReached, run}
 use Rattle.xk_types.specs.Acceptance.{IsAccepted}
 use Rattle.xk_types.specs.Logs.{schedule_of}
-use Rattle.xk_laws.proofs.ReachabilityLemmas.{first_step, run_counts, reached_room}
+use Rattle.xk_laws.proofs.ReachabilityLemmas.{first_step, run_counts, reached_room, reached_run}
 use Rattle.xk_core.specs.Core.{CoreValue, IsCore}
 use Rattle.xk_scheduler.specs.LoggedRuns.{IsRunOf}
 use Rattle.xk_scheduler.proofs.RunSequenceLemmas.{run_then}
-use Rattle.xk_scheduler.proofs.TurnLemmas.{leads_with}
 use Rattle.xk_scheduler.proofs.IndependenceLemmas.{steps_within}
 use Rattle.xk_log.specs.LogText.{FitsEntry, IsLog}
 use Rattle.xk_replay.proofs.ChartLineLemmas.{legal_front}
@@ -30,12 +29,6 @@ entries_few (e ∷ es) =
     let later = entries_few es in
     let some = e.at_least_one in
     omega (arith, ap length (schedule_first e es), length-append (replicate e.steps e.act) (schedule_of es), length-replicate e.steps e.act)
-
--- where a run leads from a world that is reached
-reached_run : (m : ModuleValue) (list : List ℕ) (w v : World) → IsReached m w → run m list w ≡ Through v → IsReached m v
-reached_run m list w v r h =
-    let all = run_then m r.0 list (opening m w.arguments) w r.1.1 ∙ h in
-    (r.0 ++ list, (leads_with m w.arguments (r.0 ++ list) v r.1.0 all).0)
 
 -- who takes some steps is there
 taker_there : (m : ModuleValue) (n a : ℕ) (w v : World) → 0 < n → run m (replicate n a) w ≡ Through v → a < length w.activities

@@ -23,6 +23,7 @@ impl From<AllocError> for ReplayFault {
 
     ghost from_gives = { λ _ e. e ≡ fault.OutOfMemory };
 
+    /// Want of memory says nothing of the log.
     fn from(_e: AllocError) -> ReplayFault {
         ReplayFault::OutOfMemory
     }

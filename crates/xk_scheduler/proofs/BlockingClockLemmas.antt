@@ -8,10 +8,11 @@ use Rattle.xk_types.specs.declared.world.Standing.TheVariants as standing
 use Rattle.xk_types.specs.declared.world.Event.{Event}
 use Rattle.xk_types.specs.Code.{ModuleValue}
 use Rattle.xk_types.specs.World.{Clock, World, standing_of}
-use Rattle.xk_types.specs.Step.{Outcome, Blocked, Wrong, Stepped, step, is_signalled, settled_clock, moved, joined, new_clock, is_given, advanced, none, all, dropped, resumed, waits}
+use Rattle.xk_types.specs.Step.{Outcome, Blocked, Wrong, Stepped, step, is_signalled, settled_clock, moved, joined, new_clock, is_given, none, all, dropped, resumed, waits}
 use Rattle.xk_laws.proofs.Invariant.{IsClockSound}
 use Rattle.xk_types.proofs.ListLemmas.{Each}
 use Rattle.xk_types.proofs.MembershipLemmas.{same_test}
+use Rattle.xk_types.proofs.StandingLemmas.{advanced_quiet}
 use Rattle.xk_laws.proofs.StepFormLemmas.{step_kind}
 use Rattle.xk_laws.proofs.ReachabilityLemmas.{reached_sound}
 use Rattle.xk_laws.proofs.ClockLemmas.AdvanceLemmas.{settled_cases, stand-advanced}
@@ -29,12 +30,6 @@ went now clocks c = option_map_or (λ k. k.last == now) (slice_get clocks c) fal
 
 -- ---- the end of a step
 
-never_ahead : (s : Standing) → is_signalled (advanced s) ≡ false
-never_ahead standing.Apart = refl
-never_ahead standing.Open = refl
-never_ahead standing.Signalled = refl
-never_ahead standing.Ahead = refl
-
 -- a clock that didn't advance holds back whom it did
 clock_stays : (now b : ℕ) (c : Clock) → is_signalled (standing_of c b) ≡ true → ((settled_clock now c).last == now) ≡ false → is_signalled (standing_of (settled_clock now c) b) ≡ true
 clock_stays now b c held = settled_cases now c (λ d. (d.last == now) ≡ false → is_signalled (standing_of d b) ≡ true)
@@ -43,7 +38,7 @@ clock_stays now b c held = settled_cases now c (λ d. (d.last == now) ≡ false 
 -- and none holds back whom it didn't
 clock_only : (now b : ℕ) (c : Clock) → is_signalled (standing_of (settled_clock now c) b) ≡ true → is_signalled (standing_of c b) ≡ true
 clock_only now b c = settled_cases now c (λ d. is_signalled (standing_of d b) ≡ true → is_signalled (standing_of c b) ≡ true)
-    (λ ready held. absurd (true≢false (sym held ∙ ap is_signalled (stand-advanced now c b) ∙ never_ahead (standing_of c b)))) (λ unready held. held)
+    (λ ready held. absurd (true≢false (sym held ∙ ap is_signalled (stand-advanced now c b) ∙ advanced_quiet (standing_of c b)))) (λ unready held. held)
 
 stays : (now b : ℕ) (clocks : List Clock) (c : ℕ) → holds b clocks c ≡ true → went now (map (settled_clock now) clocks) c ≡ false → holds b (map (settled_clock now) clocks) c ≡ true
 stays now b [] c held off = held

@@ -3,16 +3,10 @@ use Rattle.std.proofs.Common.{◌≡◌, ◌∙◌, ℕ, List, [], ◌∷◌, �
 use Rattle.xk_types.specs.Code.{ModuleValue}
 use Rattle.xk_types.specs.World.{World}
 use Rattle.xk_types.specs.Step.{step}
-use Rattle.xk_types.specs.Schedule.{Through, run, run_on}
+use Rattle.xk_types.specs.Schedule.{Through, run}
+pub use Rattle.xk_types.proofs.RunLemmas.{run_then}
 use Rattle.xk_laws.proofs.ReachabilityLemmas.{same_through, first_step}
 use Rattle.xk_scheduler.specs.Choosers.{enabled_in, Follows, goes_on, state_after, state_on}
-
--- where the first leads, the other begins
-pub run_then : (m : ModuleValue) (xs ys : List ℕ) (w v : World) → run m xs w ≡ Through v → run m (xs ++ ys) w ≡ run m ys v
-run_then m [] ys w v h = ap (run m ys) (same_through w v h)
-run_then m (a ∷ xs) ys w v h =
-    let t = first_step w v (step m w a) (run m xs) h in
-    ap (λ o. run_on w o (run m (xs ++ ys))) t.2 ∙ run_then m xs ys t.0 v t.3
 
 -- where both follow the chooser, so do they together
 pub follows_then : {S : Type 0} (answer : S → List ℕ → ℕ) (after : S → List ℕ → S) (m : ModuleValue) (xs ys : List ℕ) (s : S) (w v : World) → run m xs w ≡ Through v

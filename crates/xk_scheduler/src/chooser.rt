@@ -95,15 +95,18 @@ impl Chooser for First {
 
     ghost after = { λ s list. s };
 
+    /// The first place.
     fn choose(&mut self, _enabled: &[u32]) -> u32 {
         0
     }
 
+    /// The least member, for which no list is made.
     #[inline(always)]
     fn pick(&mut self, enabled: &NumberSet, _shown: &mut Vec<u32>) -> u32 {
         least(enabled)
     }
 
+    /// It has no state.
     #[inline(always)]
     fn is_steady(&self, _enabled: &NumberSet) -> bool {
         true
@@ -121,15 +124,18 @@ impl Chooser for Last {
 
     ghost after = { λ s list. s };
 
+    /// The last place.
     fn choose(&mut self, enabled: &[u32]) -> u32 {
         (enabled.len() - 1) as u32
     }
 
+    /// The greatest member, for which no list is made.
     #[inline(always)]
     fn pick(&mut self, enabled: &NumberSet, _shown: &mut Vec<u32>) -> u32 {
         greatest(enabled)
     }
 
+    /// It has no state.
     #[inline(always)]
     fn is_steady(&self, _enabled: &NumberSet) -> bool {
         true
@@ -225,12 +231,14 @@ impl Chooser for Round {
 
     ghost after = { turn_after };
 
+    /// The place of the one whose turn it is, which it keeps in mind.
     fn choose(&mut self, enabled: &[u32]) -> u32 {
         let place = self.place(enabled);
         self.taken = Some(enabled[place_in(place, enabled.len())]);
         place as u32
     }
 
+    /// The one whose turn it is, found in the set: no list is made.
     #[inline(always)]
     fn pick(&mut self, enabled: &NumberSet, _shown: &mut Vec<u32>) -> u32 {
         let act = self.turn(enabled);

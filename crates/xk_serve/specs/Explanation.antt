@@ -8,10 +8,10 @@ use Rattle.xk_types.specs.Bound.{steps_bound, activities_bound, clocks_bound}
 use Rattle.xk_tree.specs.Tree.{TreeValue}
 use Rattle.xk_tree.specs.declared.fault.FrontFault.{FrontFault}
 use Rattle.xk_bounds.specs.declared.refusal.Refusal.{Refusal}
-use Rattle.xk_module.specs.declared.fault.ModuleFault.{ModuleFault}
-use Rattle.xk_module.specs.Faults.{fault_label}
 use Rattle.xk_origins.specs.UnitOrigins.{UnitOrigins}
 use Rattle.xk_origins.specs.Laws.{AreOrigins}
+use Rattle.xk_explain.specs.declared.module_rule.ModuleRule.{ModuleRule}
+use Rattle.xk_explain.specs.Messages.{module_rule}
 use Rattle.xk_explain.specs.Explanations.{front_explanation, module_explanation, refusal_explanation}
 use Rattle.xk_explain.specs.Notes.{NoteValue, note_lines, plain_lines}
 use Rattle.xk_explain.specs.SourceExplanations.{source_explanation}
@@ -82,9 +82,9 @@ IsByTree bytes text told = (tree : Option TreeValue) × HaveTree bytes tree × (
 
 -- ---- what stands against a program: as a text, or as a JSON value on a line
 
-abbrev pub module_said : Bool → List ℕ → List ℕ → ModuleFault → List ℕ
-module_said false file title f = module_explanation file title f
-module_said true file title f = json_line (module_value file f)
+abbrev pub module_said : Bool → List ℕ → ModuleRule → List ℕ
+module_said false file r = module_explanation file r
+module_said true file r = json_line (module_value file r)
 
 abbrev pub front_said : Bool → List ℕ → List ℕ → FrontFault → List NoteValue → List ℕ
 front_said false file text f notes = front_explanation file text f notes
@@ -117,7 +117,7 @@ refusal_said json file text r (Some (m, Some origins)) = source_said json file t
 
 -- What `explain` says of a fault on standard output, beside its line: of want of memory and of devices nothing.
 abbrev pub IsExplanation : Bool → Form → List ℕ → List ℕ → Fault → List ℕ → Type 0
-IsExplanation json kind file bytes (fault.Text f) said = said ≡ option_map_or (λ title. module_said json file title f) (fault_label f) []
+IsExplanation json kind file bytes (fault.Text f) said = said ≡ option_map_or (module_said json file) (module_rule f) []
 IsExplanation json kind file bytes (fault.Front f) said = IsByTree bytes (fault_said json file bytes f) said
 IsExplanation json kind file bytes (fault.Refused r) said = IsByProgram kind bytes (refusal_said json file bytes r) said
 IsExplanation json kind file bytes _ said = said ≡ []

@@ -4,7 +4,7 @@ ghost use Rattle.std.specs.Prelude.{◌≡◌, [], None, Some, option_map, IfOk,
 ghost use Rattle.std.specs.Option.{option_map_or};
 ghost use Rattle.xk_types.specs.Acceptance.{IsAccepted};
 ghost use Rattle.xk_tree.specs.Program.{tree_value};
-ghost use Rattle.xk_module.specs.Faults.{fault_label};
+ghost use Rattle.xk_explain.specs.Messages.{module_rule};
 ghost use Rattle.xk_sums.specs.Notes.{module_notes, refusal_notes};
 ghost use Rattle.xk_serve.specs.Explanation.{IsProgramListed, accepted_said, acceptance_said, fault_said, front_said, lines_of, module_said, plain_said, refusal_said, source_said};
 ghost use Rattle.xk_serve.specs.declared.fault.Fault.TheVariants as found;
@@ -18,7 +18,8 @@ use xk_declarations::front_notes;
 use xk_diagnostics::accepted_line;
 use xk_expected::expected_notes;
 use xk_explain::{
-    Note, explain_front, explain_module, explain_refusal, explain_source, note_lines, plain_lines,
+    ModuleRule, Note, explain_front, explain_module, explain_refusal, explain_source, note_lines,
+    plain_lines,
 };
 use xk_explain_json::{accepted_json, front_json, module_json, refusal_json, source_json};
 use xk_listing::{list_module, list_source};
@@ -70,15 +71,15 @@ pub(crate) fn module_said(
     fault: ModuleFault,
 ) -> Result<Vec<u8>, AllocError>
     ensures { IfOk result (λ said. said.items
-        ≡ option_map_or (λ title. module_said json file.now title fault) (fault_label fault) []) }
+        ≡ option_map_or (module_said json file.now) (module_rule fault) []) }
 {
-    let Some(title) = fault.label() else {
+    let Some(rule) = ModuleRule::of(fault) else {
         return Ok(Vec::new(alloc));
     };
     if json {
-        return module_json(alloc, file, fault);
+        return module_json(alloc, file, rule);
     }
-    explain_module(alloc, file, title, fault)
+    explain_module(alloc, file, rule)
 }
 
 /// What it says of a text that spells no tree: with what could stand at the fault.

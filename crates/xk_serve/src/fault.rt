@@ -116,6 +116,7 @@ impl From<AllocError> for Fault {
 
     ghost from_gives = { λ _ fault. fault ≡ OutOfMemory };
 
+    /// Memory that was refused.
     fn from(_error: AllocError) -> Fault {
         Fault::OutOfMemory
     }
@@ -126,6 +127,7 @@ impl From<Failed> for Fault {
 
     ghost from_gives = { λ _ fault. fault ≡ Device };
 
+    /// A device that failed.
     fn from(_failed: Failed) -> Fault {
         Fault::Device
     }
@@ -136,6 +138,7 @@ impl From<ModuleFault> for Fault {
 
     ghost from_gives = { λ found fault. fault ≡ of_text found };
 
+    /// What is wrong with the text of a module (M1 to M3), or want of memory.
     fn from(found: ModuleFault) -> Fault {
         match found {
             ModuleFault::NotJson | ModuleFault::NotAModule | ModuleFault::Limit => {
@@ -151,6 +154,7 @@ impl From<FrontError> for Fault {
 
     ghost from_gives = { λ found fault. fault ≡ of_front found };
 
+    /// What is wrong with a source text (F1 to F15), or want of memory.
     fn from(found: FrontError) -> Fault {
         match found {
             FrontError::Fault(fault) => Fault::Front(fault),
@@ -164,6 +168,7 @@ impl From<(Module, Refusal)> for Fault {
 
     ghost from_gives = { λ refused fault. fault ≡ of_refusal refused.1 };
 
+    /// What is wrong with a module (V1 to V17), or want of memory.
     fn from(refused: (Module, Refusal)) -> Fault {
         let (_module, refusal) = refused;
         match refusal {
@@ -178,6 +183,7 @@ impl From<LogFault> for Fault {
 
     ghost from_gives = { λ found fault. fault ≡ of_log found };
 
+    /// What is wrong with the text of a log (L1, L2), a device that failed, or want of memory.
     fn from(found: LogFault) -> Fault {
         match found {
             LogFault::Grammar(line) => Fault::Grammar(line),
@@ -193,6 +199,7 @@ impl From<(Log, ReplayFault)> for Fault {
 
     ghost from_gives = { λ refused fault. fault ≡ of_replay refused.1 };
 
+    /// Why no run has a log (L4, L5), or want of memory.
     fn from(refused: (Log, ReplayFault)) -> Fault {
         let (_log, found) = refused;
         match found {

@@ -6,6 +6,7 @@ use Rattle.std.proofs.lemmas.Option.{same_Some, none-some, slice_get-get_or, sli
 use Rattle.std.proofs.lemmas.List.Quantifiers.{position-Some}
 use Rattle.std.proofs.lemmas.List.Sums.{fails_before_first}
 use Rattle.std.proofs.lemmas.Bool.{and_parts, or_parts, or_left, or_right, not-true, not-false, ltb-true, ltb-false, lt-ltb, eqb-true, eq-eqb, both_ways, false_from_ne_true, false≢true, cases_lt, cases_order}
+use Rattle.std.proofs.Math.Bool.{or-false}
 use Rattle.xk_types.specs.declared.instr.Instr.{Instr}
 use Rattle.xk_types.specs.declared.instr.Instr.TheVariants as instr
 use Rattle.xk_types.specs.Code.{UnitValue}
@@ -106,10 +107,6 @@ take_within (suc n) [] k x h = absurd (none-some x h)
 take_within (suc n) (y ∷ xs) zero x h = omega arith
 take_within (suc n) (y ∷ xs) (suc k) x h = let r = take_within n xs k x h in omega arith
 
-or_none : (b : Bool) → (b || false) ≡ b
-or_none true = refl
-or_none false = refl
-
 -- ---- the rule on homes
 
 module _ (u : UnitValue) where
@@ -190,7 +187,7 @@ module _ (u : UnitValue) where
           let handled = (unhandled r.k (instr.Make s) r.made (has.homes r.k)).0 in
           both_ways (nat_lt s (length u.params)) handled (lt-ltb s (length u.params) (takes_inside s e)))
           in
-          ap (λ b. test [] || b) none ∙ or_none (test []) ∙ ap test (sym (block_first u))
+          ap (λ b. test [] || b) none ∙ or-false (test []) ∙ ap test (sym (block_first u))
       go false e = of_first (position (makes s) u.code) refl
 
   -- a slot that the unit doesn't have is at home nowhere

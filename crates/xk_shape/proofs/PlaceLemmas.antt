@@ -3,7 +3,7 @@ use Rattle.std.proofs.Common.{◌≡◌, ℕ, ℤ, suc, ◌+◌, ◌<◌, ◌⊎
 use Rattle.std.specs.List.{list_any}
 use Rattle.std.specs.Option.{option_eq}
 use Rattle.std.proofs.lemmas.Option.{same_Some, none-some, slice_get-get_or}
-use Rattle.std.proofs.lemmas.Bool.{and_parts, and_from, or_cases, or_left, or_right, not-false, both_ways, false_from_ne_true, cases_order, eqb-true, eq-eqb}
+use Rattle.std.proofs.lemmas.Bool.{and_parts, and_from, or_cases, or_left, or_right, both_ways, false_from_ne_true, cases_order, eqb-true, eq-eqb}
 use Rattle.std.proofs.lemmas.Nat.Bits.{bit_at-zero}
 use Rattle.std.proofs.Math.Bool.{or-false}
 use Rattle.xk_types.specs.declared.instr.Instr.{Instr}
@@ -19,7 +19,7 @@ use Rattle.xk_types.proofs.MembershipLemmas.{same_test, has_any, none_has}
 use Rattle.xk_types.proofs.ShapeLemmas.SpanStartLemmas.{begun_had}
 use Rattle.xk_types.proofs.ShapeLemmas.FinishLemmas.{is_finish}
 use Rattle.xk_types.proofs.ShapeLemmas.LoopLemmas.{head_first, head_span, begins, is_loop}
-use Rattle.xk_types.proofs.ShapeLemmas.SpanLemmas.{of_loop, loop_span, finish_span}
+use Rattle.xk_types.proofs.ShapeLemmas.SpanLemmas.{of_loop, loop_span, finish_span, differ_not}
 use Rattle.xk_shape.proofs.SpanEndLemmas.{is_span, head_end, loop_is, has_span, same_end, same_begin, no_begin, no_end, ends_none, begins_none, any_found, any_same}
 use Rattle.xk_shape.proofs.NestingLemmas.{decides_inside, inside_same, inside_next, ends_inside, begun_ahead, ended_behind, nested_begun, nested_ended, nested_apart}
 use Rattle.xk_shape.proofs.EnclosingFinishLemmas.{around_same, block_first, block_begins}
@@ -43,7 +43,7 @@ no_loop u at e here l has first =
 -- ---- two places
 
 -- the same stretches lie round both
-abbrev pub AreRoundBoth : UnitValue → ℕ → ℕ → Type 0
+abbrev AreRoundBoth : UnitValue → ℕ → ℕ → Type 0
 AreRoundBoth u a b = (s : Span) → Has (spans u) s → is_inside a s ≡ is_inside b s
 
 module _ (u : UnitValue) where
@@ -401,10 +401,6 @@ module _ (u : UnitValue) (nested : AreNested u) where
       let ge = at_a.last at_b.round at_b.has (same at_b.round at_b.has ∙ at_b.inside) in
       let one : m ≡ n = omega (arith, at_a.begins, at_b.begins) in
       ap Some one
-
-  differ_not : (p q : Bool) → differ p q ≡ false → p ≡ q
-  differ_not true q h = sym (not-false q h)
-  differ_not false q h = sym h
 
   not_differ : (p q : Bool) → p ≡ q → differ p q ≡ false
   not_differ true q h = ap not (sym h)

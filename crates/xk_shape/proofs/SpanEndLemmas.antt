@@ -1,5 +1,5 @@
 -- The loops and finishes of a unit: which instructions they begin and end with.
-use Rattle.std.proofs.Common.{◌≡◌, if◌then◌else◌, ℕ, ℤ, ◌+◌, ◌⊎◌, Bool, true, false, ◌||◌, List, [], ◌∷◌, ◌++◌, map, Some, None, slice_get, inl, inr, refl, sym, ap, ◌∙◌, subst, arith, option_map, option_and_then}
+use Rattle.std.proofs.Common.{◌≡◌, if◌then◌else◌, ℕ, ◌+◌, ◌⊎◌, Bool, true, false, ◌||◌, List, [], ◌∷◌, ◌++◌, map, Some, None, slice_get, inl, inr, refl, sym, ap, ◌∙◌, subst, arith, option_map, option_and_then}
 use Rattle.std.specs.List.{list_any}
 use Rattle.std.proofs.lemmas.Option.{same_Some, cond_some, none-some}
 use Rattle.std.proofs.lemmas.Bool.{eq-eqb, false≢true}
@@ -12,7 +12,8 @@ use Rattle.xk_types.specs.Shape.{span_of, span_begun, spans}
 use Rattle.xk_shape.specs.Nesting.{end_named, begin_named, span}
 use Rattle.xk_types.proofs.ShapeLemmas.SpanStartLemmas.{begun_found, begun_had}
 use Rattle.xk_types.proofs.ShapeLemmas.LoopLemmas.{IsLoop, head_span, begins, is_loop}
-use Rattle.xk_types.proofs.ShapeLemmas.SpanLemmas.{next_is, end_is, of_loop, loop_span, finish_span}
+use Rattle.xk_types.proofs.ShapeLemmas.SpanLemmas.{end_is, of_loop, loop_span, finish_span}
+use Rattle.xk_types.proofs.MembershipLemmas.{has_mapped}
 
 -- ---- lists
 
@@ -21,12 +22,6 @@ had_append : {X : Type 0} (xs ys : List X) (x : X) → Has (xs ++ ys) x → Has 
 had_append [] ys x h = inr h
 had_append (z ∷ xs) ys x (inl e) = inl (inl e)
 had_append (z ∷ xs) ys x (inr h) = elim (had_append xs ys x h) [ inl l ↦ inl (inr l) | inr r ↦ inr r ]
-
--- an element of a map is the value of an element
-had_map : {X Y : Type 0} (f : X → Y) (xs : List X) (y : Y) → Has (map f xs) y → (x : X) × Has xs x × (f x ≡ y)
-had_map f [] y h = absurd h
-had_map f (z ∷ xs) y (inl e) = (z, inl refl, e)
-had_map f (z ∷ xs) y (inr h) = let r = had_map f xs y h in (r.0, inr r.1, r.2)
 
 -- where some element passes, this one does
 pub any_found : {X : Type 0} (p : X → Bool) (xs : List X) → list_any p xs ≡ true → (x : X) × Has xs x × (p x ≡ true)
@@ -133,7 +128,7 @@ finish_begins u at _ f h = absurd (none-some f h)
 pub is_span : (u : UnitValue) (s : Span) → Has (spans u) s → IsSpan u s
 is_span u s h = elim (had_append (map span_of (loops u)) (finishes u) s h) [
   | inl of_loops ↦
-      let r = had_map span_of (loops u) s of_loops in
+      let r = has_mapped span_of (loops u) s of_loops in
       let is = is_loop u r.0 r.1 in
       subst (IsSpan u) r.2 (span_is u r.0.first is.head (span_of r.0) is.begins (loop_begins u r.0 is)).0
   | inr of_finishes ↦

@@ -33,6 +33,7 @@ impl From<AllocError> for ShapeError {
 
     ghost from_gives = { λ _ e. e ≡ error.OutOfMemory };
 
+    /// Want of memory says nothing of the module.
     fn from(_e: AllocError) -> ShapeError {
         ShapeError::OutOfMemory
     }

@@ -1,11 +1,12 @@
 -- A run of the module is followed by one of the source.
-use Rattle.std.proofs.Common.{◌≡◌, ℕ, cond, ◌&&◌, List, [], ◌∷◌, map, refl, sym, ap, ◌∙◌, subst, arith, inl, inr}
+use Rattle.std.proofs.Common.{◌≡◌, ℕ, cond, ◌&&◌, List, [], ◌∷◌, map, refl, sym, ap, ◌∙◌, subst, inl, inr}
 use Rattle.std.specs.List.{list_all}
 use Rattle.xk_types.specs.declared.world.Event.{Event}
 use Rattle.xk_types.specs.Code.{ModuleValue}
 use Rattle.xk_types.specs.World.{Activity, Clock, World, is_ended}
-use Rattle.xk_types.specs.Step.{Outcome, Blocked, Wrong, Stepped, step}
-use Rattle.xk_types.specs.Schedule.{Course, Through, run, run_on, is_local}
+use Rattle.xk_types.specs.Step.{Stepped, step}
+use Rattle.xk_types.specs.Schedule.{Through, run, is_local}
+use Rattle.xk_types.proofs.RunLemmas.{same_through, first_step}
 use Rattle.xk_tree.specs.Tree.{TreeValue}
 use Rattle.xk_semantics.specs.Source.{SourceActivity, SourceWorld, source_step}
 use Rattle.xk_semantics.specs.Meaning.{Stand, shown, Moment, moments_on, moments, Goes, have_ended}
@@ -33,16 +34,6 @@ ended_same R k [] (y ∷ ys) h = absurd h
 ended_same R k (x ∷ xs) [] h = absurd h
 ended_same R k (x ∷ xs) (y ∷ ys) h =
     ap (λ s. is_ended s && list_all (λ act. is_ended act.status) xs) (k x y h.0) ∙ ap (λ b. is_ended y.status && b) (ended_same R k xs ys h.1)
-
-same_through : (w v : World) → Through w ≡ Through v → w ≡ v
-same_through w v e = cc
-
--- a run that comes through took its first step
-first_step : (w v : World) (o : Outcome) (go : World → Course) → run_on w o go ≡ Through v
-    → (x : World) × (e : Event) × (o ≡ Stepped x e) × (go x ≡ Through v)
-first_step w v Blocked go h = absurd (grind arith)
-first_step w v (Wrong c) go h = absurd (grind arith)
-first_step w v (Stepped x e) go h = (x, e, refl, h)
 
 -- The source goes on from a world with these moments to one that is related to the module's, and has ended where the module has.
 pub record GoesOn (t : TreeValue) (R : Activity → SourceActivity → Type 0) (v : SourceWorld) (seen : List Moment) (after : World) : Type 0 where

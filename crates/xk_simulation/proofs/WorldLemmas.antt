@@ -11,6 +11,7 @@ use Rattle.xk_types.specs.World.{Finish, ActivityOf, Activity, Clock, World, sta
 use Rattle.xk_types.specs.Step.{Outcome, Blocked, Wrong, Stepped, is_signalled, is_pending, advanced, is_ready, settled_clock, settled, moved_on, moved, none, done, made, new_clock, same_finish, under_within, is_under, awaits_from, joined}
 use Rattle.xk_types.specs.Schedule.{is_local}
 use Rattle.xk_types.proofs.ListLemmas.{fun_ext}
+use Rattle.xk_types.proofs.StandingLemmas.{all_quiet as none_signalled}
 use Rattle.xk_tree.specs.Tree.{TreeValue}
 use Rattle.xk_semantics.specs.Source.{SourceActivity, SourceWorld, source_step}
 use Rattle.xk_simulation.proofs.PairwiseLemmas.{Pairs, pairs_set, pairs_set_left, pairs_push, pairs_length, pairs_map}
@@ -56,16 +57,9 @@ alike_joined a given (c ∷ cs) (d ∷ ds) h = (
 
 -- ---- no clock can advance
 
-abbrev pub AreQuiet : List Clock → Type 0
+abbrev AreQuiet : List Clock → Type 0
 AreQuiet [] = Unit {0}
 AreQuiet (c ∷ cs) = (is_ready c ≡ false) × AreQuiet cs
-
-none_signalled : (s : List Standing) → list_any is_signalled (map advanced s) ≡ false
-none_signalled [] = refl
-none_signalled (standing.Apart ∷ s) = none_signalled s
-none_signalled (standing.Open ∷ s) = none_signalled s
-none_signalled (standing.Signalled ∷ s) = none_signalled s
-none_signalled (standing.Ahead ∷ s) = none_signalled s
 
 settled_quiet : (n : ℕ) (c : Clock) → is_ready (settled_clock n c) ≡ false
 settled_quiet n c = by (is_ready c) refl

@@ -83,7 +83,7 @@ stores_go m w a b c g k apart p q (inr r) (inr s) z =
 pub next_is : (m : ModuleValue) (w : World) (b : ℕ) (y : Activity) (i : Instr) → slice_get w.activities b ≡ Some y → IsNext m y i → next_instruction m w b ≡ Some i
 next_is m w b y i found next = ap (option_and_then (λ (act : Activity). instruction_at m act.frame)) found ∙ next.here
 
-pub stores_is : (m : ModuleValue) (w : World) (b c : ℕ) (y : Activity) (i : Instr) → slice_get w.activities b ≡ Some y → IsNext m y i → stores i c ≡ true → stores_next m w b c ≡ true
+stores_is : (m : ModuleValue) (w : World) (b c : ℕ) (y : Activity) (i : Instr) → slice_get w.activities b ≡ Some y → IsNext m y i → stores i c ≡ true → stores_next m w b c ≡ true
 stores_is m w b c y i found next h = ap (λ o. option_map_or (λ j. stores j c) o false) (next_is m w b y i found next) ∙ h
 
 reads_is : (m : ModuleValue) (w : World) (b c : ℕ) (y : Activity) (i : Instr) → slice_get w.activities b ≡ Some y → IsNext m y i → reads i c ≡ true → reads_next m w b c ≡ true
@@ -98,7 +98,7 @@ how_is : (m : ModuleValue) (w : World) (b c : ℕ) (g : ℤ → ℤ) (y : Activi
 how_is m w b c g y i found next (inl h) = inl (puts_is m w b c y i found next h)
 how_is m w b c g y i found next (inr h) = inr h
 
-pub begins_is : (m : ModuleValue) (w : World) (b : ℕ) (y : Activity) (i : Instr) → slice_get w.activities b ≡ Some y → IsNext m y i → begins i ≡ true → begins_next m w b ≡ true
+begins_is : (m : ModuleValue) (w : World) (b : ℕ) (y : Activity) (i : Instr) → slice_get w.activities b ≡ Some y → IsNext m y i → begins i ≡ true → begins_next m w b ≡ true
 begins_is m w b y i found next h = ap (λ o. option_map_or begins o false) (next_is m w b y i found next) ∙ h
 
 -- ---- two steps that begin nothing

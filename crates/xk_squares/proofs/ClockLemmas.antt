@@ -3,15 +3,17 @@ use Rattle.std.proofs.Common.{◌≡◌, ℕ, suc, zero, ◌+◌, ◌==◌, Bool
 use Rattle.std.specs.List.{list_any}
 use Rattle.std.proofs.lemmas.Bool.{or_parts}
 use Rattle.std.proofs.lemmas.List.{get_or-set_other, set-get_or}
+use Rattle.std.proofs.Math.ListN.{get_or-map}
 use Rattle.xk_types.specs.declared.world.Standing.{Standing}
 use Rattle.xk_types.specs.declared.world.Standing.TheVariants as standing
 use Rattle.xk_types.specs.World.{Clock, standing_of}
 use Rattle.xk_types.specs.Step.{is_registered, is_signalled, is_pending, is_ready, resumed, passed, dropped, advanced, settled_clock, moved, moved_on, joined, joined_on, only}
+use Rattle.xk_types.proofs.StandingLemmas.{advanced_quiet}
 use Rattle.xk_laws.proofs.Invariant.{Each}
 use Rattle.xk_squares.specs.PlainWorlds.{plain_clock}
 use Rattle.xk_squares.proofs.StepEffect.{Move, Rests, Resumes, Drops, Arrives, Passes, Ends, change_by}
 use Rattle.xk_squares.proofs.OneClockLemmas.{settle, change_of, join_of, GoesBeside, changes, joins, settle_is, settle_twice}
-use Rattle.xk_squares.proofs.ListLemmas.{get_or_map, get_or_push}
+use Rattle.xk_squares.proofs.ListLemmas.{get_or_push}
 use Rattle.xk_squares.proofs.StepPairLemmas.{registers}
 
 -- ---- what a move does
@@ -105,21 +107,15 @@ advanced_registered standing.Open = refl
 advanced_registered standing.Signalled = refl
 advanced_registered standing.Ahead = refl
 
-advanced_quiet : (s : Standing) → is_signalled (advanced s) ≡ false
-advanced_quiet standing.Apart = refl
-advanced_quiet standing.Open = refl
-advanced_quiet standing.Signalled = refl
-advanced_quiet standing.Ahead = refl
-
 -- where another stands at the end of a step: where it stood, or advanced
-pub settle_stands : (xs : List Standing) (a : ℕ) (P : Standing → Type 0) → P (get_or xs a standing.Apart) → P (advanced (get_or xs a standing.Apart)) → P (get_or (settle xs) a standing.Apart)
+settle_stands : (xs : List Standing) (a : ℕ) (P : Standing → Type 0) → P (get_or xs a standing.Apart) → P (advanced (get_or xs a standing.Apart)) → P (get_or (settle xs) a standing.Apart)
 settle_stands xs a P stays goes = rw (settle_is xs) (by (list_any is_pending xs))
   where
     by : (b : Bool) → P (get_or (cond b xs (map advanced xs)) a standing.Apart)
     by true = stays
-    by false = rw (get_or_map advanced xs a standing.Apart) goes
+    by false = rw (get_or-map advanced xs a standing.Apart) goes
 
-pub other_stands : (n a b : ℕ) (g : Standing → Standing) (c : Clock) → (a ≡ b → ⊥) → (P : Standing → Type 0) → P (standing_of c a) → P (advanced (standing_of c a))
+other_stands : (n a b : ℕ) (g : Standing → Standing) (c : Clock) → (a ≡ b → ⊥) → (P : Standing → Type 0) → P (standing_of c a) → P (advanced (standing_of c a))
     → P (standing_of (settled_clock n (moved_on b g c)) a)
 other_stands n a b g c differs P stays goes =
     let same : get_or (change_of b g c.standings) a standing.Apart ≡ standing_of c a = get_or-set_other c.standings b a (g (standing_of c b)) standing.Apart differs in

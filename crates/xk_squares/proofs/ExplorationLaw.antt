@@ -39,13 +39,14 @@ printed_first m list w v b e h =
     ap (λ o. filter_map (λ (p : ℕ × Event). number_printed p.1) (filter (λ (p : ℕ × Event). not (is_local p.1)) (events_on b o (events m list)))) h
     ∙ prints_on b e (events m list v)
 
--- where all have ended nobody takes a step
-ended_at : (xs : List Activity) (a : ℕ) (x : Activity) → list_all (λ (act : Activity). is_ended act.status) xs ≡ true → slice_get xs a ≡ Some x → is_ended x.status ≡ true
+-- where all have ended, each one has
+pub ended_at : (xs : List Activity) (a : ℕ) (x : Activity) → list_all (λ (act : Activity). is_ended act.status) xs ≡ true → slice_get xs a ≡ Some x → is_ended x.status ≡ true
 ended_at [] a x h at = absurd (none-some x at)
 ended_at (z ∷ xs) zero x h at =
     ap (λ (y : Activity). is_ended y.status) (sym (same_Some z x at)) ∙ (and_parts (is_ended z.status) (list_all (λ (act : Activity). is_ended act.status) xs) h).0
 ended_at (z ∷ xs) (suc a) x h at = ended_at xs a x (and_parts (is_ended z.status) (list_all (λ (act : Activity). is_ended act.status) xs) h).1 at
 
+-- so that nobody takes a step
 pub nobody_steps : (m : ModuleValue) (w u : World) (a : ℕ) (e : Event) → step m w a ≡ Stepped u e → all_ended w ≡ true → ⊥
 nobody_steps m w u a e h ended =
     let x = found_of m w a u e h in

@@ -3,11 +3,14 @@ use Rattle.std.proofs.Common.{◌≡◌, ℕ, ◌+◌, ◌<◌, Bool, true, fals
 use Rattle.std.specs.List.{list_any}
 use Rattle.std.proofs.lemmas.Bool.{or_parts}
 use Rattle.std.proofs.lemmas.List.{set-get_or, set-set, get_or-set_other, map-set}
+use Rattle.std.proofs.Math.ListN.{get_or-map}
 use Rattle.xk_types.specs.declared.world.Standing.{Standing}
 use Rattle.xk_types.specs.declared.world.Standing.TheVariants as standing
 use Rattle.xk_types.specs.World.{Clock}
 use Rattle.xk_types.specs.Step.{is_signalled, is_pending, advanced, settled_clock}
-use Rattle.xk_squares.proofs.ListLemmas.{set_other, get_or_map, none_at, none_set, map_push, set_push, get_or_push, any_push, any_at}
+use Rattle.xk_types.proofs.ListLemmas.{none_at, any_at}
+use Rattle.xk_types.proofs.StandingLemmas.{advanced_twice}
+use Rattle.xk_squares.proofs.ListLemmas.{set_other, none_set, map_push, set_push, get_or_push, any_push}
 
 -- where all stand at the end of a step
 abbrev pub settle : List Standing → List Standing
@@ -41,15 +44,9 @@ unmoved_all (x ∷ xs) h =
     let p = or_parts (is_signalled x) (list_any is_signalled xs) h in
     rw (unmoved_one x p.0, unmoved_all xs p.1)
 
-twice_one : (s : Standing) → advanced (advanced s) ≡ advanced s
-twice_one standing.Apart = refl
-twice_one standing.Open = refl
-twice_one standing.Signalled = refl
-twice_one standing.Ahead = refl
-
 twice_all : (xs : List Standing) → map advanced (map advanced xs) ≡ map advanced xs
 twice_all [] = refl
-twice_all (x ∷ xs) = rw (twice_one x, twice_all xs)
+twice_all (x ∷ xs) = rw (advanced_twice x, twice_all xs)
 
 -- The end of a step, up to phases: all advance if nobody is pending. (Where nobody is signalled either, that moves nobody.)
 pub settle_is : (xs : List Standing) → settle xs ≡ cond (pends xs) xs (map advanced xs)
@@ -70,7 +67,7 @@ settle_kept : (xs : List Standing) → pends xs ≡ true → settle xs ≡ xs
 settle_kept xs h = settle_is xs ∙ ap (λ p. cond p xs (map advanced xs)) h
 
 -- where an advance would move nobody
-pub settle_still : (xs : List Standing) → map advanced xs ≡ xs → settle xs ≡ xs
+settle_still : (xs : List Standing) → map advanced xs ≡ xs → settle xs ≡ xs
 settle_still xs h = settle_is xs ∙ by (pends xs)
   where
     by : (p : Bool) → cond p xs (map advanced xs) ≡ xs
@@ -102,7 +99,7 @@ module _ (a b : ℕ) (f g : Standing → Standing) (xs : List Standing) (differs
   quiet = ap is_pending (sym (get_or-set_other xs a b (f (get_or xs a standing.Apart)) standing.Apart differs)) ∙ none_at is_pending first b standing.Apart free refl
 
   stands : get_or moved_all b standing.Apart ≡ advanced was
-  stands = get_or_map advanced first b standing.Apart ∙ ap advanced (get_or-set_other xs a b (f (get_or xs a standing.Apart)) standing.Apart differs)
+  stands = get_or-map advanced first b standing.Apart ∙ ap advanced (get_or-set_other xs a b (f (get_or xs a standing.Apart)) standing.Apart differs)
 
   at_once : settle (change_of b g (settle first)) ≡ settle (set moved_all b (g (advanced was)))
   at_once = ap (λ zs. settle (change_of b g zs)) (settle_free first free) ∙ ap (λ s. settle (set moved_all b (g s))) stands
@@ -143,7 +140,7 @@ module _ (a b : ℕ) (f g : Standing → Standing) (xs : List Standing) (differs
       here ∙ sym gone ∙ sym (ap settle there)
       ∙ sym (ap (λ zs. settle (change_of a f zs)) (ap (λ s. settle (set xs b s)) p ∙ without_still (pends without) refl))
 
-  pub half : settle (change_of b g (settle (change_of a f xs))) ≡ settle (change_of a f (settle (change_of b g xs)))
+  half : settle (change_of b g (settle (change_of a f xs))) ≡ settle (change_of a f (settle (change_of b g xs)))
   half = elim (beside quiet) [
     | inl n ↦ nothing n.0 n.1
     | inr n ↦ over n.0 n.1
@@ -176,7 +173,7 @@ pends_join b true xs = any_push is_pending xs (get_or xs b standing.Apart) (any_
 pends_join b false xs = any_push is_pending xs standing.Apart (λ h. absurd (true≢false (sym h)))
 
 advanced_join : (b : ℕ) (given : Bool) (xs : List Standing) → map advanced (join_of b given xs) ≡ join_of b given (map advanced xs)
-advanced_join b true xs = map_push advanced xs (get_or xs b standing.Apart) ∙ ap (λ s. map advanced xs ++ s ∷ []) (sym (get_or_map advanced xs b standing.Apart))
+advanced_join b true xs = map_push advanced xs (get_or xs b standing.Apart) ∙ ap (λ s. map advanced xs ++ s ∷ []) (sym (get_or-map advanced xs b standing.Apart))
 advanced_join b false xs = map_push advanced xs standing.Apart
 
 -- a join goes with the end of a step

@@ -31,7 +31,7 @@ plain_twice (x ∷ xs) = ap (λ zs. plain_activity x ∷ zs) (plain_twice xs)
 -- ---- the end of a step
 
 -- a clock at the end of a step, without its phase
-abbrev pub resettled : Clock → Clock
+abbrev resettled : Clock → Clock
 resettled c = plain_clock (settled_clock 0 c)
 
 settled_one : (now : ℕ) (c : Clock) → plain_clock (settled_clock now c) ≡ resettled (plain_clock c)
@@ -42,12 +42,12 @@ settled_one now c = by (is_ready c)
     by true = refl
     by false = refl
 
-pub settled_all : (now : ℕ) (cs : List Clock) → map plain_clock (map (settled_clock now) cs) ≡ map resettled (map plain_clock cs)
+settled_all : (now : ℕ) (cs : List Clock) → map plain_clock (map (settled_clock now) cs) ≡ map resettled (map plain_clock cs)
 settled_all now [] = refl
 settled_all now (c ∷ cs) = rw (settled_one now c, settled_all now cs)
 
 -- what a world is at the end of a step goes by what it was
-pub same_settled : (w v : World) → plain w ≡ plain v → plain (settled w) ≡ plain (settled v)
+same_settled : (w v : World) → plain w ≡ plain v → plain (settled w) ≡ plain (settled v)
 same_settled w v h = same_plain (settled w) (settled v) (ap (λ z. z.activities) h)
     (settled_all (w.steps + 1) w.clocks ∙ ap (λ z. map resettled z.clocks) h ∙ sym (settled_all (v.steps + 1) v.clocks)) (ap (λ z. z.cells) h) (ap (λ z. z.arguments) h)
 

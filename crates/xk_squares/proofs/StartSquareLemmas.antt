@@ -13,7 +13,7 @@ use Rattle.xk_types.specs.Code.{ModuleValue, IsWithinLimits}
 use Rattle.xk_types.specs.World.{Activity, Clock, World, is_ended}
 use Rattle.xk_types.specs.Step.{Stepped, is_signalled, is_pending, is_ready, settled, settled_clock, moved, joined, is_given, new_clock, child, onward, with_slots, innermost, step}
 use Rattle.xk_types.specs.Schedule.{IsReached}
-use Rattle.xk_types.proofs.ListLemmas.{get-set_same, get-set_other, get-append_left}
+use Rattle.xk_types.proofs.ListLemmas.{get-set_same, get-set_other, get-append_left, any_at}
 use Rattle.xk_laws.proofs.Invariant.{Each, Names}
 use Rattle.xk_laws.proofs.ReachabilityLemmas.{reached_sound, reached_scoped, reached_step}
 use Rattle.xk_laws.proofs.ClockLemmas.StandingLemmas.{new_same, new_other, length-moved}
@@ -24,7 +24,7 @@ use Rattle.xk_squares.specs.Conflicts.{AreConflictFree}
 use Rattle.xk_squares.specs.Squares.{IsSquare}
 use Rattle.xk_squares.proofs.StepEffect.{Move, change_by, enacted, aged, begins_next}
 use Rattle.xk_squares.proofs.OneClockLemmas.{settle, settle_is}
-use Rattle.xk_squares.proofs.ListLemmas.{map_push, set_other, set_push, any_at}
+use Rattle.xk_squares.proofs.ListLemmas.{map_push, set_other, set_push}
 use Rattle.xk_squares.proofs.PlainStepLaw.{same_plain}
 use Rattle.xk_squares.proofs.ClockLemmas.{unready_still, pushed_registers, pushed_waits, joined_registers, joined_waits, made_go, started_go, move_apart}
 use Rattle.xk_squares.proofs.AwaitIndependenceLemmas.{awaits_push, owned_set}
@@ -165,7 +165,7 @@ module _ (m : ModuleValue) (w : World) (a b : ℕ) (x y : Activity) (found : sli
       )
 
   -- b's step in w, and what a sees after it
-  pub sees_after : (apart : AreConflictFree m w a b) (v : World) (f : Event) → step m w b ≡ Stepped v f → AreOwned v.activities
+  sees_after : (apart : AreConflictFree m w a b) (v : World) (f : Event) → step m w b ≡ Stepped v f → AreOwned v.activities
       → Goes m w w b y y.since (step m w b) (step m w b) → Sees m w v a x x.since
   sees_after apart v f hv theirs (IsNone g) = absurd (not_none (step m w b) v f hv g)
   sees_after apart v f hv theirs (DoesAct B) = first_sees m w a b x y found known differs quiet apart v (step m w b) (step m w b) B f hv
@@ -187,7 +187,7 @@ module _ (m : ModuleValue) (w : World) (a b : ℕ) (x y : Activity) (found : sli
   each_square apart u v e f hu hv A (DoesMake M) = makes_square u v e f hu hv A M
   each_square apart u v e f hu hv A (DoesStart S) = starts_square u v e f hu hv A S
 
-  pub any_square : (apart : AreConflictFree m w a b) → begins_next m w a ≡ false → (u v : World) (e f : Event) → step m w a ≡ Stepped u e → step m w b ≡ Stepped v f → AreOwned v.activities
+  any_square : (apart : AreConflictFree m w a b) → begins_next m w a ≡ false → (u v : World) (e f : Event) → step m w a ≡ Stepped u e → step m w b ≡ Stepped v f → AreOwned v.activities
       → (p : World) × (q : World) × (step m v a ≡ Stepped p e) × (step m u b ≡ Stepped q f) × (plain p ≡ plain q)
   any_square apart begun u v e f hu hv theirs =
       let a_alone : Acts m w w a x (step m w a) (step m w a) = only_acts m w w a x x.since _ _ u e found begun hu (goes m w w a x x.since (sees_itself m w a x found)) in

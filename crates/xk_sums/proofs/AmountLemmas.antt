@@ -1,5 +1,5 @@
 -- Sums and products of numbers as they are kept: of parts that are kept they are those of the numbers themselves.
-use Rattle.std.proofs.Common.{◌≡◌, ℕ, suc, ◌+◌, ◌*◌, ◌<◌, ◌≤◌, min, max, fold, cond, Bool, true, false, List, [], ◌∷◌, length, drop, get_or, map, filter, refl, sym, ap, ◌∙◌, arith}
+use Rattle.std.proofs.Common.{◌≡◌, ℕ, zero, suc, ◌+◌, ◌*◌, ◌<◌, ◌≤◌, min, max, fold, cond, Bool, true, false, List, [], ◌∷◌, length, drop, get_or, map, filter, Some, slice_get, refl, sym, ap, ◌∙◌, arith}
 use Rattle.std.proofs.Math.Seq.{drop-cons}
 use Rattle.std.proofs.Math.Nat.{mul_assoc}
 use Rattle.xk_types.specs.declared.instr.Instr.{Instr}
@@ -11,10 +11,6 @@ use Rattle.xk_sums.specs.Amounts.{kept}
 -- both factors may be kept before
 pub product_kept : (a b : ℕ) → kept (kept a * kept b) ≡ kept (a * b)
 product_kept a b = cut_left 1000000000000000001 a (kept b) ∙ cut_right 1000000000000000001 a b
-
--- a number that is kept is small
-pub kept_small : (n : ℕ) → kept n ≤ 1000000000000000001
-kept_small n = omega arith
 
 -- ---- turns, loop by loop
 
@@ -39,9 +35,13 @@ sum_next sum v a rest = let p = product_kept v a in omega arith
 
 -- ---- the greatest of numbers
 
-pub most_kept : (f g : Instr → ℕ) (a b : ℕ) (is : List Instr) → a ≡ kept b → ((i : Instr) → f i ≡ kept (g i)) → fold max a (map f is) ≡ kept (fold max b (map g is))
-most_kept f g a b [] start each = start
-most_kept f g a b (i ∷ is) start each = let here = each i in most_kept f g (max a (f i)) (max b (g i)) is (omega arith) each
+-- of numbers that h makes of others it is what h makes of the greatest of those
+pub most_by : (h : ℕ → ℕ) → ((a b : ℕ) → max (h a) (h b) ≡ h (max a b)) → (f g : Instr → ℕ) (a : ℕ) (is : List Instr)
+    → ((at : ℕ) (i : Instr) → slice_get is at ≡ Some i → f i ≡ h (g i)) → fold max (h a) (map f is) ≡ h (fold max a (map g is))
+most_by h over f g a [] each = refl
+most_by h over f g a (i ∷ is) each =
+    ap (λ n. fold max n (map f is)) (ap (max (h a)) (each zero i refl) ∙ over a (g i))
+    ∙ most_by h over f g (max a (g i)) is (λ at j here. each (suc at) j here)
 
 -- ---- one loop or one instruction more
 

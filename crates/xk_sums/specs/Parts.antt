@@ -36,15 +36,15 @@ tells_make subject.Accepted = true
 tells_make _ = false
 
 -- the turns of a loop, each time and in one run of its unit
-abbrev pub loop_fact : UnitValue → ℕ → Loop → Fact
-loop_fact u at l = fact.Loop (kept (turns l)) (kept (visits u at * turns l))
+abbrev pub loop_fact : ℕ → Loop → Fact
+loop_fact count l = fact.Loop (kept (turns l)) (kept (count * turns l))
 
 -- what is told of an instruction, if anything
 abbrev pub part : Subject → UnitValue → ℕ → Instr → Option Fact
 part s u at (instr.Call t args) = if tells_call s then Some (fact.Call t (kept (visits u at))) else None
 part s u at (instr.Spawn t args) = if tells_start s then Some (fact.Start t (kept (visits u at))) else None
 part s u at (instr.Make d) = if tells_make s then Some (fact.Make (kept (visits u at))) else None
-part s u at i = option_map_or (λ l. if tells_loop s l then Some (loop_fact u at l) else None) (loop_begun u at i) None
+part s u at i = option_map_or (λ l. if tells_loop s l then Some (loop_fact (visits u at) l) else None) (loop_begun u at i) None
 
 -- at its place
 abbrev pub part_at : Subject → ℕ → UnitValue → ℕ → Instr → Option Remark

@@ -174,7 +174,8 @@ fn first_home(
     mut arguments: Arguments,
 ) -> Result<Option<Remark>, AllocError>
     requires { length u.now.code ≤ 4096 }
-    ensures { IfOk result (λ found. found ≡ first_home unit u.now block.now (clocks arguments.entry)) }
+    ensures { IfOk result
+        (λ found. found ≡ first_home unit u.now block.now (clocks arguments.entry)) }
 {
     while let Some(slot) = arguments.take_clock() {
         if let Some(remark) = other_home(alloc, unit, u, block, slot)? {

@@ -1,6 +1,6 @@
 //! The sums of a program by their parts.
 
-ghost use Rattle.std.specs.Prelude.{◌≡◌, ◌++◌, ◌≤◌, None, Some, length, IfOk, OnOk, if◌then◌else◌};
+ghost use Rattle.std.specs.Prelude.{◌≡◌, ◌++◌, ◌≤◌, ℕ, None, Some, length, IfOk, OnOk, if◌then◌else◌};
 ghost use Rattle.std.specs.Option.{option_map_or};
 ghost use Rattle.xk_types.specs.Bound.{visits};
 ghost use Rattle.xk_types.specs.Code.{begun_from, loop_begun};
@@ -79,23 +79,19 @@ fn part(subject: Subject, u: &Unit, count: u64, at: u16, instr: &Instr) -> Optio
 fn loop_part(subject: Subject, u: &Unit, count: u64, at: u16, instr: &Instr) -> Option<Fact>
     requires { count ≡ kept (visits u.now at) }
     ensures { result ≡ option_map_or
-        (λ l. if tells_loop subject l then Some (loop_fact u.now at l) else None)
+        (λ l. if tells_loop subject l then Some (loop_fact (visits u.now at) l) else None)
         (loop_begun u.now at instr.now) None }
 {
     match loop_begun(u, at, instr) {
-        Some(l) if tells_loop(subject, &l) => Some(loop_fact(u, count, at, &l)),
+        Some(l) if tells_loop(subject, &l) => Some(loop_fact(count, &l)),
         _ => None,
     }
 }
 
-/// How many turns a loop takes.
-fn loop_fact(u: &Unit, count: u64, at: u16, l: &Loop) -> Fact
-    requires { count ≡ kept (visits u.now at) }
-    ensures { result ≡ loop_fact u.now at l.now }
+/// How many turns a loop takes, whose head is come to so often as that is kept.
+fn loop_fact(count: u64, l: &Loop) -> Fact
+    ensures { (times : ℕ) → count ≡ kept times → result ≡ loop_fact times l.now }
 {
-    // For the clauses alone, which say how often its head is come to.
-    let _unit = u;
-    let _place = at;
     let turns = l.turns();
     Fact::Loop {
         turns,

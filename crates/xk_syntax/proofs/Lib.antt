@@ -10,3 +10,4 @@ pub mod ProgramLemmas
 pub mod TextLemmas
 pub mod Examples
 pub mod AsyncOffsetLemmas
+pub mod FlatLemmas

@@ -176,7 +176,7 @@ fn hiding<'s, 't>(
 
 /// A statement that holds none.
 #[tactic(auto, unfolding(crate::specs::Readers::bind, crate::specs::Readers::flat_at))]
-fn flat<'s, 't>(
+pub(crate) fn flat<'s, 't>(
     alloc: Global,
     levels: u32,
     tokens: &'s [Token<'t>],

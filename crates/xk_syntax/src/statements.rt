@@ -1,17 +1,17 @@
 //! Statements, by recursive descent.
 
-ghost use Rattle.std.specs.Prelude.{◌≡◌, [], map};
+ghost use Rattle.std.specs.Prelude.{◌≡◌, ℕ, true, List, [], ◌∷◌, ◌++◌, map, OnOk};
 ghost use Rattle.xk_tree.specs.Tree.{bound, expression, statement, word};
 ghost use Rattle.xk_exprs.specs.Marks.{marks};
 ghost use Rattle.xk_exprs.specs.ReaderCombinators.{Gives};
-ghost use Rattle.xk_syntax.specs.Readers.{Brace, Condition, Range, Start, Wait, Hide, stmts_at, else_at, rest_at, stmt_at};
+ghost use Rattle.xk_syntax.specs.Readers.{Brace, Condition, Range, Start, Wait, Hide, whole, flat_at, stmt_head_at, stmts_at, else_at, rest_at, stmt_at};
 ghost use Rattle.xk_syntax.specs.Spelling.{inside};
 ghost use Rattle.xk_syntax.specs.Views.{clocks_value, head_value};
 
 use crate::hidden_clocks::{clocked_finish, hidden_name};
-use crate::statement_heads::{Head, stmt_head};
+use crate::statement_heads::{Head, flat, stmt_head};
 use crate::token_readers::{after_keyword, ahead, need_close};
-use std::alloc::Global;
+use std::alloc::{AllocError, Global};
 use xk_exprs::token_readers::{next, unexpected};
 use xk_exprs::{SyntaxError, SyntaxFault, SyntaxRule};
 use xk_lexer::{Keyword, Sign, Token, TokenKind};
@@ -59,6 +59,44 @@ fn no_stmts<'s, 't>(alloc: Global, tokens: &'s [Token<'t>]) -> (Vec<Stmt<'t>>, &
     (Vec::new(alloc), tokens)
 }
 
+/// Adds a statement. The first two bring no room for others: most blocks are short, and a statement takes 200 bytes.
+fn push_stmt<'t>(stmts: &mut Vec<Stmt<'t>>, stmt: Stmt<'t>) -> Result<(), AllocError>
+    ensures { OnOk result (stmts.new.items ≡ stmts.old.items ++ stmt.entry ∷ []) }
+{
+    if stmts.len() < 2 {
+        stmts.reserve_exact(1)?;
+    }
+    stmts.push(stmt)?;
+    Ok(())
+}
+
+/// Whether the first token begins a statement that holds no other, so that its head need not be read first.
+#[tactic(auto, unfolding(crate::specs::Readers::bind, crate::specs::Readers::stmt_head_at))]
+fn begins_flat(tokens: &[Token]) -> bool
+    ensures { (d : ℕ) (hidden : List ℕ) → result ≡ true
+        → stmt_head_at d hidden (marks tokens.now) ≡ whole (flat_at d (marks tokens.now)) }
+{
+    let Some((token, _)) = next(tokens) else {
+        return false;
+    };
+    match token.kind {
+        TokenKind::Name(_) => true,
+        TokenKind::Keyword(word) => match word {
+            Keyword::Val => true,
+            Keyword::Var => true,
+            Keyword::Atomic => true,
+            Keyword::Console => true,
+            Keyword::Clock => true,
+            _ => false,
+        },
+        TokenKind::Sign(sign) => match sign {
+            Sign::Semicolon => true,
+            _ => false,
+        },
+        _ => false,
+    }
+}
+
 /// The hidden clock in the body of an `async` with these clocks, by that of the place.
 fn hidden_inside<'t>(clocks: &Option<ClockList<'t>>, hidden: &'t [u8]) -> &'t [u8]
     ensures { result.now ≡ inside (clocks_value clocks.now) hidden.now }
@@ -88,7 +126,7 @@ pub(crate) fn read_stmts<'s, 't>(
     let (mut stmts, mut rest) = no_stmts(alloc, tokens);
     while let Some(here) = ahead(rest) {
         let (stmt, left) = read_stmt(alloc, levels, hidden, here, end)?;
-        stmts.push(stmt)?;
+        push_stmt(&mut stmts, stmt)?;
         rest = left;
     }
     let (close, after) = need_close(rest, end)?;
@@ -313,6 +351,9 @@ pub(crate) fn read_stmt<'s, 't>(
         return Err(SyntaxError::Fault(statement_too_deep(tokens, end)));
     }
     let levels = levels - 1;
+    if begins_flat(tokens) {
+        return flat(alloc, levels, tokens, end);
+    }
     let (head, rest) = stmt_head(alloc, levels, hidden, tokens, end)?;
     rest_of(alloc, levels, hidden, head, rest, end)
 }

@@ -1,11 +1,11 @@
 -- Runs by chance, one more and all of them; and that a tally is one text.
-use Rattle.std.proofs.Common.{◌≡◌, ◌∙◌, ℕ, ℤ, zero, suc, ◌+◌, ◌<◌, ◌^◌, true, List, [], ◌∷◌, ◌++◌, length, map, refl, sym, ap, ap₂, subst, arith}
+use Rattle.std.proofs.Common.{◌≡◌, ◌∙◌, ℕ, ℤ, suc, ◌+◌, ◌<◌, ◌^◌, true, List, [], ◌∷◌, ◌++◌, length, map, refl, sym, ap, ap₂, subst, arith}
 use Rattle.std.proofs.lemmas.Bool.{true≢false}
 use Rattle.std.proofs.lemmas.List.{length-append}
 use Rattle.std.proofs.lemmas.Option.{same_Some}
 use Rattle.xk_types.specs.declared.world.Event.{Event}
 use Rattle.xk_types.specs.Code.{ModuleValue}
-use Rattle.xk_types.specs.World.{World, opening, AreArguments}
+use Rattle.xk_types.specs.World.{World, opening}
 use Rattle.xk_types.specs.Step.{Outcome, Blocked, Wrong, Stepped, step}
 use Rattle.xk_types.specs.Schedule.{Through, all_ended, is_step, printed, run}
 use Rattle.xk_laws.proofs.ReachabilityLemmas.{first_step, same_through}
@@ -62,7 +62,7 @@ same_step v w d e h = cc
 
 module _ {S : Type 0} (answer : S → List ℕ → ℕ) (after : S → List ℕ → S) (m : ModuleValue) where
   -- two lists that follow one chooser to an end are one
-  pub follows_once : (l k : List ℕ) (s : S) (w x y : World) → Follows answer after m s w l → Follows answer after m s w k → run m l w ≡ Through x → run m k w ≡ Through y
+  follows_once : (l k : List ℕ) (s : S) (w x y : World) → Follows answer after m s w l → Follows answer after m s w k → run m l w ≡ Through x → run m k w ≡ Through y
       → all_ended x ≡ true → all_ended y ≡ true → l ≡ k
   follows_once [] [] s w x y p q left right over end = refl
   follows_once [] (b ∷ k) s w x y p q left right over end =
@@ -82,7 +82,7 @@ module _ {S : Type 0} (answer : S → List ℕ → ℕ) (after : S → List ℕ 
       ap (λ c. c ∷ l) same ∙ ap (λ t. b ∷ t) rest
 
   -- two runs that one chooser chooses print the same
-  pub chosen_once : (args : List ℤ) (s : S) (numbers others : List ℤ) (n k : ℕ) → IsRunBy answer after m args s numbers n → IsRunBy answer after m args s others k
+  chosen_once : (args : List ℤ) (s : S) (numbers others : List ℤ) (n k : ℕ) → IsRunBy answer after m args s numbers n → IsRunBy answer after m args s others k
       → numbers ≡ others
   chosen_once args s numbers others n k p q =
       let here = subst (λ xs. run m p.list (opening m xs) ≡ Through p.last) p.given p.leads.1 in
@@ -109,11 +109,3 @@ tally_once m args seed runs text other t u =
     let lists = printed_once m args seed 0 t.of.lists u.of.lists (t.of.runs_are ∙ sym u.of.runs_are) t.of.printed u.of.printed in
     let shares = t.of.shares_are ∙ ap (shares_from seed 0) lists ∙ sym u.of.shares_are in
     t.text_is ∙ ap (tally_text runs) shares ∙ sym u.text_is
-
--- main takes as many as are given
-pub tally_taken : (m : ModuleValue) (args : List ℤ) (seed runs : ℕ) (text : List ℕ) → IsTallyText m args seed runs text → 0 < runs → AreArguments m args
-tally_taken m args seed runs text t some = by t.of.lists t.of.runs_are t.of.printed
-  where
-    by : (lists : List (List ℤ)) → length lists ≡ runs → ArePrinted m args seed 0 lists → AreArguments m args
-    by [] none p = absurd (omega (arith, none, some))
-    by (x ∷ lists) any p = subst (AreArguments m) p.0.1.given p.0.1.leads.0

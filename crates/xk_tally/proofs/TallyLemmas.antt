@@ -114,7 +114,7 @@ few_others n x (s ∷ shares) few = by (are_same s.numbers x) refl (few_others n
     by false e rest = rw e (let fits : s.runs ≤ suc n = omega (arith, few.0) in (fits, rest))
 
 -- no more than there are
-pub shares_few : (seed i : ℕ) (lists : List (List ℤ)) → AllByRecursion (λ s. s.runs ≤ length lists) (shares_from seed i lists)
+shares_few : (seed i : ℕ) (lists : List (List ℤ)) → AllByRecursion (λ s. s.runs ≤ length lists) (shares_from seed i lists)
 shares_few seed i [] = tt
 shares_few seed i (x ∷ lists) =
     (count_by-le-length (λ other. are_same other x) (x ∷ lists), few_others (length lists) x (shares_from seed (suc i) lists) (shares_few seed (suc i) lists))

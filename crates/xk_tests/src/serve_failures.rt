@@ -135,7 +135,6 @@ fn served<R: Threads + Wait + Sync>(
         form: Form::Module,
         file: "-",
         arguments: Vec::new(alloc),
-        asks: false,
     };
     let mut program = Passing::new(SUM_AND_PHASE, failing.program);
     let mut log_in = Passing::new(LOG, failing.log_in);

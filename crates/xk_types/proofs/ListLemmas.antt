@@ -1,9 +1,9 @@
 -- Lists by number: what a write of one element, a push and a map leave at each place; tests over a list, and sums.
-use Rattle.std.proofs.Common.{◌≡◌, ℕ, zero, suc, ◌+◌, ◌<◌, ◌≤◌, max, Bool, true, false, ◌||◌, List, [], ◌∷◌, ◌++◌, map, length, set, Some, fold, replicate, refl, sym, ap, ◌∙◌, subst, arith, sum_by}
+use Rattle.std.proofs.Common.{◌≡◌, ℕ, zero, suc, ◌+◌, ◌<◌, ◌≤◌, max, Bool, true, false, ◌||◌, List, [], ◌∷◌, ◌++◌, map, length, set, Some, fold, replicate, refl, sym, ap, ◌∙◌, subst, arith, sum_by, get_or}
 use Rattle.std.specs.Prelude.{slice_get}
 use Rattle.std.specs.List.{list_any, list_all}
 use Rattle.std.proofs.lemmas.List.Sums.{sum_by-set}
-use Rattle.std.proofs.lemmas.Bool.{or_left, or_right}
+use Rattle.std.proofs.lemmas.Bool.{or_left, or_right, or_parts, true≢false}
 use Rattle.std.proofs.lemmas.Option.{slice_get_within, get_or_from_slice_get, none-some, same_Some}
 
 -- something holds of each element, under its number
@@ -136,3 +136,17 @@ max_each (y ∷ xs) s (suc i) x h = max_each xs (max s y) i x h
 -- a sum after a write
 pub sum_set : {X : Type 0} (f : X → ℕ) (xs : List X) (a : ℕ) (old new : X) → slice_get xs a ≡ Some old → sum_by f (set xs a new) + f old ≡ sum_by f xs + f new
 sum_set f xs a old new h = rw (get_or_from_slice_get xs a old old h) at (sum_by-set f xs a new old (slice_get_within xs a old h))
+
+-- ---- tests at a place, or past the end
+
+-- where none passes, and the default doesn't, this one doesn't
+pub none_at : {X : Type 0} (test : X → Bool) (xs : List X) (i : ℕ) (d : X) → list_any test xs ≡ false → test d ≡ false → test (get_or xs i d) ≡ false
+none_at test [] i d h g = g
+none_at test (x ∷ xs) zero d h g = (or_parts (test x) (list_any test xs) h).0
+none_at test (x ∷ xs) (suc i) d h g = none_at test xs i d (or_parts (test x) (list_any test xs) h).1 g
+
+-- one place that passes is enough, where the default doesn't
+pub any_at : {X : Type 0} (test : X → Bool) (xs : List X) (i : ℕ) (d : X) → test d ≡ false → test (get_or xs i d) ≡ true → list_any test xs ≡ true
+any_at test [] i d e h = absurd (true≢false (sym h ∙ e))
+any_at test (x ∷ xs) zero d e h = or_left (test x) (list_any test xs) h
+any_at test (x ∷ xs) (suc i) d e h = or_right (test x) (list_any test xs) (any_at test xs i d e h)

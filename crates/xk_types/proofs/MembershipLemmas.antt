@@ -53,3 +53,9 @@ pub has_map : {X Y : Type 0} (f : X → Y) (xs : List X) (x : X) → Has xs x �
 has_map f [] x h = absurd h
 has_map f (y ∷ xs) x (inl e) = inl (ap f e)
 has_map f (y ∷ xs) x (inr h) = inr (has_map f xs x h)
+
+-- an element of a map is the value of an element
+pub has_mapped : {X Y : Type 0} (f : X → Y) (xs : List X) (y : Y) → Has (map f xs) y → (x : X) × Has xs x × (f x ≡ y)
+has_mapped f [] y h = absurd h
+has_mapped f (x ∷ xs) y (inl e) = (x, inl refl, e)
+has_mapped f (x ∷ xs) y (inr h) = let r = has_mapped f xs y h in (r.0, inr r.1, r.2)

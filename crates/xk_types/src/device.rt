@@ -13,10 +13,10 @@ pub struct Failed;
 pub trait Source {
     ghost use Rattle.std.specs.Prelude.{Option};
 
-    // The bytes that reads will give from here on, where they are known.
+    /// The bytes that reads will give from here on, where they are known.
     ghost remaining: { Self → Option (List ℕ) };
 
-    // How often a read failed.
+    /// How often a read failed.
     ghost fault_count: { Self → ℕ };
 
     /// Reads into the front of `buf`, and says how many bytes came, at most as many as it has room for. No byte into a
@@ -35,10 +35,10 @@ pub trait Source {
 pub trait Sink {
     ghost use Rattle.std.specs.Prelude.{Option};
 
-    // The bytes that were written, where they are known.
+    /// The bytes that were written, where they are known.
     ghost contents: { Self → Option (List ℕ) };
 
-    // How often a write failed.
+    /// How often a write failed.
     ghost fault_count: { Self → ℕ };
 
     /// Writes a front of `piece`, and says how many bytes it took: at least one, unless `piece` is empty.

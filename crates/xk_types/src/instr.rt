@@ -28,6 +28,7 @@ impl PartialEq for Args {
 
     ghost laws = { Prim.search (comparing, rules) };
 
+    /// The same slots in the same order.
     fn eq(&self, other: &Args) -> bool {
         self.slots() == other.slots()
     }

@@ -39,7 +39,7 @@ impl<T> Counted<T> {
         self.faults
     }
 
-    // Counts a failure.
+    /// Counts a failure.
     fn fail(&mut self) -> Failed
         ensures inner { counted_inner self.new ≡ counted_inner self.old }
         ensures faults { counted_faults self.new ≡ after_failure (counted_faults self.old) }
@@ -49,7 +49,7 @@ impl<T> Counted<T> {
     }
 }
 
-// One read, tried again where a signal interrupted it.
+/// One read, tried again where a signal interrupted it.
 fn read_through<R: Read>(reader: &mut R, buf: &mut [u8]) -> Result<usize, Failed>
     ensures bound { ReadsAtMost result buf.new }
     ensures bytes { ReadConsumes (R.remaining reader.old) (R.remaining reader.new) result buf.new }
@@ -64,7 +64,7 @@ fn read_through<R: Read>(reader: &mut R, buf: &mut [u8]) -> Result<usize, Failed
     Err(Failed)
 }
 
-// One write, tried again where a signal interrupted it.
+/// One write, tried again where a signal interrupted it.
 fn write_through<W: Write>(writer: &mut W, piece: &[u8]) -> Result<usize, Failed>
     ensures bound { WritesAtMost result piece.now }
     ensures bytes { WriteAppends (W.contents writer.old) (W.contents writer.new) result piece.now }
@@ -84,6 +84,7 @@ impl<R: Read> Source for Counted<R> {
 
     ghost fault_count = { λ c. c.faults };
 
+    /// Reads once, and counts it if that failed.
     fn read(&mut self, buf: &mut [u8]) -> Result<usize, Failed> {
         match read_through(&mut self.inner, buf) {
             Ok(count) => Ok(count),
@@ -91,6 +92,7 @@ impl<R: Read> Source for Counted<R> {
         }
     }
 
+    /// How often a call failed.
     fn faults(&self) -> u64 {
         self.faults
     }
@@ -101,6 +103,7 @@ impl<W: Write> Sink for Counted<W> {
 
     ghost fault_count = { λ c. c.faults };
 
+    /// Writes once, and counts it if that failed, or took nothing of a piece that has bytes.
     fn write(&mut self, piece: &[u8]) -> Result<usize, Failed> {
         match write_through(&mut self.inner, piece) {
             Ok(0) if !piece.is_empty() => Err(self.fail()),
@@ -109,6 +112,7 @@ impl<W: Write> Sink for Counted<W> {
         }
     }
 
+    /// How often a call failed.
     fn faults(&self) -> u64 {
         self.faults
     }

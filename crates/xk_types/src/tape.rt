@@ -73,7 +73,7 @@ impl Tape {
         self.faults
     }
 
-    // Counts this call, and says whether it is the one that fails.
+    /// Counts this call, and says whether it is the one that is set to fail.
     fn is_set_to_fail(&mut self) -> bool
         ensures counted { self.new ≡ one_call_later self.old }
         ensures fails { IsTrue result ↔ (self.old.before_failure ≡ Some 0) }
@@ -83,7 +83,7 @@ impl Tape {
         fails
     }
 
-    // Counts a failure.
+    /// Counts a failure.
     fn fail(&mut self) -> Failed
         ensures { self.new ≡ record self.old { faults = after_failure self.old.faults } }
     {
@@ -97,6 +97,7 @@ impl Source for Tape {
 
     ghost fault_count = { λ t. t.faults };
 
+    /// Gives as many of the bytes that are left as the buffer has room for. It fails only where it is set to.
     fn read(&mut self, buf: &mut [u8]) -> Result<usize, Failed>
         ensures bound { ReadsAtMost result buf.new }
         ensures bytes { ReadConsumes (Some self.old.rest) (Some self.new.rest) result buf.new }
@@ -118,6 +119,7 @@ impl Source for Tape {
         Ok(count)
     }
 
+    /// How often a call failed.
     fn faults(&self) -> u64 {
         self.faults
     }
@@ -128,6 +130,7 @@ impl Sink for Tape {
 
     ghost fault_count = { λ t. t.faults };
 
+    /// Takes the whole piece. It fails where it is set to, and for want of memory; then nothing was written.
     fn write(&mut self, piece: &[u8]) -> Result<usize, Failed>
         ensures bound { WritesAtMost result piece.now }
         ensures takes { TakesSome result piece.now }
@@ -146,6 +149,7 @@ impl Sink for Tape {
         Ok(piece.len())
     }
 
+    /// How often a call failed.
     fn faults(&self) -> u64 {
         self.faults
     }

@@ -59,6 +59,7 @@ impl PartialEq for Unit {
 
     ghost laws = { laws units };
 
+    /// The same kind, parameters, number of slots and code.
     fn eq(&self, other: &Unit) -> bool {
         self.kind == other.kind
             && self.params.as_slice() == other.params.as_slice()

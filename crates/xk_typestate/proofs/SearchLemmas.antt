@@ -21,19 +21,11 @@ use Rattle.xk_typestate.specs.declared.search.Search.{Search}
 use Rattle.xk_typestate.proofs.KindSetLemmas.{have_added, have_kept, have_only, absent_with, none_have}
 use Rattle.xk_typestate.proofs.EdgeLemmas.{same_visit, edge_inside}
 use Rattle.xk_types.proofs.WalkLemmas.{visited_start, visited_closed, visited_on}
+use Rattle.xk_types.proofs.ListLemmas.{get-append_left, get_push}
 
 -- ---- lists that one element was added to
 
-pub found_kept : {X : Type 0} (xs ys : List X) (n : ℕ) (x : X) → slice_get xs n ≡ Some x → slice_get (xs ++ ys) n ≡ Some x
-found_kept [] ys n x h = absurd (let no : ⊥ = cc in no)
-found_kept (y ∷ xs) ys zero x h = h
-found_kept (y ∷ xs) ys (suc n) x h = found_kept xs ys n x h
-
-pub found_last : {X : Type 0} (xs : List X) (y : X) → slice_get (xs ++ y ∷ []) (length xs) ≡ Some y
-found_last [] y = refl
-found_last (x ∷ xs) y = found_last xs y
-
-pub found_push : {X : Type 0} (xs : List X) (y : X) (n : ℕ) (x : X) → slice_get (xs ++ y ∷ []) n ≡ Some x → (slice_get xs n ≡ Some x) ⊎ ((n ≡ length xs) × (y ≡ x))
+found_push : {X : Type 0} (xs : List X) (y : X) (n : ℕ) (x : X) → slice_get (xs ++ y ∷ []) n ≡ Some x → (slice_get xs n ≡ Some x) ⊎ ((n ≡ length xs) × (y ≡ x))
 found_push [] y zero x h = inr (refl, cc)
 found_push [] y (suc n) x h = absurd (let no : ⊥ = cc in no)
 found_push (z ∷ xs) y zero x h = inl h
@@ -46,7 +38,7 @@ module _ (seen : List KindsValue) (q : Visit) (inside : q.at < length seen) wher
   abbrev kinds_then : KindsValue
   kinds_then = kinds_with (get_or seen q.at no_kinds) q.kind
 
-  abbrev pub seen_then : List KindsValue
+  abbrev seen_then : List KindsValue
   seen_then = set seen q.at kinds_then
 
   there : (p : Visit) → p.at ≡ q.at → get_or seen_then p.at no_kinds ≡ kinds_then
@@ -58,17 +50,17 @@ module _ (seen : List KindsValue) (q : Visit) (inside : q.at < length seen) wher
   old_there : (p : Visit) → p.at ≡ q.at → get_or seen p.at no_kinds ≡ get_or seen q.at no_kinds
   old_there p e = ap (λ n. get_or seen n no_kinds) e
 
-  pub holds_added : IsTrue (holds seen_then q)
+  holds_added : IsTrue (holds seen_then q)
   holds_added = ap (λ x. kinds_have x q.kind) (there q refl) ∙ have_added (get_or seen q.at no_kinds) q.kind
 
-  pub holds_kept : (p : Visit) → IsTrue (holds seen p) → IsTrue (holds seen_then p)
+  holds_kept : (p : Visit) → IsTrue (holds seen p) → IsTrue (holds seen_then p)
   holds_kept p h =
       elim (cases_order p.at q.at) [
         | inl e ↦ ap (λ x. kinds_have x p.kind) (there p e) ∙ have_kept (get_or seen q.at no_kinds) q.kind p.kind (sym (ap (λ x. kinds_have x p.kind) (old_there p e)) ∙ h)
         | inr apart ↦ ap (λ x. kinds_have x p.kind) (elsewhere p (λ e. elim apart [ inl lt ↦ omega arith | inr gt ↦ omega arith ])) ∙ h
       ]
 
-  pub holds_only : (p : Visit) → IsTrue (holds seen_then p) → (p ≡ q) ⊎ IsTrue (holds seen p)
+  holds_only : (p : Visit) → IsTrue (holds seen_then p) → (p ≡ q) ⊎ IsTrue (holds seen p)
   holds_only p h =
       elim (cases_order p.at q.at) [
         | inl e ↦ elim (have_only (get_or seen q.at no_kinds) q.kind p.kind (sym (ap (λ x. kinds_have x p.kind) (there p e)) ∙ h)) [
@@ -78,7 +70,7 @@ module _ (seen : List KindsValue) (q : Visit) (inside : q.at < length seen) wher
         | inr apart ↦ inr (sym (ap (λ x. kinds_have x p.kind) (elsewhere p (λ e. elim apart [ inl lt ↦ omega arith | inr gt ↦ omega arith ]))) ∙ h)
       ]
 
-  pub absent_then : holds seen q ≡ false → sum_by kinds_absent seen_then + 1 ≡ sum_by kinds_absent seen
+  absent_then : holds seen q ≡ false → sum_by kinds_absent seen_then + 1 ≡ sum_by kinds_absent seen
   absent_then fresh =
       omega (arith, sum_by-set kinds_absent seen q.at kinds_then no_kinds inside, absent_with (get_or seen q.at no_kinds) q.kind fresh)
 
@@ -87,11 +79,11 @@ pub not_behind : (from : Option ℕ) → NotBehind from from
 not_behind None = tt
 not_behind (Some j) = omega arith
 
-pub later : (from : Option ℕ) (n k : ℕ) → n ≤ k → NotBehind from (Some n) → NotBehind from (Some k)
+later : (from : Option ℕ) (n k : ℕ) → n ≤ k → NotBehind from (Some n) → NotBehind from (Some k)
 later None n k le h = tt
 later (Some j) n k le h = omega arith
 
-pub latest_added : (found : List Found) (q : Visit) (from : Option ℕ) → IsLatest found from → IsLatest (found ++ record { stop = q; from = from } ∷ []) from
+latest_added : (found : List Found) (q : Visit) (from : Option ℕ) → IsLatest found from → IsLatest (found ++ record { stop = q; from = from } ∷ []) from
 latest_added found q from latest n f h =
     elim (found_push found (record { stop = q; from = from }) n f h) [
       | inl before ↦ latest n f before
@@ -105,7 +97,7 @@ none_latest found from none n f h = absurd (none-some f (ap (λ fs. slice_get fs
 
 module _ (m : ModuleValue) (u : UnitValue) (s : ℕ) where
   -- what leads to a stop stays, where more is found
-  pub came_still : (found more : List Found) (n k : ℕ) (q : Visit) (from : Option ℕ)
+  came_still : (found more : List Found) (n k : ℕ) (q : Visit) (from : Option ℕ)
       → ((j : ℕ) (f : Found) → IsFound found j f → IsFound more j f) → n ≤ k → Came m u s found n q from → Came m u s more k q from
   came_still found more n k q None kept le c = c
   came_still found more n k q (Some j) kept le c = (let lt = c.0 in omega arith, (c.1.0, kept j c.1.0 c.1.1, c.1.2))
@@ -121,7 +113,7 @@ module _ (m : ModuleValue) (u : UnitValue) (s : ℕ) where
     one = record { stop = q; from = from }
 
     kept : (j : ℕ) (f : Found) → IsFound found j f → IsFound (found ++ one ∷ []) j f
-    kept j f h = found_kept found (one ∷ []) j f h
+    kept j f h = get-append_left found (one ∷ []) j f h
 
     added_came : (n : ℕ) (f : Found) → IsFound (found ++ one ∷ []) n f → Came m u s (found ++ one ∷ []) n f.stop f.from
     added_came n f h =
@@ -136,7 +128,7 @@ module _ (m : ModuleValue) (u : UnitValue) (s : ℕ) where
     added_listed : (p : Visit) → IsTrue (holds (seen_then seen q inside) p) → (n : ℕ) × (f : Found) × IsFound (found ++ one ∷ []) n f × (f.stop ≡ p)
     added_listed p h =
         elim (holds_only seen q inside p h) [
-          | inl same ↦ (length found, one, found_last found one, sym same)
+          | inl same ↦ (length found, one, get_push found one, sym same)
           | inr had ↦ let at = so_far.listed p had in (at.0, at.1, kept at.0 at.1 at.2, at.3)
         ]
 
@@ -186,7 +178,7 @@ module _ (m : ModuleValue) (u : UnitValue) (s : ℕ) where
       once = omega (arith, so_far.once, absent_then seen q inside fresh, length-append found (one ∷ []));
     }
 
-  pub searched_put : (old new : Search) (done : ℕ) (q : Visit) (from : Option ℕ) → q.at < length old.seen.items → IsPut old new q from
+  searched_put : (old new : Search) (done : ℕ) (q : Visit) (from : Option ℕ) → q.at < length old.seen.items → IsPut old new q from
       → IsSearched m u s old done → Came m u s old.found.items (length old.found.items) q from → IsLatest old.found.items from → NotBehind from (Some done)
       → IsSearched m u s new done
   searched_put old new done q from inside put so_far leads latest now =
@@ -311,10 +303,10 @@ module _ (m : ModuleValue) (u : UnitValue) (s : ℕ) where
 
 -- ---- what grows
 
-pub extends_self : (r : Search) → Extends r r
+extends_self : (r : Search) → Extends r r
 extends_self r = record { long = refl; kept = λ q h. h; more = omega arith; found = λ n f h. h }
 
-pub extends_on : (a b c : Search) → Extends a b → Extends b c → Extends a c
+extends_on : (a b c : Search) → Extends a b → Extends b c → Extends a c
 extends_on a b c first second = record {
   long = second.long ∙ first.long;
   kept = λ q h. second.kept q (first.kept q h);
@@ -322,7 +314,7 @@ extends_on a b c first second = record {
   found = λ n f h. second.found n f (first.found n f h);
 }
 
-pub put_extends : (old new : Search) (q : Visit) (from : Option ℕ) → q.at < length old.seen.items → IsPut old new q from → Extends old new
+put_extends : (old new : Search) (q : Visit) (from : Option ℕ) → q.at < length old.seen.items → IsPut old new q from → Extends old new
 put_extends old new q from inside put =
     elim put [
       | inl same ↦ record {
@@ -335,12 +327,12 @@ put_extends old new q from inside put =
         long = ap length added.seen ∙ length-set old.seen.items q.at _;
         kept = λ p h. ap (λ x. holds x p) added.seen ∙ holds_kept old.seen.items q inside p h;
         more = omega (arith, ap length added.found, length-append old.found.items (record { stop = q; from = from } ∷ []));
-        found = λ n f h. ap (λ x. slice_get x n) added.found ∙ found_kept old.found.items (record { stop = q; from = from } ∷ []) n f h;
+        found = λ n f h. ap (λ x. slice_get x n) added.found ∙ get-append_left old.found.items (record { stop = q; from = from } ∷ []) n f h;
       }
     ]
 
 -- what was put is seen
-pub put_seen : (old new : Search) (q : Visit) (from : Option ℕ) → q.at < length old.seen.items → IsPut old new q from → IsTrue (holds new.seen.items q)
+put_seen : (old new : Search) (q : Visit) (from : Option ℕ) → q.at < length old.seen.items → IsPut old new q from → IsTrue (holds new.seen.items q)
 put_seen old new q from inside put =
     elim put [
       | inl same ↦ ap (λ x. holds x q) same.1 ∙ same.0

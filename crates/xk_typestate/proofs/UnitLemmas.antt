@@ -1,6 +1,6 @@
 -- From the units to the module: the least fault of the first unit that has one is the module's.
-use Rattle.std.proofs.Common.{◌≡◌, ℕ, ◌<◌, Some, slice_get, inl, inr, sym, ap, ◌∙◌, subst, arith}
-use Rattle.std.proofs.lemmas.Option.{same_Some}
+use Rattle.std.proofs.Common.{◌≡◌, ℕ, ◌<◌, Some, slice_get, inl, inr, sym, ap, ◌∙◌, subst, arith, List, length, get_or, refl}
+use Rattle.std.proofs.lemmas.Option.{same_Some, slice_get_read}
 use Rattle.std.proofs.lemmas.Bool.{cases_order}
 use Rattle.xk_types.specs.declared.rules.Rule.{Rule}
 use Rattle.xk_types.specs.declared.rules.Kind.{Kind}
@@ -13,6 +13,10 @@ use Rattle.xk_typestate.specs.declared.fault.KindError.TheVariants.{Fault, OutOf
 use Rattle.xk_typestate.specs.Place.{visit, IsVisitedIn}
 use Rattle.xk_typestate.specs.LeastRefusal.{IsKindFault, IsNeverRefused, IsRefusedIn, IsNeverRefusedIn, IsUnitFault, FailsUnit, FailsModule}
 
+-- the unit that a loop over the units reads is the module's
+pub found_unit : (m : ModuleValue) (xs : List UnitValue) (n : ℕ) (u : UnitValue) → xs ≡ m.units → n < length xs → u ≡ get_or xs n u → slice_get m.units n ≡ Some u
+found_unit m xs n u listed lt read = ap (λ ys. slice_get ys n) (sym listed) ∙ slice_get_read xs (length xs) n u refl lt read
+
 -- a place of the module that is refused is refused in its unit
 refused_in : (m : ModuleValue) (unit : ℕ) (u : UnitValue) (s : ℕ) (q : Visit) (r : Rule) → slice_get m.units unit ≡ Some u → IsRefusedAt m unit s q r → IsRefusedIn m u s q r
 refused_in m unit u s q r found h =
@@ -24,7 +28,7 @@ abbrev pub IsUnrefusedBelow : ModuleValue → ℕ → Type 0
 IsUnrefusedBelow m n = (unit : ℕ) (u : UnitValue) → unit < n → slice_get m.units unit ≡ Some u → IsNeverRefusedIn m u
 
 -- the least fault of the first unit that has one is the least of the module
-pub fault_of_unit : (m : ModuleValue) (unit : ℕ) (u : UnitValue) (f : KindFault) → slice_get m.units unit ≡ Some u → IsUnrefusedBelow m unit → IsUnitFault m unit u f
+fault_of_unit : (m : ModuleValue) (unit : ℕ) (u : UnitValue) (f : KindFault) → slice_get m.units unit ≡ Some u → IsUnrefusedBelow m unit → IsUnitFault m unit u f
     → IsKindFault m f
 fault_of_unit m unit u f found below h =
     let at_unit : slice_get m.units f.unit ≡ Some u = ap (slice_get m.units) h.unit_is ∙ found in

@@ -39,6 +39,7 @@ pub enum KindError {
 impl From<AllocError> for KindError {
     ghost from_gives = { λ _ e. e ≡ OutOfMemory };
 
+    /// Want of memory says nothing of the module.
     fn from(_e: AllocError) -> KindError {
         KindError::OutOfMemory
     }

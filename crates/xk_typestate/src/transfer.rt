@@ -1,17 +1,17 @@
 //! The table of kinds, and where instructions lead: all that depends on which instructions there are.
 
 ghost use Rattle.std.specs.Prelude.{◌≡◌, ℕ, ◌↔◌, ◌<◌, [], ◌∷◌, IsTrue, MatchResult, Ok, Some, slice_get, option_and_then, if◌then◌else◌};
-ghost use Rattle.xk_types.specs.Code.{loop_head};
+ghost use Rattle.xk_types.specs.Code.{loop_head, params_of};
 ghost use Rattle.xk_types.specs.declared.rules.Kind.{Kind};
 ghost use Rattle.xk_types.specs.declared.rules.Kind.TheVariants.{Number};
 ghost use Rattle.xk_types.specs.Order.{Has};
-ghost use Rattle.xk_types.specs.Walk.{After, Refused, after, becomes, awake, reads, may_read, loop_slot, loop_limit, overwritten, let_go, writes, uses, hands_on, gives, across, is_own, stays, passes_over, successors, entry_kinds, MayBecome};
+ghost use Rattle.xk_types.specs.Walk.{After, Refused, after, becomes, awake, reads, may_read, loop_slot, loop_limit, turns_round, overwritten, let_go, writes, uses, hands_on, gives, across, is_lent, is_own, stays, passes_over, successors, entry_kinds, MayBecome};
 ghost use Rattle.xk_typestate.specs.KindSet.{kinds_have};
 ghost use Rattle.xk_typestate.specs.Transfer.{IsRow, way_kinds, places, AreRising};
 
 use crate::kind_set::KindSet;
 use xk_shape::{Arguments, Blocks, params_of};
-use xk_types::{Instr, Kind, Module, ParamKind, Rule, Unit, UnitKind};
+use xk_types::{Args, Instr, Kind, Module, ParamKind, Rule, Unit, UnitKind};
 
 /// Where an instruction may lead, in rising order.
 #[derive(Clone, Copy)]
@@ -126,41 +126,17 @@ pub(crate) fn kinds_after(
         Instr::Add { d, a: x, b: y } => compute(*d, *x, *y, slot, kind),
         Instr::Sub { d, a: x, b: y } => compute(*d, *x, *y, slot, kind),
         Instr::Mul { d, a: x, b: y } => compute(*d, *x, *y, slot, kind),
-        Instr::Unless { a: x, b: y, .. } => {
-            read(*x, slot, kind)?;
-            read(*y, slot, kind)?;
-            Ok(KindSet::of(kind))
-        }
-        Instr::Next(b) => {
-            may_read(loop_slot(u, *b), slot, kind)?;
-            may_read(loop_limit(u, *b), slot, kind)?;
-            Ok(KindSet::of(kind))
-        }
+        Instr::Unless { a: x, b: y, .. } => compare(*x, *y, slot, kind),
+        Instr::Next(b) => turn_round(u, *b, slot, kind),
         Instr::Put { a: x, .. } | Instr::AddTo { a: x, .. } | Instr::Print(x) => {
-            read(*x, slot, kind)?;
-            Ok(KindSet::of(kind))
+            only_read(*x, slot, kind)
         }
         Instr::Make(d) => write(*d, Kind::Live, slot, kind),
         Instr::Resume(c) => use_clock(*c, Kind::Resumed, slot, kind),
         Instr::Drop(c) => use_clock(*c, Kind::Out, slot, kind),
         Instr::Advance => Ok(KindSet::of(awake(kind))),
-        Instr::Call { unit: called, args } => {
-            let arguments = Arguments::new(params_of(m, *called), args.slots());
-            let lent = arguments.has_clock(slot);
-            give(arguments, slot, kind)?;
-            Ok(kinds_across(lent, kind))
-        }
-        Instr::Spawn {
-            unit: started,
-            args,
-        } => {
-            give(
-                Arguments::new(params_of(m, *started), args.slots()),
-                slot,
-                kind,
-            )?;
-            Ok(KindSet::of(kind))
-        }
+        Instr::Call { unit, args } => call(m, *unit, args, slot, kind),
+        Instr::Spawn { unit, args } => spawn(m, *unit, args, slot, kind),
         Instr::EndFinish(first) => after_endfinish(blocks.is_home(slot, *first), kind),
         Instr::Jump(_) | Instr::Finish(_) => Ok(KindSet::of(kind)),
         Instr::Ret => after_ret(u, slot, kind),
@@ -174,6 +150,61 @@ fn compute(d: u16, x: u16, y: u16, slot: u16, kind: Kind) -> Result<KindSet, Rul
     read(x, slot, kind)?;
     read(y, slot, kind)?;
     write(d, Kind::Number, slot, kind)
+}
+
+/// Reads two slots as numbers, and writes none.
+fn compare(x: u16, y: u16, slot: u16, kind: Kind) -> Result<KindSet, Rule>
+    ensures { IsRow (reads x slot kind (reads y slot kind (becomes kind))) result }
+{
+    read(x, slot, kind)?;
+    only_read(y, slot, kind)
+}
+
+/// Reads a slot as a number, and writes none.
+fn only_read(x: u16, slot: u16, kind: Kind) -> Result<KindSet, Rule>
+    ensures { IsRow (reads x slot kind (becomes kind)) result }
+{
+    read(x, slot, kind)?;
+    Ok(KindSet::of(kind))
+}
+
+/// Ends a turn of the loop that begins at this place: its slot and its limit are read.
+fn turn_round(u: &Unit, first: u16, slot: u16, kind: Kind) -> Result<KindSet, Rule>
+    ensures { IsRow
+        (turns_round (option_and_then (loop_head first) (slice_get u.now.code first)) slot kind
+        (becomes kind))
+        result }
+{
+    may_read(loop_slot(u, first), slot, kind)?;
+    may_read(loop_limit(u, first), slot, kind)?;
+    Ok(KindSet::of(kind))
+}
+
+/// Calls a method: each argument is read or handed on, and the method may wait for the clocks that it is lent.
+fn call(m: &Module, called: u16, args: &Args, slot: u16, kind: Kind) -> Result<KindSet, Rule>
+    ensures { IsRow
+        (gives (params_of m.now called) args.now slot kind
+        (across (is_lent (params_of m.now called) args.now slot) kind))
+        result }
+{
+    let arguments = Arguments::new(params_of(m, called), args.slots());
+    let lent = arguments.has_clock(slot);
+    give(arguments, slot, kind)?;
+    Ok(kinds_across(lent, kind))
+}
+
+/// Starts an activity: each argument is read or handed on, and nothing is changed.
+fn spawn(m: &Module, started: u16, args: &Args, slot: u16, kind: Kind) -> Result<KindSet, Rule>
+    ensures { IsRow
+        (gives (params_of m.now started) args.now slot kind (becomes kind))
+        result }
+{
+    give(
+        Arguments::new(params_of(m, started), args.slots()),
+        slot,
+        kind,
+    )?;
+    Ok(KindSet::of(kind))
 }
 
 /// The slot of the loop that begins at this place; none where no loop does.

@@ -20,7 +20,8 @@ use Rattle.xk_core.specs.Core.{IsCore, is_living, next_instruction}
 use Rattle.xk_core.specs.Enabledness.{kept_by}
 use Rattle.xk_where.proofs.WaitingLaw.{told_in_finish}
 use Rattle.xk_where.specs.declared.condition.Condition.TheVariants as condition
-use Rattle.xk_where.specs.Where.{awaited_by, condition_of, holders_of, is_awaited, standing_on, those_below}
+use Rattle.xk_events.specs.Worlds.{those_below}
+use Rattle.xk_where.specs.Where.{awaited_by, condition_of, holders_of, is_awaited, standing_on}
 
 -- number n alone, if it passes
 abbrev here : (ℕ → Bool) → ℕ → List ℕ

@@ -14,7 +14,8 @@ use Rattle.xk_types.specs.Schedule.{Course, Through, run, run_on, is_enabled, is
 use Rattle.xk_types.specs.Logs.{schedule_of}
 use Rattle.xk_scheduler.proofs.RunSequenceLemmas.{run_then}
 use Rattle.xk_where.specs.declared.progress.Stop.{Stop}
-use Rattle.xk_where.specs.Progress.{IsTold, course_of, is_through, last_world, step_behind}
+use Rattle.xk_events.specs.Worlds.{last_world}
+use Rattle.xk_where.specs.Progress.{IsTold, course_of, is_through, step_behind}
 use Rattle.xk_where.specs.Where.{standings_text, where_text}
 use Rattle.xk_events.specs.Events.{PlacesValue}
 

@@ -5,13 +5,8 @@ use Rattle.xk_types.specs.Code.{ModuleValue}
 use Rattle.xk_types.specs.World.{World, opening}
 use Rattle.xk_types.specs.Schedule.{Course, Through, Held, Wronged, run}
 use Rattle.xk_types.specs.Logs.{schedule_of}
+use Rattle.xk_events.specs.Worlds.{last_world}
 use Rattle.xk_where.specs.declared.progress.Stop.{Stop}
-
--- the world in which a run comes to its end, or before the first step that can't be taken
-abbrev pub last_world : Course → World
-last_world (Through w) = w
-last_world (Held w) = w
-last_world (Wronged w c) = w
 
 abbrev pub is_through : Course → Bool
 is_through (Through w) = true

@@ -1,6 +1,6 @@
 -- How things stand in a world that the steps of a log lead to. What steps, clocks and finishes are, `xk_types` says in `Step.antt`; that it is
 -- told so is this project's own.
-use Rattle.std.specs.Prelude.{ℕ, zero, suc, ℤ, ◌-◌, nat_eq, nat_lt, Bool, ◌&&◌, List, [], ◌∷◌, ◌++◌, length, take, flat_map, Option, Some, None, slice_get, codes, decimal, if◌then◌else◌}
+use Rattle.std.specs.Prelude.{ℕ, ℤ, ◌-◌, nat_eq, nat_lt, Bool, ◌&&◌, List, [], ◌++◌, length, take, flat_map, Option, Some, None, slice_get, codes, decimal, if◌then◌else◌}
 use Rattle.std.specs.Fmt.{signed_decimal}
 use Rattle.std.specs.Option.{option_map_or}
 use Rattle.xk_types.specs.declared.world.Entry.{Entry}
@@ -12,6 +12,7 @@ use Rattle.xk_types.specs.Step.{innermost, is_pending, is_under}
 use Rattle.xk_types.specs.Schedule.{is_enabled}
 use Rattle.xk_activity.specs.Activities.{act_at}
 use Rattle.xk_core.specs.Core.{is_living, is_waiting}
+use Rattle.xk_events.specs.Worlds.{each_below, phase_of, those_below}
 use Rattle.xk_events.specs.Events.{PlacesValue, origin_of, place_words}
 use Rattle.xk_where.specs.declared.condition.Condition.{Condition}
 use Rattle.xk_where.specs.declared.condition.Condition.TheVariants as condition
@@ -19,15 +20,6 @@ use Rattle.xk_where.specs.declared.progress.Stop.{Stop}
 use Rattle.xk_where.specs.Progress.{course_of, is_through, reached, step_behind}
 
 -- ---- lists
-
--- something for each number below this one, in order
-abbrev pub each_below : (ℕ → List ℕ) → ℕ → List ℕ
-each_below told zero = []
-each_below told (suc n) = each_below told n ++ told n
-
--- those below this number who pass, rising
-abbrev pub those_below : (ℕ → Bool) → ℕ → List ℕ
-those_below test n = each_below (λ a. if test a then a ∷ [] else []) n
 
 -- an activity, after a blank
 abbrev pub act_word : ℕ → List ℕ
@@ -72,10 +64,6 @@ standing_on w a c = option_map_or (λ k. standing_of k a) (slice_get w.clocks c)
 -- who holds clock c back: those registered on it who aren't signalled
 abbrev pub holders_of : World → ℕ → List ℕ
 holders_of w c = those_below (λ a. is_pending (standing_on w a c)) (length w.activities)
-
--- the phase of clock c
-abbrev pub phase_of : World → ℕ → ℕ
-phase_of w c = option_map_or (λ k. k.phase) (slice_get w.clocks c) 0
 
 -- ` held by 2 3`
 unfoldable pub held_words : World → ℕ → List ℕ

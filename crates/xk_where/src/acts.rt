@@ -2,7 +2,8 @@
 
 ghost use Rattle.std.specs.Prelude.{◌≡◌, ◌<◌, ◌++◌, codes, length, IfOk, OnOk};
 ghost use Rattle.xk_where.specs.Pieces.{pieces_below};
-ghost use Rattle.xk_where.specs.Where.{act_line, act_words, awaited_by, clock_words, condition_words, each_below, held_words, holders_words, is_awaited, listed, place_of, registration, registration_by, registrations};
+ghost use Rattle.xk_events.specs.Worlds.{each_below};
+ghost use Rattle.xk_where.specs.Where.{act_line, act_words, awaited_by, clock_words, condition_words, held_words, holders_words, is_awaited, listed, place_of, registration, registration_by, registrations};
 
 use crate::condition::{Condition, condition_of, condition_words};
 use crate::holders::{Piece, held_pieces, push_piece, standing_on};

@@ -33,6 +33,7 @@ pub trait Gate {
 pub struct Direct;
 
 impl Gate for Direct {
+    /// Takes the local steps at once, whichever worker asks.
     fn compute<'m>(
         &self,
         alloc: Global,

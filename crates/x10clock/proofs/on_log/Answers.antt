@@ -1,29 +1,36 @@
-use Rattle.xk_serve.specs.Answer.{task_of}
-use Rattle.x10clock.proofs.AnswerLemmas.{not_answered, told_instead, unlogged}
+use Rattle.std.proofs.Common.{inr}
+use Rattle.x10clock.proofs.AnswerLemmas.{alone_ends, alone_ends_or, not_answered, unlogged}
 use Rattle.x10clock.proofs.on_log.Goals as goal
 
 pub returns-in-Ok-Some-clause-answered : goal.returns-in-Ok-Some-clause-answered
 returns-in-Ok-Some-clause-answered g c =
     let done = c.on_devices-in-Ok-Some in
-    unlogged (task_of c.args.job.now) (g.P.Read.remaining c.args.program) (g.L.Source.remaining c.args.log_in.now) done.result
+    unlogged c.args.request.now (g.P.Read.remaining c.args.program) (g.L.Source.remaining c.args.input.now) (g.L.Source.remaining done.new.input) done.result
     (g.O.Sink.contents c.args.out.now) (g.O.Sink.contents done.new.out) (g.E.Sink.contents c.args.err.now) (g.E.Sink.contents done.new.err)
     _ _ _ done.ensures.answered
 
 pub returns-in_default-clause-answered : goal.returns-in_default-clause-answered
 returns-in_default-clause-answered g c =
     let done = c.on_devices in
-    unlogged (task_of c.args.job.now) (g.P.Read.remaining c.args.program) (g.L.Source.remaining c.args.log_in.now) done.result
+    unlogged c.args.request.now (g.P.Read.remaining c.args.program) (g.L.Source.remaining c.args.input.now) (g.L.Source.remaining done.new.input) done.result
     (g.O.Sink.contents c.args.out.now) (g.O.Sink.contents done.new.out) (g.E.Sink.contents c.args.err.now) (g.E.Sink.contents done.new.err)
     _ _ _ done.ensures.answered
 
 pub returns-in-Ok-None-clause-answered : goal.returns-in-Ok-None-clause-answered
-returns-in-Ok-None-clause-answered g c =
-    told_instead (task_of c.args.job.now) (g.P.Read.remaining c.args.program) (g.L.Source.remaining c.args.log_in.now) c.tell.result
-    (g.O.Sink.contents c.args.out.now) (g.O.Sink.contents c.args.out.now) (g.E.Sink.contents c.args.err.now) (g.E.Sink.contents c.tell.new.err)
-    _ c.tell.ensures
+returns-in-Ok-None-clause-answered g c = inr (rw c.over_line.ensures at c.tell.ensures)
 
 pub returns-in-Err-clause-answered : goal.returns-in-Err-clause-answered
 returns-in-Err-clause-answered g c =
-    not_answered (task_of c.args.job.now) (g.P.Read.remaining c.args.program) (g.L.Source.remaining c.args.log_in.now) c.not_opened.result
-    (g.O.Sink.contents c.args.out.now) (g.O.Sink.contents c.args.out.now) (g.E.Sink.contents c.args.err.now) (g.E.Sink.contents c.not_opened.new.err)
-    _ c.not_opened.ensures.status
+    not_answered c.args.request.now (g.P.Read.remaining c.args.program) (g.L.Source.remaining c.args.input.now) (g.L.Source.remaining c.args.input.now)
+    c.not_opened.result (g.O.Sink.contents c.args.out.now) (g.O.Sink.contents c.args.out.now) (g.E.Sink.contents c.args.err.now)
+    (g.E.Sink.contents c.not_opened.new.err) _ _ _ c.not_opened.ensures.status
+
+pub returns-in-Err-clause-memory_err : goal.returns-in-Err-clause-memory_err
+returns-in-Err-clause-memory_err g c memory =
+    alone_ends c.args.request.now (g.P.Read.remaining c.args.program) (g.L.Source.remaining c.args.input.now) _ (g.E.Sink.contents c.args.err.now)
+    (g.E.Sink.contents c.not_opened.new.err) (c.not_opened.ensures.memory_err memory)
+
+pub returns-in-Err-clause-device_err : goal.returns-in-Err-clause-device_err
+returns-in-Err-clause-device_err g c failed =
+    alone_ends_or c.args.request.now (g.P.Read.remaining c.args.program) (g.L.Source.remaining c.args.input.now) _ (g.E.Sink.contents c.args.err.now)
+    (g.E.Sink.contents c.not_opened.new.err) _ (c.not_opened.ensures.device_err failed)

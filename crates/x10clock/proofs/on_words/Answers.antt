@@ -1,11 +1,11 @@
 use Rattle.std.proofs.Common.{◌∙◌, ap, inl, inr}
 use Rattle.xk_cli.specs.CommandLine.{asked_value, texts}
-use Rattle.x10clock.proofs.WordLemmas.{asked, or_somebody, refused}
+use Rattle.x10clock.proofs.WordLemmas.{asked, last_line, refused}
 use Rattle.x10clock.proofs.on_words.Goals as goal
 
 pub returns-in-Ok-read_job-clause-told : goal.returns-in-Ok-read_job-clause-told
 returns-in-Ok-read_job-clause-told g c =
-    inl (asked (texts c.deref.result.now) _ (asked_value c.in-Ok-read_job.job) (ap texts c.deref.ensures.value ∙ c.in-Ok.ensures.same) c.in-Ok-read_job.ensures.understood c.in-Ok-read_job.ensures.job)
+    inl (asked (texts c.deref.result.now) _ (asked_value c.in-Ok-read_job.request) (ap texts c.deref.ensures.value ∙ c.in-Ok.ensures.same) c.in-Ok-read_job.ensures.understood c.in-Ok-read_job.ensures.job)
 
 pub returns-clause-told : goal.returns-clause-told
 returns-clause-told g c =
@@ -14,5 +14,5 @@ returns-clause-told g c =
 
 pub returns-in-Ok-read_job-clause-memory_err : goal.returns-in-Ok-read_job-clause-memory_err
 returns-in-Ok-read_job-clause-memory_err g c = λ memory.
-    or_somebody _ (texts c.deref.result.now) _ (asked_value c.in-Ok-read_job.job) (ap texts c.deref.ensures.value ∙ c.in-Ok.ensures.same) c.in-Ok-read_job.ensures.understood c.in-Ok-read_job.ensures.job
+    last_line c.in-Ok-read_job.request (texts c.deref.result.now) _ _ _ _ (ap texts c.deref.ensures.value ∙ c.in-Ok.ensures.same) c.in-Ok-read_job.ensures.understood c.in-Ok-read_job.ensures.job
     (c.on_request.ensures.memory_err memory)

@@ -48,7 +48,7 @@ pub record Fits (shared : Texts) (sc : Seen) (scope : Scope) (own : Texts) : Typ
 
 -- ---- a name is declared
 
-abbrev pub with_name : Seen → List ℕ → NameKind → Seen
+abbrev with_name : Seen → List ℕ → NameKind → Seen
 with_name sc y k = record { names = sc.names ++ (y, known k (length sc.bodies)) ∷ []; bodies = sc.bodies }
 
 kinds_behind : (shared : Texts) (table : Table Known) (y : List ℕ) (j : Known) → is_shared j.kind ≡ false → ((x : List ℕ) → is_known_shared (find table x) ≡ has shared x)

@@ -71,7 +71,7 @@ apart_first n (x ∷ xs) a b k f g = go (is_text a x) refl (is_text b x) refl (a
 -- ---- words that differ have slots that differ
 
 -- no word stands twice, as the rule on clocks that are given says it
-abbrev pub NoneTwice : List Word → Type 0
+abbrev NoneTwice : List Word → Type 0
 NoneTwice ws = (before : List Word) (c : Word) (after : List Word) → ws ≡ before ++ c ∷ after → has (texts before) c.text ≡ false
 
 none_twice_tail : (w : Word) (ws : List Word) → NoneTwice (w ∷ ws) → NoneTwice ws
@@ -135,10 +135,10 @@ body_clocks (c ∷ cs) ns f = ap (λ l. f c.text ∷ l) (body_clocks cs ns f)
 
 -- ---- arguments of a method
 
-abbrev pub clock_words : List ParamValue → List Expression → List Word
+abbrev clock_words : List ParamValue → List Expression → List Word
 clock_words ps es = flat_map (λ a. argument_clocks a.0 a.1) (given ps es)
 
-abbrev pub NoMisfit : List ParamValue → List Expression → Type 0
+abbrev NoMisfit : List ParamValue → List Expression → Type 0
 NoMisfit ps es = (k : ℕ) → Has (flat_map (λ a. argument_misfits a.0 a.1) (given ps es)) k → ⊥
 
 -- one argument and the others

@@ -25,15 +25,15 @@ use Rattle.xk_emit.proofs.ShapeLemmas.UnitStructureLemmas.{is_none}
 -- ---- each is made once
 
 -- clocks are made in slots that rise, from lo to before hi
-abbrev pub free_behind : ℕ → Instr → ℕ
+abbrev free_behind : ℕ → Instr → ℕ
 free_behind lo (instr.Make d) = d + 1
 free_behind lo _ = lo
 
-abbrev pub IsFree : ℕ → Instr → Type 0
+abbrev IsFree : ℕ → Instr → Type 0
 IsFree lo (instr.Make d) = lo ≤ d
 IsFree lo _ = Unit {0}
 
-abbrev pub Rises : ℕ → ℕ → List Instr → Type 0
+abbrev Rises : ℕ → ℕ → List Instr → Type 0
 Rises lo hi [] = lo ≤ hi
 Rises lo hi (i ∷ is) = IsFree lo i × Rises (free_behind lo i) hi is
 
@@ -50,7 +50,7 @@ rises_both lo mid hi [] ys h g = rises_lower lo mid hi ys h g
 rises_both lo mid hi (x ∷ xs) ys h g = (h.0, rises_both (free_behind lo x) mid hi xs ys h.1 g)
 
 -- an instruction that makes no clock
-abbrev pub NoMake : Instr → Type 0
+abbrev NoMake : Instr → Type 0
 NoMake (instr.Make d) = ⊥
 NoMake _ = Unit {0}
 
@@ -194,7 +194,7 @@ made_first u lo hi b (i ∷ is) (suc at) d h g = go i h (made_above (free_behind
 -- ---- drops
 
 -- a clock that is dropped has a slot from m on
-abbrev pub DropsFrom : ℕ → Instr → Type 0
+abbrev DropsFrom : ℕ → Instr → Type 0
 DropsFrom m (instr.Drop k) = m ≤ k
 DropsFrom m _ = Unit {0}
 
@@ -228,7 +228,7 @@ SparesClocks xs (Drop c v) = has xs c.text ≡ false
 SparesClocks xs _ = Unit {0}
 
 -- names but these have slots from m on
-abbrev pub OthersFrom : List (List ℕ) → ℕ → Scope → Type 0
+abbrev OthersFrom : List (List ℕ) → ℕ → Scope → Type 0
 OthersFrom xs m scope = (y : List ℕ) (k : ℕ) → find scope y ≡ Some k → has xs y ≡ false → m ≤ k
 
 others_more : (xs : List (List ℕ)) (m : ℕ) (scope : Scope) (x : List ℕ) (n : ℕ) → m ≤ n → OthersFrom xs m scope → OthersFrom xs m (scope ++ (x, n) ∷ [])

@@ -232,7 +232,7 @@ find_more (e ∷ es) x n y j h = go (is_text y e.0) (find_more es x n y j) h
     go false later q = later q
 
 -- slot k is no other name's than x
-abbrev pub IsOf : Scope → ℕ → List ℕ → Type 0
+abbrev IsOf : Scope → ℕ → List ℕ → Type 0
 IsOf scope k x = (y : List ℕ) → find scope y ≡ Some k → y ≡ x
 
 is_of_more : (scope : Scope) (k : ℕ) (x z : List ℕ) (n : ℕ) → k < n → IsOf scope k x → IsOf (scope ++ (z, n) ∷ []) k x

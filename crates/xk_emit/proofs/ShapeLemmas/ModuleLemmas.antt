@@ -49,7 +49,7 @@ pub record IsCompiled (m : ModuleValue) (unit : ℕ) (u : UnitValue) : Type 0 wh
   pub given : EachInside (GivesOnce m cx) s
 
 -- a method drops no clock of its parameters
-abbrev pub SparesLent : (m : ModuleValue) (unit : ℕ) (u : UnitValue) → IsCompiled m unit u → Type 0
+abbrev SparesLent : (m : ModuleValue) (unit : ℕ) (u : UnitValue) → IsCompiled m unit u → Type 0
 SparesLent m unit u c = is_method c.kind ≡ true → EachInside (SparesClocks c.xs) c.s
 
 -- a block itself does nothing with names

@@ -33,7 +33,7 @@ Respects a e at _ = Unit {0}
 -- ---- numbers
 
 -- a stretch from lo to before hi lies before the span, or behind it, or in it
-abbrev pub Apart : ℕ → ℕ → ℕ → ℕ → Type 0
+abbrev Apart : ℕ → ℕ → ℕ → ℕ → Type 0
 Apart lo hi a e = (hi ≤ a) ⊎ ((e < lo) ⊎ ((a < lo) × (hi ≤ e)))
 
 jump_apart : (lo hi a e at t : ℕ) → a < e → lo ≤ at → at < t → t ≤ hi → Apart lo hi a e → crosses at t (span a e) ≡ false
@@ -85,7 +85,7 @@ plain_opens e _ p o = o
 -- ---- structures
 
 -- code from lo to before hi, each instruction of which names places in it
-abbrev pub Aim : ℕ → ℕ → List Instr → Type 0
+abbrev Aim : ℕ → ℕ → List Instr → Type 0
 Aim lo hi code = (at : ℕ) (i : Instr) → Stands lo code at i → Aims lo hi at i
 
 -- no span of the code is cut

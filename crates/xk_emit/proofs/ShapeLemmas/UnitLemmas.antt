@@ -75,7 +75,7 @@ module _ (cx : Setting) (kind : UnitKind) (xs : List (List ℕ)) (kinds : List P
   within = scope_wider (0 + length xs) (length xs) (scope_from 0 xs) (omega arith) (parameters_below 0 xs)
 
   -- the structure of the unit's code
-  abbrev pub nest : Nest
+  abbrev nest : Nest
   nest = nest_of cx (first_temporary xs s) (scope_from 0 xs) (length xs) s
 
   plain : EachRow Plain nest

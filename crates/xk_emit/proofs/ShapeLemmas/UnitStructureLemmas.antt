@@ -13,6 +13,7 @@ use Rattle.xk_types.specs.Order.{Has}
 use Rattle.xk_types.specs.Shape.{instr_is, is_ret, lies_ahead, aims_well, breaks_target, span_of, span_begun, spans, overlaps, crosses, span_ended, is_amiss, is_crossing, breaks_block, begins_backward, spoils, breaks_loop, breaks_end}
 use Rattle.xk_types.proofs.ShapeLemmas.LoopLemmas.{is_loop}
 use Rattle.xk_types.proofs.ShapeLemmas.FinishLemmas.{is_finish}
+use Rattle.xk_types.proofs.MembershipLemmas.{has_mapped}
 use Rattle.xk_emit.proofs.ShapeLemmas.PositionLemmas.{Stands, stands_in, stands_left, stands_at, stands_got, stands_to, Holds, holds_at}
 use Rattle.xk_emit.proofs.ShapeLemmas.StructureLemmas.{Nest, head, lay, EachRow, each_row, each_laid}
 use Rattle.xk_emit.proofs.ShapeLemmas.JumpTargetLemmas.{Plain, plain_no_ret, until, Aims, aims_wider, aims_inside}
@@ -35,11 +36,6 @@ has_split {X} (z ∷ xs) ys x (inr h) = go (has_split xs ys x h)
     go : Has xs x ⊎ Has ys x → Has (z ∷ xs) x ⊎ Has ys x
     go (inl g) = inl (inr g)
     go (inr g) = inr g
-
-has_mapped : {X Y : Type 0} (f : X → Y) (xs : List X) (y : Y) → Has (map f xs) y → (x : X) × Has xs x × (f x ≡ y)
-has_mapped f [] y h = absurd h
-has_mapped f (x ∷ xs) y (inl e) = (x, inl refl, e)
-has_mapped f (x ∷ xs) y (inr h) = let r = has_mapped f xs y h in (r.0, inr r.1, r.2)
 
 -- a test of the instruction at a place fails, where it fails for each instruction there
 pub is_none : (test : Instr → Bool) (o : Option Instr) → ((i : Instr) → o ≡ Some i → test i ≡ false) → instr_is test o ≡ false

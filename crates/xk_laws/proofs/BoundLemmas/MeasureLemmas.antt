@@ -33,7 +33,7 @@ behind_at : (weight : Instr → ℕ) (m : ModuleValue) (f : Frame) (u : UnitValu
 behind_at weight m f u found = ap (λ o. option_map_or (λ x. due (with_run weight m) x (f.place + 1) f.slots) o 0) found
 
 -- what frames that wait owe
-abbrev pub owed_below : (Instr → ℕ) → ModuleValue → List Frame → ℕ
+abbrev owed_below : (Instr → ℕ) → ModuleValue → List Frame → ℕ
 owed_below weight m fs = sum_by (owed_behind weight m) fs
 
 -- the debt of a frame before its first step

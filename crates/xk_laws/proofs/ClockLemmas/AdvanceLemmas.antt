@@ -2,26 +2,17 @@
 -- and that one that isn't ready is kept back by somebody.
 use Rattle.std.proofs.Common.{◌≡◌, ℕ, zero, suc, ◌+◌, ◌<◌, Bool, true, false, not, ◌||◌, ◌&&◌, List, [], ◌∷◌, map, length, get_or, refl, ap, ◌∙◌, arith}
 use Rattle.std.specs.List.{list_any}
-use Rattle.std.proofs.lemmas.Bool.{or_parts, and_parts, cond_both, not-true}
+use Rattle.std.proofs.lemmas.Bool.{and_parts, cond_both, not-true}
+use Rattle.std.proofs.Math.ListN.{get_or-map}
 use Rattle.xk_types.specs.declared.world.Standing.{Standing}
 use Rattle.xk_types.specs.declared.world.Standing.TheVariants as standing
 use Rattle.xk_types.specs.World.{Clock, standing_of}
 use Rattle.xk_types.specs.Step.{is_signalled, is_pending, is_ready, advanced, settled_clock}
+use Rattle.xk_types.proofs.ListLemmas.{none_at, any_at}
+use Rattle.xk_types.proofs.StandingLemmas.{all_quiet}
 use Rattle.xk_laws.proofs.Invariant.{kind_by, looks}
 
 -- ---- lists of standings
-
--- a map keeps the default's image
-get_or-map_any : {X Y : Type 0} (f : X → Y) (xs : List X) (i : ℕ) (d : X) → get_or (map f xs) i (f d) ≡ f (get_or xs i d)
-get_or-map_any f [] i d = refl
-get_or-map_any f (x ∷ xs) zero d = refl
-get_or-map_any f (x ∷ xs) (suc i) d = get_or-map_any f xs i d
-
--- none passes, at a place or past the end
-none_at : {X : Type 0} (test : X → Bool) (xs : List X) (i : ℕ) (d : X) → list_any test xs ≡ false → test d ≡ false → test (get_or xs i d) ≡ false
-none_at test [] i d h g = g
-none_at test (x ∷ xs) zero d h g = (or_parts (test x) (list_any test xs) h).0
-none_at test (x ∷ xs) (suc i) d h g = none_at test xs i d (or_parts (test x) (list_any test xs) h).1 g
 
 -- some passes, at a place within the list
 some_at : {X : Type 0} (test : X → Bool) (xs : List X) (d : X) → list_any test xs ≡ true → (i : ℕ) × (i < length xs) × (test (get_or xs i d) ≡ true)
@@ -32,16 +23,6 @@ some_at {X} test (x ∷ xs) d h = go (test x) refl (some_at test xs d) h
         → (b || list_any test xs) ≡ true → (i : ℕ) × (i < length (x ∷ xs)) × (test (get_or (x ∷ xs) i d) ≡ true)
     go true e later g = (zero, omega arith, e)
     go false e later g = let r = later g in (suc r.0, omega (arith, r.1), r.2)
-
--- one place that passes is enough
-any_at : {X : Type 0} (test : X → Bool) (xs : List X) (i : ℕ) (d : X) → test d ≡ false → test (get_or xs i d) ≡ true → list_any test xs ≡ true
-any_at test [] i d e h = absurd (grind arith)
-any_at test (x ∷ xs) zero d e h = rw h refl
-any_at {X} test (x ∷ xs) (suc i) d e h = go (test x) (any_at test xs i d e h)
-  where
-    go : (b : Bool) → list_any test xs ≡ true → (b || list_any test xs) ≡ true
-    go true g = refl
-    go false g = g
 
 -- ---- an advance
 
@@ -55,7 +36,7 @@ settled_cases now c P yes' no' = cond_both (is_ready c) (advanced_clock now c) c
 
 -- where an activity stands on a clock that has advanced
 pub stand-advanced : (now : ℕ) (c : Clock) (b : ℕ) → standing_of (advanced_clock now c) b ≡ advanced (standing_of c b)
-stand-advanced now c b = get_or-map_any advanced c.standings b standing.Apart
+stand-advanced now c b = get_or-map advanced c.standings b standing.Apart
 
 -- an advance moves nobody's kinds
 kind-advanced : (s : Standing) → kind_by (advanced s) ≡ kind_by s
@@ -74,18 +55,6 @@ pub looks-settled : (now : ℕ) (clocks : List Clock) (a k : ℕ) → looks (map
 looks-settled now [] a k = refl
 looks-settled now (c ∷ cs) a zero = settled_kind now c a
 looks-settled now (c ∷ cs) a (suc k) = looks-settled now cs a k
-
--- a clock that has advanced isn't ready
-quiet : (s : Standing) → is_signalled (advanced s) ≡ false
-quiet standing.Apart = refl
-quiet standing.Open = refl
-quiet standing.Signalled = refl
-quiet standing.Ahead = refl
-
--- nobody is signalled after an advance
-all_quiet : (xs : List Standing) → list_any is_signalled (map advanced xs) ≡ false
-all_quiet [] = refl
-all_quiet (s ∷ xs) = rw (quiet s) (all_quiet xs)
 
 -- a clock that has advanced isn't ready
 pub unready-advanced : (now : ℕ) (c : Clock) → is_ready (advanced_clock now c) ≡ false

@@ -1,6 +1,6 @@
 -- The loops of a unit that breaks no rule on shape: each head and each `next` is half of one, they nest or lie apart, and jumps stay in
 -- them.
-use Rattle.std.proofs.Common.{◌≡◌, ℕ, ◌<◌, ◌==◌, ℤ, int_lt, int_le, Bool, true, false, ◌&&◌, length, Option, Some, None, refl, sym, ap, ◌∙◌, subst, arith, ltb-true, eqb-true, true≢false, option_and_then, option_map}
+use Rattle.std.proofs.Common.{◌≡◌, ℕ, ◌<◌, ◌==◌, ℤ, int_lt, int_le, Bool, true, false, ◌&&◌, length, Option, Some, None, refl, sym, ap, ◌∙◌, subst, arith, ltb-true, eqb-true, option_and_then, option_map}
 use Rattle.std.specs.Prelude.{slice_get, nat_lt, if◌then◌else◌}
 use Rattle.std.specs.Option.{option_map_or}
 use Rattle.std.specs.List.{list_any}
@@ -9,19 +9,18 @@ use Rattle.std.proofs.lemmas.Int.{ints}
 use Rattle.std.proofs.lemmas.Option.{none-some, same_Some, cond_some}
 use Rattle.xk_types.specs.declared.instr.Instr.{Instr}
 use Rattle.xk_types.specs.declared.instr.Instr.TheVariants as instr
-use Rattle.xk_types.specs.Code.{UnitValue, Loop, is_next_of, loop_head, if_ended, loop_begun, loops, is_round, is_within}
+use Rattle.xk_types.specs.Code.{UnitValue, Loop, loop_head, loop_begun, loops, is_round, is_within}
 use Rattle.xk_types.specs.Blocks.{Span, is_end_of, finishes, is_inside}
 use Rattle.xk_types.specs.Order.{Has}
-use Rattle.xk_types.specs.Shape.{instr_is, is_ret, slot_written, target, lies_ahead, breaks_target, span_of, span_begun, spans, overlaps, span_ended, differ, crosses, breaks_block, is_limit, is_backward, begins_backward, spoils, breaks_loop}
+use Rattle.xk_types.specs.Shape.{instr_is, is_ret, slot_written, target, lies_ahead, breaks_target, span_of, span_begun, spans, overlaps, span_ended, crosses, breaks_block, is_limit, is_backward, begins_backward, spoils, breaks_loop}
 use Rattle.xk_types.proofs.ShapeLemmas.SpanStartLemmas.{Rising, begun_had, begun_rise}
 use Rattle.xk_types.proofs.MembershipLemmas.{none_has}
-use Rattle.xk_types.proofs.ShapeLemmas.SpanLemmas.{not_amiss, of_loop, loop_span, finish_span, aims, uncrossing, ahead}
+use Rattle.xk_types.proofs.ShapeLemmas.SpanLemmas.{not_amiss, of_loop, loop_span, finish_span, aims, uncrossing, ahead, differ_not}
 use Rattle.xk_types.proofs.ShapeLemmas.LoopLemmas.{IsLoop, head_first, head_aims, head_crossing, head_backward, begins, begins_at, is_loop}
 use Rattle.xk_types.proofs.ShapeLemmas.FinishLemmas.{is_finish}
 use Rattle.xk_types.proofs.ListLemmas.{get_once}
 use Rattle.std.proofs.lemmas.Bool.{cases_eq}
 use Rattle.std.proofs.lemmas.Bool.Decides.{nat_tests}
-use Rattle.std.proofs.lemmas.Option.{slice_get_within}
 use Rattle.std.proofs.Common.{◌+◌, ◌⊎◌, ◌||◌, inl, inr}
 
 -- ---- what holds of them
@@ -60,13 +59,6 @@ pub record AreLoops (u : UnitValue) : Type 0 where
   pub unwritten : (i : Instr) (at : ℕ) (l : Loop) → slice_get u.code at ≡ Some i → Has (loops u) l → is_within at l ≡ true → slot_written i ≡ Some l.slot → ⊥
 
 -- ---- from the rules
-
--- two tests that don't differ are one
-not_differ : (p q : Bool) → differ p q ≡ false → p ≡ q
-not_differ true true h = refl
-not_differ true false h = absurd (true≢false h)
-not_differ false true h = absurd (true≢false h)
-not_differ false false h = refl
 
 -- bounds that aren't out of order
 in_order : (lo hi : ℤ) → int_lt hi lo ≡ false → int_le lo hi ≡ true
@@ -183,8 +175,8 @@ module _ (u : UnitValue) (targets : (at : ℕ) → breaks_target u at ≡ false)
   kept_at i p t here e aim cross = record {
     ahead = (ahead u p t aim).0;
     inside = (ahead u p t aim).1;
-    same = λ l h. not_differ (is_within p l) (is_round t l) (none_has (crosses p t) (spans u) (span_of l) cross (loop_span u l h));
-    finishes = λ f h. not_differ (nat_lt f.first p && nat_lt p f.last) (is_inside t f) (none_has (crosses p t) (spans u) f cross (finish_span u f h));
+    same = λ l h. differ_not (is_within p l) (is_round t l) (none_has (crosses p t) (spans u) (span_of l) cross (loop_span u l h));
+    finishes = λ f h. differ_not (nat_lt f.first p && nat_lt p f.last) (is_inside t f) (none_has (crosses p t) (spans u) f cross (finish_span u f h));
   }
 
   -- two loops with one head are one

@@ -33,7 +33,7 @@ pub record Stands (ms : Signatures) (shared : Texts) (at : ℕ) (cs : Option Clo
   pub itself : IsSound ms sc (Async at cs s)
   pub inside : IsSoundInside ms sc (Async at cs s)
 
-abbrev pub PartStands : Signatures → Texts → Part → Type 0
+abbrev PartStands : Signatures → Texts → Part → Type 0
 PartStands ms shared (OfMethod m) = ⊥
 PartStands ms shared (OfBody at cs s) = Stands ms shared at cs s
 

@@ -1,6 +1,7 @@
 -- Bodies at one offset are one, where the offsets of the words `async` rise; methods of one name are one, where no name is a method's twice.
 use Rattle.std.proofs.Common.{◌≡◌, inl, inr, ℕ, ◌<◌, Bool, true, false, cond, ◌||◌, List, [], ◌∷◌, ◌++◌, map, Option, Some, refl, sym, ap, ◌∙◌, subst, arith}
 use Rattle.std.specs.List.{flat_map}
+use Rattle.std.proofs.lemmas.Bool.{or_right}
 use Rattle.xk_names.proofs.TableAgreementLemmas.{same_text}
 use Rattle.xk_tree.specs.declared.fault.FrontFault.{FrontFault}
 use Rattle.xk_tree.specs.declared.fault.FrontRule.TheVariants as rule
@@ -92,17 +93,13 @@ same_body t apart at cs ds s u =
 abbrev NoneAgain : List MethodValue → Type 0
 NoneAgain ms = (f : FrontFault) → RepeatsMethod ms f → ⊥
 
-or_true : (b c : Bool) → c ≡ true → (b || c) ≡ true
-or_true true c e = refl
-or_true false c e = e
-
 none_behind : (m : MethodValue) (ms : List MethodValue) → NoneAgain (m ∷ ms) → NoneAgain ms
 none_behind m ms none f r = none f (record {
   before = m ∷ r.before;
   method = r.method;
   after = r.after;
   stands = ap (λ l. m ∷ l) r.stands;
-  again = or_true (is_text r.method.name.text m.name.text) (has (texts (map (λ (n : MethodValue). n.name) r.before)) r.method.name.text) r.again;
+  again = or_right (is_text r.method.name.text m.name.text) (has (texts (map (λ (n : MethodValue). n.name) r.before)) r.method.name.text) r.again;
   is = r.is;
 })
 

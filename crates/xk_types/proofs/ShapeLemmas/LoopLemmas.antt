@@ -58,10 +58,6 @@ head_backward n (instr.For k lo hi e) l h = ap is_backward (same_Some _ l h)
 head_backward n (instr.ForTo k lo x hi e) l h = ap is_backward (same_Some _ l h)
 head_backward n _ l h = absurd (none-some l h)
 
--- it is no `next`
-pub head_no_next : (n b : ℕ) (l : Loop) → loop_head n (instr.Next b) ≡ Some l → ⊥
-head_no_next n b l h = none-some l h
-
 -- ---- loops
 
 -- a head and a `next` that name each other

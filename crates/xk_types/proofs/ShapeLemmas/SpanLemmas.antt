@@ -1,6 +1,6 @@
 -- Loops and finishes as stretches of a unit's code: what the rules on targets and on blocks say of them, instruction by instruction; and
 -- when two blocks are the same.
-use Rattle.std.proofs.Common.{◌≡◌, ℕ, ◌<◌, ◌==◌, true, false, not, List, [], ◌∷◌, length, Option, Some, None, refl, sym, ap, ◌∙◌, ltb-true, eqb-true, true≢false, option_map, map}
+use Rattle.std.proofs.Common.{◌≡◌, ℕ, ◌<◌, ◌==◌, true, false, not, List, [], ◌∷◌, length, Option, Some, None, refl, sym, ap, ◌∙◌, ltb-true, eqb-true, true≢false, option_map, map, Bool}
 use Rattle.std.specs.Prelude.{slice_get, nat_lt}
 use Rattle.std.specs.List.{list_any}
 use Rattle.std.proofs.lemmas.Bool.{and_parts, not-false, eq-eqb, false≢true}
@@ -10,7 +10,7 @@ use Rattle.xk_types.specs.declared.instr.Instr.TheVariants as instr
 use Rattle.xk_types.specs.Code.{UnitValue, Loop, is_next_of, loops}
 use Rattle.xk_types.specs.Blocks.{Span, is_end_of, finishes, same_block}
 use Rattle.xk_types.specs.Order.{Has}
-use Rattle.xk_types.specs.Shape.{instr_is, lies_ahead, aims_well, breaks_target, span_of, spans, overlaps, is_amiss, is_crossing, breaks_block}
+use Rattle.xk_types.specs.Shape.{instr_is, lies_ahead, aims_well, breaks_target, span_of, spans, overlaps, is_amiss, is_crossing, breaks_block, differ}
 use Rattle.xk_types.proofs.MembershipLemmas.{has_left, has_right, has_map}
 
 -- ---- a loop or a finish, and its end
@@ -74,3 +74,8 @@ same_is (x ∷ xs) (y ∷ ys) h =
 pub is_same : (xs : List ℕ) → same_block xs xs ≡ true
 is_same [] = refl
 is_same (x ∷ xs) = rw (eq-eqb x x refl) (is_same xs)
+
+-- two tests that don't differ are one
+pub differ_not : (p q : Bool) → differ p q ≡ false → p ≡ q
+differ_not true q h = sym (not-false q h)
+differ_not false q h = sym h

@@ -1,8 +1,9 @@
 -- The group has one more member, and its last one stands for that one, too.
 use Rattle.std.proofs.Common.{◌≡◌, ◌∙◌, true, slice_set, ap, sym, subst}
 use Rattle.std.proofs.lemmas.Bool.{true≢false}
+use Rattle.std.proofs.lemmas.Option.{get_or_from_slice_get}
 use Rattle.xk_accesses.specs.Accesses.{is_placed, with_member}
-use Rattle.xk_accesses.proofs.GroupLemmas.{group_kept, group_there, is_there, is_within}
+use Rattle.xk_accesses.proofs.GroupLemmas.{group_kept, group_there, is_within}
 use Rattle.xk_accesses.proofs.group.add_to_group.Goals as goal
 
 pub returns-in_ok-add-clause-kept : goal.returns-in_ok-add-clause-kept
@@ -12,7 +13,7 @@ returns-in_ok-add-clause-kept c =
     let x = c.args.x.now in
     let g = c.requires.0 in
     let item = c.in-Some.ensures.item in
-    let new = c.in_ok-add.ensures ∙ ap (with_member x) (item.3.1 g ∙ is_there groups c.args.i g g c.requires.1) in
+    let new = c.in_ok-add.ensures ∙ ap (with_member x) (item.3.1 g ∙ get_or_from_slice_get groups c.args.i g g c.requires.1) in
     subst (λ n. is_placed (slice_set groups c.args.i n) z ≡ true) (sym new) (group_kept groups c.args.i x z g c.requires.1 c.requires.2 h)
 
 pub returns-in_ok-add-clause-there : goal.returns-in_ok-add-clause-there
@@ -21,7 +22,7 @@ returns-in_ok-add-clause-there c =
     let x = c.args.x.now in
     let g = c.requires.0 in
     let item = c.in-Some.ensures.item in
-    let new = c.in_ok-add.ensures ∙ ap (with_member x) (item.3.1 g ∙ is_there groups c.args.i g g c.requires.1) in
+    let new = c.in_ok-add.ensures ∙ ap (with_member x) (item.3.1 g ∙ get_or_from_slice_get groups c.args.i g g c.requires.1) in
     subst (λ n. is_placed (slice_set groups c.args.i n) x ≡ true) (sym new) (group_there groups c.args.i x g c.requires.1 c.requires.2)
 
 pub returns-in_default-clause-there : goal.returns-in_default-clause-there

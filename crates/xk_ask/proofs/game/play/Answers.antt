@@ -4,7 +4,7 @@ use Rattle.xk_log.specs.Writing.{AppendsBeginning}
 use Rattle.xk_core.specs.Core.{CoreValue}
 use Rattle.xk_ask.specs.Answers.{answers, most_bytes}
 use Rattle.xk_ask.specs.Asking.{to_come}
-use Rattle.xk_ask.specs.Play.{question, told}
+use Rattle.xk_ask.specs.Play.{all_said, question}
 use Rattle.xk_ask.proofs.PlayLemmas.{begun_before, begun_early, begun_some_before, begun_some_early, failed, said_before, so_then, some_before}
 use Rattle.xk_ask.proofs.game.play.Goals as goal
 
@@ -18,7 +18,7 @@ pub returns-in_err-ask-clause-begins : goal.returns-in_err-ask-clause-begins
 returns-in_err-ask-clause-begins g c =
     let d = c.args.game.now.driver in
     begun_early (g.E.Sink.contents c.args.err.now) (g.E.Sink.contents c.ask.new.err) (question c.args.places.now d.module_run d.world)
-    (to_come most_bytes (g.R.Source.remaining c.args.input.now)) (λ t. told c.args.places.now d.module_run (answers t) d.world)
+    (to_come most_bytes (g.R.Source.remaining c.args.input.now)) (λ t. all_said c.args.places.now d.module_run (answers t) d.world)
     (subst (λ (x : CoreValue). AppendsBeginning (g.E.Sink.contents c.args.err.now) (g.E.Sink.contents c.ask.new.err)
     (question c.args.places.now x.module_run x.world))
     c.core.ensures c.ask.ensures.begins)
@@ -27,7 +27,7 @@ pub returns-in_err-ask-clause-begins_some : goal.returns-in_err-ask-clause-begin
 returns-in_err-ask-clause-begins_some g c =
     let d = c.args.game.now.driver in
     begun_some_early (g.E.Sink.contents c.args.err.now) (g.E.Sink.contents c.ask.new.err) (question c.args.places.now d.module_run d.world)
-    (λ xs. told c.args.places.now d.module_run xs d.world)
+    (λ xs. all_said c.args.places.now d.module_run xs d.world)
     (subst (λ (x : CoreValue). AppendsBeginning (g.E.Sink.contents c.args.err.now) (g.E.Sink.contents c.ask.new.err)
     (question c.args.places.now x.module_run x.world))
     c.core.ensures c.ask.ensures.begins)
@@ -37,7 +37,7 @@ returns-clause-by_some g c =
     let d = c.args.game.now.driver in
     so_then _ _ c.play_on.result
     (some_before d.module_run d.world c.args.game.now.log.items _ (g.E.Sink.contents c.args.err.now) (g.E.Sink.contents c.ask.new.err)
-    (g.E.Sink.contents c.play_on.new.err) (question c.args.places.now d.module_run d.world) (λ xs. told c.args.places.now d.module_run xs d.world)
+    (g.E.Sink.contents c.play_on.new.err) (question c.args.places.now d.module_run d.world) (λ xs. all_said c.args.places.now d.module_run xs d.world)
     (subst (λ (x : CoreValue). Appends (g.E.Sink.contents c.args.err.now) (g.E.Sink.contents c.ask.new.err) (question c.args.places.now x.module_run x.world))
     c.core.ensures c.in_ok-ask.ensures.asked))
     c.play_on.ensures.by_some
@@ -46,7 +46,7 @@ pub returns-clause-begins_some : goal.returns-clause-begins_some
 returns-clause-begins_some g c =
     let d = c.args.game.now.driver in
     begun_some_before (g.E.Sink.contents c.args.err.now) (g.E.Sink.contents c.ask.new.err) (g.E.Sink.contents c.play_on.new.err)
-    (question c.args.places.now d.module_run d.world) (λ xs. told c.args.places.now d.module_run xs d.world)
+    (question c.args.places.now d.module_run d.world) (λ xs. all_said c.args.places.now d.module_run xs d.world)
     (subst (λ (x : CoreValue). Appends (g.E.Sink.contents c.args.err.now) (g.E.Sink.contents c.ask.new.err) (question c.args.places.now x.module_run x.world))
     c.core.ensures c.in_ok-ask.ensures.asked)
     c.play_on.ensures.begins_some
@@ -56,7 +56,7 @@ returns-clause-told g c =
     let d = c.args.game.now.driver in
     so_then _ _ c.play_on.result
     (said_before (g.E.Sink.contents c.args.err.now) (g.E.Sink.contents c.ask.new.err) (g.E.Sink.contents c.play_on.new.err) (question c.args.places.now d.module_run d.world)
-    (to_come most_bytes (g.R.Source.remaining c.args.input.now)) (λ t. told c.args.places.now d.module_run (answers t) d.world)
+    (to_come most_bytes (g.R.Source.remaining c.args.input.now)) (λ t. all_said c.args.places.now d.module_run (answers t) d.world)
     (subst (λ (x : CoreValue). Appends (g.E.Sink.contents c.args.err.now) (g.E.Sink.contents c.ask.new.err) (question c.args.places.now x.module_run x.world))
     c.core.ensures c.in_ok-ask.ensures.asked))
     c.play_on.ensures.told
@@ -65,7 +65,7 @@ pub returns-clause-begins : goal.returns-clause-begins
 returns-clause-begins g c =
     let d = c.args.game.now.driver in
     begun_before (g.E.Sink.contents c.args.err.now) (g.E.Sink.contents c.ask.new.err) (g.E.Sink.contents c.play_on.new.err) (question c.args.places.now d.module_run d.world)
-    (to_come most_bytes (g.R.Source.remaining c.args.input.now)) (λ t. told c.args.places.now d.module_run (answers t) d.world)
+    (to_come most_bytes (g.R.Source.remaining c.args.input.now)) (λ t. all_said c.args.places.now d.module_run (answers t) d.world)
     (subst (λ (x : CoreValue). Appends (g.E.Sink.contents c.args.err.now) (g.E.Sink.contents c.ask.new.err) (question c.args.places.now x.module_run x.world))
     c.core.ensures c.in_ok-ask.ensures.asked)
     c.play_on.ensures.begins

@@ -1,6 +1,6 @@
 use Rattle.std.proofs.Common.{inl}
 use Rattle.std.specs.Prelude.{string_bytes}
-use Rattle.xk_dialogue.proofs.AskedRunLemmas.{ends_asking, ends_asking_device, fault_begins_line, fault_replies, hand_answers, nothing_begins, out_status, reports_begun, reports_device, reports_memory, reports_refusal, run_begins, run_begins_line, run_replies, stands_counts, stands_told, unread_begins_line, unread_ends, unread_ends_device, unread_replies}
+use Rattle.xk_dialogue.proofs.AskedRunLemmas.{ends_asking, ends_asking_device, fault_begins_line, fault_replies, nothing_begins, out_status, reports_begun, reports_device, reports_memory, reports_refusal, run_begins, run_begins_line, run_replies, stands_counts, stands_told, unread_begins_line, unread_ends, unread_ends_device, unread_replies}
 use Rattle.xk_dialogue.proofs.asked_run.serve_asked.Goals as goal
 
 -- ---- a run
@@ -13,12 +13,6 @@ returns-in-Ok-asked_of-clause-by_hand g c =
     r.played.steps
     r.played.whole c.args.keeps_log _ _ _ _ _ _ _ _ _ c.print.result c.in-Ok.ensures.kept
     (rw c.deref.ensures.value at c.in-Ok-asked_of.ensures.done) c.in-Ok-asked_of.ensures.ending c.print.ensures.printed
-
-pub returns-in-Ok-asked_of-clause-answered : goal.returns-in-Ok-asked_of-clause-answered
-returns-in-Ok-asked_of-clause-answered g c =
-    hand_answers c.args.form (g.P.Source.remaining c.args.program.now)
-    (g.L.Source.remaining c.args.input.now) c.args.arguments.now c.args.keeps_log c.print.result
-    (g.L.Source.remaining c.asked_of.new.input) _ _ _ _ _ _ (returns-in-Ok-asked_of-clause-by_hand g c)
 
 pub returns-in-Ok-asked_of-clause-out_begins : goal.returns-in-Ok-asked_of-clause-out_begins
 returns-in-Ok-asked_of-clause-out_begins g c =
@@ -63,11 +57,6 @@ returns-clause-by_hand g c =
     (g.E.Sink.contents c.asked_of.new.err) _
     (g.O.Sink.contents c.args.out.now) (g.K.Sink.contents c.args.log_out.now) _ _
     c.report-in-Err-asked_of.result c.in-Ok.ensures.kept (rw c.deref.ensures.value at c.in-Err-asked_of.ensures.against) c.report-in-Err-asked_of.ensures
-
-pub returns-clause-answered : goal.returns-clause-answered
-returns-clause-answered g c =
-    hand_answers c.args.form (g.P.Source.remaining c.args.program.now) (g.L.Source.remaining c.args.input.now) c.args.arguments.now c.args.keeps_log
-    c.report-in-Err-asked_of.result (g.L.Source.remaining c.asked_of.new.input) _ _ _ _ _ _ (returns-clause-by_hand g c)
 
 pub returns-clause-out_begins : goal.returns-clause-out_begins
 returns-clause-out_begins g c =
@@ -127,8 +116,3 @@ returns-in-Err-clause-by_hand g c =
     unread_replies c.args.form (g.P.Source.remaining c.args.program.now) c.args.arguments.now c.args.keeps_log _ _ c.in-Err.fault
     (g.L.Source.remaining c.args.input.now) (g.E.Sink.contents c.args.err.now) (g.E.Sink.contents c.report.new.err) (g.O.Sink.contents c.args.out.now)
     (g.K.Sink.contents c.args.log_out.now) _ _ c.report.result c.in-Err.ensures.failed c.report.ensures
-
-pub returns-in-Err-clause-answered : goal.returns-in-Err-clause-answered
-returns-in-Err-clause-answered g c =
-    hand_answers c.args.form (g.P.Source.remaining c.args.program.now) (g.L.Source.remaining c.args.input.now) c.args.arguments.now c.args.keeps_log
-    c.report.result (g.L.Source.remaining c.args.input.now) _ _ _ _ _ _ (returns-in-Err-clause-by_hand g c)

@@ -1,5 +1,5 @@
 use Rattle.std.proofs.Common.{◌≡◌, ◌++◌}
-use Rattle.xk_lanes.specs.Fields.{each_below}
+use Rattle.xk_events.specs.Worlds.{each_below}
 use Rattle.xk_lanes.specs.Lanes.{bar_lane}
 use Rattle.xk_lanes.proofs.bars.push_bar_lanes.Given as goal
 

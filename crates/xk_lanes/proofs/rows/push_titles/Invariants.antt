@@ -1,5 +1,6 @@
 use Rattle.std.proofs.Common.{◌≡◌, ◌++◌}
-use Rattle.xk_lanes.specs.Fields.{at_left, each_below}
+use Rattle.xk_events.specs.Worlds.{each_below}
+use Rattle.xk_lanes.specs.Fields.{at_left}
 use Rattle.xk_lanes.specs.Lanes.{title}
 use Rattle.xk_lanes.proofs.rows.push_titles.Given as goal
 

@@ -27,4 +27,4 @@ returns-clause-kept c =
     let all = c.in_ok-explored.explored.found.all in
     subst (HasApart c.args.verified.now c.args.arguments.now) (sym c.len.ensures.count)
     (all_apart c.args.verified.now c.args.arguments.now all
-    (subst (λ (s : CoreValue). AreFound s all) c.in_ok-start.ensures c.in_ok-explored.ensures.found) c.in_ok-explored.ensures.different)
+    (subst (λ (s : CoreValue). AreFound s all) c.in_ok-start.ensures c.in_ok-explored.ensures.found) c.in_ok-explored.ensures.rest c.in_ok-explored.ensures.different)

@@ -1,5 +1,5 @@
 use Rattle.std.proofs.Common.{◌≡◌, ◌++◌}
-use Rattle.xk_lanes.specs.Fields.{each_below}
+use Rattle.xk_events.specs.Worlds.{each_below}
 use Rattle.xk_picture.specs.Picture.{other_line}
 use Rattle.xk_picture.proofs.lines.push_other_lines.Given as goal
 

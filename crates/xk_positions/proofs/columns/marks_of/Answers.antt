@@ -10,9 +10,9 @@ loop-k-preserved c =
     let k = c.loop-k.k in
     let marks = c.loop-k.marks.items in
     let inv = c.loop-k.invariant in
-    let more : c.columns-seen.result ≡ columns (take 256 (drop (k * 256) text)) = c.columns-seen.ensures.count ∙ ap columns c.stretch.ensures in
+    let more : c.columns-seen.result ≡ columns (take 64 (drop (k * 64) text)) = c.columns-seen.ensures.count ∙ ap columns c.stretch.ensures in
     let seen = seen_more text k c.loop-k.seen c.columns-seen.result inv.seen more in
-    let few = columns_few (drop (k * 256) text) 256 in
+    let few = columns_few (drop (k * 64) text) 64 in
     let small = inv.small in
     record {
       so_many = one_longer marks c.push.new.self.items k c.loop-k.seen c.in_ok-push.ensures.items inv.so_many;

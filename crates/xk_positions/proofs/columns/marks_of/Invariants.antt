@@ -6,7 +6,7 @@ use Rattle.xk_positions.proofs.columns.marks_of.Given as goal
 abbrev pub invariant-loop-k : goal.invariant-loop-k
 invariant-loop-k l = record {
   so_many : length l.marks.items ≡ l.k;
-  each : (k : ℕ) → k < l.k → slice_index l.marks.items k ≡ columns (take (k * 256) l.text);
-  seen : l.seen ≡ columns (take (l.k * 256) l.text);
-  small : l.seen ≤ l.k * 256;
+  each : (k : ℕ) → k < l.k → slice_index l.marks.items k ≡ columns (take (k * 64) l.text);
+  seen : l.seen ≡ columns (take (l.k * 64) l.text);
+  small : l.seen ≤ l.k * 64;
 }

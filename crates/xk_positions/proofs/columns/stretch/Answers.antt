@@ -11,5 +11,5 @@ returns c =
     let rest = length-drop from text in
     let all = length-take (length text - from) (drop from text) in
     let least = c.min.ensures in
-    let size : c.min.result ≡ min (length text - from) 256 = omega (arith, rest, all, least) in
+    let size : c.min.result ≡ min (length text - from) 64 = omega (arith, rest, all, least) in
     stretch_is text from c.min.result c.requires size

@@ -5,7 +5,7 @@ use Rattle.xk_types.specs.Code.{UnitValue}
 use Rattle.xk_types.specs.Bound.{visits}
 use Rattle.xk_bounds.specs.Measure.{added, added_at}
 use Rattle.xk_sums.specs.Amounts.{kept, weight_of}
-use Rattle.xk_sums.proofs.AmountLemmas.{kept_small, sum_more}
+use Rattle.xk_sums.proofs.AmountLemmas.{sum_more}
 use Rattle.xk_sums.proofs.totals.sum_by.Goals as goal
 
 pub loop-at-preserved : goal.loop-at-preserved

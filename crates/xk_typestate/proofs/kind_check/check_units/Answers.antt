@@ -1,19 +1,16 @@
 -- unit after unit, up to the first that has a slot that is refused
-use Rattle.std.proofs.Common.{◌≡◌, ℕ, ◌+◌, ◌<◌, List, [], ◌∷◌, length, length-append, get_or, Some, slice_get, inl, inr, refl, ap, sym, ◌∙◌, subst, arith}
-use Rattle.std.proofs.lemmas.Option.{slice_get_read, slice_get_within, same_Some}
+use Rattle.std.proofs.Common.{◌≡◌, ◌+◌, [], ◌∷◌, length, length-append, Some, slice_get, inl, inr, ap, sym, ◌∙◌, subst, arith}
+use Rattle.std.proofs.lemmas.Option.{slice_get_within, same_Some}
 use Rattle.std.proofs.lemmas.Bool.{cases_lt}
 use Rattle.std.proofs.lemmas.Result.{err_from_is_err_and}
-use Rattle.xk_types.specs.Code.{UnitValue, ModuleValue}
+use Rattle.xk_types.specs.Code.{UnitValue}
 use Rattle.xk_shape.proofs.UnitLemmas.{blocks_of_shape}
 use Rattle.xk_typestate.specs.LeastRefusal.{IsNeverRefusedIn}
 use Rattle.xk_typestate.specs.KindTable.{IsKindTable}
 use Rattle.xk_typestate.proofs.ListLemmas.{each_more}
-use Rattle.xk_typestate.proofs.UnitLemmas.{fails_module, never_refused}
+use Rattle.xk_typestate.proofs.UnitLemmas.{fails_module, never_refused, found_unit}
 use Rattle.xk_typestate.proofs.SuccessorRangeLemmas.{closed_from}
 use Rattle.xk_typestate.proofs.kind_check.check_units.Goals as goal
-
-found_unit : (m : ModuleValue) (xs : List UnitValue) (n : ℕ) (u : UnitValue) → xs ≡ m.units → n < length xs → u ≡ get_or xs n u → slice_get m.units n ≡ Some u
-found_unit m xs n u listed lt read = ap (λ ys. slice_get ys n) (sym listed) ∙ slice_get_read xs (length xs) n u refl lt read
 
 pub check_unit-requires-clause-closed : goal.check_unit-requires-clause-closed
 check_unit-requires-clause-closed c =

@@ -1,15 +1,13 @@
 -- unit after unit
-use Rattle.std.proofs.Common.{◌≡◌, ℕ, ◌<◌, List, [], ◌∷◌, length, length-append, get_or, Some, slice_get, refl, ap, sym, ◌∙◌, subst, arith}
-use Rattle.std.proofs.lemmas.Option.{slice_get_read, slice_get_within, same_Some}
-use Rattle.xk_types.specs.Code.{UnitValue, ModuleValue}
+use Rattle.std.proofs.Common.{◌≡◌, [], ◌∷◌, length, length-append, Some, slice_get, ap, sym, ◌∙◌, subst, arith}
+use Rattle.std.proofs.lemmas.Option.{slice_get_within, same_Some}
+use Rattle.xk_types.specs.Code.{UnitValue}
 use Rattle.xk_shape.proofs.UnitLemmas.{blocks_of_shape}
 use Rattle.xk_typestate.specs.KindTable.{IsKindTable}
 use Rattle.xk_typestate.proofs.ListLemmas.{each_more}
 use Rattle.xk_typestate.proofs.SuccessorRangeLemmas.{closed_from}
 use Rattle.xk_typestate.proofs.module_kinds.tables_of.Goals as goal
-
-found_unit : (m : ModuleValue) (xs : List UnitValue) (n : ℕ) (u : UnitValue) → xs ≡ m.units → n < length xs → u ≡ get_or xs n u → slice_get m.units n ≡ Some u
-found_unit m xs n u listed lt read = ap (λ ys. slice_get ys n) (sym listed) ∙ slice_get_read xs (length xs) n u refl lt read
+use Rattle.xk_typestate.proofs.UnitLemmas.{found_unit}
 
 pub table_of-requires-clause-closed : goal.table_of-requires-clause-closed
 table_of-requires-clause-closed c =

@@ -1,5 +1,6 @@
 use Rattle.std.proofs.Common.{◌≡◌}
-use Rattle.xk_where.specs.Where.{is_awaited, those_below}
+use Rattle.xk_events.specs.Worlds.{those_below}
+use Rattle.xk_where.specs.Where.{is_awaited}
 use Rattle.xk_where.proofs.acts.awaited_by.Given as goal
 
 -- those so far who are awaited are listed

@@ -1,5 +1,6 @@
 use Rattle.std.proofs.Common.{◌≡◌, ◌++◌}
-use Rattle.xk_where.specs.Where.{act_line, each_below}
+use Rattle.xk_events.specs.Worlds.{each_below}
+use Rattle.xk_where.specs.Where.{act_line}
 use Rattle.xk_where.proofs.acts.push_acts.Given as goal
 
 -- the lines so far were added

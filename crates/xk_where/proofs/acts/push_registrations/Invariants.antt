@@ -1,5 +1,6 @@
 use Rattle.std.proofs.Common.{◌≡◌, ◌++◌}
-use Rattle.xk_where.specs.Where.{each_below, registration}
+use Rattle.xk_events.specs.Worlds.{each_below}
+use Rattle.xk_where.specs.Where.{registration}
 use Rattle.xk_where.proofs.acts.push_registrations.Given as goal
 
 -- the clocks so far were added

@@ -1,5 +1,6 @@
 use Rattle.std.proofs.Common.{◌≡◌, ◌++◌}
-use Rattle.xk_where.specs.Where.{each_below, shared_line}
+use Rattle.xk_events.specs.Worlds.{each_below}
+use Rattle.xk_where.specs.Where.{shared_line}
 use Rattle.xk_where.proofs.standings.push_all_shared.Given as goal
 
 -- the lines so far were added

@@ -6,7 +6,7 @@ use Rattle.clap.specs.Words.{Row, Text, found_of, rows_of, subcommand_rows}
 use Rattle.clap.specs.declared.parser.matches.SubCommand.{SubCommand}
 use Rattle.clap.specs.declared.parser.matches.ArgMatches.TheViews.{out-SubCommand, out-ArgMatches}
 use Rattle.xk_cli.specs.CommandLine.{asked_in}
-use Rattle.xk_cli.proofs.command_line.job_in.Goals as goal
+use Rattle.xk_cli.proofs.command_line.request_in.Goals as goal
 
 -- the name of a subcommand that was found
 abbrev name_found : {Z : Type 0} → Option (Box SubCommand Z) → Option Text
@@ -27,7 +27,7 @@ pub returns-in-Some : goal.returns-in-Some
 returns-in-Some c =
     let found = both_found (out-ArgMatches c.args.matches.now).subcommand
     c.in-Some.name.now (rows_of (found_of c.in-Some.given.now)) c.in-Some.ensures.name c.in-Some.ensures.rows in
-    IfOk-weaker c.job_by.result _ _ (λ job h. h ∙ ap asked_in found) c.job_by.ensures
+    IfOk-weaker c.request_by.result _ _ (λ asked h. h ∙ ap asked_in found) c.request_by.ensures
 
 pub returns-in-None : goal.returns-in-None
 returns-in-None c = ap asked_in (none_found (out-ArgMatches c.args.matches.now).subcommand c.in-None.ensures.name)

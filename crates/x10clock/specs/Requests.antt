@@ -1,0 +1,54 @@
+-- What the program does with what its words ask for, on open devices: a job is served, and a run by hand is played. This project's own.
+use Rattle.std.specs.Prelude.{◌≡◌, ◌≢◌, ℕ, List, ◌++◌, codes, false, Option, IfSome, is_some}
+use Rattle.std.specs.Io.KnownBytes.{Appends}
+use Rattle.xk_cli.specs.Status.{status_device, status_memory}
+use Rattle.xk_cli.specs.declared.job.Request.{Request}
+use Rattle.xk_cli.specs.declared.job.Request.TheVariants as request
+use Rattle.xk_serve.specs.Answer.{reads_more, task_of}
+use Rattle.xk_serve.specs.Bytes.{kept}
+use Rattle.xk_serve.specs.Devices.{Answered, ErrBegins, IfKnown, OutBegins}
+use Rattle.xk_dialogue.specs.AskedRun.{BeginsAsking, EndsAsking, IsHandReply, OutBeginsRun}
+
+-- where the log would be written over what is read: FILE, or the answers of a run by hand
+abbrev pub over_line : Request → List ℕ
+over_line (request.Job job) = codes "x10clock: --log would write over FILE\n"
+over_line (request.ByHand run) = codes "x10clock: --log would write over FILE or standard input\n"
+
+-- If the bytes of FILE are known, and neither memory nor a device fails: status and texts answer the job, or they are those of the run by hand, by the
+-- answers in the input.
+abbrev pub IsAnswered : Request → Option (List ℕ) → Option (List ℕ) → Option (List ℕ) → ℕ → Option (List ℕ) → Option (List ℕ) → Option (List ℕ)
+    → Option (List ℕ) → Option (List ℕ) → Option (List ℕ) → Type 0
+IsAnswered (request.Job job) program in_old in_new status out_old out_new err_old err_new log_old log_new =
+    IfKnown (task_of job) program in_old (λ bytes logged. status ≢ status_memory → status ≢ status_device
+    → Answered (task_of job) bytes logged status out_old out_new err_old err_new log_old log_new)
+IsAnswered (request.ByHand run) program in_old in_new status out_old out_new err_old err_new log_old log_new =
+    IfSome program (λ bytes. status ≢ status_memory → status ≢ status_device
+    → IsHandReply run.form (kept run.form bytes) run.arguments.items (is_some run.log) status in_old in_new out_old out_new err_old err_new log_old log_new)
+
+-- whatever fails, standard output and the log have a beginning of such an answer
+abbrev pub OutIsBegun : Request → Option (List ℕ) → Option (List ℕ) → Option (List ℕ) → Option (List ℕ) → Option (List ℕ) → Option (List ℕ) → Type 0
+OutIsBegun (request.Job job) program input out_old out_new log_old log_new =
+    IfKnown (task_of job) program input (λ bytes logged. OutBegins (task_of job) bytes logged out_old out_new log_old log_new)
+OutIsBegun (request.ByHand run) program input out_old out_new log_old log_new =
+    IfSome program (λ bytes.
+    OutBeginsRun run.form (kept run.form bytes) run.arguments.items (is_some run.log) input out_old out_new log_old log_new)
+
+-- and standard error a beginning of what may stand there
+abbrev pub ErrIsBegun : Request → Option (List ℕ) → Option (List ℕ) → Option (List ℕ) → Option (List ℕ) → Type 0
+ErrIsBegun (request.Job job) program input old new = IfKnown (task_of job) program input (λ bytes logged. ErrBegins (task_of job) bytes logged old new)
+ErrIsBegun (request.ByHand run) program input old new =
+    IfSome program (λ bytes. BeginsAsking run.form (kept run.form bytes) run.arguments.items input old new)
+
+-- this line was written to standard error, and nothing before it but, in a run by hand, a beginning of what is asked
+abbrev pub EndsIn : Request → Option (List ℕ) → Option (List ℕ) → List ℕ → Option (List ℕ) → Option (List ℕ) → Type 0
+EndsIn (request.Job job) program input line old new = Appends old new line
+EndsIn (request.ByHand run) program input line old new = EndsAsking run.form program run.arguments.items input line old new
+
+-- neither a log nor a list nor answers are read
+abbrev pub ReadsNoMore : Request → Type 0
+ReadsNoMore (request.Job job) = reads_more (task_of job).doing ≡ false
+ReadsNoMore (request.ByHand run) = ⊥
+
+-- some text was written, and behind it this line
+abbrev pub IsLastLine : List ℕ → Option (List ℕ) → Option (List ℕ) → Type 0
+IsLastLine line old new = (said : List ℕ) × Appends old new (said ++ line)
