@@ -4,7 +4,7 @@
 -- the end of all that were started under it (Activities, Finish); who advances waits until all that are registered on its clocks have
 -- resumed them, or left them (chapter Clocks, Advancing clocks). That the one comes before the other in each schedule of a class, whatever
 -- the order of other steps, is what the laws say.
-use Rattle.std.specs.Prelude.{◌≡◌, ℕ, ◌<◌, ◌==◌, ◌⊎◌, Bool, true, false, List, [], ◌∷◌, ◌++◌, length, map, filter, slice_get, Option, Some, option_and_then}
+use Rattle.std.specs.Prelude.{◌≡◌, ℕ, suc, ◌<◌, ◌==◌, ◌⊎◌, Bool, true, false, List, [], ◌∷◌, ◌++◌, length, map, filter, slice_get, Option, Some, option_and_then}
 use Rattle.std.specs.Option.{option_map_or}
 use Rattle.xk_types.specs.declared.instr.Instr.{Instr}
 use Rattle.xk_types.specs.declared.instr.Instr.TheVariants as instr
@@ -14,7 +14,7 @@ use Rattle.xk_types.specs.declared.world.Event.{Event}
 use Rattle.xk_types.specs.declared.world.Event.TheVariants as event
 use Rattle.xk_types.specs.Code.{ModuleValue}
 use Rattle.xk_types.specs.World.{Activity, World, standing_of, instruction_at}
-use Rattle.xk_types.specs.Step.{Outcome, Blocked, Wrong, Stepped, is_pending, innermost, is_under, step}
+use Rattle.xk_types.specs.Step.{Outcome, Blocked, Wrong, Stepped, is_pending, is_registered, innermost, is_under, step}
 use Rattle.xk_types.specs.Schedule.{Through, run, is_enabled}
 use Rattle.xk_squares.specs.Conflicts.{reads, puts, stores, next_instruction}
 use Rattle.xk_classes.specs.Classes.{AreOneClass, name_in}
@@ -159,17 +159,25 @@ standing_on w a c = option_map_or (λ k. standing_of k a) (slice_get w.clocks c)
 abbrev pub phase_of : World → ℕ → ℕ
 phase_of w c = option_map_or (λ k. k.phase) (slice_get w.clocks c) 0
 
--- Step y passes an `advance`, by an activity that is registered on the clock; the clock has advanced since step x; and where x was taken
--- it still waited for the activity that takes x, which was registered and hadn't signalled.
+-- The last phase that a clock of this phase comes to as long as one that stands so on it does nothing: who has signalled holds it in the
+-- next one.
+abbrev pub held_in : ℕ → Standing → ℕ
+held_in p standing.Apart = p
+held_in p standing.Open = p
+held_in p standing.Ahead = p
+held_in p standing.Signalled = suc p
+
+-- Step y passes an `advance`, by an activity that is registered on the clock; where step x was taken, its activity was registered on it,
+-- too; and the clock has come further since than that one could hold it.
 pub record IsPass (m : ModuleValue) (w : World) (s : List ℕ) (x y : StepName) : Type 0 where
   pub first : IsTurn m w s x
   pub second : IsTurn m w s y
   pub clock : ℕ
-  pub pending : is_pending (standing_on first.here x.0 clock) ≡ true
+  pub registered : is_registered (standing_on first.here x.0 clock) ≡ true
   pub there : World
   pub passes : step m second.here y.0 ≡ Stepped there event.Passed
   pub awaited : is_pending (standing_on second.here y.0 clock) ≡ true
-  pub advanced : phase_of first.here clock < phase_of second.here clock
+  pub advanced : held_in (phase_of first.here clock) (standing_on first.here x.0 clock) < phase_of second.here clock
 
 -- what an edge may stand for: a start, the end of a finish, or an `advance`
 abbrev pub IsCause : ModuleValue → World → List ℕ → StepName → StepName → Type 0

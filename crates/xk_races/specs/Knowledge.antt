@@ -28,6 +28,7 @@ scoped a (part.Start b) s = record s { within = with_at 0 s.within b (number_at 
 scoped a part.Open s = scope_opened a s
 scoped a part.Close s = scope_closed a s
 scoped a (part.Signal c) s = s
+scoped a (part.Leave c) s = s
 scoped a (part.Advance c) s = s
 scoped a (part.Pass c) s = s
 scoped a part.End s = s
@@ -36,18 +37,19 @@ scoped a part.Print s = s
 
 -- ---- knowledge
 
--- What each activity knows; of each clock, what those knew who resumed or left it, and what of that was there when it advanced last; of each
--- finish, what those knew who ended in it.
+-- What each activity knows; of each clock, what those knew whom its next advance waits for, who left it behind a resume, and whom its last advance
+-- waited for; of each finish, what those knew who ended in it.
 pub record Known : Type 0 where
   pub acts : List (List ℕ)
   pub signals : List (List ℕ)
+  pub leaves : List (List ℕ)
   pub advances : List (List ℕ)
   pub ends : List (List ℕ)
   pub scopes : Scopes
 
 -- before the first deed
 abbrev pub nothing_known : Known
-nothing_known = record { acts = []; signals = []; advances = []; ends = []; scopes = record { within = []; around = 0 ∷ [] } }
+nothing_known = record { acts = []; signals = []; leaves = []; advances = []; ends = []; scopes = record { within = []; around = 0 ∷ [] } }
 
 -- row k learns what another row knows
 abbrev pub told_to : List (List ℕ) → ℕ → List ℕ → List (List ℕ)
@@ -63,6 +65,7 @@ heard a (part.Pass c) k = told_to k.acts a (row_at k.advances c)
 heard a part.Close k = told_to k.acts a (row_at k.ends (finish_of a k))
 heard a (part.Start b) k = k.acts
 heard a (part.Signal c) k = k.acts
+heard a (part.Leave c) k = k.acts
 heard a (part.Advance c) k = k.acts
 heard a part.Open k = k.acts
 heard a part.End k = k.acts
@@ -77,12 +80,19 @@ marked a n acts = with_at [] acts a (with_at 0 (row_at acts a) a n)
 abbrev pub started : ℕ → ℕ → Known → Known
 started a b k = record k { acts = told_to k.acts b (row_at k.acts a) }
 
--- who learns by a deed of activity a what it knows: whom it starts; the signals of the clock that it resumes or leaves, which tell its advance; the
--- finish that it ends in
+-- a clock advances: its advance learns what those knew whom it waited for; the next one waits for those, too, who left before
+abbrev pub advanced_by : ℕ → Known → Known
+advanced_by c k = record k {
+  advances = told_to k.advances c (row_at k.signals c);
+  signals = told_to k.signals c (row_at k.leaves c);
+}
+
+-- who learns by a deed of activity a what it knows: whom it starts; the clock that it resumes or leaves; the finish that it ends in
 abbrev pub taught : ℕ → Part → Known → Known
 taught a (part.Start b) k = started a b k
 taught a (part.Signal c) k = record k { signals = told_to k.signals c (row_at k.acts a) }
-taught a (part.Advance c) k = record k { advances = told_to k.advances c (row_at k.signals c) }
+taught a (part.Leave c) k = record k { leaves = told_to k.leaves c (row_at k.acts a) }
+taught a (part.Advance c) k = advanced_by c k
 taught a part.End k = record k { ends = told_to k.ends (finish_of a k) (row_at k.acts a) }
 taught a part.Open k = k
 taught a (part.Pass c) k = k

@@ -1,7 +1,8 @@
--- Which deeds of a run come before which, whatever the schedule: the least order with these. An activity's own deeds, in their order. A start comes
--- before what the started activity does (X10 Language Specification 2.4, chapter Activities, Spawning an activity). Where a clock advances, each
--- resume, drop and end by which it ceased to await an activity comes before the passes of that advance (chapter Clocks, Advancing clocks). The end
--- of an activity comes before the close of the finish that it ends in (chapter Activities, Finish).
+-- Which deeds of a run happen before which: the least order with these. An activity's own deeds, in their order. A start comes before what the
+-- started activity does (X10 Language Specification 2.4, chapter Activities, Spawning an activity). Where a clock advances, each step by which it
+-- ceased to await an activity, as a resume, the first half of an `advance`, a drop, or an end, comes before the passes of that advance (chapter
+-- Clocks, Advancing clocks); a drop or an end of one who has resumed it comes before the passes of the advance behind the next one. The end of an
+-- activity comes before the close of the finish that it ends in (chapter Activities, Finish).
 use Rattle.std.specs.Prelude.{◌≡◌, ℕ, ◌<◌, List, [], ◌∷◌, ◌⊎◌, take, Some, slice_get}
 use Rattle.xk_races.specs.declared.deeds.Deed.{Deed}
 use Rattle.xk_races.specs.declared.deeds.Part.TheVariants as part
@@ -29,9 +30,21 @@ IsOf ds n a k = (k < n) × (d : Deed) × IsAt ds k d × ((d.step.act ≡ a) ⊎ 
 abbrev pub IsSignal : List Deed → ℕ → ℕ → ℕ → Type 0
 IsSignal ds n c k = (k < n) × (d : Deed) × IsAt ds k d × (d.part ≡ part.Signal c)
 
+-- deed number k, before number n, is one by which an activity left clock c that it had resumed
+abbrev pub IsLeave : List Deed → ℕ → ℕ → ℕ → Type 0
+IsLeave ds n c k = (k < n) × (d : Deed) × IsAt ds k d × (d.part ≡ part.Leave c)
+
 -- and before number n the clock has advanced since
+abbrev pub IsLeft : List Deed → ℕ → ℕ → ℕ → Type 0
+IsLeft ds n c k = (m : ℕ) × (m < n) × (d : Deed) × IsAt ds m d × (d.part ≡ part.Advance c) × IsLeave ds m c k
+
+-- before number n, an advance of clock c that came now would wait for deed number k
+abbrev pub IsAwaited : List Deed → ℕ → ℕ → ℕ → Type 0
+IsAwaited ds n c k = IsSignal ds n c k ⊎ IsLeft ds n c k
+
+-- before number n the clock has advanced, and waited for deed number k
 abbrev pub IsCounted : List Deed → ℕ → ℕ → ℕ → Type 0
-IsCounted ds n c k = (m : ℕ) × (m < n) × (d : Deed) × IsAt ds m d × (d.part ≡ part.Advance c) × IsSignal ds m c k
+IsCounted ds n c k = (m : ℕ) × (m < n) × (d : Deed) × IsAt ds m d × (d.part ≡ part.Advance c) × IsAwaited ds m c k
 
 -- deed number k, before number n, is the end of an activity in finish f
 abbrev pub IsEnd : List Deed → ℕ → ℕ → ℕ → Type 0

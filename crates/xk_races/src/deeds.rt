@@ -1,11 +1,11 @@
 //! What the steps of a run have to do with its order.
 
 ghost use Rattle.std.specs.Prelude.{◌≡◌, ◌<◌, true, [], ◌∷◌, ◌++◌, length, flat_map, replicate, slice_get, Some, if◌then◌else◌, IfOk, OnOk};
-ghost use Rattle.xk_types.specs.Step.{is_pending};
+ghost use Rattle.xk_types.specs.Step.{is_pending, is_signalled};
 ghost use Rattle.xk_types.specs.Schedule.{Through, is_enabled, run};
 ghost use Rattle.xk_core.specs.Core.{StepsTo, advanced_now};
 ghost use Rattle.xk_events.specs.Steps.{IsLegalFrom, told, told_of_run};
-ghost use Rattle.xk_races.specs.Deeds.{advance, at_clocks, awaiting, awaits, cell_at, cell_of, deeds_of_run, gives_way, pass, plain, plain_part, signal, tell_deeds};
+ghost use Rattle.xk_races.specs.Deeds.{advance, at_clocks, awaiting, awaits, cell_at, cell_of, deeds_of_run, gives_way, has_left, has_resumed, leave, leaves, pass, plain, plain_part, resumed_by, signal, signals, tell_deeds};
 
 use std::alloc::{AllocError, Global};
 use xk_core::Core;
@@ -20,6 +20,8 @@ pub enum Part {
     Start(u32),
     /// This clock awaits the activity no longer: it has resumed or left it.
     Signal(u32),
+    /// The activity left this clock, which it had resumed: not the next advance waits for that, but the one behind it.
+    Leave(u32),
     /// This clock advanced.
     Advance(u32),
     /// The activity passed this clock, whose advance it had waited for.
@@ -50,6 +52,13 @@ fn is_pending(standing: Standing) -> bool
     ensures { result ≡ is_pending standing }
 {
     matches!(standing, Standing::Open | Standing::Ahead)
+}
+
+/// Whether a standing is that of one who has resumed.
+fn is_signalled(standing: Standing) -> bool
+    ensures { result ≡ is_signalled standing }
+{
+    matches!(standing, Standing::Signalled)
 }
 
 /// Whether the clock can't advance before the activity resumes or leaves it.
@@ -86,6 +95,52 @@ fn awaiting(alloc: Global, core: &Core<'_>, act: Act) -> Result<Vec<u32>, AllocE
         push_awaiting(&mut list, core, act, clock)?;
     }
     Ok(list)
+}
+
+/// Whether the activity has resumed the clock, which hasn't advanced since.
+fn has_resumed(core: &Core<'_>, act: Act, clock: ClockId) -> bool
+    requires { clock < length core.now.world.clocks }
+    ensures { result ≡ has_resumed core.now.world act clock }
+{
+    act.0 < core.activities() && is_signalled(core.standing(act, clock))
+}
+
+/// Adds the clock, if the activity has resumed it.
+fn push_resumed(
+    list: &mut Vec<u32>,
+    core: &Core<'_>,
+    act: Act,
+    clock: u32,
+) -> Result<(), AllocError>
+    requires { clock < length core.now.world.clocks }
+    ensures { OnOk result (list.new.items ≡ list.old.items
+        ++ (if has_resumed core.now.world act clock then clock ∷ [] else [])) }
+{
+    if has_resumed(core, act, ClockId(clock)) {
+        list.push(clock)?;
+    }
+    Ok(())
+}
+
+/// The clocks that the activity has resumed.
+fn resumed_by(alloc: Global, core: &Core<'_>, act: Act) -> Result<Vec<u32>, AllocError>
+    ensures { IfOk result (λ v. v.items ≡ resumed_by core.now.world act) }
+{
+    let mut list = Vec::new(alloc);
+    for clock in 0..core.clocks() {
+        push_resumed(&mut list, core, act, clock)?;
+    }
+    Ok(list)
+}
+
+/// Whether the activity isn't registered on the clock: it has left it.
+fn has_left(core: &Core<'_>, act: Act, clock: ClockId) -> bool
+    ensures { result ≡ has_left core.now.world act clock }
+{
+    if act.0 >= core.activities() || clock.0 >= core.clocks() {
+        return true;
+    }
+    !core.is_registered(act, clock)
 }
 
 /// Whether the clock awaits the activity no longer: it has resumed or left it, and the clock may have advanced by that.
@@ -129,6 +184,41 @@ fn push_signals(
 {
     for clock in clocks {
         push_signal(list, core, step, *clock)?;
+    }
+    Ok(())
+}
+
+/// Adds the deed at a clock that the activity had resumed, if it left it.
+fn push_leave(
+    list: &mut Vec<Deed>,
+    core: &Core<'_>,
+    step: &RunStep,
+    clock: u32,
+) -> Result<(), AllocError>
+    ensures { OnOk result (list.new.items ≡ list.old.items
+        ++ leave core.now.world step.now clock) }
+{
+    if has_left(core, Act(step.act), ClockId(clock)) {
+        list.push(Deed {
+            step: *step,
+            part: Part::Leave(clock),
+        })?;
+    }
+    Ok(())
+}
+
+/// Adds the deeds at those clocks that were left.
+fn push_leaves(
+    list: &mut Vec<Deed>,
+    core: &Core<'_>,
+    step: &RunStep,
+    clocks: &[u32],
+) -> Result<(), AllocError>
+    ensures { OnOk result (list.new.items ≡ list.old.items
+        ++ flat_map (leave core.now.world step.now) clocks.now) }
+{
+    for clock in clocks {
+        push_leave(list, core, step, *clock)?;
     }
     Ok(())
 }
@@ -179,8 +269,7 @@ fn push_signals_and_advances(
     awaiting: &[u32],
 ) -> Result<(), AllocError>
     ensures { OnOk result (list.new.items ≡ list.old.items
-        ++ (flat_map (signal core.now.world step.now) awaiting.now
-        ++ flat_map (advance step.now) (advanced_now core.now.world))) }
+        ++ signals core.now.world step.now awaiting.now) }
 {
     let advanced = advanced(alloc, core)?;
     push_signals(list, core, step, awaiting)?;
@@ -245,21 +334,39 @@ fn push_plain(list: &mut Vec<Deed>, program: &Module, step: &RunStep) -> Result<
     Ok(())
 }
 
-/// Adds what a step did at clocks, those being the ones that awaited the activity before it.
+/// Adds what a step did at clocks where it left some: those that the activity had resumed before it, and those that awaited it.
+fn push_left(
+    alloc: Global,
+    list: &mut Vec<Deed>,
+    core: &Core<'_>,
+    step: &RunStep,
+    resumed: &[u32],
+    awaiting: &[u32],
+) -> Result<(), AllocError>
+    ensures { OnOk result (list.new.items ≡ list.old.items
+        ++ leaves core.now.world step.now resumed.now awaiting.now) }
+{
+    push_leaves(list, core, step, resumed)?;
+    push_signals_and_advances(alloc, list, core, step, awaiting)
+}
+
+/// Adds what a step did at clocks, by those that the activity had resumed before it, and those that awaited it.
 fn push_at_clocks(
     alloc: Global,
     list: &mut Vec<Deed>,
     core: &Core<'_>,
     step: &RunStep,
+    resumed: &[u32],
     awaiting: &[u32],
 ) -> Result<(), AllocError>
     ensures { OnOk result (list.new.items ≡ list.old.items
-        ++ at_clocks core.now.world step.now awaiting.now step.now.event) }
+        ++ at_clocks core.now.world step.now resumed.now awaiting.now step.now.event) }
 {
     match step.event {
-        Event::Resumed | Event::Dropped | Event::Arrived | Event::Ended => {
+        Event::Resumed | Event::Arrived => {
             push_signals_and_advances(alloc, list, core, step, awaiting)
         }
+        Event::Dropped | Event::Ended => push_left(alloc, list, core, step, resumed, awaiting),
         Event::Passed => push_passes(list, step, awaiting),
         _ => Ok(()),
     }
@@ -280,10 +387,11 @@ fn push_seen(
         ++ tell_deeds program.now act core.old.world core.new.world e) }
     ensures same_module { core.new.module_run ≡ core.old.module_run }
 {
+    let resumed = resumed_by(alloc, core, act)?;
     let awaiting = awaiting(alloc, core, act)?;
     let step = take_step(core, act)?;
     push_plain(list, program, &step)?;
-    push_at_clocks(alloc, list, core, &step, &awaiting)?;
+    push_at_clocks(alloc, list, core, &step, &resumed, &awaiting)?;
     Ok(step.event)
 }
 

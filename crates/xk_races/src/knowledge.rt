@@ -2,7 +2,7 @@
 
 ghost use Rattle.std.specs.Prelude.{◌≡◌, IfOk, OnOk};
 ghost use Rattle.xk_races.specs.Lists.{number_at, row_at};
-ghost use Rattle.xk_races.specs.Knowledge.{after, heard, nothing_known, scope_closed, scope_opened, scoped, started, taught, with_acts};
+ghost use Rattle.xk_races.specs.Knowledge.{after, advanced_by, heard, nothing_known, scope_closed, scope_opened, scoped, started, taught, with_acts};
 
 use crate::deeds::{Deed, Part};
 use crate::rows::{Row, copied, number_at, row_at, set_in, set_number, tell};
@@ -71,9 +71,11 @@ impl Scopes {
 #[derive(Drop)]
 pub struct Knowledge {
     acts: Vec<Row>,
-    /// Of each clock, what those knew who resumed or left it.
+    /// Of each clock, what those knew whom its next advance waits for.
     signals: Vec<Row>,
-    /// Of each clock, what of that was there when it advanced last.
+    /// Of each clock, what those knew who left it behind a resume.
+    leaves: Vec<Row>,
+    /// Of each clock, what those knew whom its last advance waited for.
     advances: Vec<Row>,
     /// Of each finish, what those knew who ended in it.
     ends: Vec<Row>,
@@ -88,6 +90,7 @@ impl Model for Knowledge {
     ghost view = { λ k. record {
       acts = k.acts.items;
       signals = k.signals.items;
+      leaves = k.leaves.items;
       advances = k.advances.items;
       ends = k.ends.items;
       scopes = k.scopes;
@@ -104,6 +107,7 @@ impl Knowledge {
         Ok(Knowledge {
             acts: Vec::new(alloc),
             signals: Vec::new(alloc),
+            leaves: Vec::new(alloc),
             advances: Vec::new(alloc),
             ends: Vec::new(alloc),
             scopes: Scopes {
@@ -145,6 +149,16 @@ impl Knowledge {
         tell(alloc, &mut self.acts, child as usize, &row)
     }
 
+    /// A clock advances.
+    fn advance(&mut self, alloc: Global, clock: u32) -> Result<(), AllocError>
+        ensures { OnOk result (self.new ≡ advanced_by clock self.old) }
+    {
+        let signals = row_at(&self.signals, clock as usize);
+        tell(alloc, &mut self.advances, clock as usize, signals)?;
+        let leaves = row_at(&self.leaves, clock as usize);
+        tell(alloc, &mut self.signals, clock as usize, leaves)
+    }
+
     /// Who learns by a deed what its activity knows.
     fn tell(&mut self, alloc: Global, act: u32, part: Part) -> Result<(), AllocError>
         ensures { OnOk result (self.new ≡ taught act part self.old) }
@@ -153,10 +167,8 @@ impl Knowledge {
         match part {
             Part::Start(child) => self.start(alloc, act, child),
             Part::Signal(c) => tell(alloc, &mut self.signals, c as usize, row),
-            Part::Advance(c) => {
-                let signals = row_at(&self.signals, c as usize);
-                tell(alloc, &mut self.advances, c as usize, signals)
-            }
+            Part::Leave(c) => tell(alloc, &mut self.leaves, c as usize, row),
+            Part::Advance(c) => self.advance(alloc, c),
             Part::End => tell(alloc, &mut self.ends, self.scopes.of(act), row),
             _ => Ok(()),
         }
