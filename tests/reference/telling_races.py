@@ -25,7 +25,7 @@ class Doings:
 
     last: dict[int, int] = field(default_factory=dict)
     started: dict[int, int] = field(default_factory=dict)
-    # Of a clock, the steps by which it ceased to wait for somebody, in each of its phases.
+    # Of a clock, the steps that its advance from each of its phases waits for.
     signals: dict[tuple[int, int], list[int]] = field(default_factory=dict)
     phases: dict[int, int] = field(default_factory=dict)
     opened: dict[int, list[int]] = field(default_factory=dict)
@@ -68,6 +68,10 @@ class Doings:
             still = taken.step.world.clocks[clock].standing(who) in AWAITED and clock not in advanced
             if before.standing(who) in AWAITED and not still:
                 self.signals.setdefault((clock, self.phases.get(clock, 0)), []).append(number)
+            left = taken.step.world.clocks[clock].standing(who) is Standing.APART
+            # Who has resumed is in the next phase already, for all that wait.
+            if before.standing(who) is Standing.SIGNALLED and left:
+                self.signals.setdefault((clock, self.phases.get(clock, 0) + 1), []).append(number)
         for clock in advanced:
             self.phases[clock] = self.phases.get(clock, 0) + 1
 
