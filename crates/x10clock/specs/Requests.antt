@@ -1,7 +1,9 @@
 -- What the program does with what its words ask for, on open devices: a job is served, and a run by hand is played. This project's own.
-use Rattle.std.specs.Prelude.{◌≡◌, ◌≢◌, ℕ, List, ◌++◌, codes, false, Option, IfSome, is_some}
+use Rattle.std.specs.Prelude.{◌≡◌, ◌≢◌, ℕ, List, ◌++◌, codes, true, false, Option, None, IfSome, is_some, option_map}
 use Rattle.std.specs.Io.KnownBytes.{Appends}
 use Rattle.xk_cli.specs.Status.{status_device, status_memory}
+use Rattle.xk_cli.specs.declared.job.Command.{Command}
+use Rattle.xk_cli.specs.declared.job.Command.TheVariants as command
 use Rattle.xk_cli.specs.declared.job.Request.{Request}
 use Rattle.xk_cli.specs.declared.job.Request.TheVariants as request
 use Rattle.xk_serve.specs.Answer.{reads_more, task_of}
@@ -14,6 +16,23 @@ abbrev pub over_line : Request → List ℕ
 over_line (request.Job job) = codes "x10clock: --log would write over FILE\n"
 over_line (request.ByHand run) = codes "x10clock: --log would write over FILE or standard input\n"
 
+-- ---- the log that is written
+
+-- where it goes, if there is one
+abbrev pub path_in : Command → Option (List ℕ)
+path_in (command.Run given log) = option_map (λ path. path.now) log
+path_in (command.Outcomes limit pick log sets) = option_map (λ path. path.now) log
+path_in _ = None
+
+abbrev pub log_path : Request → Option (List ℕ)
+log_path (request.Job job) = path_in job.command
+log_path (request.ByHand run) = option_map (λ path. path.now) run.log
+
+abbrev pub WritesLog : Request → Type 0
+WritesLog r = is_some (log_path r) ≡ true
+
+-- ---- answers
+
 -- If the bytes of FILE are known, and neither memory nor a device fails: status and texts answer the job, or they are those of the run by hand, by the
 -- answers in the input.
 abbrev pub IsAnswered : Request → Option (List ℕ) → Option (List ℕ) → Option (List ℕ) → ℕ → Option (List ℕ) → Option (List ℕ) → Option (List ℕ)
@@ -24,6 +43,8 @@ IsAnswered (request.Job job) program in_old in_new status out_old out_new err_ol
 IsAnswered (request.ByHand run) program in_old in_new status out_old out_new err_old err_new log_old log_new =
     IfSome program (λ bytes. status ≢ status_memory → status ≢ status_device
     → IsHandReply run.form (kept run.form bytes) run.arguments.items (is_some run.log) status in_old in_new out_old out_new err_old err_new log_old log_new)
+
+-- ---- where something fails
 
 -- whatever fails, standard output and the log have a beginning of such an answer
 abbrev pub OutIsBegun : Request → Option (List ℕ) → Option (List ℕ) → Option (List ℕ) → Option (List ℕ) → Option (List ℕ) → Option (List ℕ) → Type 0
@@ -43,6 +64,16 @@ ErrIsBegun (request.ByHand run) program input old new =
 abbrev pub EndsIn : Request → Option (List ℕ) → Option (List ℕ) → List ℕ → Option (List ℕ) → Option (List ℕ) → Type 0
 EndsIn (request.Job job) program input line old new = Appends old new line
 EndsIn (request.ByHand run) program input line old new = EndsAsking run.form program run.arguments.items input line old new
+
+-- ---- what is read
+
+-- FILE of a run by hand would be standard input, which has the answers
+abbrev pub input_line : List ℕ
+input_line = codes "x10clock: --order ask reads standard input, so FILE can't be -\n"
+
+abbrev pub IsByHand : Request → Type 0
+IsByHand (request.Job job) = ⊥
+IsByHand (request.ByHand run) = Unit {0}
 
 -- neither a log nor a list nor answers are read
 abbrev pub ReadsNoMore : Request → Type 0

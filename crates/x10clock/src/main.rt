@@ -1,7 +1,7 @@
 //! The program: words to a job, files and streams to devices, and the status that serving it answers.
 #![tactic(auto)]
 
-ghost use Rattle.std.specs.Prelude.{◌≡◌, ◌≢◌, ◌⊎◌, [], None, map, string_bytes, IfOk};
+ghost use Rattle.std.specs.Prelude.{◌≡◌, ◌≢◌, ◌⊎◌, [], None, map, option_map, codes, string_bytes, IfOk};
 ghost use Rattle.std.specs.Io.KnownBytes.{Appends};
 ghost use Rattle.xk_types.specs.Device.{Rose};
 ghost use Rattle.xk_cli.specs.CommandLine.{asked_value, texts};
@@ -11,7 +11,7 @@ ghost use Rattle.xk_diagnostics.specs.Lines.{memory_line};
 ghost use Rattle.xk_serve.specs.Devices.{Reports, Tells, TellsWords};
 ghost use Rattle.xk_serve.specs.declared.fault.Fault.TheVariants as fault;
 ghost use Rattle.x10clock.specs.CommandLine.{AreTold, AskForHand, IsWantOfMemory, no_text_line};
-ghost use Rattle.x10clock.specs.Requests.{EndsIn, IsLastLine, ErrIsBegun, IsAnswered, OutIsBegun, ReadsNoMore, over_line};
+ghost use Rattle.x10clock.specs.Requests.{EndsIn, IsByHand, IsLastLine, ErrIsBegun, IsAnswered, OutIsBegun, ReadsNoMore, WritesLog, input_line, log_path, over_line};
 
 mod files;
 
@@ -113,6 +113,9 @@ fn on_request<R: Runtime, O: Sink, E: Sink>(
     out: &mut O,
     err: &mut E,
 ) -> u8
+    ensures no_input { IsByHand request.now → (asked_value request.now).file ≡ codes "-"
+        → Tells input_line status_words (E.contents err.old) (E.contents err.new)
+        (E.fault_count err.old) (E.fault_count err.new) result }
     ensures memory_out { result ≡ status_memory
         → Appends (O.contents out.old) (O.contents out.new) [] }
     ensures memory_err { result ≡ status_memory → EndsIn request.now None None memory_line
@@ -151,6 +154,9 @@ fn on_input<R: Runtime, O: Sink, E: Sink>(
     out: &mut O,
     err: &mut E,
 ) -> u8
+    ensures no_input { IsByHand request.now → Tells input_line status_words
+        (E.contents err.old) (E.contents err.new)
+        (E.fault_count err.old) (E.fault_count err.new) result }
     ensures memory_out { result ≡ status_memory
         → Appends (O.contents out.old) (O.contents out.new) [] }
     ensures memory_err { result ≡ status_memory → EndsIn request.now None None memory_line
@@ -183,8 +189,9 @@ fn on_program<R: Runtime, P: Read + Drop, O: Sink, E: Sink>(
     ensures answered { IsAnswered request.now (P.remaining program) None None result
         (O.contents out.old) (O.contents out.new)
         (E.contents err.old) (E.contents err.new) None None
-        ⊎ Tells (over_line request.now) status_words (E.contents err.old) (E.contents err.new)
-        (E.fault_count err.old) (E.fault_count err.new) result }
+        ⊎ (WritesLog request.now
+        × Tells (over_line request.now) status_words (E.contents err.old) (E.contents err.new)
+        (E.fault_count err.old) (E.fault_count err.new) result) }
     ensures memory_out { result ≡ status_memory
         → Appends (O.contents out.old) (O.contents out.new) [] }
     ensures memory_err { result ≡ status_memory
@@ -245,8 +252,9 @@ fn on_log<R: Runtime, P: Read + Drop, L: Source, O: Sink, E: Sink>(
         (L.remaining input.old) (L.remaining input.new) result
         (O.contents out.old) (O.contents out.new)
         (E.contents err.old) (E.contents err.new) None None
-        ⊎ Tells (over_line request.now) status_words (E.contents err.old) (E.contents err.new)
-        (E.fault_count err.old) (E.fault_count err.new) result }
+        ⊎ (WritesLog request.now
+        × Tells (over_line request.now) status_words (E.contents err.old) (E.contents err.new)
+        (E.fault_count err.old) (E.fault_count err.new) result) }
     ensures memory_out { result ≡ status_memory
         → Appends (O.contents out.old) (O.contents out.new) [] }
     ensures memory_err { result ≡ status_memory
@@ -278,7 +286,9 @@ fn on_log<R: Runtime, P: Read + Drop, L: Source, O: Sink, E: Sink>(
 }
 
 /// Where the log goes that is written, if one is.
-fn path_of_log<'a>(request: &Request<'a>) -> Option<&'a str> {
+fn path_of_log<'a>(request: &Request<'a>) -> Option<&'a str>
+    ensures { option_map (λ path. path.now) result ≡ log_path request.now }
+{
     let job = match request {
         Request::ByHand(run) => return run.log,
         Request::Job(job) => job,
