@@ -26,6 +26,7 @@ WAYS = "   = ways go round loops and into both branches, whatever the numbers ar
 WORD = re.compile(rb"[0-9A-Za-z_]*")
 LAST_WORD = re.compile(rb"[0-9A-Za-z_]*\Z")
 BLANKS = b" \t\n\r"
+COMMENT = re.compile(rb"//[^\n]*|/\*.*?\*/", re.DOTALL)
 MARK = b"\xef\xbb\xbf"
 WITHOUT_PLACE = ("F4", "F9")
 
@@ -112,10 +113,10 @@ def repair_line(said: str) -> str:
 def stands(where: str, what: str, text: bytes, at: int) -> bool:
     """Whether this stands at an offset, before or behind what stands there, or begins its line."""
     before, rest = text[:at], text[at:]
-    kept = before.rstrip(BLANKS)
+    kept = COMMENT.sub(lambda comment: b" " * len(comment[0]), before).rstrip(BLANKS)
     word, last = WORD.match(rest)[0], LAST_WORD.search(kept)[0]
-    if what == "a byte order mark":
-        return rest.startswith(MARK)
+    if what == "a byte order mark, where the text begins":
+        return at == 0 and rest.startswith(MARK)
     if what == "no ASCII":
         return rest[:1] >= b"\x80"
     if what == "the text's end":

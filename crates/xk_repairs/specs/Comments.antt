@@ -1,0 +1,31 @@
+-- What stands before a place of a text, without the blanks and comments behind it. This project's own.
+use Rattle.std.specs.Prelude.{ℕ, ◌+◌, ◌==◌, Bool, false, not, ◌&&◌, List, [], ◌∷◌, take, if◌then◌else◌}
+use Rattle.xk_repairs.specs.declared.comments.Part.{Part}
+use Rattle.xk_repairs.specs.declared.comments.Part.TheVariants as part
+use Rattle.xk_repairs.specs.Words.{is_space}
+
+-- The part that a byte leads to, from the part where it stands. A `/` among tokens begins a comment: a text in which one
+-- begins none is refused there (F1), and no fault is told behind it.
+abbrev pub part_after : Part → ℕ → Part
+part_after part.Tokens b = if b == 47 then part.Slash else part.Tokens
+part_after part.Slash b = if b == 42 then part.BlockComment else part.LineComment
+part_after part.LineComment b = if b == 10 then part.Tokens else part.LineComment
+part_after part.BlockComment b = if b == 42 then part.Star else part.BlockComment
+part_after part.Star b = if b == 47 then part.Tokens else if b == 42 then part.Star else part.BlockComment
+
+-- whether a byte that stands in this part is a token's
+abbrev pub is_of_token : Part → ℕ → Bool
+is_of_token part.Tokens b = not (is_space b) && not (b == 47)
+is_of_token part.Slash b = false
+is_of_token part.LineComment b = false
+is_of_token part.BlockComment b = false
+is_of_token part.Star b = false
+
+-- where the last token ends, of a text that begins at `at` and in this part, behind tokens that end at `end`
+abbrev pub tokens_end : Part → ℕ → ℕ → List ℕ → ℕ
+tokens_end p at end [] = end
+tokens_end p at end (b ∷ bs) = if is_of_token p b then tokens_end (part_after p b) (at + 1) (at + 1) bs else tokens_end (part_after p b) (at + 1) end bs
+
+-- without the blanks and comments that it ends with
+abbrev pub to_sign : List ℕ → List ℕ
+to_sign text = take (tokens_end part.Tokens 0 0 text) text
