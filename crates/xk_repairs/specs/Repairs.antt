@@ -1,12 +1,12 @@
--- Repairs by what stands at a fault of a source text: what other languages have, and what is missing. This project's own.
+-- Repairs by what stands at a fault of a source text: what other languages have, and what is missing. Comments aren't looked at. This project's own.
 use Rattle.std.specs.Prelude.{ℕ, ◌==◌, nat_eq, nat_lt, Bool, true, false, not, ◌&&◌, ◌||◌, List, [], ◌∷◌, length, take, drop, codes, if◌then◌else◌}
 use Rattle.std.specs.List.{list_any, ends_with}
 use Rattle.std.specs.Str.{bytes_eq}
 use Rattle.xk_tree.specs.declared.fault.FrontRule.{FrontRule}
 use Rattle.xk_tree.specs.declared.fault.FrontRule.TheVariants as front
 use Rattle.xk_repairs.specs.Rules.{front_repair}
-use Rattle.xk_repairs.specs.Words.{begins, first_word, from_sign, is_digit, is_word_byte, last_word, line_start}
-use Rattle.xk_repairs.specs.Comments.{to_sign}
+use Rattle.xk_repairs.specs.Words.{begins, first_word, is_digit, is_word_byte, last_word}
+use Rattle.xk_repairs.specs.Comments.{from_line_of, from_sign, to_sign}
 
 -- ---- no token begins there
 
@@ -36,7 +36,7 @@ token_repair at rest = repair_of_byte at rest (sign_repair rest (front_repair fr
 
 -- ---- a token can't stand there
 
--- by the word that stands before the fault, whatever blanks and comments lie between
+-- by the word that stands before the fault
 unfoldable pub repair_behind : List ℕ → List ℕ → List ℕ
 repair_behind word other =
     if bytes_eq word (codes "return") then codes "a method gives nothing back: write to a shared number, and put an `if` around the rest"
@@ -90,7 +90,7 @@ unfoldable pub repair_at_end : List ℕ → List ℕ → List ℕ
 repair_at_end [] other = codes "the text ends too early: look for a `}` that is missing, or a `;`"
 repair_at_end (b ∷ bs) other = other
 
--- a statement, or a part of one, stands before the fault, and ends on a line before: comments aren't looked at
+-- a statement, or a part of one, stands before the fault, and ends on a line before
 abbrev pub is_word : List ℕ → Bool
 is_word [] = false
 is_word (b ∷ bs) = true
@@ -121,11 +121,11 @@ repair_behind_number before rest other = if is_number (last_word before) && goes
 unfoldable pub repair_behind_brace : List ℕ → List ℕ → List ℕ
 repair_behind_brace before other = if ends_with nat_eq (to_sign before) (codes "}") then codes "outside of methods stand `shared` numbers and methods alone: look for a `}` too many before it" else other
 
--- By the word that the fault's line begins with (`line` is the text from there on), by a `}` before the fault, and by what stands there.
+-- By the word that the fault's line begins with (`line` is the text from its first token on), by a `}` before the fault, and by what stands there.
 abbrev pub repair_there : List ℕ → List ℕ → List ℕ → List ℕ
 repair_there line before rest =
     repair_of_sign rest (repair_of_word (first_word rest)
-    (repair_behind_brace before (repair_in_line (first_word (from_sign line)) (front_repair front.Syntax))))
+    (repair_behind_brace before (repair_in_line (first_word line) (front_repair front.Syntax))))
 
 -- The repair of a token that can't stand where it does: by the text's end, by what stands before it, or else by the rest.
 abbrev pub syntax_repair : List ℕ → List ℕ → List ℕ → List ℕ
@@ -161,6 +161,6 @@ kind_repair before rest =
 -- The usual repair of a fault of this rule at an offset.
 abbrev pub repair_at : List ℕ → FrontRule → ℕ → List ℕ
 repair_at text front.Token at = token_repair at (drop at text)
-repair_at text front.Syntax at = syntax_repair (drop (line_start text at) text) (take at text) (drop at text)
+repair_at text front.Syntax at = syntax_repair (from_line_of text at) (take at text) (drop at text)
 repair_at text front.WrongKind at = kind_repair (take at text) (drop at text)
 repair_at text r at = front_repair r

@@ -3,11 +3,9 @@
 ghost use Rattle.std.specs.Prelude.{◌≡◌, ◌≤◌, length};
 ghost use Rattle.xk_repairs.specs.Repairs.{ends_part, goes_on, has_line_feed, is_before_assign, is_number, is_word, kind_repair, repair_at, repair_at_end, repair_before_assign, repair_behind, repair_behind_atomic, repair_behind_brace, repair_behind_line, repair_behind_number, repair_in_line, repair_of_byte, repair_of_sign, repair_of_type, repair_of_word, repair_there, sign_repair, syntax_repair, token_repair};
 
-use crate::comments::to_sign;
+use crate::comments::{from_line_of, from_sign, to_sign};
 use crate::rules::front_repair;
-use crate::words::{
-    begins, ends, first_word, from_sign, is_digit, is_spelled, is_word_byte, last_word, line_start,
-};
+use crate::words::{begins, ends, first_word, is_digit, is_spelled, is_word_byte, last_word};
 use xk_tree::FrontRule;
 
 /// By a sign that begins no token.
@@ -275,7 +273,7 @@ fn repair_behind_brace(before: &[u8], other: &'static str) -> &'static str
 fn repair_there(line: &[u8], before: &[u8], rest: &[u8]) -> &'static str
     ensures { result.now ≡ repair_there line.now before.now rest.now }
 {
-    let other = repair_in_line(first_word(from_sign(line)), front_repair(FrontRule::Syntax));
+    let other = repair_in_line(first_word(line), front_repair(FrontRule::Syntax));
     let other = repair_behind_brace(before, other);
     repair_of_sign(rest, repair_of_word(first_word(rest), other))
 }
@@ -351,7 +349,7 @@ pub fn repair_at(text: &[u8], rule: FrontRule, at: usize) -> &'static str
 {
     match rule {
         FrontRule::Token => token_repair(at, &text[at..]),
-        FrontRule::Syntax => syntax_repair(&text[line_start(text, at)..], &text[..at], &text[at..]),
+        FrontRule::Syntax => syntax_repair(from_line_of(text, at), &text[..at], &text[at..]),
         FrontRule::WrongKind => kind_repair(&text[..at], &text[at..]),
         FrontRule::TooDeep
         | FrontRule::TooLong
