@@ -26,6 +26,7 @@ WAYS = "   = ways go round loops and into both branches, whatever the numbers ar
 WORD = re.compile(rb"[0-9A-Za-z_]*")
 LAST_WORD = re.compile(rb"[0-9A-Za-z_]*\Z")
 BLANKS = b" \t\n\r"
+COMMENT = re.compile(rb"//[^\n]*|/\*.*?\*/", re.DOTALL)
 MARK = b"\xef\xbb\xbf"
 WITHOUT_PLACE = ("F4", "F9")
 
@@ -109,13 +110,19 @@ def repair_line(said: str) -> str:
     return f"   = usual repair: {said}\n"
 
 
+def without_comments(text: bytes) -> bytes:
+    """Blanks in their place, on as many lines."""
+    return COMMENT.sub(lambda comment: re.sub(rb"[^\n]", b" ", comment[0]), text)
+
+
 def stands(where: str, what: str, text: bytes, at: int) -> bool:
     """Whether this stands at an offset, before or behind what stands there, or begins its line."""
     before, rest = text[:at], text[at:]
-    kept = before.rstrip(BLANKS)
+    blanked = without_comments(before)
+    kept = blanked.rstrip(BLANKS)
     word, last = WORD.match(rest)[0], LAST_WORD.search(kept)[0]
-    if what == "a byte order mark":
-        return rest.startswith(MARK)
+    if what == "a byte order mark, where the text begins":
+        return at == 0 and rest.startswith(MARK)
     if what == "no ASCII":
         return rest[:1] >= b"\x80"
     if what == "the text's end":
@@ -130,9 +137,9 @@ def stands(where: str, what: str, text: bytes, at: int) -> bool:
     if where == "behind":
         return last in spelled
     if where == "before":
-        return re.match(rb"[ \t\n\r]*=(?!=)", rest[len(word) :]) is not None
+        return re.match(rb"[ \t\n\r]*=(?!=)", without_comments(rest[len(word) :])) is not None
     if where == "line":
-        return WORD.match(whole_line(text, at).lstrip(BLANKS))[0] in spelled
+        return WORD.match(whole_line(blanked + rest, at).lstrip(BLANKS))[0] in spelled
     return word in spelled or any(rest.startswith(sign) for sign in spelled if not sign.isalnum())
 
 

@@ -1,3 +1,4 @@
 pub mod Words
+pub mod Comments
 pub mod Rules
 pub mod Repairs

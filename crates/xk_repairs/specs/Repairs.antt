@@ -1,11 +1,12 @@
--- Repairs by what stands at a fault of a source text: what other languages have, and what is missing. This project's own.
+-- Repairs by what stands at a fault of a source text: what other languages have, and what is missing. Comments aren't looked at. This project's own.
 use Rattle.std.specs.Prelude.{ℕ, ◌==◌, nat_eq, nat_lt, Bool, true, false, not, ◌&&◌, ◌||◌, List, [], ◌∷◌, length, take, drop, codes, if◌then◌else◌}
 use Rattle.std.specs.List.{list_any, ends_with}
 use Rattle.std.specs.Str.{bytes_eq}
 use Rattle.xk_tree.specs.declared.fault.FrontRule.{FrontRule}
 use Rattle.xk_tree.specs.declared.fault.FrontRule.TheVariants as front
 use Rattle.xk_repairs.specs.Rules.{front_repair}
-use Rattle.xk_repairs.specs.Words.{begins, first_word, from_sign, is_digit, is_word_byte, last_word, line_start, to_sign}
+use Rattle.xk_repairs.specs.Words.{begins, first_word, is_digit, is_word_byte, last_word}
+use Rattle.xk_repairs.specs.Comments.{from_line_of, from_sign, to_sign}
 
 -- ---- no token begins there
 
@@ -24,14 +25,14 @@ sign_repair rest other =
     else if begins rest (codes "#") then codes "a comment begins with `//`"
     else other
 
--- other signs than those of ASCII
-unfoldable pub repair_of_byte : List ℕ → List ℕ → List ℕ
-repair_of_byte [] other = other
-repair_of_byte (b ∷ bs) other = if nat_lt b 128 then other else if begins (b ∷ bs) (239 ∷ 187 ∷ 191 ∷ []) then codes "the text begins with a byte order mark, which isn't to be seen: save it as UTF-8 without one"
+-- other signs than those of ASCII; a byte order mark is one only where the text begins
+unfoldable pub repair_of_byte : ℕ → List ℕ → List ℕ → List ℕ
+repair_of_byte at [] other = other
+repair_of_byte at (b ∷ bs) other = if nat_lt b 128 then other else if at == 0 && begins (b ∷ bs) (239 ∷ 187 ∷ 191 ∷ []) then codes "the text begins with a byte order mark, which isn't to be seen: save it as UTF-8 without one"
     else codes "names are of letters, digits and `_` of ASCII; a comment may have any character, in UTF-8"
 
-abbrev pub token_repair : List ℕ → List ℕ
-token_repair rest = repair_of_byte rest (sign_repair rest (front_repair front.Token))
+abbrev pub token_repair : ℕ → List ℕ → List ℕ
+token_repair at rest = repair_of_byte at rest (sign_repair rest (front_repair front.Token))
 
 -- ---- a token can't stand there
 
@@ -120,11 +121,11 @@ repair_behind_number before rest other = if is_number (last_word before) && goes
 unfoldable pub repair_behind_brace : List ℕ → List ℕ → List ℕ
 repair_behind_brace before other = if ends_with nat_eq (to_sign before) (codes "}") then codes "outside of methods stand `shared` numbers and methods alone: look for a `}` too many before it" else other
 
--- By the word that the fault's line begins with (`line` is the text from there on), by a `}` before the fault, and by what stands there.
+-- By the word that the fault's line begins with (`line` is the text from its first token on), by a `}` before the fault, and by what stands there.
 abbrev pub repair_there : List ℕ → List ℕ → List ℕ → List ℕ
 repair_there line before rest =
     repair_of_sign rest (repair_of_word (first_word rest)
-    (repair_behind_brace before (repair_in_line (first_word (from_sign line)) (front_repair front.Syntax))))
+    (repair_behind_brace before (repair_in_line (first_word line) (front_repair front.Syntax))))
 
 -- The repair of a token that can't stand where it does: by the text's end, by what stands before it, or else by the rest.
 abbrev pub syntax_repair : List ℕ → List ℕ → List ℕ → List ℕ
@@ -147,14 +148,19 @@ repair_of_type word other =
     if bytes_eq word (codes "Clock") || bytes_eq word (codes "Long") then codes "a clock is a `val` that is made there, `val c = Clock.make();`, and isn't copied; all else is `Long`"
     else other
 
-abbrev pub kind_repair : List ℕ → List ℕ
-kind_repair rest =
-    repair_before_assign (from_sign (drop (length (first_word rest)) rest))
-    (repair_of_type (first_word rest) (front_repair front.WrongKind))
+-- by an `atomic` that stands before the fault
+unfoldable pub repair_behind_atomic : List ℕ → List ℕ → List ℕ
+repair_behind_atomic word other = if bytes_eq word (codes "atomic") then codes "an `atomic` adds to a shared number alone: declare it `shared n = 0;` in front of the methods" else other
+
+-- The repair of what is of another kind: by a type that stands there, by the word before it, or by a `=` behind it.
+abbrev pub kind_repair : List ℕ → List ℕ → List ℕ
+kind_repair before rest =
+    repair_of_type (first_word rest) (repair_behind_atomic (last_word (to_sign before))
+    (repair_before_assign (from_sign (drop (length (first_word rest)) rest)) (front_repair front.WrongKind)))
 
 -- The usual repair of a fault of this rule at an offset.
 abbrev pub repair_at : List ℕ → FrontRule → ℕ → List ℕ
-repair_at text front.Token at = token_repair (drop at text)
-repair_at text front.Syntax at = syntax_repair (drop (line_start text at) text) (take at text) (drop at text)
-repair_at text front.WrongKind at = kind_repair (drop at text)
+repair_at text front.Token at = token_repair at (drop at text)
+repair_at text front.Syntax at = syntax_repair (from_line_of text at) (take at text) (drop at text)
+repair_at text front.WrongKind at = kind_repair (take at text) (drop at text)
 repair_at text r at = front_repair r

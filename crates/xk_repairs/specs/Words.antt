@@ -23,13 +23,6 @@ first_word text = take (prefix_len is_word_byte text) text
 abbrev pub last_word : List ℕ → List ℕ
 last_word text = drop (length text - suffix_len is_word_byte text) text
 
--- without the blanks that it begins with, and that it ends with
-abbrev pub from_sign : List ℕ → List ℕ
-from_sign text = drop (prefix_len is_space text) text
-
-abbrev pub to_sign : List ℕ → List ℕ
-to_sign text = take (length text - suffix_len is_space text) text
-
 -- where the line of an offset begins: behind the last line feed before it, or at 0
 abbrev pub isnt_line_feed : ℕ → Bool
 isnt_line_feed b = not (b == 10)

@@ -1,6 +1,7 @@
 //! How a fault of a source text is usually repaired: by its rule, and by what stands there.
 #![tactic(auto)]
 
+mod comments;
 mod repairs;
 mod rules;
 mod words;

@@ -1,13 +1,11 @@
 //! Repairs by what stands at a fault of a source text: what other languages have, and what is missing.
 
 ghost use Rattle.std.specs.Prelude.{◌≡◌, ◌≤◌, length};
-ghost use Rattle.xk_repairs.specs.Repairs.{ends_part, goes_on, has_line_feed, is_before_assign, is_number, is_word, kind_repair, repair_at, repair_at_end, repair_before_assign, repair_behind, repair_behind_brace, repair_behind_line, repair_behind_number, repair_in_line, repair_of_byte, repair_of_sign, repair_of_type, repair_of_word, repair_there, sign_repair, syntax_repair, token_repair};
+ghost use Rattle.xk_repairs.specs.Repairs.{ends_part, goes_on, has_line_feed, is_before_assign, is_number, is_word, kind_repair, repair_at, repair_at_end, repair_before_assign, repair_behind, repair_behind_atomic, repair_behind_brace, repair_behind_line, repair_behind_number, repair_in_line, repair_of_byte, repair_of_sign, repair_of_type, repair_of_word, repair_there, sign_repair, syntax_repair, token_repair};
 
+use crate::comments::{from_line_of, from_sign, to_sign};
 use crate::rules::front_repair;
-use crate::words::{
-    begins, ends, first_word, from_sign, is_digit, is_spelled, is_word_byte, last_word, line_start,
-    to_sign,
-};
+use crate::words::{begins, ends, first_word, is_digit, is_spelled, is_word_byte, last_word};
 use xk_tree::FrontRule;
 
 /// By a sign that begins no token.
@@ -40,17 +38,17 @@ fn sign_repair(rest: &[u8], other: &'static str) -> &'static str
     }
 }
 
-/// By other signs than those of ASCII.
+/// By other signs than those of ASCII, of which the text may begin with a byte order mark.
 #[tactic(auto, unfolding(crate::specs::Repairs::repair_of_byte))]
-fn repair_of_byte(rest: &[u8], other: &'static str) -> &'static str
-    ensures { result.now ≡ repair_of_byte rest.now other.now }
+fn repair_of_byte(at: usize, rest: &[u8], other: &'static str) -> &'static str
+    ensures { result.now ≡ repair_of_byte at rest.now other.now }
 {
     match rest {
         [] => other,
         [b, ..] => {
             if *b < 128 {
                 other
-            } else if begins(rest, &[239, 187, 191]) {
+            } else if at == 0 && begins(rest, &[239, 187, 191]) {
                 "the text begins with a byte order mark, which isn't to be seen: save it as UTF-8 without one"
             } else {
                 "names are of letters, digits and `_` of ASCII; a comment may have any character, in UTF-8"
@@ -60,10 +58,10 @@ fn repair_of_byte(rest: &[u8], other: &'static str) -> &'static str
 }
 
 /// Where no token begins.
-fn token_repair(rest: &[u8]) -> &'static str
-    ensures { result.now ≡ token_repair rest.now }
+fn token_repair(at: usize, rest: &[u8]) -> &'static str
+    ensures { result.now ≡ token_repair at rest.now }
 {
-    repair_of_byte(rest, sign_repair(rest, front_repair(FrontRule::Token)))
+    repair_of_byte(at, rest, sign_repair(rest, front_repair(FrontRule::Token)))
 }
 
 /// By the word that stands before the fault.
@@ -275,7 +273,7 @@ fn repair_behind_brace(before: &[u8], other: &'static str) -> &'static str
 fn repair_there(line: &[u8], before: &[u8], rest: &[u8]) -> &'static str
     ensures { result.now ≡ repair_there line.now before.now rest.now }
 {
-    let other = repair_in_line(first_word(from_sign(line)), front_repair(FrontRule::Syntax));
+    let other = repair_in_line(first_word(line), front_repair(FrontRule::Syntax));
     let other = repair_behind_brace(before, other);
     repair_of_sign(rest, repair_of_word(first_word(rest), other))
 }
@@ -321,13 +319,27 @@ fn repair_of_type(word: &[u8], other: &'static str) -> &'static str
     }
 }
 
+/// By an `atomic` before the fault.
+#[tactic(auto, unfolding(crate::specs::Repairs::repair_behind_atomic))]
+fn repair_behind_atomic(word: &[u8], other: &'static str) -> &'static str
+    ensures { result.now ≡ repair_behind_atomic word.now other.now }
+{
+    if is_spelled(word, b"atomic") {
+        "an `atomic` adds to a shared number alone: declare it `shared n = 0;` in front of the methods"
+    } else {
+        other
+    }
+}
+
 /// Where another kind is wanted.
-fn kind_repair(rest: &[u8]) -> &'static str
-    ensures { result.now ≡ kind_repair rest.now }
+fn kind_repair(before: &[u8], rest: &[u8]) -> &'static str
+    ensures { result.now ≡ kind_repair before.now rest.now }
 {
     let word = first_word(rest);
-    let other = repair_of_type(word, front_repair(FrontRule::WrongKind));
-    repair_before_assign(from_sign(&rest[word.len()..]), other)
+    let other = front_repair(FrontRule::WrongKind);
+    let other = repair_before_assign(from_sign(&rest[word.len()..]), other);
+    let other = repair_behind_atomic(last_word(to_sign(before)), other);
+    repair_of_type(word, other)
 }
 
 /// The usual repair of a fault of this rule at an offset of the text, by what stands there.
@@ -336,9 +348,9 @@ pub fn repair_at(text: &[u8], rule: FrontRule, at: usize) -> &'static str
     ensures { result.now ≡ repair_at text.now rule at }
 {
     match rule {
-        FrontRule::Token => token_repair(&text[at..]),
-        FrontRule::Syntax => syntax_repair(&text[line_start(text, at)..], &text[..at], &text[at..]),
-        FrontRule::WrongKind => kind_repair(&text[at..]),
+        FrontRule::Token => token_repair(at, &text[at..]),
+        FrontRule::Syntax => syntax_repair(from_line_of(text, at), &text[..at], &text[at..]),
+        FrontRule::WrongKind => kind_repair(&text[..at], &text[at..]),
         FrontRule::TooDeep
         | FrontRule::TooLong
         | FrontRule::UnknownName

@@ -3,7 +3,7 @@
 ghost use Rattle.std.specs.Prelude.{◌≡◌, ◌≤◌, length, nat_eq, take};
 ghost use Rattle.std.specs.List.{ends_with, prefix_len, suffix_len};
 ghost use Rattle.std.specs.Str.{bytes_eq};
-ghost use Rattle.xk_repairs.specs.Words.{begins, first_word, from_sign, is_digit, is_space, is_word_byte, isnt_line_feed, last_word, line_start, to_sign};
+ghost use Rattle.xk_repairs.specs.Words.{begins, first_word, is_digit, is_space, is_word_byte, isnt_line_feed, last_word, line_start};
 
 /// A digit.
 pub(crate) fn is_digit(b: u8) -> bool
@@ -20,7 +20,7 @@ pub(crate) fn is_word_byte(b: u8) -> bool
 }
 
 /// A space, a tab or the end of a line.
-fn is_space(b: u8) -> bool
+pub(crate) fn is_space(b: u8) -> bool
     ensures { result ≡ is_space b }
 {
     (b == b' ' || b == b'\t') || (b == b'\n' || b == b'\r')
@@ -76,37 +76,6 @@ pub(crate) fn last_word(text: &[u8]) -> &[u8]
     ensures { result.now ≡ last_word text.now }
 {
     &text[text.len() - last_len(text)..]
-}
-
-/// How many blanks a text begins with.
-fn blanks_before(text: &[u8]) -> usize
-    ensures count { result ≡ prefix_len is_space text.now }
-    ensures within { result ≤ length text.now }
-{
-    text.iter().take_while(|&&b| is_space(b)).count()
-}
-
-/// A text without the blanks that it begins with.
-pub(crate) fn from_sign(text: &[u8]) -> &[u8]
-    ensures { result.now ≡ from_sign text.now }
-{
-    &text[blanks_before(text)..]
-}
-
-/// How many blanks stand at the end of a text.
-fn blanks_behind(text: &[u8]) -> usize
-    ensures count { result ≡ suffix_len is_space text.now }
-    ensures within { result ≤ length text.now }
-{
-    text.iter().rev().take_while(|&&b| is_space(b)).count()
-}
-
-/// A text without the blanks that it ends with.
-pub(crate) fn to_sign(text: &[u8]) -> &[u8]
-    ensures value { result.now ≡ to_sign text.now }
-    ensures within { length result.now ≤ length text.now }
-{
-    &text[..text.len() - blanks_behind(text)]
 }
 
 /// How many bytes stand behind the last line feed.

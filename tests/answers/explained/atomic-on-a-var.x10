@@ -1,0 +1,5 @@
+def main() {
+    var n = 0;
+    atomic n = n + 1;
+    Console.OUT.println(n);
+}

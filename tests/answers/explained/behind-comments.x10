@@ -1,0 +1,5 @@
+def main() {
+    return /* a // break
+    or continue */ // *** / *
+    /***/ 1;
+}

@@ -1,0 +1,5 @@
+def main() {
+    val c = Clock.make();
+    val d: Clock = c;
+    d.drop();
+}

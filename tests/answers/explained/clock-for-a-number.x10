@@ -1,0 +1,4 @@
+def main() {
+    val n: Long = Clock.make();
+    Console.OUT.println(n);
+}

@@ -1,0 +1,5 @@
+def main() {
+    val n = 1;
+    n /* is */ // now
+        = 2;
+}

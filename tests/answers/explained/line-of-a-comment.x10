@@ -1,0 +1,4 @@
+def main() {
+    /* for a
+    while */ val n 5;
+}

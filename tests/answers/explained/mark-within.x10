@@ -1,0 +1,3 @@
+def main() {
+    val ﻿n = 1;
+}
