@@ -7,12 +7,12 @@ use Rattle.xk_cli.specs.declared.job.Request.{Request}
 use Rattle.xk_cli.specs.declared.job.Request.TheVariants as request
 use Rattle.xk_serve.specs.Answer.{Task, reads_more, task_of}
 use Rattle.xk_serve.specs.Bytes.{kept}
-use Rattle.xk_serve.specs.Devices.{Answered, IfKnown, read_of}
+use Rattle.xk_serve.specs.Devices.{IfKnown, read_of}
 use Rattle.xk_serve.proofs.ReplyLemmas.{of_known}
 use Rattle.xk_serve.proofs.TaskLemmas.{of_each}
 use Rattle.xk_dialogue.specs.AskedRun.{IsHandReply}
 use Rattle.xk_dialogue.proofs.AskedRunLemmas.{unread_ends}
-use Rattle.x10clock.specs.Requests.{EndsIn, IsAnswered}
+use Rattle.x10clock.specs.Requests.{AnswersHand, AnswersTask, EndsIn, IsAnswered}
 
 -- ---- a run by hand
 
@@ -65,22 +65,32 @@ hand_unread form bytes args keeps s i j out out_new err err_new log log_new (inl
     })
 hand_unread form bytes args keeps s i j out out_new err err_new log log_new (inr f) = inr f
 
+-- ---- what is known
+
+-- where each answer on known bytes is another one
+more_known : (t : Task) (p l : Option (List ℕ)) (P Q : List ℕ → List ℕ → Type 0) → ((bytes logged : List ℕ) → P bytes logged → Q bytes logged)
+    → IfKnown t p l P → IfKnown t p l Q
+more_known t None l P Q f h = tt
+more_known t (Some bytes) l P Q f h = of_each (P bytes) (Q bytes) (read_of t l) (f bytes) h
+
 -- ---- what is asked for
 
 -- whatever became of the log, what was answered is so
-job_unlogged : (t : Task) (p l : Option (List ℕ)) (s : ℕ) (out out_new err err_new log log_new : Option (List ℕ))
-    → IfKnown t p l (λ bytes logged. s ≢ 4 → s ≢ 5 → Answered t bytes logged s out out_new err err_new log log_new)
-    → IfKnown t p l (λ bytes logged. s ≢ 4 → s ≢ 5 → Answered t bytes logged s out out_new err err_new None None)
-job_unlogged t p l s out out_new err err_new log log_new h =
-    of_each _ _ p (λ bytes q. of_each _ _ (read_of t l) (λ logged answer memory device. let a = answer memory device in
-    record { reply = a.reply; answers = a.answers; status_is = a.status_is; out_is = a.out_is; err_is = a.err_is; log_is = tt }) q) h
+task_unlogged : (t : Task) (s : ℕ) (out out_new err err_new log log_new : Option (List ℕ)) (bytes logged : List ℕ)
+    → AnswersTask t s out out_new err err_new log log_new bytes logged → AnswersTask t s out out_new err err_new None None bytes logged
+task_unlogged t s out out_new err err_new log log_new bytes logged answer memory device =
+    let a = answer memory device in
+    record { reply = a.reply; answers = a.answers; status_is = a.status_is; out_is = a.out_is; err_is = a.err_is; log_is = tt }
 
 pub unlogged : (r : Request) (p i j : Option (List ℕ)) (s : ℕ) (out out_new err err_new log log_new : Option (List ℕ)) (Told : Type 0)
     → IsAnswered r p i j s out out_new err err_new log log_new → IsAnswered r p i j s out out_new err err_new None None ⊎ Told
 unlogged (request.Job job) p i j s out out_new err err_new log log_new Told h =
-    inl (job_unlogged (task_of job) p i s out out_new err err_new log log_new h)
+    let t = task_of job in
+    inl (more_known t p i (AnswersTask t s out out_new err err_new log log_new) (AnswersTask t s out out_new err err_new None None)
+    (task_unlogged t s out out_new err err_new log log_new) h)
 unlogged (request.ByHand run) p i j s out out_new err err_new log log_new Told h =
-    inl (of_each _ _ p (λ bytes answer memory device.
+    inl (of_each (AnswersHand run i j s out out_new err err_new log log_new) (AnswersHand run i j s out out_new err err_new None None) p
+    (λ bytes answer memory device.
     hand_unlogged run.form (kept run.form bytes) run.arguments.items (is_some run.log) s i j out out_new err err_new log log_new (answer memory device)) h)
 
 -- where no file was opened there is no answer
@@ -95,9 +105,10 @@ of_any (Some xs) P h = h xs
 pub not_answered : (r : Request) (p i j : Option (List ℕ)) (s : ℕ) (out out_new err err_new log log_new : Option (List ℕ)) (Told : Type 0)
     → (s ≡ 4) ⊎ (s ≡ 5) → IsAnswered r p i j s out out_new err err_new log log_new ⊎ Told
 not_answered (request.Job job) p i j s out out_new err err_new log log_new Told e =
-    inl (of_known (task_of job) p i _ (λ bytes logged memory device. absurd (not_both s e memory device)))
+    inl (of_known (task_of job) p i (AnswersTask (task_of job) s out out_new err err_new log log_new)
+    (λ bytes logged memory device. absurd (not_both s e memory device)))
 not_answered (request.ByHand run) p i j s out out_new err err_new log log_new Told e =
-    inl (of_any p _ (λ bytes memory device. absurd (not_both s e memory device)))
+    inl (of_any p (AnswersHand run i j s out out_new err err_new log log_new) (λ bytes memory device. absurd (not_both s e memory device)))
 
 -- what holds of what may be read holds where nothing is known of it
 without : (reads : Bool) (known : Option (List ℕ)) (P : List ℕ → Type 0) → IfSome (if reads then known else Some []) P → IfSome (if reads then None else Some []) P
@@ -111,9 +122,11 @@ less_known t (Some bytes) known P h = without (reads_more t.doing) known (P byte
 pub unread : (r : Request) (p i j : Option (List ℕ)) (s : ℕ) (out out_new err err_new log log_new : Option (List ℕ)) (Told : Type 0)
     → IsAnswered r p i j s out out_new err err_new log log_new ⊎ Told → IsAnswered r p None None s out out_new err err_new log log_new ⊎ Told
 unread r p i j s out out_new err err_new log log_new Told (inr told) = inr told
-unread (request.Job job) p i j s out out_new err err_new log log_new Told (inl h) = inl (less_known (task_of job) p i _ h)
+unread (request.Job job) p i j s out out_new err err_new log log_new Told (inl h) =
+    inl (less_known (task_of job) p i (AnswersTask (task_of job) s out out_new err err_new log log_new) h)
 unread (request.ByHand run) p i j s out out_new err err_new log log_new Told (inl h) =
-    inl (of_each _ _ p (λ bytes answer memory device.
+    inl (of_each (AnswersHand run i j s out out_new err err_new log log_new) (AnswersHand run None None s out out_new err err_new log log_new) p
+    (λ bytes answer memory device.
     hand_unread run.form (kept run.form bytes) run.arguments.items (is_some run.log) s i j out out_new err err_new log log_new (answer memory device)) h)
 
 -- ---- the line that tells a fault

@@ -4,9 +4,10 @@ use Rattle.std.specs.Io.KnownBytes.{Appends}
 use Rattle.xk_cli.specs.Status.{status_device, status_memory}
 use Rattle.xk_cli.specs.declared.job.Command.{Command}
 use Rattle.xk_cli.specs.declared.job.Command.TheVariants as command
+use Rattle.xk_cli.specs.declared.job.HandRun.{HandRun}
 use Rattle.xk_cli.specs.declared.job.Request.{Request}
 use Rattle.xk_cli.specs.declared.job.Request.TheVariants as request
-use Rattle.xk_serve.specs.Answer.{reads_more, task_of}
+use Rattle.xk_serve.specs.Answer.{Task, reads_more, task_of}
 use Rattle.xk_serve.specs.Bytes.{kept}
 use Rattle.xk_serve.specs.Devices.{Answered, ErrBegins, IfKnown, OutBegins}
 use Rattle.xk_dialogue.specs.AskedRun.{BeginsAsking, EndsAsking, IsHandReply, OutBeginsRun}
@@ -33,16 +34,26 @@ WritesLog r = is_some (log_path r) ≡ true
 
 -- ---- answers
 
--- If the bytes of FILE are known, and neither memory nor a device fails: status and texts answer the job, or they are those of the run by hand, by the
--- answers in the input.
+-- status and texts answer the task on these bytes, and the log or the list in those
+abbrev pub AnswersTask : Task → ℕ → Option (List ℕ) → Option (List ℕ) → Option (List ℕ) → Option (List ℕ) → Option (List ℕ) → Option (List ℕ)
+    → List ℕ → List ℕ → Type 0
+AnswersTask t status out_old out_new err_old err_new log_old log_new bytes logged =
+    status ≢ status_memory → status ≢ status_device → Answered t bytes logged status out_old out_new err_old err_new log_old log_new
+
+-- they are those of the run by hand of these bytes, by the answers in the input
+abbrev pub AnswersHand : HandRun → Option (List ℕ) → Option (List ℕ) → ℕ → Option (List ℕ) → Option (List ℕ) → Option (List ℕ) → Option (List ℕ)
+    → Option (List ℕ) → Option (List ℕ) → List ℕ → Type 0
+AnswersHand run in_old in_new status out_old out_new err_old err_new log_old log_new bytes =
+    status ≢ status_memory → status ≢ status_device
+    → IsHandReply run.form (kept run.form bytes) run.arguments.items (is_some run.log) status in_old in_new out_old out_new err_old err_new log_old log_new
+
+-- If the bytes of FILE are known, and neither memory nor a device fails, status and texts answer the job, or are those of the run by hand.
 abbrev pub IsAnswered : Request → Option (List ℕ) → Option (List ℕ) → Option (List ℕ) → ℕ → Option (List ℕ) → Option (List ℕ) → Option (List ℕ)
     → Option (List ℕ) → Option (List ℕ) → Option (List ℕ) → Type 0
 IsAnswered (request.Job job) program in_old in_new status out_old out_new err_old err_new log_old log_new =
-    IfKnown (task_of job) program in_old (λ bytes logged. status ≢ status_memory → status ≢ status_device
-    → Answered (task_of job) bytes logged status out_old out_new err_old err_new log_old log_new)
+    IfKnown (task_of job) program in_old (AnswersTask (task_of job) status out_old out_new err_old err_new log_old log_new)
 IsAnswered (request.ByHand run) program in_old in_new status out_old out_new err_old err_new log_old log_new =
-    IfSome program (λ bytes. status ≢ status_memory → status ≢ status_device
-    → IsHandReply run.form (kept run.form bytes) run.arguments.items (is_some run.log) status in_old in_new out_old out_new err_old err_new log_old log_new)
+    IfSome program (AnswersHand run in_old in_new status out_old out_new err_old err_new log_old log_new)
 
 -- ---- where something fails
 
