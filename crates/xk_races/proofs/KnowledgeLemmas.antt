@@ -7,7 +7,7 @@ use Rattle.xk_races.specs.declared.deeds.Part.{Part}
 use Rattle.xk_races.specs.declared.deeds.Part.TheVariants as part
 use Rattle.xk_races.specs.Lists.{number_at, row_at, with_at, joined}
 use Rattle.xk_races.specs.Knowledge.{Known, Scopes, scoped, nothing_known, told_to, finish_of, heard, marked, taught, with_acts, after}
-use Rattle.xk_races.specs.Order.{IsAt, IsOf, IsSignal, IsCounted, IsEnd, Reason, Own, Passed, Closed, Edge, finish_at, scopes_after}
+use Rattle.xk_races.specs.Order.{IsAt, IsOf, IsLeave, IsLeft, IsAwaited, IsCounted, IsEnd, Reason, Own, Passed, Closed, Edge, finish_at, scopes_after}
 use Rattle.xk_races.proofs.RowLemmas.{with_at_same, with_at_other}
 use Rattle.xk_races.proofs.OrderLemmas.{Reaches, Tells, tells_none, tells_same, tells_joined, tells_marked, tells_within}
 
@@ -20,6 +20,10 @@ is_start _ = false
 abbrev is_signal : Part → Bool
 is_signal (part.Signal c) = true
 is_signal _ = false
+
+abbrev is_leave : Part → Bool
+is_leave (part.Leave c) = true
+is_leave _ = false
 
 abbrev is_advance : Part → Bool
 is_advance (part.Advance c) = true
@@ -40,6 +44,7 @@ is_end _ = false
 abbrev number_in : Part → ℕ
 number_in (part.Start b) = b
 number_in (part.Signal c) = c
+number_in (part.Leave c) = c
 number_in (part.Advance c) = c
 number_in (part.Pass c) = c
 number_in (part.Access s) = s
@@ -53,7 +58,8 @@ apart test p q never holds same = absurd (true≢false (sym holds ∙ sym (ap te
 
 pub record IsKnown (ds : List Deed) (n : ℕ) (k : Known) : Type 0 where
   pub acts : (a : ℕ) → Tells ds (row_at k.acts a) (IsOf ds n a)
-  pub signals : (c : ℕ) → Tells ds (row_at k.signals c) (IsSignal ds n c)
+  pub signals : (c : ℕ) → Tells ds (row_at k.signals c) (IsAwaited ds n c)
+  pub leaves : (c : ℕ) → Tells ds (row_at k.leaves c) (IsLeave ds n c)
   pub advances : (c : ℕ) → Tells ds (row_at k.advances c) (IsCounted ds n c)
   pub ends : (f : ℕ) → Tells ds (row_at k.ends f) (IsEnd ds n f)
   pub scopes : k.scopes ≡ scopes_after (take n ds) nothing_known.scopes
@@ -64,11 +70,16 @@ nothing ds S never = tells_same ds [] (λ m. ⊥) S (λ m h. absurd h) (λ m h. 
 pub known_first : (ds : List Deed) → IsKnown ds 0 nothing_known
 known_first ds = record {
   acts = λ a. nothing ds (IsOf ds 0 a) (λ m h. omega (arith, h.0));
-  signals = λ c. nothing ds (IsSignal ds 0 c) (λ m h. omega (arith, h.0));
+  signals = λ c. nothing ds (IsAwaited ds 0 c) (none c);
+  leaves = λ c. nothing ds (IsLeave ds 0 c) (λ m h. omega (arith, h.0));
   advances = λ c. nothing ds (IsCounted ds 0 c) (λ m h. omega (arith, h.1));
   ends = λ f. nothing ds (IsEnd ds 0 f) (λ m h. omega (arith, h.0));
   scopes = refl;
 }
+  where
+    none : (c m : ℕ) → IsAwaited ds 0 c m → ⊥
+    none c m (inl h) = omega (arith, h.0)
+    none c m (inr h) = omega (arith, h.1)
 
 -- ---- rows that are told
 
@@ -130,27 +141,63 @@ of_less ds n x e here m h = by (at_last m n h.0)
     by (inl less) = inl (less, h.1, h.2, h.3)
     by (inr is) = inr (subst (λ (d : Deed). (d.step.act ≡ x) ⊎ (d.part ≡ part.Start x)) (same_deed ds m n h.1 e is h.2 here) h.3, is)
 
-signal_more : (ds : List Deed) (n c : ℕ) (e : Deed) → IsAt ds n e → (m : ℕ) → IsSignal ds n c m ⊎ ((e.part ≡ part.Signal c) × (m ≡ n)) → IsSignal ds (suc n) c m
-signal_more ds n c e here m (inl h) = (omega (arith, h.0), h.1, h.2, h.3)
-signal_more ds n c e here m (inr h) = (omega (arith, h.1), e, subst (λ i. IsAt ds i e) (sym h.1) here, h.0)
+-- deeds before number n of which each has this part
+abbrev IsMade : List Deed → ℕ → Part → ℕ → Type 0
+IsMade ds n p m = (m < n) × (d : Deed) × IsAt ds m d × (d.part ≡ p)
 
-signal_less : (ds : List Deed) (n c : ℕ) (e : Deed) → IsAt ds n e → (m : ℕ) → IsSignal ds (suc n) c m → IsSignal ds n c m ⊎ ((e.part ≡ part.Signal c) × (m ≡ n))
-signal_less ds n c e here m h = by (at_last m n h.0)
+made_more : (ds : List Deed) (n : ℕ) (p : Part) (e : Deed) → IsAt ds n e → (m : ℕ)
+    → IsMade ds n p m ⊎ ((e.part ≡ p) × (m ≡ n)) → IsMade ds (suc n) p m
+made_more ds n p e here m (inl h) = (omega (arith, h.0), h.1, h.2, h.3)
+made_more ds n p e here m (inr h) = (omega (arith, h.1), e, subst (λ i. IsAt ds i e) (sym h.1) here, h.0)
+
+made_less : (ds : List Deed) (n : ℕ) (p : Part) (e : Deed) → IsAt ds n e → (m : ℕ)
+    → IsMade ds (suc n) p m → IsMade ds n p m ⊎ ((e.part ≡ p) × (m ≡ n))
+made_less ds n p e here m h = by (at_last m n h.0)
   where
-    by : (m < n) ⊎ (m ≡ n) → IsSignal ds n c m ⊎ ((e.part ≡ part.Signal c) × (m ≡ n))
+    by : (m < n) ⊎ (m ≡ n) → IsMade ds n p m ⊎ ((e.part ≡ p) × (m ≡ n))
     by (inl less) = inl (less, h.1, h.2, h.3)
-    by (inr is) = inr (subst (λ (d : Deed). d.part ≡ part.Signal c) (same_deed ds m n h.1 e is h.2 here) h.3, is)
+    by (inr is) = inr (subst (λ (d : Deed). d.part ≡ p) (same_deed ds m n h.1 e is h.2 here) h.3, is)
 
-counted_more : (ds : List Deed) (n c : ℕ) (e : Deed) → IsAt ds n e → (m : ℕ) → IsCounted ds n c m ⊎ ((e.part ≡ part.Advance c) × IsSignal ds n c m) → IsCounted ds (suc n) c m
-counted_more ds n c e here m (inl h) = (h.0, omega (arith, h.1), h.2, h.3, h.4, h.5)
-counted_more ds n c e here m (inr h) = (n, omega arith, e, here, h.0, h.1)
+-- deeds of which this was so at an advance of clock c before number n
+abbrev WasAtAdvance : List Deed → ℕ → ℕ → (ℕ → ℕ → Type 0) → ℕ → Type 0
+WasAtAdvance ds n c S m = (i : ℕ) × (i < n) × (d : Deed) × IsAt ds i d × (d.part ≡ part.Advance c) × S i m
 
-counted_less : (ds : List Deed) (n c : ℕ) (e : Deed) → IsAt ds n e → (m : ℕ) → IsCounted ds (suc n) c m → IsCounted ds n c m ⊎ ((e.part ≡ part.Advance c) × IsSignal ds n c m)
-counted_less ds n c e here m h = by (at_last h.0 n h.1)
+advance_more : (ds : List Deed) (n c : ℕ) (S : ℕ → ℕ → Type 0) (e : Deed) → IsAt ds n e → (m : ℕ)
+    → WasAtAdvance ds n c S m ⊎ ((e.part ≡ part.Advance c) × S n m) → WasAtAdvance ds (suc n) c S m
+advance_more ds n c S e here m (inl h) = (h.0, omega (arith, h.1), h.2, h.3, h.4, h.5)
+advance_more ds n c S e here m (inr h) = (n, omega arith, e, here, h.0, h.1)
+
+advance_less : (ds : List Deed) (n c : ℕ) (S : ℕ → ℕ → Type 0) (e : Deed) → IsAt ds n e → (m : ℕ)
+    → WasAtAdvance ds (suc n) c S m → WasAtAdvance ds n c S m ⊎ ((e.part ≡ part.Advance c) × S n m)
+advance_less ds n c S e here m h = by (at_last h.0 n h.1)
   where
-    by : (h.0 < n) ⊎ (h.0 ≡ n) → IsCounted ds n c m ⊎ ((e.part ≡ part.Advance c) × IsSignal ds n c m)
+    by : (h.0 < n) ⊎ (h.0 ≡ n) → WasAtAdvance ds n c S m ⊎ ((e.part ≡ part.Advance c) × S n m)
     by (inl less) = inl (h.0, less, h.2, h.3, h.4, h.5)
-    by (inr is) = inr (subst (λ (d : Deed). d.part ≡ part.Advance c) (same_deed ds h.0 n h.2 e is h.3 here) h.4, subst (λ i. IsSignal ds i c m) is h.5)
+    by (inr is) = inr (subst (λ (d : Deed). d.part ≡ part.Advance c) (same_deed ds h.0 n h.2 e is h.3 here) h.4, subst (λ i. S i m) is h.5)
+
+-- by which deed number m comes to be awaited: it is a signal, or the clock advances behind a leave
+abbrev ComesToBeAwaited : List Deed → ℕ → ℕ → Deed → ℕ → Type 0
+ComesToBeAwaited ds n c e m = ((e.part ≡ part.Signal c) × (m ≡ n)) ⊎ ((e.part ≡ part.Advance c) × IsLeave ds n c m)
+
+awaited_more : (ds : List Deed) (n c : ℕ) (e : Deed) → IsAt ds n e → (m : ℕ)
+    → IsAwaited ds n c m ⊎ ComesToBeAwaited ds n c e m → IsAwaited ds (suc n) c m
+awaited_more ds n c e here m (inl (inl h)) = inl (made_more ds n (part.Signal c) e here m (inl h))
+awaited_more ds n c e here m (inl (inr h)) = inr (advance_more ds n c (λ i. IsLeave ds i c) e here m (inl h))
+awaited_more ds n c e here m (inr (inl h)) = inl (made_more ds n (part.Signal c) e here m (inr h))
+awaited_more ds n c e here m (inr (inr h)) = inr (advance_more ds n c (λ i. IsLeave ds i c) e here m (inr h))
+
+awaited_less : (ds : List Deed) (n c : ℕ) (e : Deed) → IsAt ds n e → (m : ℕ)
+    → IsAwaited ds (suc n) c m → IsAwaited ds n c m ⊎ ComesToBeAwaited ds n c e m
+awaited_less ds n c e here m (inl h) = of (made_less ds n (part.Signal c) e here m h)
+  where
+    of : IsMade ds n (part.Signal c) m ⊎ ((e.part ≡ part.Signal c) × (m ≡ n)) → IsAwaited ds n c m ⊎ ComesToBeAwaited ds n c e m
+    of (inl x) = inl (inl x)
+    of (inr x) = inr (inl x)
+awaited_less ds n c e here m (inr h) = of (advance_less ds n c (λ i. IsLeave ds i c) e here m h)
+  where
+    of : IsLeft ds n c m ⊎ ((e.part ≡ part.Advance c) × IsLeave ds n c m) → IsAwaited ds n c m ⊎ ComesToBeAwaited ds n c e m
+    of (inl x) = inl (inr x)
+    of (inr x) = inr (inr x)
 
 end_more : (ds : List Deed) (n f : ℕ) (e : Deed) → IsAt ds n e → (m : ℕ)
     → IsEnd ds n f m ⊎ ((e.part ≡ part.End) × (finish_at ds n e.step.act ≡ f) × (m ≡ n)) → IsEnd ds (suc n) f m
@@ -226,6 +273,7 @@ heard_here ds n e k here known part.Close is =
     (known.acts e.step.act) (known.ends (finish_of e.step.act k)))
 heard_here ds n e k here known (part.Start b) is = edges_plain ds n e (row_at k.acts e.step.act) here (ap is_pass is) (ap is_close is) (known.acts e.step.act)
 heard_here ds n e k here known (part.Signal c) is = edges_plain ds n e (row_at k.acts e.step.act) here (ap is_pass is) (ap is_close is) (known.acts e.step.act)
+heard_here ds n e k here known (part.Leave c) is = edges_plain ds n e (row_at k.acts e.step.act) here (ap is_pass is) (ap is_close is) (known.acts e.step.act)
 heard_here ds n e k here known (part.Advance c) is = edges_plain ds n e (row_at k.acts e.step.act) here (ap is_pass is) (ap is_close is) (known.acts e.step.act)
 heard_here ds n e k here known part.Open is = edges_plain ds n e (row_at k.acts e.step.act) here (ap is_pass is) (ap is_close is) (known.acts e.step.act)
 heard_here ds n e k here known part.End is = edges_plain ds n e (row_at k.acts e.step.act) here (ap is_pass is) (ap is_close is) (known.acts e.step.act)
@@ -237,6 +285,7 @@ heard_elsewhere a y (part.Pass c) k ne = told_elsewhere k.acts a y (row_at k.adv
 heard_elsewhere a y part.Close k ne = told_elsewhere k.acts a y (row_at k.ends (finish_of a k)) ne
 heard_elsewhere a y (part.Start b) k ne = refl
 heard_elsewhere a y (part.Signal c) k ne = refl
+heard_elsewhere a y (part.Leave c) k ne = refl
 heard_elsewhere a y (part.Advance c) k ne = refl
 heard_elsewhere a y part.Open k ne = refl
 heard_elsewhere a y part.End k ne = refl
@@ -288,7 +337,8 @@ record IsHeard (ds : List Deed) (n : ℕ) (e : Deed) (k : Known) : Type 0 where
   here : IsAt ds n e
   all : (y : ℕ) → Tells ds (row_at k.acts y) (λ m. IsOf ds n y m ⊎ ((e.step.act ≡ y) × (m ≡ n)))
   own : Tells ds (row_at k.acts e.step.act) (λ m. m ≡ n)
-  signals : (c : ℕ) → Tells ds (row_at k.signals c) (IsSignal ds n c)
+  signals : (c : ℕ) → Tells ds (row_at k.signals c) (IsAwaited ds n c)
+  leaves : (c : ℕ) → Tells ds (row_at k.leaves c) (IsLeave ds n c)
   advances : (c : ℕ) → Tells ds (row_at k.advances c) (IsCounted ds n c)
   ends : (f : ℕ) → Tells ds (row_at k.ends f) (IsEnd ds n f)
   finish : finish_of e.step.act k ≡ finish_at ds n e.step.act
@@ -326,6 +376,7 @@ acts_told ds n y e k h (part.Start b) is =
     from m (inr (inl q, at)) = inl (inr (q, at))
     from m (inr (inr q, at)) = inr (ap number_in (sym q ∙ is), at)
 acts_told ds n y e k h (part.Signal c) is = acts_plain ds n y e k h (ap is_start is)
+acts_told ds n y e k h (part.Leave c) is = acts_plain ds n y e k h (ap is_start is)
 acts_told ds n y e k h (part.Advance c) is = acts_plain ds n y e k h (ap is_start is)
 acts_told ds n y e k h (part.Pass c) is = acts_plain ds n y e k h (ap is_start is)
 acts_told ds n y e k h part.Open is = acts_plain ds n y e k h (ap is_start is)
@@ -334,65 +385,119 @@ acts_told ds n y e k h part.End is = acts_plain ds n y e k h (ap is_start is)
 acts_told ds n y e k h (part.Access s) is = acts_plain ds n y e k h (ap is_start is)
 acts_told ds n y e k h part.Print is = acts_plain ds n y e k h (ap is_start is)
 
-signals_plain : (ds : List Deed) (n c : ℕ) (e : Deed) (k : Known) → IsHeard ds n e k → is_signal e.part ≡ false
-    → Tells ds (row_at k.signals c) (IsSignal ds (suc n) c)
-signals_plain ds n c e k h never =
-    tells_same ds (row_at k.signals c) (IsSignal ds n c) (IsSignal ds (suc n) c) (λ m x. signal_more ds n c e h.here m (inl x))
-    (λ m x. from m (signal_less ds n c e h.here m x)) (h.signals c)
+signals_plain : (ds : List Deed) (n c : ℕ) (e : Deed) (k : Known) → IsHeard ds n e k → is_signal e.part ≡ false → is_advance e.part ≡ false
+    → Tells ds (row_at k.signals c) (IsAwaited ds (suc n) c)
+signals_plain ds n c e k h never still =
+    tells_same ds (row_at k.signals c) (IsAwaited ds n c) (IsAwaited ds (suc n) c) (λ m x. awaited_more ds n c e h.here m (inl x))
+    (λ m x. from m (awaited_less ds n c e h.here m x)) (h.signals c)
   where
-    from : (m : ℕ) → IsSignal ds n c m ⊎ ((e.part ≡ part.Signal c) × (m ≡ n)) → IsSignal ds n c m
+    from : (m : ℕ) → IsAwaited ds n c m ⊎ ComesToBeAwaited ds n c e m → IsAwaited ds n c m
     from m (inl x) = x
-    from m (inr x) = apart is_signal e.part (part.Signal c) never refl x.0
+    from m (inr (inl x)) = apart is_signal e.part (part.Signal c) never refl x.0
+    from m (inr (inr x)) = apart is_advance e.part (part.Advance c) still refl x.0
 
 signals_told : (ds : List Deed) (n c : ℕ) (e : Deed) (k : Known) → IsHeard ds n e k → (p : Part) → e.part ≡ p
-    → Tells ds (row_at (taught e.step.act p k).signals c) (IsSignal ds (suc n) c)
+    → Tells ds (row_at (taught e.step.act p k).signals c) (IsAwaited ds (suc n) c)
 signals_told ds n c e k h (part.Signal b) is =
-    tells_same ds (row_at (told_to k.signals b (row_at k.acts e.step.act)) c) (λ m. IsSignal ds n c m ⊎ ((c ≡ b) × (m ≡ n))) (IsSignal ds (suc n) c)
-    (λ m x. signal_more ds n c e h.here m (to m x)) (λ m x. from m (signal_less ds n c e h.here m x))
-    (tells_told ds k.signals b c (row_at k.acts e.step.act) (IsSignal ds n c) (λ m. m ≡ n) (h.signals c) h.own)
+    tells_same ds (row_at (told_to k.signals b (row_at k.acts e.step.act)) c) (λ m. IsAwaited ds n c m ⊎ ((c ≡ b) × (m ≡ n)))
+    (IsAwaited ds (suc n) c) (λ m x. awaited_more ds n c e h.here m (to m x)) (λ m x. from m (awaited_less ds n c e h.here m x))
+    (tells_told ds k.signals b c (row_at k.acts e.step.act) (IsAwaited ds n c) (λ m. m ≡ n) (h.signals c) h.own)
   where
-    to : (m : ℕ) → IsSignal ds n c m ⊎ ((c ≡ b) × (m ≡ n)) → IsSignal ds n c m ⊎ ((e.part ≡ part.Signal c) × (m ≡ n))
+    to : (m : ℕ) → IsAwaited ds n c m ⊎ ((c ≡ b) × (m ≡ n)) → IsAwaited ds n c m ⊎ ComesToBeAwaited ds n c e m
     to m (inl x) = inl x
-    to m (inr x) = inr (is ∙ ap (λ i. part.Signal i) (sym x.0), x.1)
+    to m (inr x) = inr (inl (is ∙ ap (λ i. part.Signal i) (sym x.0), x.1))
 
-    from : (m : ℕ) → IsSignal ds n c m ⊎ ((e.part ≡ part.Signal c) × (m ≡ n)) → IsSignal ds n c m ⊎ ((c ≡ b) × (m ≡ n))
+    from : (m : ℕ) → IsAwaited ds n c m ⊎ ComesToBeAwaited ds n c e m → IsAwaited ds n c m ⊎ ((c ≡ b) × (m ≡ n))
+    from m (inl x) = inl x
+    from m (inr (inl x)) = inr (ap number_in (sym x.0 ∙ is), x.1)
+    from m (inr (inr x)) = apart is_advance e.part (part.Advance c) (ap is_advance is) refl x.0
+signals_told ds n c e k h (part.Advance b) is =
+    tells_same ds (row_at (told_to k.signals b (row_at k.leaves b)) c) (λ m. IsAwaited ds n c m ⊎ ((c ≡ b) × IsLeave ds n b m))
+    (IsAwaited ds (suc n) c) (λ m x. awaited_more ds n c e h.here m (to m x)) (λ m x. from m (awaited_less ds n c e h.here m x))
+    (tells_told ds k.signals b c (row_at k.leaves b) (IsAwaited ds n c) (IsLeave ds n b) (h.signals c) (h.leaves b))
+  where
+    to : (m : ℕ) → IsAwaited ds n c m ⊎ ((c ≡ b) × IsLeave ds n b m) → IsAwaited ds n c m ⊎ ComesToBeAwaited ds n c e m
+    to m (inl x) = inl x
+    to m (inr x) = inr (inr (is ∙ ap (λ i. part.Advance i) (sym x.0), subst (λ i. IsLeave ds n i m) (sym x.0) x.1))
+
+    from : (m : ℕ) → IsAwaited ds n c m ⊎ ComesToBeAwaited ds n c e m → IsAwaited ds n c m ⊎ ((c ≡ b) × IsLeave ds n b m)
+    from m (inl x) = inl x
+    from m (inr (inl x)) = apart is_signal e.part (part.Signal c) (ap is_signal is) refl x.0
+    from m (inr (inr x)) = let same : c ≡ b = ap number_in (sym x.0 ∙ is) in inr (same, subst (λ i. IsLeave ds n i m) same x.1)
+signals_told ds n c e k h (part.Start b) is = signals_plain ds n c e k h (ap is_signal is) (ap is_advance is)
+signals_told ds n c e k h (part.Leave b) is = signals_plain ds n c e k h (ap is_signal is) (ap is_advance is)
+signals_told ds n c e k h (part.Pass b) is = signals_plain ds n c e k h (ap is_signal is) (ap is_advance is)
+signals_told ds n c e k h part.Open is = signals_plain ds n c e k h (ap is_signal is) (ap is_advance is)
+signals_told ds n c e k h part.Close is = signals_plain ds n c e k h (ap is_signal is) (ap is_advance is)
+signals_told ds n c e k h part.End is = signals_plain ds n c e k h (ap is_signal is) (ap is_advance is)
+signals_told ds n c e k h (part.Access s) is = signals_plain ds n c e k h (ap is_signal is) (ap is_advance is)
+signals_told ds n c e k h part.Print is = signals_plain ds n c e k h (ap is_signal is) (ap is_advance is)
+
+leaves_plain : (ds : List Deed) (n c : ℕ) (e : Deed) (k : Known) → IsHeard ds n e k → is_leave e.part ≡ false
+    → Tells ds (row_at k.leaves c) (IsLeave ds (suc n) c)
+leaves_plain ds n c e k h never =
+    tells_same ds (row_at k.leaves c) (IsLeave ds n c) (IsLeave ds (suc n) c) (λ m x. made_more ds n (part.Leave c) e h.here m (inl x))
+    (λ m x. from m (made_less ds n (part.Leave c) e h.here m x)) (h.leaves c)
+  where
+    from : (m : ℕ) → IsLeave ds n c m ⊎ ((e.part ≡ part.Leave c) × (m ≡ n)) → IsLeave ds n c m
+    from m (inl x) = x
+    from m (inr x) = apart is_leave e.part (part.Leave c) never refl x.0
+
+leaves_told : (ds : List Deed) (n c : ℕ) (e : Deed) (k : Known) → IsHeard ds n e k → (p : Part) → e.part ≡ p
+    → Tells ds (row_at (taught e.step.act p k).leaves c) (IsLeave ds (suc n) c)
+leaves_told ds n c e k h (part.Leave b) is =
+    tells_same ds (row_at (told_to k.leaves b (row_at k.acts e.step.act)) c) (λ m. IsLeave ds n c m ⊎ ((c ≡ b) × (m ≡ n)))
+    (IsLeave ds (suc n) c) (λ m x. made_more ds n (part.Leave c) e h.here m (to m x)) (λ m x. from m (made_less ds n (part.Leave c) e h.here m x))
+    (tells_told ds k.leaves b c (row_at k.acts e.step.act) (IsLeave ds n c) (λ m. m ≡ n) (h.leaves c) h.own)
+  where
+    to : (m : ℕ) → IsLeave ds n c m ⊎ ((c ≡ b) × (m ≡ n)) → IsLeave ds n c m ⊎ ((e.part ≡ part.Leave c) × (m ≡ n))
+    to m (inl x) = inl x
+    to m (inr x) = inr (is ∙ ap (λ i. part.Leave i) (sym x.0), x.1)
+
+    from : (m : ℕ) → IsLeave ds n c m ⊎ ((e.part ≡ part.Leave c) × (m ≡ n)) → IsLeave ds n c m ⊎ ((c ≡ b) × (m ≡ n))
     from m (inl x) = inl x
     from m (inr x) = inr (ap number_in (sym x.0 ∙ is), x.1)
-signals_told ds n c e k h (part.Start b) is = signals_plain ds n c e k h (ap is_signal is)
-signals_told ds n c e k h (part.Advance b) is = signals_plain ds n c e k h (ap is_signal is)
-signals_told ds n c e k h (part.Pass b) is = signals_plain ds n c e k h (ap is_signal is)
-signals_told ds n c e k h part.Open is = signals_plain ds n c e k h (ap is_signal is)
-signals_told ds n c e k h part.Close is = signals_plain ds n c e k h (ap is_signal is)
-signals_told ds n c e k h part.End is = signals_plain ds n c e k h (ap is_signal is)
-signals_told ds n c e k h (part.Access s) is = signals_plain ds n c e k h (ap is_signal is)
-signals_told ds n c e k h part.Print is = signals_plain ds n c e k h (ap is_signal is)
+leaves_told ds n c e k h (part.Start b) is = leaves_plain ds n c e k h (ap is_leave is)
+leaves_told ds n c e k h (part.Signal b) is = leaves_plain ds n c e k h (ap is_leave is)
+leaves_told ds n c e k h (part.Advance b) is = leaves_plain ds n c e k h (ap is_leave is)
+leaves_told ds n c e k h (part.Pass b) is = leaves_plain ds n c e k h (ap is_leave is)
+leaves_told ds n c e k h part.Open is = leaves_plain ds n c e k h (ap is_leave is)
+leaves_told ds n c e k h part.Close is = leaves_plain ds n c e k h (ap is_leave is)
+leaves_told ds n c e k h part.End is = leaves_plain ds n c e k h (ap is_leave is)
+leaves_told ds n c e k h (part.Access s) is = leaves_plain ds n c e k h (ap is_leave is)
+leaves_told ds n c e k h part.Print is = leaves_plain ds n c e k h (ap is_leave is)
 
 advances_plain : (ds : List Deed) (n c : ℕ) (e : Deed) (k : Known) → IsHeard ds n e k → is_advance e.part ≡ false
     → Tells ds (row_at k.advances c) (IsCounted ds (suc n) c)
 advances_plain ds n c e k h never =
-    tells_same ds (row_at k.advances c) (IsCounted ds n c) (IsCounted ds (suc n) c) (λ m x. counted_more ds n c e h.here m (inl x))
-    (λ m x. from m (counted_less ds n c e h.here m x)) (h.advances c)
+    tells_same ds (row_at k.advances c) (IsCounted ds n c) (IsCounted ds (suc n) c)
+    (λ m x. advance_more ds n c (λ i. IsAwaited ds i c) e h.here m (inl x))
+    (λ m x. from m (advance_less ds n c (λ i. IsAwaited ds i c) e h.here m x)) (h.advances c)
   where
-    from : (m : ℕ) → IsCounted ds n c m ⊎ ((e.part ≡ part.Advance c) × IsSignal ds n c m) → IsCounted ds n c m
+    from : (m : ℕ) → IsCounted ds n c m ⊎ ((e.part ≡ part.Advance c) × IsAwaited ds n c m) → IsCounted ds n c m
     from m (inl x) = x
     from m (inr x) = apart is_advance e.part (part.Advance c) never refl x.0
 
 advances_told : (ds : List Deed) (n c : ℕ) (e : Deed) (k : Known) → IsHeard ds n e k → (p : Part) → e.part ≡ p
     → Tells ds (row_at (taught e.step.act p k).advances c) (IsCounted ds (suc n) c)
 advances_told ds n c e k h (part.Advance b) is =
-    tells_same ds (row_at (told_to k.advances b (row_at k.signals b)) c) (λ m. IsCounted ds n c m ⊎ ((c ≡ b) × IsSignal ds n b m)) (IsCounted ds (suc n) c)
-    (λ m x. counted_more ds n c e h.here m (to m x)) (λ m x. from m (counted_less ds n c e h.here m x))
-    (tells_told ds k.advances b c (row_at k.signals b) (IsCounted ds n c) (IsSignal ds n b) (h.advances c) (h.signals b))
+    tells_same ds (row_at (told_to k.advances b (row_at k.signals b)) c) (λ m. IsCounted ds n c m ⊎ ((c ≡ b) × IsAwaited ds n b m))
+    (IsCounted ds (suc n) c) (λ m x. advance_more ds n c (λ i. IsAwaited ds i c) e h.here m (to m x))
+    (λ m x. from m (advance_less ds n c (λ i. IsAwaited ds i c) e h.here m x))
+    (tells_told ds k.advances b c (row_at k.signals b) (IsCounted ds n c) (IsAwaited ds n b) (h.advances c) (h.signals b))
   where
-    to : (m : ℕ) → IsCounted ds n c m ⊎ ((c ≡ b) × IsSignal ds n b m) → IsCounted ds n c m ⊎ ((e.part ≡ part.Advance c) × IsSignal ds n c m)
+    to : (m : ℕ) → IsCounted ds n c m ⊎ ((c ≡ b) × IsAwaited ds n b m)
+        → IsCounted ds n c m ⊎ ((e.part ≡ part.Advance c) × IsAwaited ds n c m)
     to m (inl x) = inl x
-    to m (inr x) = inr (is ∙ ap (λ i. part.Advance i) (sym x.0), subst (λ i. IsSignal ds n i m) (sym x.0) x.1)
+    to m (inr x) = inr (is ∙ ap (λ i. part.Advance i) (sym x.0), subst (λ i. IsAwaited ds n i m) (sym x.0) x.1)
 
-    from : (m : ℕ) → IsCounted ds n c m ⊎ ((e.part ≡ part.Advance c) × IsSignal ds n c m) → IsCounted ds n c m ⊎ ((c ≡ b) × IsSignal ds n b m)
+    from : (m : ℕ) → IsCounted ds n c m ⊎ ((e.part ≡ part.Advance c) × IsAwaited ds n c m)
+        → IsCounted ds n c m ⊎ ((c ≡ b) × IsAwaited ds n b m)
     from m (inl x) = inl x
-    from m (inr x) = let same : c ≡ b = ap number_in (sym x.0 ∙ is) in inr (same, subst (λ i. IsSignal ds n i m) same x.1)
+    from m (inr x) = let same : c ≡ b = ap number_in (sym x.0 ∙ is) in inr (same, subst (λ i. IsAwaited ds n i m) same x.1)
 advances_told ds n c e k h (part.Start b) is = advances_plain ds n c e k h (ap is_advance is)
 advances_told ds n c e k h (part.Signal b) is = advances_plain ds n c e k h (ap is_advance is)
+advances_told ds n c e k h (part.Leave b) is = advances_plain ds n c e k h (ap is_advance is)
 advances_told ds n c e k h (part.Pass b) is = advances_plain ds n c e k h (ap is_advance is)
 advances_told ds n c e k h part.Open is = advances_plain ds n c e k h (ap is_advance is)
 advances_told ds n c e k h part.Close is = advances_plain ds n c e k h (ap is_advance is)
@@ -428,6 +533,7 @@ ends_told ds n f e k h part.End is =
     from m (inr x) = inr (sym x.1 ∙ sym h.finish, x.2)
 ends_told ds n f e k h (part.Start b) is = ends_plain ds n f e k h (ap is_end is)
 ends_told ds n f e k h (part.Signal b) is = ends_plain ds n f e k h (ap is_end is)
+ends_told ds n f e k h (part.Leave b) is = ends_plain ds n f e k h (ap is_end is)
 ends_told ds n f e k h (part.Advance b) is = ends_plain ds n f e k h (ap is_end is)
 ends_told ds n f e k h (part.Pass b) is = ends_plain ds n f e k h (ap is_end is)
 ends_told ds n f e k h part.Open is = ends_plain ds n f e k h (ap is_end is)
@@ -454,6 +560,7 @@ known_more ds n e k here known =
       all = marked_all ds n e k here known;
       own = marked_here ds n e k here known;
       signals = known.signals;
+      leaves = known.leaves;
       advances = known.advances;
       ends = known.ends;
       finish = finish_known ds n a k known;
@@ -461,6 +568,7 @@ known_more ds n e k here known =
     record {
       acts = λ y. acts_told ds n y e there h e.part refl;
       signals = λ c. signals_told ds n c e there h e.part refl;
+      leaves = λ c. leaves_told ds n c e there h e.part refl;
       advances = λ c. advances_told ds n c e there h e.part refl;
       ends = λ f. ends_told ds n f e there h e.part refl;
       scopes = ap (scoped a e.part) known.scopes ∙ sym (scopes_more ds n e nothing_known.scopes here);

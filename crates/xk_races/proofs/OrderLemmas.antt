@@ -4,7 +4,7 @@ use Rattle.std.proofs.lemmas.Bool.{cases_eq, cases_lt}
 use Rattle.std.proofs.lemmas.Option.{same_Some}
 use Rattle.xk_races.specs.declared.deeds.Deed.{Deed}
 use Rattle.xk_races.specs.Lists.{number_at, with_at, joined}
-use Rattle.xk_races.specs.Order.{IsAt, Reason, Own, Passed, Closed, Edge, Leads, Before}
+use Rattle.xk_races.specs.Order.{IsAt, IsAwaited, Reason, Own, Passed, Closed, Edge, Leads, Before}
 use Rattle.xk_races.proofs.RowLemmas.{joined_at, with_at_same, with_at_other}
 
 -- ---- what some deeds are reached from
@@ -24,9 +24,13 @@ pub record Tells (ds : List Deed) (row : List ℕ) (S : ℕ → Type 0) : Type 0
 
 -- ---- the order goes forward
 
+awaited_before : (ds : List Deed) (n c k : ℕ) → IsAwaited ds n c k → k < n
+awaited_before ds n c k (inl h) = h.0
+awaited_before ds n c k (inr h) = omega (arith, h.1, h.5.0)
+
 reason_less : (ds : List Deed) (k j : ℕ) (e : Deed) → Reason ds k j e → k < j
 reason_less ds k j e (Own h) = h.0
-reason_less ds k j e (Passed c is h) = omega (arith, h.1, h.5.0)
+reason_less ds k j e (Passed c is h) = let a = awaited_before ds h.0 c k h.5 in omega (arith, h.1, a)
 reason_less ds k j e (Closed is h) = h.0
 
 leads_less : (ds : List Deed) (i : ℕ) (ks : List ℕ) (j : ℕ) → Leads ds i ks j → i < j

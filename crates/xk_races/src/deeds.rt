@@ -5,7 +5,7 @@ ghost use Rattle.xk_types.specs.Step.{is_pending, is_signalled};
 ghost use Rattle.xk_types.specs.Schedule.{Through, is_enabled, run};
 ghost use Rattle.xk_core.specs.Core.{StepsTo, advanced_now};
 ghost use Rattle.xk_events.specs.Steps.{IsLegalFrom, told, told_of_run};
-ghost use Rattle.xk_races.specs.Deeds.{advance, at_clocks, awaiting, awaits, cell_at, cell_of, deeds_of_run, gives_way, has_left, has_resumed, leave, leaves, pass, plain, plain_part, resumed_by, signal, signals, tell_deeds};
+ghost use Rattle.xk_races.specs.Deeds.{advance, at_clocks, awaiting, awaits, cell_at, cell_of, deeds_of_run, gives_way, has_left, has_resumed, leave, pass, plain, plain_part, resumed_by, signal, signals, tell_deeds};
 
 use std::alloc::{AllocError, Global};
 use xk_core::Core;
@@ -69,18 +69,12 @@ fn awaits(core: &Core<'_>, act: Act, clock: ClockId) -> bool
     act.0 < core.activities() && is_pending(core.standing(act, clock))
 }
 
-/// Adds the clock, if it awaits the activity.
-fn push_awaiting(
-    list: &mut Vec<u32>,
-    core: &Core<'_>,
-    act: Act,
-    clock: u32,
-) -> Result<(), AllocError>
-    requires { clock < length core.now.world.clocks }
+/// Adds a clock, if something holds of it.
+fn push_if(list: &mut Vec<u32>, clock: u32, holds: bool) -> Result<(), AllocError>
     ensures { OnOk result (list.new.items ≡ list.old.items
-        ++ (if awaits core.now.world act clock then clock ∷ [] else [])) }
+        ++ (if holds then clock ∷ [] else [])) }
 {
-    if awaits(core, act, ClockId(clock)) {
+    if holds {
         list.push(clock)?;
     }
     Ok(())
@@ -92,7 +86,7 @@ fn awaiting(alloc: Global, core: &Core<'_>, act: Act) -> Result<Vec<u32>, AllocE
 {
     let mut list = Vec::new(alloc);
     for clock in 0..core.clocks() {
-        push_awaiting(&mut list, core, act, clock)?;
+        push_if(&mut list, clock, awaits(core, act, ClockId(clock)))?;
     }
     Ok(list)
 }
@@ -105,30 +99,13 @@ fn has_resumed(core: &Core<'_>, act: Act, clock: ClockId) -> bool
     act.0 < core.activities() && is_signalled(core.standing(act, clock))
 }
 
-/// Adds the clock, if the activity has resumed it.
-fn push_resumed(
-    list: &mut Vec<u32>,
-    core: &Core<'_>,
-    act: Act,
-    clock: u32,
-) -> Result<(), AllocError>
-    requires { clock < length core.now.world.clocks }
-    ensures { OnOk result (list.new.items ≡ list.old.items
-        ++ (if has_resumed core.now.world act clock then clock ∷ [] else [])) }
-{
-    if has_resumed(core, act, ClockId(clock)) {
-        list.push(clock)?;
-    }
-    Ok(())
-}
-
 /// The clocks that the activity has resumed.
 fn resumed_by(alloc: Global, core: &Core<'_>, act: Act) -> Result<Vec<u32>, AllocError>
     ensures { IfOk result (λ v. v.items ≡ resumed_by core.now.world act) }
 {
     let mut list = Vec::new(alloc);
     for clock in 0..core.clocks() {
-        push_resumed(&mut list, core, act, clock)?;
+        push_if(&mut list, clock, has_resumed(core, act, ClockId(clock)))?;
     }
     Ok(list)
 }
@@ -140,7 +117,7 @@ fn has_left(core: &Core<'_>, act: Act, clock: ClockId) -> bool
     if act.0 >= core.activities() || clock.0 >= core.clocks() {
         return true;
     }
-    !core.is_registered(act, clock)
+    !core.registered(act, clock)
 }
 
 /// Whether the clock awaits the activity no longer: it has resumed or left it, and the clock may have advanced by that.
@@ -334,22 +311,6 @@ fn push_plain(list: &mut Vec<Deed>, program: &Module, step: &RunStep) -> Result<
     Ok(())
 }
 
-/// Adds what a step did at clocks where it left some: those that the activity had resumed before it, and those that awaited it.
-fn push_left(
-    alloc: Global,
-    list: &mut Vec<Deed>,
-    core: &Core<'_>,
-    step: &RunStep,
-    resumed: &[u32],
-    awaiting: &[u32],
-) -> Result<(), AllocError>
-    ensures { OnOk result (list.new.items ≡ list.old.items
-        ++ leaves core.now.world step.now resumed.now awaiting.now) }
-{
-    push_leaves(list, core, step, resumed)?;
-    push_signals_and_advances(alloc, list, core, step, awaiting)
-}
-
 /// Adds what a step did at clocks, by those that the activity had resumed before it, and those that awaited it.
 fn push_at_clocks(
     alloc: Global,
@@ -366,7 +327,10 @@ fn push_at_clocks(
         Event::Resumed | Event::Arrived => {
             push_signals_and_advances(alloc, list, core, step, awaiting)
         }
-        Event::Dropped | Event::Ended => push_left(alloc, list, core, step, resumed, awaiting),
+        Event::Dropped | Event::Ended => {
+            push_leaves(list, core, step, resumed)?;
+            push_signals_and_advances(alloc, list, core, step, awaiting)
+        }
         Event::Passed => push_passes(list, step, awaiting),
         _ => Ok(()),
     }

@@ -2,7 +2,7 @@
 
 ghost use Rattle.std.specs.Prelude.{◌≡◌, IfOk, OnOk};
 ghost use Rattle.xk_races.specs.Lists.{number_at, row_at};
-ghost use Rattle.xk_races.specs.Knowledge.{after, advanced_by, heard, nothing_known, scope_closed, scope_opened, scoped, started, taught, with_acts};
+ghost use Rattle.xk_races.specs.Knowledge.{after, heard, nothing_known, scope_closed, scope_opened, scoped, started, taught, with_acts};
 
 use crate::deeds::{Deed, Part};
 use crate::rows::{Row, copied, number_at, row_at, set_in, set_number, tell};
@@ -149,16 +149,6 @@ impl Knowledge {
         tell(alloc, &mut self.acts, child as usize, &row)
     }
 
-    /// A clock advances.
-    fn advance(&mut self, alloc: Global, clock: u32) -> Result<(), AllocError>
-        ensures { OnOk result (self.new ≡ advanced_by clock self.old) }
-    {
-        let signals = row_at(&self.signals, clock as usize);
-        tell(alloc, &mut self.advances, clock as usize, signals)?;
-        let leaves = row_at(&self.leaves, clock as usize);
-        tell(alloc, &mut self.signals, clock as usize, leaves)
-    }
-
     /// Who learns by a deed what its activity knows.
     fn tell(&mut self, alloc: Global, act: u32, part: Part) -> Result<(), AllocError>
         ensures { OnOk result (self.new ≡ taught act part self.old) }
@@ -168,7 +158,12 @@ impl Knowledge {
             Part::Start(child) => self.start(alloc, act, child),
             Part::Signal(c) => tell(alloc, &mut self.signals, c as usize, row),
             Part::Leave(c) => tell(alloc, &mut self.leaves, c as usize, row),
-            Part::Advance(c) => self.advance(alloc, c),
+            Part::Advance(c) => {
+                let signals = row_at(&self.signals, c as usize);
+                tell(alloc, &mut self.advances, c as usize, signals)?;
+                let leaves = row_at(&self.leaves, c as usize);
+                tell(alloc, &mut self.signals, c as usize, leaves)
+            }
             Part::End => tell(alloc, &mut self.ends, self.scopes.of(act), row),
             _ => Ok(()),
         }

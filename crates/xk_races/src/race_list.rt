@@ -1,10 +1,9 @@
 //! Races that are told, each two places once.
 
 ghost use Rattle.std.specs.Prelude.{◌≡◌, [], OnOk};
-ghost use Rattle.std.specs.BTreeSet.{contains};
 ghost use Rattle.std.specs.List.{list_any};
 ghost use Rattle.xk_races.specs.Races.{have_same_places, with_race};
-ghost use Rattle.xk_races.specs.ToldPlaces.{is_told, key, key_back, key_cmp, text_place};
+ghost use Rattle.xk_races.specs.ToldPlaces.{is_told, key, key_back, text_place};
 
 use crate::pairs::Race;
 use std::alloc::{AllocError, Global};
@@ -39,18 +38,11 @@ fn key_back(race: &Race) -> Key
     (race.cell, text_place(&race.second), text_place(&race.first))
 }
 
-/// Whether the set has a key.
-fn has_key(told: &BTreeSet<Key>, key: Key) -> bool
-    ensures { result ≡ contains key_cmp told.now key }
-{
-    told.contains(&key)
-}
-
-/// Whether it has the places of a race.
+/// Whether the set has the places of a race.
 fn is_told(told: &BTreeSet<Key>, race: &Race) -> bool
     ensures { result ≡ is_told told.now race.now }
 {
-    has_key(told, key(race)) || has_key(told, key_back(race))
+    told.contains(&key(race)) || told.contains(&key_back(race))
 }
 
 /// Races, of each two places in the text and each shared number one.

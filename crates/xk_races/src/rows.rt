@@ -80,21 +80,14 @@ fn joined(alloc: Global, row: &[usize], other: &[usize]) -> Result<Row, AllocErr
     Ok(Row { numbers })
 }
 
-/// An empty row.
-pub fn empty_row(alloc: Global) -> Row
-    ensures { result ≡ [] }
-{
-    Row {
-        numbers: Vec::new(alloc),
-    }
-}
-
 /// Adds an empty row so many times.
 fn push_empty(alloc: Global, rows: &mut Vec<Row>, count: usize) -> Result<(), AllocError>
     ensures { OnOk result (rows.new.items ≡ rows.old.items ++ replicate count []) }
 {
     for _ in 0..count {
-        rows.push(empty_row(alloc))?;
+        rows.push(Row {
+            numbers: Vec::new(alloc),
+        })?;
     }
     Ok(())
 }
@@ -118,7 +111,9 @@ fn grow(alloc: Global, rows: &mut Vec<Row>, k: usize) -> Result<(), AllocError>
         return Ok(());
     }
     push_empty(alloc, rows, k - rows.len())?;
-    rows.push(empty_row(alloc))?;
+    rows.push(Row {
+        numbers: Vec::new(alloc),
+    })?;
     Ok(())
 }
 
