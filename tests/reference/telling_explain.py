@@ -189,15 +189,14 @@ def place_title(text: bytes, at: int) -> str:
 
 
 def stops(text: bytes, offsets: list[int], places: list[int], kinds: list[str]) -> str:
-    """The stops of a walk, statement by statement; a walk goes back where a turn of a loop begins."""
-    said, told = "", None
+    """The stops of a walk, statement by statement; a walk goes back where a turn of a loop begins. In between and up to its end it goes on in the text."""
+    said, told, last = "", -1, len(places) - 1
     for number, (place, kind) in enumerate(zip(places, kinds, strict=True)):
         at, holds = offsets[place], tables()[1][kind]
-        if number + 1 < len(places) and places[number + 1] <= place:
-            said += f"     {place_title(text, at)}  {holds}, and then the next turn\n"
-        elif at != told:
-            said += f"     {place_title(text, at)}  {holds}: {line_text(text, at)}\n"
-        told = at
+        if number < last and places[number + 1] <= place:
+            said, told = f"{said}     {place_title(text, at)}  {holds}, and then the next turn\n", -1
+        elif at > told or number == last and at != told:
+            said, told = f"{said}     {place_title(text, at)}  {holds}: {line_text(text, at)}\n", at
     return said
 
 

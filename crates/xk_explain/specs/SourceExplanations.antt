@@ -69,18 +69,25 @@ abbrev pub goes_back : Visit → List Visit → Bool
 goes_back v [] = false
 goes_back v (w ∷ vs) = nat_le w.at v.at
 
--- a stop at the statement that was told last isn't told again
-abbrev pub is_told : Option ℕ → ℕ → Bool
-is_told None at = false
-is_told (Some told) at = nat_eq told at
+-- The statement that was told last isn't told again. A stop before it in the text is the end of a branch, a loop or a finish that has no brace there, or
+-- what a `clocked finish` does with its clock: it is told only where the walk ends.
+abbrev pub is_told : Option ℕ → ℕ → List Visit → Bool
+is_told None at vs = false
+is_told (Some told) at [] = nat_eq told at
+is_told (Some told) at (w ∷ vs) = nat_le at told
 
 abbrev pub one_stop : List ℕ → Option ℕ → ℕ → Visit → List Visit → List ℕ
-one_stop text told at v vs = if goes_back v vs then turn_line text at v.kind else (if is_told told at then [] else stop_line text at v.kind)
+one_stop text told at v vs = if goes_back v vs then turn_line text at v.kind else (if is_told told at vs then [] else stop_line text at v.kind)
+
+-- where the statement stands that was told last, behind a stop; none behind a turn, since the walk is further up in the text then
+abbrev pub told_behind : Option ℕ → ℕ → Visit → List Visit → Option ℕ
+told_behind told at v vs = if goes_back v vs then None else (if is_told told at vs then told else Some at)
 
 -- the stops of a walk, statement by statement, where this was told last
 abbrev pub stops : List ℕ → UnitOrigins → Option ℕ → List Visit → List ℕ
 stops text u told [] = []
-stops text u told (v ∷ vs) = one_stop text told (origin_at text u v.at) v vs ++ stops text u (Some (origin_at text u v.at)) vs
+stops text u told (v ∷ vs) =
+    one_stop text told (origin_at text u v.at) v vs ++ stops text u (told_behind told (origin_at text u v.at) v vs) vs
 
 -- the line before them
 unfoldable pub stops_head : List (List ℕ) → ℕ → List ℕ

@@ -39,19 +39,20 @@ pub fn rule_message(rule: Rule) -> &'static str
 {
     match rule {
         Rule::Target =>
-            "a jump, or the end of a loop or a finish, doesn't lie ahead and inside the code",
+            "a jump, or the end of a loop or a finish, doesn't lie ahead and inside the code, or the beginning of one doesn't lie before",
         Rule::Block =>
             "a loop or a finish isn't paired with its end, overlaps another one in part, or is jumped into or out of",
         Rule::Slot => "the unit has no such slot",
         Rule::Unit =>
-            "the unit that is called or started doesn't fit, or another than unit 0 is main, or main takes a clock",
+            "the unit that is called or started doesn't fit, or main isn't unit 0 alone, or main takes a clock",
         Rule::Cell => "there is no such shared number",
         Rule::Loop =>
-            "the loop's bounds aren't in order, or its slot or its limit is written inside of it",
+            "the loop's bounds aren't in order, or its slot is its limit, or one of them is written inside of it",
         Rule::End => "the last instruction isn't `ret`, or another one is",
         Rule::Home =>
-            "a method drops a clock that it is lent, or a slot takes its clocks in more than one block",
-        Rule::Registers => "inside a finish a clock is handed on that was made outside of it",
+            "a method drops a clock that it is lent, or one is made in a parameter, or a slot takes its clocks in more than one block",
+        Rule::Registers =>
+            "a clock is handed on inside a finish and made outside of it, or the other way round",
         Rule::SameClock => "one clock is handed on twice",
         Rule::Use => "a slot may hold something else here than what is wanted",
         Rule::Held => "the finish that the clock is made in ends while it is still held",
@@ -78,12 +79,12 @@ pub fn rule_repair(rule: Rule) -> &'static str
         Rule::Cell => "shared numbers are counted from 0; add one",
         Rule::Loop => "let the lower bound come first, and take another slot inside of the loop",
         Rule::End => "end the code with `ret`, and jump to it from elsewhere",
-        Rule::Home => "let the caller drop it",
+        Rule::Home => "let the caller drop it; in a module, make each clock in a slot of its own",
         Rule::Registers =>
             "make the clock in the finish and drop it before its end, as `clocked finish` does; or hand it on outside of the finish",
         Rule::SameClock => "name each clock once",
         Rule::Use =>
-            "use a clock while it is registered alone: drop it behind the loop, or in both branches or none",
+            "use a clock only while it is registered: drop it behind the loop, or in both branches or none",
         Rule::Held =>
             "drop it before the end of the finish, on every way; or write `clocked finish`",
         Rule::Leak => "drop it before it is made anew, and before the end of the method",

@@ -1,7 +1,7 @@
 //! Names and walks in the words of a source text.
 
 ghost use Rattle.std.specs.Prelude.{◌≡◌, ◌++◌, ◌≤◌, length, IfOk, OnOk, None, codes, decimal, string_bytes};
-ghost use Rattle.xk_explain.specs.SourceExplanations.{goes_back, holds_line, is_name, is_told, line_text, one_stop, quoted, slot_name, slot_title, stop_head, stop_line, stops, stops_head, turn_line, unit_title};
+ghost use Rattle.xk_explain.specs.SourceExplanations.{goes_back, holds_line, is_name, is_told, line_text, one_stop, quoted, slot_name, slot_title, stop_head, stop_line, stops, stops_head, told_behind, turn_line, unit_title};
 
 use crate::lines::push_text;
 use crate::messages::kind_message;
@@ -212,13 +212,29 @@ fn goes_back(visit: Visit, behind: &[Visit]) -> bool
     }
 }
 
-/// Whether the statement at an offset was told last.
-fn is_told(told: Option<usize>, at: usize) -> bool
-    ensures { result ≡ is_told told at }
+/// Whether a stop before these isn't told, as the statement was told last or lies before it in the text.
+fn is_told(told: Option<usize>, at: usize, behind: &[Visit]) -> bool
+    ensures { result ≡ is_told told at behind.now }
 {
     match told {
         None => false,
-        Some(told) => told == at,
+        Some(told) => match behind {
+            [] => told == at,
+            [_, ..] => at <= told,
+        },
+    }
+}
+
+/// What was told last, behind a stop before these.
+fn told_behind(told: Option<usize>, at: usize, visit: Visit, behind: &[Visit]) -> Option<usize>
+    ensures { result ≡ told_behind told at visit behind.now }
+{
+    if goes_back(visit, behind) {
+        None
+    } else if is_told(told, at, behind) {
+        told
+    } else {
+        Some(at)
     }
 }
 
@@ -239,7 +255,7 @@ fn push_one_stop(
     if goes_back(visit, behind) {
         return push_turn(alloc, out, lines, at, visit.kind);
     }
-    if is_told(told, at) {
+    if is_told(told, at, behind) {
         return Ok(());
     }
     push_stop(alloc, out, lines, at, visit.kind)
@@ -261,8 +277,9 @@ pub(crate) fn push_stops(
     let mut told = None;
     for (i, visit) in walk.iter().enumerate() {
         let at = origin_at(text, unit, visit.at);
-        push_one_stop(alloc, out, lines, told, at, *visit, &walk[i + 1..])?;
-        told = Some(at);
+        let behind = &walk[i + 1..];
+        push_one_stop(alloc, out, lines, told, at, *visit, behind)?;
+        told = told_behind(told, at, *visit, behind);
     }
     Ok(())
 }

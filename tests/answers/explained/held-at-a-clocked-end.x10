@@ -1,0 +1,6 @@
+def main() {
+    clocked finish {
+        val c = Clock.make();
+        Clock.advanceAll();
+    }
+}
