@@ -5,8 +5,8 @@ use Rattle.xk_outcomes.specs.declared.all_outcomes.Limit.{Limit}
 use Rattle.xk_outcomes.specs.declared.listing.Outcome.{Outcome}
 use Rattle.xk_outcomes.specs.Outcomes.{HasApart}
 
--- How many worlds are kept at most, and how many outcomes listed, where nothing is said of that: fewer where there may be many activities, since from
--- each world a step of each is tried.
+-- As soon as so many worlds are kept, or so many outcomes listed, a search leaves off, where nothing is said of that: fewer where there may be many
+-- activities, since from each world a step of each is tried.
 abbrev pub usual_limit : ℕ → ℕ
 usual_limit activities = min (4_000_000 / (1 + activities)) 40_000
 
@@ -14,9 +14,10 @@ usual_limit activities = min (4_000_000 / (1 + activities)) 40_000
 abbrev pub limit_of : Option ℕ → ℕ → Limit
 limit_of given activities = record { entries = unwrap_or given (usual_limit activities); outcomes = unwrap_or given (usual_limit activities) }
 
--- So many worlds at rest were kept, no two of which are alike where the same was printed. If these outcomes aren't said to be all, those worlds are as
--- many as the limit says, or these outcomes are.
+-- So many worlds at rest were kept, no two of which are alike where the same was printed. If these outcomes aren't said to be all, those worlds are at
+-- least as many as the limit says, or these outcomes are. These outcomes are never more than it says.
 pub record GoesFar (m : ModuleValue) (args : List ℤ) (limit : Limit) (list : List Outcome) (complete : Bool) : Type 0 where
   pub entries : ℕ
   pub apart : HasApart m args entries
   pub met : complete ≡ false → (limit.entries ≤ entries) ⊎ (limit.outcomes ≤ length list)
+  pub few : length list ≤ limit.outcomes

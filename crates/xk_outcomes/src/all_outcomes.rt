@@ -14,16 +14,16 @@ use std::alloc::{AllocError, Global};
 use xk_bounds::Verified;
 use xk_core::Core;
 
-/// When to leave off.
+/// When a search leaves off.
 #[derive(Clone, Copy, Debug)]
 pub struct Limit {
-    /// As many worlds are kept.
+    /// As soon as so many worlds are kept. All that one of them leads to in a step are kept before the next look: so there may be more.
     pub entries: usize,
-    /// As many lists of numbers were found.
+    /// As soon as so many lists of numbers are told: they are never more.
     pub outcomes: usize,
 }
 
-/// How many worlds are kept at most, and how many outcomes are told, where nothing is said.
+/// A search leaves off as soon as so many worlds are kept or so many outcomes are told, where nothing is said.
 const USUAL_LIMIT: u64 = 40_000;
 
 /// How many steps are tried then at most, as far as can be said before: one of each activity from each world.
@@ -44,7 +44,8 @@ impl Limit {
 }
 
 /// Lists what the runs of a module print by which all have ended, in whichever order its activities take their steps: each list of numbers
-/// once, with a log of a run that prints it. The answer says whether that is all; it may not be where a limit was met.
+/// once, with a log of a run that prints it. The answer says whether that is all; it may not be where a limit was met. Err where memory was
+/// refused.
 pub fn outcomes(
     alloc: Global,
     verified: &Verified,
@@ -59,6 +60,8 @@ pub fn outcomes(
     // A limit was met where it isn't complete: so many are kept, or so many are listed.
     ensures limit { IfOk result (λ r. r.complete ≡ false
         → (limit.entries ≤ r.entries) ⊎ (limit.outcomes ≤ length r.list.items)) }
+    // No more are told than the limit says.
+    ensures most { IfOk result (λ r. length r.list.items ≤ limit.outcomes) }
     // There are as many as are kept, each at rest: no two of them are alike and have printed the same.
     ensures kept { IfOk result (λ r. HasApart verified.now arguments.now r.entries) }
 {
@@ -67,7 +70,7 @@ pub fn outcomes(
 }
 
 /// The same where the order of numbers doesn't count: lists with the same numbers, each as often, are one, and it is told rising, with a log
-/// of a run that prints it in some order.
+/// of a run that prints it in some order. Err where memory was refused.
 pub fn outcome_sets(
     alloc: Global,
     verified: &Verified,
@@ -82,13 +85,14 @@ pub fn outcome_sets(
     // As for `outcomes`.
     ensures limit { IfOk result (λ r. r.complete ≡ false
         → (limit.entries ≤ r.entries) ⊎ (limit.outcomes ≤ length r.list.items)) }
+    ensures most { IfOk result (λ r. length r.list.items ≤ limit.outcomes) }
     ensures kept { IfOk result (λ r. HasApart verified.now arguments.now r.entries) }
 {
     let found = told_in(alloc, Order::Rising, verified, arguments, limit)?;
     Ok(found)
 }
 
-/// The outcomes as lists of numbers, or without their order.
+/// The outcomes as lists of numbers, or without their order. Err where memory was refused.
 pub fn outcomes_as(
     alloc: Global,
     sets: bool,
@@ -105,6 +109,7 @@ pub fn outcomes_as(
     // As for `outcomes`.
     ensures limit { IfOk result (λ r. r.complete ≡ false
         → (limit.entries ≤ r.entries) ⊎ (limit.outcomes ≤ length r.list.items)) }
+    ensures most { IfOk result (λ r. length r.list.items ≤ limit.outcomes) }
     ensures kept { IfOk result (λ r. HasApart verified.now arguments.now r.entries) }
 {
     if sets {
@@ -129,6 +134,7 @@ fn told_in(
         r.complete ≡ true → AreAllIn order verified.now arguments.now r.list.items) }
     ensures limit { IfOk result (λ r. r.complete ≡ false
         → (limit.entries ≤ r.entries) ⊎ (limit.outcomes ≤ length r.list.items)) }
+    ensures most { IfOk result (λ r. length r.list.items ≤ limit.outcomes) }
     ensures kept { IfOk result (λ r. HasApart verified.now arguments.now r.entries) }
 {
     let start = Core::open(alloc, verified, arguments)?;

@@ -103,7 +103,7 @@ fn hold(
 }
 
 /// What a module can print that is given these arguments, as lists of numbers or without their order, is held against the list in these bytes.
-/// They are looked for up to the limit.
+/// They are looked for up to the limit. Err where a line may not stand in a list, with the number of the first such line, or where memory was refused.
 pub fn expected_outcomes(
     alloc: Global,
     sets: bool,

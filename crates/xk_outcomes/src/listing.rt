@@ -30,7 +30,8 @@ pub struct Outcomes {
     pub list: Vec<Outcome>,
     /// Whether that is all.
     pub complete: bool,
-    /// How many worlds were kept, with the numbers printed by then, to find it.
+    /// How many worlds were kept, with the numbers printed by then, to find it. There are at least so many worlds at
+    /// rest, no two of them alike with the same numbers printed.
     pub entries: usize,
 }
 
@@ -86,6 +87,7 @@ fn put(list: &mut Vec<Outcome>, new: Outcome) -> Result<(), AllocError>
     ensures listed { OnOk result (IsListed list.new.items new.numbers.items) }
     ensures each { (list.new.items ≡ list.old.items)
         ⊎ (list.new.items ≡ list.old.items ++ new ∷ []) }
+    ensures one_more { length list.new.items ≤ length list.old.items + 1 }
 {
     if is_listed(list, &new.numbers) {
         return Ok(());
@@ -107,6 +109,7 @@ fn note(
         → IsListed list.new.items (ordered order x.now.printed)) }
     ensures of { (all : List FoundValue) (j : ℕ) → slice_get all j ≡ Some x.now
         → AreOf order all list.old.items → AreOf order all list.new.items }
+    ensures one_more { length list.new.items ≤ length list.old.items + 1 }
 {
     if x.core.ended() {
         let new = outcome_of(alloc, order, x)?;
@@ -130,6 +133,7 @@ fn note_at(
         → AreNoted order all.now.all (number + 1) list.new.items) }
     ensures of { AreOf order all.now.all list.old.items
         → AreOf order all.now.all list.new.items }
+    ensures one_more { length list.new.items ≤ length list.old.items + 1 }
 {
     let x = all.get(alloc, number)?;
     note(alloc, order, list, &x)
@@ -150,6 +154,7 @@ pub fn list_outcomes(
     ensures noted { IfOk result (λ complete. complete ≡ true
         → AreNoted order all.now.all (length all.now.all) list.new.items) }
     ensures limit { IfOk result (λ complete. complete ≡ false → limit ≤ length list.new.items) }
+    ensures most { length list.new.items ≤ limit }
 {
     for number in 0..all.len() {
         if list.len() >= limit {

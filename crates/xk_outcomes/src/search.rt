@@ -72,7 +72,7 @@ fn expand(alloc: Global, all: &mut Entries<'_>, number: usize) -> Result<(), All
     look(alloc, all, number, &here)
 }
 
-/// Goes on until nothing is left to look at, or as many are kept as the limit says. Whether nothing is left.
+/// Goes on until nothing is left to look at, or at least as many are kept as the limit says. Whether nothing is left.
 fn search(alloc: Global, all: &mut Entries<'_>, limit: usize) -> Result<bool, AllocError>
     ensures start { all.new.start ≡ all.old.start }
     ensures grown { IsGrown all.old.all all.new.all }

@@ -7,7 +7,7 @@ use crate::listing::Outcome;
 use std::alloc::{AllocError, Global};
 
 /// A line for each outcome, numbered from 1, as `outcome 2 prints 10 21`, and a last one: `outcomes 6 complete`, or, where there may be others,
-/// `outcomes 6 and perhaps more`.
+/// `outcomes 6 and perhaps more`. Err where memory was refused.
 pub fn outcomes_text(alloc: Global, list: &[Outcome], complete: bool) -> Result<Vec<u8>, AllocError>
     ensures { IfOk result (λ text. text.items ≡ outcomes_text list.now complete) }
 {

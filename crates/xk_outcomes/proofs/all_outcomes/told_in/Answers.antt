@@ -1,4 +1,4 @@
-use Rattle.std.proofs.Common.{◌∙◌, true≢false, sym, subst}
+use Rattle.std.proofs.Common.{◌∙◌, ◌≤◌, inl, inr, true≢false, sym, subst}
 use Rattle.xk_core.specs.Core.{CoreValue}
 use Rattle.xk_outcomes.specs.Outcomes.{HasApart}
 use Rattle.xk_outcomes.specs.Search.{AreFound, AreAllFound}
@@ -20,6 +20,13 @@ returns-clause-all c done =
           (subst (λ (s : CoreValue). AreAllFound s all) c.in_ok-start.ensures (c.in_ok-explored.ensures.all w.if-explored.true))
           (c.in_ok-listed.ensures.noted (sym w.result-is ∙ done))
       | else-explored w ↦ absurd (true≢false (sym done ∙ w.result-is ∙ w.if-explored.false))
+    ]
+
+pub returns-clause-limit : goal.returns-clause-limit
+returns-clause-limit c less =
+    elim c.if-explored.branch [
+      | then-explored w ↦ inr (c.in_ok-listed.ensures.limit (sym w.result-is ∙ less))
+      | else-explored w ↦ inl (subst (λ n. c.args.limit.entries ≤ n) (sym c.len.ensures.count) (c.in_ok-explored.ensures.limit w.if-explored.false))
     ]
 
 pub returns-clause-kept : goal.returns-clause-kept

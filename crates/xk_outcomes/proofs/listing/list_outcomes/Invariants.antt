@@ -1,3 +1,4 @@
+use Rattle.std.proofs.Common.{◌≤◌, length}
 use Rattle.xk_outcomes.specs.Outcomes.{AreDistinct}
 use Rattle.xk_outcomes.specs.Listing.{AreOf, AreNoted}
 use Rattle.xk_outcomes.proofs.listing.list_outcomes.Given as goal
@@ -8,4 +9,5 @@ invariant-loop-number l = record {
   of : AreOf l.order l.all.all l.list.items;
   distinct : AreDistinct l.list.items;
   noted : AreNoted l.order l.all.all l.number l.list.items;
+  few : length l.list.items ≤ l.limit;
 }
