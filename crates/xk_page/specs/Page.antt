@@ -37,7 +37,8 @@ page_tail = (READER.now ++ SHOWER.now) ++ MOVER.now
 
 -- ---- the source text
 
--- what stands for a byte, where HTML would take it for a reference's beginning, a tag's, or a line's end
+-- What stands for a byte: where HTML would take it for a reference's beginning, a tag's, or a line's end, a reference to it, and else the byte. HTML
+-- reads them back, but for NUL, which it can't hold.
 abbrev pub escaped_byte : ℕ → List ℕ
 escaped_byte b = if b == 38 then codes "&amp;" else (if b == 60 then codes "&lt;" else (if b == 13 then codes "&#13;" else b ∷ []))
 
