@@ -38,7 +38,7 @@ fn next_byte<R: Source>(source: &mut R, left: &mut u64) -> Result<Option<u8>, De
     Ok(Some(piece[0]))
 }
 
-/// Whom the next line names, if one is to come, where so many bytes may still be read. No byte behind that line is read.
+/// Whom the next line names, if one is to come, where so many bytes may still be read. No byte behind that line is read, where the device doesn't fail.
 pub(crate) fn next_answer<R: Source>(
     source: &mut R,
     left: &mut u64,

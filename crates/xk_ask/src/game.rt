@@ -269,9 +269,9 @@ fn play_whole<R: Source, E: Sink>(
 
 /// Runs a source text's module, main being given as many numbers as it takes, and asks who takes the next steps: at each point at which somebody can step
 /// it is told on `err` who can, and where, and a line of the input names one of them. Who is named takes steps up to one that others see, and that one,
-/// as far as it can take them. So it goes on to the end of the run, or of the input. A question is written before its answer is read, and no byte behind
-/// an answer is. Where no origin says the line, a place is told as of a module. Where a device failed or memory was refused, a beginning of what is said
-/// was written.
+/// as far as it can take them. So it goes on to the end of the run, or of the input. A question is written before its answer is read, and, where neither
+/// memory nor a device fails, no byte behind the last answer is. Where no origin says the line, a place is told as of a module. Where a device failed or
+/// memory was refused, a beginning of what is said was written.
 pub fn source_ask<R: Source, E: Sink>(
     alloc: Global,
     text: &[u8],
