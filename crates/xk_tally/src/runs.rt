@@ -17,7 +17,8 @@ use xk_random::Random;
 use xk_scheduler::{Summary, drive_unlogged};
 
 /// Runs the module so many times with these arguments, by chance, from this seed, the next one, and so on, and tells how often what was printed: a
-/// line for each list of numbers, in the order of its first run, and a last one. Of the runs only what they printed is kept, each list once.
+/// line for each list of numbers, in the order of its first run, and a last one. Of the runs only what they printed is kept, each list once. Err where
+/// memory was refused.
 pub fn tally(
     alloc: Global,
     verified: &Verified,
