@@ -235,7 +235,8 @@ fn print<O: Sink, E: Sink, K: Sink>(
 /// and the log of what was played to `log_out`, where that is to be kept. The answer is the exit status: 0 where all have ended, 6 where the input ended
 /// before, 1 where the program is refused or main takes another number of arguments, 4 where memory ran out, 5 where a device failed. At 4 and 5 a beginning
 /// of what is asked stands on `err`, and then the line that tells it; `out` has a beginning of what is written there, and `log_out` has nothing before `out`
-/// has all. No byte of the input behind the last answer that is wanted is read, and none where the program is refused.
+/// has all. Where neither memory nor a device fails, no byte of the input behind the last answer that is wanted is read; none is where the
+/// program is refused.
 pub fn serve_asked<P: Source, L: Source, O: Sink, E: Sink, K: Sink>(
     alloc: Global,
     form: Form,

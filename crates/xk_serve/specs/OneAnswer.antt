@@ -1,5 +1,5 @@
--- When two answers to one job are the same. Which walk to a refusal of kinds is told is left open, and so is which run workers take, and which fault
--- is told of a source text that spells no tree, or has several recursive calls. This project's own.
+-- When two answers to one job are the same. Which walk to a refusal of kinds is told is left open, and so is what `explain` writes to standard output of
+-- a refusal, which run workers take, and which fault is told of a source text that spells no tree, or has several recursive calls. This project's own.
 use Rattle.std.specs.Prelude.{◌≡◌, ℕ, ⊤, ◌⊎◌, true, List, [], length}
 use Rattle.xk_types.specs.declared.world.Entry.{Entry}
 use Rattle.xk_types.specs.Code.{ModuleValue}
@@ -61,7 +61,8 @@ HasOneStatus (Expected sets limit) = ⊥
 HasOneStatus _ = ⊤
 
 -- Two replies to a job are one, but for the walk to a refusal of kinds; where workers take the steps, but for the numbers and the log of the run; where
--- outcomes are looked for, but for what is found. (What is said of a fault is `IsSaidOf`.)
+-- outcomes are looked for, but for what is found; of `explain`, but for standard output. (What it says there of a fault is `IsSaidOf`; of an accepted
+-- program that is one, by `one_answer`.)
 pub record IsSameReply (what : Doing) (r s : Reply) : Type 0 where
   pub status : HasOneStatus what → r.status ≡ s.status
   pub err : IsSameLine r.err s.err

@@ -29,12 +29,12 @@ pub fn every_accepted_text()
     means_its_source();
 }
 
-/// To a job on a module text there is one answer, want of memory aside: the same status, and the same bytes on every device. What is left open is
-/// which walk is told of a refusal of kinds, one of the shortest, and, where workers take the steps, which run they take: then standard output and
-/// the log are those of some run, but the status and the line of a fault are determined still; and, where outcomes are looked for, in which order they
-/// are told, and whether all are. To a job on a source text there is one answer in the
-/// same sense, but that of a text which spells no tree, or has several recursive calls, it is left open which fault is told: the status and the other
-/// devices are the same then too. And what a job on a module comes to where nothing stands against it is one, and so is what is told of a program
+/// To a job on a module text there is one answer, want of memory aside: the same status, and the same bytes on every device. Left open are: which walk
+/// is told of a refusal of kinds, one of the shortest; what `explain` writes to standard output of a refusal; where workers take the steps, which run
+/// they take (then standard output and the log are those of some run, but the status and the line of a fault are determined still); and, where outcomes
+/// are looked for, in which order they are told, and whether all are. To a job on a source text there is one answer in the same sense, but that of a
+/// text which spells no tree, or has several recursive calls, it is left open which fault is told: the status and the other devices are the same then
+/// too. And what a job on a module comes to where nothing stands against it is one, and so is what is told of a program
 /// and of its runs: what `explain` says of one that is accepted, its listing, charts, events, lanes and pictures, where things stand, races, tallies.
 pub fn one_answer()
     ensures answer { (t : Task) (bytes logged : List ℕ) (r s : Reply) → t.form ≡ form.Module

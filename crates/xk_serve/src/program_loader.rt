@@ -25,7 +25,8 @@ pub(crate) const LONGEST_SOURCE: usize = 1_048_576;
 /// The most bytes that a module's text has: more than twice what the greatest module's text has without white space.
 pub(crate) const LONGEST_MODULE: usize = 268_435_456;
 
-/// The module that these bytes give, as a source text or as a module text.
+/// The module that these bytes give, as a source text or as a module text. Err with what stands against it where they give none, or where memory was
+/// refused.
 pub fn module_by(alloc: Global, form: Form, bytes: &[u8]) -> Result<Module, Fault>
     ensures module { IfOk result (Gives form bytes.now) }
     ensures fault { IfErr result (GivesNoModule form bytes.now) }
@@ -67,7 +68,7 @@ pub(crate) fn tree_of(alloc: Global, bytes: &[u8]) -> Result<Tree<'_>, FrontErro
     parse(alloc, text)
 }
 
-/// Where the instructions come from of the module that these bytes give, which a module text doesn't say.
+/// Where the instructions come from of the module that these bytes give, which a module text doesn't say. Err where memory was refused.
 pub fn origins_in(
     alloc: Global,
     form: Form,
