@@ -312,7 +312,7 @@ module _ (m : ModuleValue) (limits : IsWithinLimits m) (ok : IsAccepted m) where
 abbrev hold_of : Option Clock → ℕ → ℕ
 hold_of o a = held_in (option_map_or (λ (c : Clock). c.phase) o 0) (option_map_or (λ (c : Clock). standing_of c a) o standing.Apart)
 
-abbrev pub hold_in : List Clock → ℕ → ℕ → ℕ
+abbrev hold_in : List Clock → ℕ → ℕ → ℕ
 hold_in cs k a = hold_of (slice_get cs k) a
 
 -- one that is registered has its stage up to the phase that it holds the clock in

@@ -109,7 +109,7 @@ abbrev IsNoAdvance : Deed → Type 0
 IsNoAdvance d = is_advance d.part ≡ false
 
 -- clock c advances by one of these deeds at most
-abbrev pub AdvancesOnce : ℕ → List Deed → Type 0
+abbrev AdvancesOnce : ℕ → List Deed → Type 0
 AdvancesOnce c ds = (i j : ℕ) (d e : Deed) → i < j → slice_get ds i ≡ Some d → slice_get ds j ≡ Some e → d.part ≡ part.Advance c
     → e.part ≡ part.Advance c
     → ⊥
