@@ -283,7 +283,7 @@ phased_pass = record {
     turn = refl;
   };
   clock = 0;
-  pending = refl;
+  registered = refl;
   there = last phased (0 ∷ 0 ∷ 1 ∷ 0 ∷ 0 ∷ 0 ∷ 1 ∷ []);
   passes = refl;
   awaited = refl;
@@ -317,3 +317,51 @@ resumed_late : (standing_on (last resumes_first (0 ∷ 0 ∷ 0 ∷ 0 ∷ [])) 0 
     × (phase_of (last resumes_first (0 ∷ 0 ∷ 0 ∷ 0 ∷ 0 ∷ 1 ∷ [])) 0 ≡ 1)
     × (is_enabled resumes_first (last resumes_first (0 ∷ 0 ∷ 0 ∷ 0 ∷ 0 ∷ 1 ∷ [])) 1 ≡ true)
 resumed_late = (refl, refl, refl, refl)
+
+-- ---- main resumes the clock, puts, and leaves it: the first pass of what it started doesn't wait for that, the second one does
+
+abbrev leaves_behind : ModuleValue
+leaves_behind = record {
+  shared = pos 0 ∷ [];
+  units = main_with 2
+      (instr.Make 0 ∷ instr.Spawn 1 (0 ∷ []) ∷ instr.Lit 1 (pos 5) ∷ instr.Resume 0 ∷ instr.Put 0 1 ∷ instr.Drop 0 ∷ instr.Ret ∷ [])
+      ∷ body_with (param.Clock ∷ []) 2 (instr.Advance ∷ instr.Advance ∷ instr.Get 1 0 ∷ instr.Print 1 ∷ instr.Ret ∷ []) ∷ [];
+}
+
+abbrev in_two_phases : List ℕ
+in_two_phases = 0 ∷ 0 ∷ 0 ∷ 0 ∷ 0 ∷ 0 ∷ 1 ∷ 1 ∷ 1 ∷ 1 ∷ 1 ∷ 1 ∷ 1 ∷ 0 ∷ []
+
+-- the `put` comes before the second pass, though main left the clock before that had advanced at all
+second_pass : IsPass leaves_behind (fresh leaves_behind) in_two_phases (0, 4) (1, 3)
+second_pass = record {
+  first = record {
+    before = 0 ∷ 0 ∷ 0 ∷ 0 ∷ [];
+    after = 0 ∷ 1 ∷ 1 ∷ 1 ∷ 1 ∷ 1 ∷ 1 ∷ 1 ∷ 0 ∷ [];
+    here = last leaves_behind (0 ∷ 0 ∷ 0 ∷ 0 ∷ []);
+    whole = refl;
+    leads = refl;
+    turn = refl;
+  };
+  second = record {
+    before = 0 ∷ 0 ∷ 0 ∷ 0 ∷ 0 ∷ 0 ∷ 1 ∷ 1 ∷ 1 ∷ [];
+    after = 1 ∷ 1 ∷ 1 ∷ 0 ∷ [];
+    here = last leaves_behind (0 ∷ 0 ∷ 0 ∷ 0 ∷ 0 ∷ 0 ∷ 1 ∷ 1 ∷ 1 ∷ []);
+    whole = refl;
+    leads = refl;
+    turn = refl;
+  };
+  clock = 0;
+  registered = refl;
+  there = last leaves_behind (0 ∷ 0 ∷ 0 ∷ 0 ∷ 0 ∷ 0 ∷ 1 ∷ 1 ∷ 1 ∷ 1 ∷ []);
+  passes = refl;
+  awaited = refl;
+  advanced = omega arith;
+}
+
+-- where the first pass is over and the `put` is still to come, the second one can't be taken
+abbrev passed_once : World
+passed_once = last leaves_behind (0 ∷ 0 ∷ 0 ∷ 0 ∷ 1 ∷ 1 ∷ 1 ∷ [])
+
+held_back : (stores_next leaves_behind passed_once 0 0 ≡ true) × (is_enabled leaves_behind passed_once 1 ≡ false)
+    × (standing_on passed_once 0 0 ≡ standing.Ahead) × (standing_on passed_once 1 0 ≡ standing.Signalled)
+held_back = (refl, refl, refl, refl)

@@ -1,6 +1,6 @@
 -- A pass comes after what its activity waited for: an edge that is sound. For who passes in a phase has come as far on the clock in each
--- schedule of the class, and so has who was waited for, when it takes that step. Before the pass the clock has advanced in each of them,
--- and it never goes back: so one that took the step later would have come further.
+-- schedule of the class, and so has who was waited for, when it takes that step. Before the pass the clock has advanced in each of them
+-- beyond the phase in which that one holds it, and it never goes back: so one that took the step later would have come further.
 use Rattle.std.proofs.Common.{◌≡◌, ℕ, ℤ, suc, ◌+◌, ◌-◌, ◌<◌, ◌≤◌, inl, inr, true, false, cond, List, [], ◌∷◌, ◌++◌, Some, option_map, refl, sym, ap, ◌∙◌, subst, append_assoc, eq-eqb, arith}
 use Rattle.std.specs.Prelude.{slice_get}
 use Rattle.std.proofs.lemmas.Bool.{cases_lt}
@@ -18,10 +18,10 @@ use Rattle.xk_renaming.specs.Names.{Exchange}
 use Rattle.xk_renaming.proofs.NameLaw.{clocks_named, clock_there}
 use Rattle.xk_renaming.proofs.NamelessLemmas.{nameless_activity}
 use Rattle.xk_classes.specs.Classes.{AreJoined, AreOneClass, names_along, name_in}
-use Rattle.xk_classes.specs.Edges.{StepName, turns_of, IsTaken, IsEdge, AreSound, IsTurn, phase_of, IsPass, IsCause}
+use Rattle.xk_classes.specs.Edges.{StepName, turns_of, IsTaken, IsEdge, AreSound, IsTurn, standing_on, phase_of, held_in, IsPass, IsCause}
 use Rattle.xk_classes.specs.OneRun.{GoesAsWell}
 use Rattle.xk_classes.proofs.InstructionEventLemmas.{passes_arrived, arrived_free}
-use Rattle.xk_classes.proofs.StageLemmas.{stage_at, moves_on, pending_stage, registered_stage, unsignalled_stage}
+use Rattle.xk_classes.proofs.StageLemmas.{stage_at, moves_on, held_stage, pending_stage, registered_stage, unsignalled_stage}
 use Rattle.xk_classes.proofs.SwapLemmas.{State, stand_of, stand_named, deed_of, reached_run}
 use Rattle.xk_classes.proofs.ClassLemmas.{deeds, class_as_well}
 use Rattle.xk_classes.proofs.EdgeLaw.{turns_on, turns_same, WasTaken, was_taken, run_behind, by_first, at_turn, state_in, stands}
@@ -108,7 +108,7 @@ module _ (m : ModuleValue) (args : List ℤ) (limits : IsWithinLimits m) (ok : I
     advanced_there : phase_of f.second.here f.clock ≤ phase_of v clock
     advanced_there =
         let same : stage_at f.second.here f.clock y.0 ≡ stage_at v clock (name_in member y.0) = same_stage f.second.here v y.0 same_pass in
-        let least = (pending_stage f.second.here.clocks f.clock y.0 f.awaited).0 in
+        let least = pending_stage f.second.here.clocks f.clock y.0 f.awaited in
         let most = unsignalled_stage v.clocks clock (name_in member y.0) free in
         half (phase_of f.second.here f.clock) (phase_of v clock) (stage_at f.second.here f.clock y.0)
         (stage_at v clock (name_in member y.0)) same least most
@@ -116,8 +116,12 @@ module _ (m : ModuleValue) (args : List ℤ) (limits : IsWithinLimits m) (ok : I
         half : (p q a b : ℕ) → a ≡ b → suc (p + p) ≤ a → b ≤ suc (suc (q + q)) → p ≤ q
         half p q a b h g k = omega arith
 
-    -- where the first step is still to come, the clock hasn't
-    still_there : turns_of (name_in member x.0) before ≤ x.1 → phase_of v clock ≤ phase_of f.first.here f.clock
+    -- the phase in which the first one holds the clock
+    abbrev held : ℕ
+    held = held_in (phase_of f.first.here f.clock) (standing_on f.first.here x.0 f.clock)
+
+    -- where the first step is still to come, the clock hasn't come further than that
+    still_there : turns_of (name_in member x.0) before ≤ x.1 → phase_of v clock ≤ held
     still_there late =
         let c : ℕ = name_in member x.0 in
         let g : GoesAsWell m w s (before ++ after) member z = class_as_well m limits ok w z reached s (before ++ after) member legal in
@@ -138,17 +142,17 @@ module _ (m : ModuleValue) (args : List ℤ) (limits : IsWithinLimits m) (ok : I
         same_turn x f.first (before ++ r.front) (c ∷ r.back) r.here same_class there turns (ap is_step r.takes) in
         let stage : stage_at f.first.here f.clock x.0 ≡ stage_at r.here clock c = same_stage f.first.here r.here x.0 same in
         let rise = phases_rise m limits ok r.front v r.here clock (reached_run m before w v reached leads) r.leads in
-        let p = pending_stage f.first.here.clocks f.clock x.0 f.pending in
+        let p = held_stage f.first.here.clocks f.clock x.0 f.registered in
         let least = registered_stage r.here.clocks clock c
-        (some_stage (stage_at f.first.here f.clock x.0) (stage_at r.here clock c) stage (omega (arith, p.0))) in
-        half (phase_of v clock) (phase_of r.here clock) (phase_of f.first.here f.clock) (stage_at f.first.here f.clock x.0)
+        (some_stage (stage_at f.first.here f.clock x.0) (stage_at r.here clock c) stage p.0) in
+        half (phase_of v clock) (phase_of r.here clock) held (stage_at f.first.here f.clock x.0)
         (stage_at r.here clock c) rise stage p.1 least
       where
         some_stage : (a b : ℕ) → a ≡ b → 0 < a → 0 < b
         some_stage a b h g = omega arith
 
-        half : (v r p a b : ℕ) → v ≤ r → a ≡ b → a ≤ suc (suc (p + p)) → suc (r + r) ≤ b → v ≤ p
-        half v r p a b h g k l = omega arith
+        half : (v r h a b : ℕ) → v ≤ r → a ≡ b → a ≤ suc (suc (h + h)) → suc (r + r) ≤ b → v ≤ h
+        half v r h a b f g k l = omega arith
 
     pub pass_taken : IsTaken before (name_in member x.0, x.1)
     pass_taken = elim (cases_lt x.1 (turns_of (name_in member x.0) before)) [

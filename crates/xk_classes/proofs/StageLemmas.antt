@@ -15,7 +15,7 @@ use Rattle.xk_types.specs.declared.world.Event.TheVariants as event
 use Rattle.xk_types.specs.Acceptance.{IsAccepted}
 use Rattle.xk_types.specs.Code.{ModuleValue, IsWithinLimits}
 use Rattle.xk_types.specs.World.{Activity, Clock, World, standing_of}
-use Rattle.xk_types.specs.Step.{Stepped, is_signalled, is_pending, is_ready, resumed, passed, advanced, settled_clock, moved, moved_on, joined, joined_on, is_given, new_clock, step}
+use Rattle.xk_types.specs.Step.{Stepped, is_signalled, is_pending, is_registered, is_ready, resumed, passed, advanced, settled_clock, moved, moved_on, joined, joined_on, is_given, new_clock, step}
 use Rattle.xk_types.specs.Schedule.{IsReached}
 use Rattle.xk_types.proofs.ListLemmas.{none_at}
 use Rattle.xk_laws.proofs.Invariant.{Each}
@@ -25,7 +25,7 @@ use Rattle.xk_squares.proofs.StepEffect.{Move, Rests, Resumes, Drops, Arrives, P
 use Rattle.xk_squares.proofs.ChangeSquareLemmas.{same_step, not_none, found_of}
 use Rattle.xk_squares.proofs.StartSquareLemmas.{made_world, started_world, maker}
 use Rattle.xk_squares.proofs.ViewLemmas.{Goes, IsNone, DoesAct, DoesMake, DoesStart, goes, sees_itself}
-use Rattle.xk_classes.specs.Edges.{phase_of}
+use Rattle.xk_classes.specs.Edges.{phase_of, held_in}
 use Rattle.xk_classes.specs.Moments.{is_start}
 use Rattle.xk_classes.proofs.StepEventLemmas.{grown}
 
@@ -308,23 +308,46 @@ module _ (m : ModuleValue) (limits : IsWithinLimits m) (ok : IsAccepted m) where
 
 -- ---- where one stands, by its stage
 
+-- the phase in which activity a holds clock k
+abbrev hold_of : Option Clock → ℕ → ℕ
+hold_of o a = held_in (option_map_or (λ (c : Clock). c.phase) o 0) (option_map_or (λ (c : Clock). standing_of c a) o standing.Apart)
+
+abbrev hold_in : List Clock → ℕ → ℕ → ℕ
+hold_in cs k a = hold_of (slice_get cs k) a
+
+-- one that is registered has its stage up to the phase that it holds the clock in
+pub held_stage : (cs : List Clock) (k a : ℕ)
+    → is_registered (option_map_or (λ (c : Clock). standing_of c a) (slice_get cs k) standing.Apart) ≡ true
+    → (0 < stage_in cs k a) × (stage_in cs k a ≤ suc (suc (hold_in cs k a + hold_in cs k a)))
+held_stage cs k a h = of (slice_get cs k) h
+  where
+    by : (p : ℕ) (s : Standing) → is_registered s ≡ true → (0 < stage_by p s) × (stage_by p s ≤ suc (suc (held_in p s + held_in p s)))
+    by p standing.Apart g = absurd (true≢false (sym g))
+    by p standing.Open g = (omega arith, omega arith)
+    by p standing.Signalled g = (omega arith, omega arith)
+    by p standing.Ahead g = (omega arith, omega arith)
+
+    of : (o : Option Clock) → is_registered (option_map_or (λ (c : Clock). standing_of c a) o standing.Apart) ≡ true
+        → (0 < option_map_or (λ (c : Clock). stage_of c a) o 0)
+        × (option_map_or (λ (c : Clock). stage_of c a) o 0 ≤ suc (suc (hold_of o a + hold_of o a)))
+    of None g = absurd (true≢false (sym g))
+    of (Some c) g = by c.phase (standing_of c a) g
+
 -- one that is registered and not signalled has its stage in this phase
 pub pending_stage : (cs : List Clock) (k a : ℕ)
     → is_pending (option_map_or (λ (c : Clock). standing_of c a) (slice_get cs k) standing.Apart) ≡ true
-    → (suc (phase_in cs k + phase_in cs k) ≤ stage_in cs k a) × (stage_in cs k a ≤ suc (suc (phase_in cs k + phase_in cs k)))
+    → suc (phase_in cs k + phase_in cs k) ≤ stage_in cs k a
 pending_stage cs k a h = of (slice_get cs k) h
   where
-    by : (p : ℕ) (s : Standing) → is_pending s ≡ true → (suc (p + p) ≤ stage_by p s) × (stage_by p s ≤ suc (suc (p + p)))
+    by : (p : ℕ) (s : Standing) → is_pending s ≡ true → suc (p + p) ≤ stage_by p s
     by p standing.Apart g = absurd (true≢false (sym g))
-    by p standing.Open g = (omega arith, omega arith)
+    by p standing.Open g = omega arith
     by p standing.Signalled g = absurd (true≢false (sym g))
-    by p standing.Ahead g = (omega arith, omega arith)
+    by p standing.Ahead g = omega arith
 
     of : (o : Option Clock) → is_pending (option_map_or (λ (c : Clock). standing_of c a) o standing.Apart) ≡ true
-        → (suc (option_map_or (λ (c : Clock). c.phase) o 0 + option_map_or (λ (c : Clock). c.phase) o 0) ≤ option_map_or
-        (λ (c : Clock). stage_of c a) o 0)
-        × (option_map_or (λ (c : Clock). stage_of c a) o 0 ≤ suc
-        (suc (option_map_or (λ (c : Clock). c.phase) o 0 + option_map_or (λ (c : Clock). c.phase) o 0)))
+        → suc (option_map_or (λ (c : Clock). c.phase) o 0 + option_map_or (λ (c : Clock). c.phase) o 0) ≤ option_map_or
+        (λ (c : Clock). stage_of c a) o 0
     of None g = absurd (true≢false (sym g))
     of (Some c) g = by c.phase (standing_of c a) g
 

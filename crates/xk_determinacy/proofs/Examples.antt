@@ -1,4 +1,4 @@
--- A program of which one run tells no race, a program that has one, and why main alone has to begin: by evaluation.
+-- A program of which one run tells no race, a program that has one, a drop behind a resume, and why main alone has to begin: by evaluation.
 use Rattle.std.proofs.Common.{◌≡◌, ◌∙◌, ℕ, zero, suc, pos, true, false, List, [], ◌∷◌, map, None, is_some, refl, sym, arith}
 use Rattle.std.proofs.lemmas.List.Elements.{All-cons, All-nil, All-from_recursion}
 use Rattle.xk_types.specs.declared.instr.Instr.TheVariants as instr
@@ -154,6 +154,45 @@ racing_unended : (is_race_free racing [] (log_of (0 ∷ 1 ∷ [])) ≡ true) × 
     × (is_enabled racing (last racing (0 ∷ 1 ∷ [])) 0 ≡ true) × (is_enabled racing (last racing (0 ∷ 1 ∷ [])) 1 ≡ true)
     × (reads_next racing (last racing (0 ∷ 1 ∷ [])) 0 0 ≡ true) × (stores_next racing (last racing (0 ∷ 1 ∷ [])) 1 0 ≡ true)
 racing_unended = (refl, refl, refl, refl, refl, refl)
+
+-- ---- main resumes a clock, writes a number, and leaves the clock; what it starts advances, and reads the number
+
+abbrev leaver : UnitValue
+leaver = main_with 2
+    (instr.Make 0 ∷ instr.Spawn 1 (0 ∷ []) ∷ instr.Lit 1 (pos 5) ∷ instr.Resume 0 ∷ instr.Put 0 1 ∷ instr.Drop 0 ∷ instr.Ret ∷ [])
+
+-- behind the first advance
+abbrev once_behind : ModuleValue
+once_behind = record {
+  shared = pos 0 ∷ [];
+  units = leaver ∷ body_with (param.Clock ∷ []) 2 (instr.Advance ∷ instr.Get 1 0 ∷ instr.Print 1 ∷ instr.Ret ∷ []) ∷ [];
+}
+
+-- behind the second one
+abbrev twice_behind : ModuleValue
+twice_behind = record {
+  shared = pos 0 ∷ [];
+  units = leaver ∷ body_with (param.Clock ∷ []) 2 (instr.Advance ∷ instr.Advance ∷ instr.Get 1 0 ∷ instr.Print 1 ∷ instr.Ret ∷ []) ∷ [];
+}
+
+-- main leaves the clock before it advances, or behind the first advance
+abbrev left_before : List ℕ
+left_before = 0 ∷ 0 ∷ 0 ∷ 0 ∷ 0 ∷ 0 ∷ 1 ∷ 1 ∷ 1 ∷ 1 ∷ 1 ∷ 1 ∷ 1 ∷ 0 ∷ []
+
+abbrev left_between : List ℕ
+left_between = 0 ∷ 0 ∷ 0 ∷ 0 ∷ 1 ∷ 1 ∷ 1 ∷ 0 ∷ 0 ∷ 1 ∷ 1 ∷ 1 ∷ 1 ∷ 0 ∷ []
+
+-- The second advance waits for main: no race is told of either.
+twice_told : (is_race_free twice_behind [] (log_of left_before) ≡ true) × (is_race_free twice_behind [] (log_of left_between) ≡ true)
+    × (all_ended (last twice_behind left_before) ≡ true) × (all_ended (last twice_behind left_between) ≡ true)
+twice_told = (refl, refl, refl, refl)
+
+-- the first one doesn't
+once_told : (is_race_free once_behind [] (log_of (0 ∷ 0 ∷ 0 ∷ 0 ∷ 0 ∷ 0 ∷ 1 ∷ 1 ∷ 1 ∷ 1 ∷ 1 ∷ 0 ∷ [])) ≡ false)
+    × (is_race_free once_behind [] (log_of (0 ∷ 0 ∷ 0 ∷ 0 ∷ 1 ∷ 1 ∷ 1 ∷ 1 ∷ 1 ∷ 0 ∷ 0 ∷ 0 ∷ [])) ≡ false)
+    × (all_ended (last once_behind (0 ∷ 0 ∷ 0 ∷ 0 ∷ 0 ∷ 0 ∷ 1 ∷ 1 ∷ 1 ∷ 1 ∷ 1 ∷ 0 ∷ [])) ≡ true)
+    × (all_ended (last once_behind (0 ∷ 0 ∷ 0 ∷ 0 ∷ 1 ∷ 1 ∷ 1 ∷ 1 ∷ 1 ∷ 0 ∷ 0 ∷ 0 ∷ [])) ≡ true)
+once_told = (refl, refl, refl, refl)
 
 -- ---- two that main starts start one more each: who comes first starts number 3
 

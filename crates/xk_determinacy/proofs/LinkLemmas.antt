@@ -1,39 +1,41 @@
 -- Where one deed comes before another, a cause, or the order of an activity's own steps, has the step of the one before that of the other.
-use Rattle.std.proofs.Common.{◌≡◌, ℕ, ℤ, zero, suc, ◌-◌, ◌<◌, ◌≤◌, ◌==◌, ◌⊎◌, inl, inr, true, false, true≢false, List, [], ◌∷◌, ◌++◌, length, take, Some, None, Option, refl, sym, ap, ◌∙◌, subst, arith}
-use Rattle.std.specs.Prelude.{slice_get, nat_lt}
+use Rattle.std.proofs.Common.{◌≡◌, ℕ, ℤ, zero, suc, ◌-◌, ◌<◌, ◌≤◌, ◌⊎◌, inl, inr, Bool, true, false, true≢false, List, [], ◌∷◌, ◌++◌, length, take, Some, None, Option, refl, sym, ap, ◌∙◌, subst, arith}
+use Rattle.std.specs.Prelude.{slice_get, nat_lt, ◌&&◌}
 use Rattle.std.specs.Option.{option_map_or}
 use Rattle.std.proofs.lemmas.Bool.{and_parts}
 use Rattle.std.proofs.lemmas.Option.{same_Some, slice_get_within}
+use Rattle.xk_types.specs.declared.world.Standing.{Standing}
 use Rattle.xk_types.specs.declared.world.Standing.TheVariants as standing
 use Rattle.xk_types.specs.declared.world.Event.TheVariants as event
 use Rattle.xk_types.specs.Acceptance.{IsAccepted}
 use Rattle.xk_types.specs.Code.{ModuleValue, IsWithinLimits}
 use Rattle.xk_types.specs.World.{Activity, Clock, World, AreArguments, opening, root, is_ended, standing_of}
-use Rattle.xk_types.specs.Step.{Stepped, innermost, is_pending}
+use Rattle.xk_types.specs.Step.{Stepped, innermost, is_pending, is_signalled, is_registered}
 use Rattle.xk_types.specs.Schedule.{Through, run, IsReached}
 use Rattle.xk_types.proofs.ListLemmas.{get-set_same}
 use Rattle.xk_laws.proofs.ReachabilityLemmas.{opening_reached, reached_sound, reached_scoped}
 use Rattle.xk_laws.proofs.ScopeLemmas.FinishOwnerLemmas.{AreOwned, under_governed}
 use Rattle.xk_squares.proofs.ChangeSquareLemmas.{found_of}
 use Rattle.xk_squares.proofs.StartSquareLemmas.{alive_of}
-use Rattle.xk_classes.specs.Edges.{StepName, turns_of, IsStart, IsTurn, standing_on, phase_of}
+use Rattle.xk_classes.specs.Edges.{StepName, turns_of, IsStart, IsTurn, standing_on, phase_of, held_in}
 use Rattle.xk_classes.proofs.EdgeLaw.{run_behind}
+use Rattle.xk_core.specs.Core.{has_advanced}
 use Rattle.xk_races.specs.declared.deeds.Deed.{Deed}
 use Rattle.xk_races.specs.declared.deeds.Part.{Part}
 use Rattle.xk_races.specs.declared.deeds.Part.TheVariants as part
-use Rattle.xk_races.specs.Deeds.{awaits, tell_deeds}
+use Rattle.xk_races.specs.Deeds.{awaits, has_resumed, tell_deeds}
 use Rattle.xk_races.specs.Knowledge.{Scopes, nothing_known}
 use Rattle.xk_races.specs.Lists.{number_at}
 use Rattle.xk_races.proofs.OrderLemmas.{IsUpTo}
-use Rattle.xk_races.specs.Order.{IsAt, Reason, Own, Passed, Closed, Edge, Leads, IsSignal, finish_at, scopes_after}
+use Rattle.xk_races.specs.Order.{IsAt, Reason, Own, Passed, Closed, Edge, Leads, IsLeave, IsAwaited, finish_at, scopes_after}
 use Rattle.xk_events.specs.declared.steps.RunStep.{RunStep}
 use Rattle.xk_events.specs.Steps.{run_step}
 use Rattle.xk_determinacy.proofs.EdgeListLemmas.{IsLed, UpTo, led_cause, led_own, led_through, up_through}
 use Rattle.xk_determinacy.proofs.PhaseLemmas.{phase_grows, phase_advances}
 use Rattle.xk_determinacy.proofs.NumberedFinishLemmas.{AreNumbered, finish, base, number}
 use Rattle.xk_determinacy.proofs.StepNestingLemmas.{Nests, Effect, DoesGo, DoesStart, effect_of}
-use Rattle.xk_determinacy.proofs.TurnLemmas.{Turn, name_of, IsToldOf, deeds, deeds_run, deeds_first, told_at, deeds_around, deed_at, IsEarlier, AreOne, run_between, one_here, one_event, one_name, earlier_turns, turn_taken, turn_reached, in_order}
-use Rattle.xk_determinacy.proofs.DeedPartLemmas.{Says, IsPart, is_pass, parts_of}
+use Rattle.xk_determinacy.proofs.TurnLemmas.{Turn, name_of, IsToldOf, deeds, deeds_run, deeds_first, told_at, deeds_around, deed_at, IsEarlier, AreOne, run_between, one_here, one_event, one_told, one_name, earlier_turns, turn_taken, turn_reached, in_order, offsets_rise}
+use Rattle.xk_determinacy.proofs.DeedPartLemmas.{Says, IsPart, is_pass, parts_of, advances_once}
 use Rattle.xk_determinacy.proofs.ScopeLemmas.{nest, opened_in, scopes_append, scopes_step, numbered_run, opening_numbered, ended_stays}
 
 -- ---- lists
@@ -45,17 +47,34 @@ take_front xs ys k is = ap (λ n. take n (xs ++ ys)) is ∙ by xs
     by [] = refl
     by (x ∷ xs) = ap (λ l. x ∷ l) (by xs)
 
--- who is awaited on a clock is registered there, and hasn't signalled
-awaited_pending : (w : World) (a c : ℕ) → awaits w a c ≡ true → is_pending (standing_on w a c) ≡ true
-awaited_pending w a c h =
+-- ---- standings
+
+-- what is told of where an activity stands on a clock, by the clock
+stands : (test : Standing → Bool) (w : World) (a c : ℕ)
+    → (nat_lt a (length w.activities) && option_map_or (λ (k : Clock). test (standing_of k a)) (slice_get w.clocks c) false) ≡ true
+    → test (standing_on w a c) ≡ true
+stands test w a c h =
     by (slice_get w.clocks c)
-    (and_parts (nat_lt a (length w.activities))
-    (option_map_or (λ (k : Clock). is_pending (standing_of k a)) (slice_get w.clocks c) false) h).1
+    (and_parts (nat_lt a (length w.activities)) (option_map_or (λ (k : Clock). test (standing_of k a)) (slice_get w.clocks c) false) h).1
   where
-    by : (o : Option Clock) → option_map_or (λ (k : Clock). is_pending (standing_of k a)) o false ≡ true
-        → is_pending (option_map_or (λ (k : Clock). standing_of k a) o standing.Apart) ≡ true
+    by : (o : Option Clock) → option_map_or (λ (k : Clock). test (standing_of k a)) o false ≡ true
+        → test (option_map_or (λ (k : Clock). standing_of k a) o standing.Apart) ≡ true
     by None g = absurd (true≢false (sym g))
     by (Some k) g = g
+
+-- who is awaited on a clock is registered there, and holds it in its phase
+pending_holds : (p : ℕ) (st : Standing) → is_pending st ≡ true → (is_registered st ≡ true) × (held_in p st ≡ p)
+pending_holds p standing.Apart h = absurd (true≢false (sym h))
+pending_holds p standing.Open h = (refl, refl)
+pending_holds p standing.Signalled h = absurd (true≢false (sym h))
+pending_holds p standing.Ahead h = (refl, refl)
+
+-- who has resumed it is, too, and holds it in the next one
+signalled_holds : (p : ℕ) (st : Standing) → is_signalled st ≡ true → (is_registered st ≡ true) × (held_in p st ≡ suc p)
+signalled_holds p standing.Apart h = absurd (true≢false (sym h))
+signalled_holds p standing.Open h = absurd (true≢false (sym h))
+signalled_holds p standing.Signalled h = (refl, refl)
+signalled_holds p standing.Ahead h = absurd (true≢false (sym h))
 
 -- ---- deeds
 
@@ -130,24 +149,62 @@ module _ (m : ModuleValue) (args : List ℤ) (limits : IsWithinLimits m) (ok : I
       (sym (run_behind m t.before (t.act ∷ e.0) w t.here t.leads) ∙ ap (λ l. run m l w) (sym e.1) ∙ u.leads)
   phase_between t u c (inr o) = let same = ap (λ (v : World). phase_of v c) (one_here m w s t u o) in omega (arith, same)
 
-  pass_led : (t v u : Turn m w s) (c : ℕ) → IsEarlier m w s t v ⊎ AreOne m w s t v → IsEarlier m w s v u → awaits t.here t.act c ≡ true
-      → option_map_or (λ (k : Clock). k.last == v.there.steps) (slice_get v.there.clocks c) false ≡ true → u.e ≡ event.Passed
-      → awaits u.here u.act c ≡ true
-      → IsLed m w s (name_of t) (name_of u)
-  pass_led t v u c first second signals advances is waits = led_cause m w s (name_of t) (name_of u) (inr (record {
-    first = turn_of t;
-    second = turn_of u;
-    clock = c;
-    pending = awaited_pending t.here t.act c signals;
-    there = u.there;
-    passes = u.takes ∙ ap (Stepped u.there) is;
-    awaited = awaited_pending u.here u.act c waits;
-    advanced = (let a = phase_between t v c first in
-        let sound = reached_sound m limits ok v.here (turn_reached m w s v reached) in
-        let b = phase_advances m v.here v.there v.act c v.e v.takes (λ k at. (sound.clocks c k at).last) advances in
-        let d = phase_grows m second.0 v.there u.here c (run_between m w s v u second) in
-        omega (arith, a, b, d));
-  }))
+  -- where a clock advances in a turn, its phase is greater in each later one
+  phase_behind : (v u : Turn m w s) (c : ℕ) → IsEarlier m w s v u → has_advanced v.there c ≡ true → phase_of v.here c < phase_of u.here c
+  phase_behind v u c later advances =
+      let sound = reached_sound m limits ok v.here (turn_reached m w s v reached) in
+      let a = phase_advances m v.here v.there v.act c v.e v.takes (λ k at. (sound.clocks c k at).last) advances in
+      let b = phase_grows m later.0 v.there u.here c (run_between m w s v u later) in
+      omega (arith, a, b)
+
+  -- no clock advances twice in one turn
+  advances_apart : (l v : Turn m w s) (i n c : ℕ) (f g : Deed) → IsToldOf m w s l i f → IsToldOf m w s v n g → i < n
+      → f.part ≡ part.Advance c → g.part ≡ part.Advance c → IsEarlier m w s l v
+  advances_apart l v i n c f g p q less first second = by (in_order m w s l v i n f g p q less)
+    where
+      by : IsEarlier m w s l v ⊎ AreOne m w s l v → IsEarlier m w s l v
+      by (inl earlier) = earlier
+      by (inr one) = absurd (advances_once m v.act v.here v.there v.e c p.offset q.offset f g
+          (offsets_rise m w s l v i n f g p q one less)
+          (ap (λ list. slice_get list p.offset) (sym (one_told m w s l v one)) ∙ p.among) q.among first second)
+
+  -- turn u passes a clock
+  module _ (t u : Turn m w s) (c : ℕ) (is : u.e ≡ event.Passed) (waits : awaits u.here u.act c ≡ true) where
+    pass_led : is_registered (standing_on t.here t.act c) ≡ true
+        → held_in (phase_of t.here c) (standing_on t.here t.act c) < phase_of u.here c
+        → IsLed m w s (name_of t) (name_of u)
+    pass_led registered further = led_cause m w s (name_of t) (name_of u) (inr (record {
+      first = turn_of t;
+      second = turn_of u;
+      clock = c;
+      registered = registered;
+      there = u.there;
+      passes = u.takes ∙ ap (Stepped u.there) is;
+      awaited = stands is_pending u.here u.act c waits;
+      advanced = further;
+    }))
+
+    -- the clock advanced in turn v, and waited for turn t
+    signal_led : (v : Turn m w s) → IsEarlier m w s t v ⊎ AreOne m w s t v → IsEarlier m w s v u → awaits t.here t.act c ≡ true
+        → has_advanced v.there c ≡ true → IsLed m w s (name_of t) (name_of u)
+    signal_led v first second signals advances =
+        let h = pending_holds (phase_of t.here c) (standing_on t.here t.act c) (stands is_pending t.here t.act c signals) in
+        let held = h.1 in
+        let a = phase_between t v c first in
+        let b = phase_behind v u c second advances in
+        pass_led h.0 (omega (arith, held, a, b))
+
+    -- it advanced in turn l and in turn v; who takes turn t had resumed it
+    leave_led : (l v : Turn m w s) → IsEarlier m w s t l ⊎ AreOne m w s t l → IsEarlier m w s l v → IsEarlier m w s v u
+        → has_resumed t.here t.act c ≡ true → has_advanced l.there c ≡ true → has_advanced v.there c ≡ true
+        → IsLed m w s (name_of t) (name_of u)
+    leave_led l v first second third leaves once again =
+        let h = signalled_holds (phase_of t.here c) (standing_on t.here t.act c) (stands is_signalled t.here t.act c leaves) in
+        let held = h.1 in
+        let a = phase_between t l c first in
+        let b = phase_behind l v c second once in
+        let d = phase_behind v u c third again in
+        pass_led h.0 (omega (arith, held, a, b, d))
 
   -- ---- a finish
 
@@ -265,14 +322,35 @@ module _ (m : ModuleValue) (args : List ℤ) (limits : IsWithinLimits m) (ok : I
 
   -- ---- reasons
 
+  -- which deed is awaited
+  awaited_at : (n c k : ℕ) → IsAwaited ds n c k → (d : Deed) × IsAt ds k d
+  awaited_at n c k (inl h) = (h.1, h.2)
+  awaited_at n c k (inr h) = let g = h.5 in (g.1, g.2)
+
   -- which deed a reason is about
   reason_at : (k j : ℕ) (e : Deed) → Reason ds k j e → (d : Deed) × IsAt ds k d
   reason_at k j e (Own h) = (h.1, h.2)
-  reason_at k j e (Passed c is h) = let g = h.5 in (g.1, g.2)
+  reason_at k j e (Passed c is h) = awaited_at h.0 c k h.5
   reason_at k j e (Closed is h) = (h.1, h.2)
 
   same_deed : (t : Turn m w s) (k : ℕ) (c d : Deed) → IsAt ds k c → IsToldOf m w s t k d → c ≡ d
   same_deed t k c d at r = same_Some c d (sym at ∙ deed_at m w s t k d r)
+
+  -- who passes a clock behind its advance comes behind each deed that this one waited for
+  awaited_led : (t v u : Turn m w s) (k n c : ℕ) (d f : Deed) → IsToldOf m w s t k d → IsToldOf m w s v n f → f.part ≡ part.Advance c
+      → IsEarlier m w s v u → u.e ≡ event.Passed → awaits u.here u.act c ≡ true → IsAwaited ds n c k → IsLed m w s (name_of t) (name_of u)
+  awaited_led t v u k n c d f p q is later passes waits (inl h) =
+      signal_led t u c passes waits v (in_order m w s t v k n d f p q h.0) later
+      (says_so t k d p (part.Signal c) (ap (λ (x : Deed). x.part) (sym (same_deed t k h.1 d h.2 p)) ∙ h.3))
+      (says_so v n f q (part.Advance c) is).0
+  awaited_led t v u k n c d f p q is later passes waits (inr h) = by (told_at m s w z legal h.0 h.2 h.3) h.5
+    where
+      by : (l : Turn m w s) × IsToldOf m w s l h.0 h.2 → IsLeave ds h.0 c k → IsLed m w s (name_of t) (name_of u)
+      by (l, r) g =
+          leave_led t u c passes waits l v (in_order m w s t l k h.0 d h.2 p r g.0)
+          (advances_apart l v h.0 n c h.2 f r q h.1 h.4 is) later
+          (says_so t k d p (part.Leave c) (ap (λ (x : Deed). x.part) (sym (same_deed t k g.1 d g.2 p)) ∙ g.3))
+          (says_so l h.0 h.2 r (part.Advance c) h.4).0 (says_so v n f q (part.Advance c) is).0
 
   reason_up : (t u : Turn m w s) (k j : ℕ) (d e : Deed) → IsToldOf m w s t k d → IsToldOf m w s u j e → Reason ds k j e
       → UpTo m w s (name_of t) (name_of u)
@@ -290,23 +368,17 @@ module _ (m : ModuleValue) (args : List ℤ) (limits : IsWithinLimits m) (ok : I
           start_up t u g.0 (sym (whose u j e q) ∙ g.1)
   reason_up t u k j d e p q (Passed c passes h) = by (told_at m s w z legal h.0 h.2 h.3)
     where
-      signal : IsSignal ds h.0 c k
-      signal = h.5
-
       last : (u.e ≡ event.Passed) × (awaits u.here u.act c ≡ true)
       last = says_so u j e q (part.Pass c) passes
 
       by : (v : Turn m w s) × IsToldOf m w s v h.0 h.2 → UpTo m w s (name_of t) (name_of u)
       by (v, r) = behind (in_order m w s v u h.0 j h.2 e r q h.1)
         where
-          middle : (option_map_or (λ (x : Clock). x.last == v.there.steps) (slice_get v.there.clocks c) false ≡ true)
-              × (is_pass v.e ≡ false)
+          middle : (has_advanced v.there c ≡ true) × (is_pass v.e ≡ false)
           middle = says_so v h.0 h.2 r (part.Advance c) h.4
 
           behind : IsEarlier m w s v u ⊎ AreOne m w s v u → UpTo m w s (name_of t) (name_of u)
-          behind (inl later) = inr (pass_led t v u c (in_order m w s t v k h.0 d h.2 p r signal.0) later
-              (says_so t k d p (part.Signal c)
-              (ap (λ (x : Deed). x.part) (sym (same_deed t k signal.1 d signal.2 p)) ∙ signal.3)) middle.0 last.0 last.1)
+          behind (inl later) = inr (awaited_led t v u k h.0 c d h.2 p r h.4 later last.0 last.1 h.5)
           behind (inr one) = absurd (true≢false (sym (ap is_pass (one_event m w s v u one ∙ last.0)) ∙ middle.1))
   reason_up t u k j d e p q (Closed closes h) = by (in_order m w s t u k j d e p q h.0)
     where

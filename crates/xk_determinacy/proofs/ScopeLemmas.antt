@@ -23,7 +23,7 @@ use Rattle.xk_races.specs.declared.deeds.Part.TheVariants as part
 use Rattle.xk_races.specs.Lists.{number_at, with_at}
 use Rattle.xk_races.specs.Knowledge.{Scopes, scope_opened, scope_closed, scoped, nothing_known}
 use Rattle.xk_races.specs.Order.{scopes_after}
-use Rattle.xk_races.specs.Deeds.{tell_deeds, at_clocks, awaiting}
+use Rattle.xk_races.specs.Deeds.{tell_deeds, at_clocks, awaiting, resumed_by}
 use Rattle.xk_races.proofs.RowLemmas.{with_at_same, with_at_other}
 use Rattle.xk_events.specs.Steps.{run_step}
 use Rattle.xk_determinacy.proofs.NumberedFinishLemmas.{finish, Nest, AreNumbered, Opens, Closes, Begins, Keeps}
@@ -53,11 +53,12 @@ scopes_by a n event.Spawned s = record s { within = with_at 0 s.within n (number
 scopes_by a n _ s = s
 
 module _ (m : ModuleValue) (a : ℕ) (w v : World) (s : Scopes) where
-  clocks_still : (e : Event) → scopes_after (at_clocks v (run_step a w v e) (awaiting w a) e) s ≡ s
-  clocks_still e = scopes_still (at_clocks v (run_step a w v e) (awaiting w a) e) s (λ i d at. by d.part (clock_parts m a w v e i d at).1)
+  clocks_still : (e : Event) → scopes_after (at_clocks v (run_step a w v e) (resumed_by w a) (awaiting w a) e) s ≡ s
+  clocks_still e = scopes_still (at_clocks v (run_step a w v e) (resumed_by w a) (awaiting w a) e) s (λ i d at. by d.part (clock_parts m a w v e i d at).1)
     where
       by : (p : Part) → at_clock p ≡ true → (b : ℕ) (q : Scopes) → scoped b p q ≡ q
       by (part.Signal c) h b q = refl
+      by (part.Leave c) h b q = refl
       by (part.Advance c) h b q = refl
       by (part.Pass c) h b q = refl
       by (part.Start x) h b q = absurd (true≢false (sym h))

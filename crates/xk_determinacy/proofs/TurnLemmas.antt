@@ -186,13 +186,21 @@ module _ (m : ModuleValue) (w : World) (s : List ℕ) where
       sym (run_first m e.0 t.here t.there t.act t.e t.takes) ∙ sym (run_behind m t.before (t.act ∷ e.0) w t.here t.leads)
       ∙ ap (λ l. run m l w) (sym e.1) ∙ u.leads
 
-  -- one turn is taken in one world, is seen to do one thing, and has one name
+  -- one turn is taken in one world, leads to one, is seen to do one thing, of which the same is told, and has one name
   pub one_here : (t u : Turn m w s) → AreOne t u → t.here ≡ u.here
   one_here t u o = same_through t.here u.here (sym t.leads ∙ ap (λ l. run m l w) o.0 ∙ u.leads)
 
+  one_step : (t u : Turn m w s) → AreOne t u → (t.there ≡ u.there) × (t.e ≡ u.e)
+  one_step t u o =
+      same_step t.there u.there t.e u.e (sym t.takes ∙ ap (step m t.here) o.1 ∙ ap (λ v. step m v u.act) (one_here t u o) ∙ u.takes)
+
   pub one_event : (t u : Turn m w s) → AreOne t u → t.e ≡ u.e
-  one_event t u o =
-      (same_step t.there u.there t.e u.e (sym t.takes ∙ ap (step m t.here) o.1 ∙ ap (λ v. step m v u.act) (one_here t u o) ∙ u.takes)).1
+  one_event t u o = (one_step t u o).1
+
+  pub one_told : (t u : Turn m w s) → AreOne t u → tell_deeds m t.act t.here t.there t.e ≡ tell_deeds m u.act u.here u.there u.e
+  one_told t u o =
+      ap (λ a. tell_deeds m a t.here t.there t.e) o.1 ∙ ap (λ v. tell_deeds m u.act v t.there t.e) (one_here t u o)
+      ∙ ap (λ v. tell_deeds m u.act u.here v t.e) (one_step t u o).0 ∙ ap (tell_deeds m u.act u.here u.there) (one_event t u o)
 
   pub one_name : (t u : Turn m w s) → AreOne t u → name_of t ≡ name_of u
   one_name t u o = ap (λ a. (a, turns_of a t.before)) o.1 ∙ ap (λ l. (u.act, turns_of u.act l)) o.0
@@ -239,6 +247,12 @@ module _ (m : ModuleValue) (w : World) (s : List ℕ) where
       by (First zs is) = inl (zs, is)
       by (Here is same) = inr (is, same)
       by (Second zs is) = absurd (let back = numbers_rise t u k j d e p q (zs, is) in omega (arith, less, back))
+
+  -- two deeds of one turn stand in their order among its deeds
+  pub offsets_rise : (t u : Turn m w s) (k j : ℕ) (d e : Deed) (p : IsToldOf m w s t k d) (q : IsToldOf m w s u j e) → AreOne t u → k < j
+      → p.offset < q.offset
+  offsets_rise t u k j d e p q o less =
+      let l = ap (λ b. length (deeds m b w)) o.0 in let a = p.number in let b = q.number in omega (arith, less, l, a, b)
 
 -- ---- the turn of a step that carries out an instruction
 
