@@ -1,4 +1,5 @@
-use Rattle.std.proofs.Common.{inr}
+use Rattle.std.proofs.Common.{◌∙◌, ap, sym, inr, option_map}
+use Rattle.std.specs.Prelude.{is_some}
 use Rattle.x10clock.proofs.AnswerLemmas.{alone_ends, alone_ends_or, not_answered, unlogged}
 use Rattle.x10clock.proofs.on_log.Goals as goal
 
@@ -17,7 +18,9 @@ returns-in_default-clause-answered g c =
     _ _ _ done.ensures.answered
 
 pub returns-in-Ok-None-clause-answered : goal.returns-in-Ok-None-clause-answered
-returns-in-Ok-None-clause-answered g c = inr (rw c.over_line.ensures at c.tell.ensures)
+returns-in-Ok-None-clause-answered g c =
+    let writes = ap is_some (sym c.path_of_log.ensures) ∙ ap (λ o. is_some (option_map (λ path. path.now) o)) c.in-Some.is in
+    inr (writes, rw c.over_line.ensures at c.tell.ensures)
 
 pub returns-in-Err-clause-answered : goal.returns-in-Err-clause-answered
 returns-in-Err-clause-answered g c =
