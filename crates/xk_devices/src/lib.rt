@@ -5,6 +5,8 @@
 #[cfg(test)]
 mod device;
 #[cfg(test)]
+mod fault_messages;
+#[cfg(test)]
 mod game;
 #[cfg(test)]
 mod rows;

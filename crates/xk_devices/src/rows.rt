@@ -8,6 +8,7 @@ use xk_cli::{Command, Drive, Form, Job, Workers};
 pub struct Row {
     pub name: &'static str,
     pub command: Command<'static>,
+    pub form: Form,
     pub program: &'static str,
     pub log: &'static str,
     pub status: u8,
@@ -17,11 +18,11 @@ pub struct Row {
 }
 
 impl Row {
-    /// The job, on a source text.
+    /// The job.
     pub fn job(&self, alloc: Global) -> Job<'static> {
         Job {
             command: self.command,
-            form: Form::Source,
+            form: self.form,
             file: "-",
             arguments: Vec::new(alloc),
         }
@@ -81,6 +82,16 @@ const CHECKED: &str = "accepted steps 12 activities 2 clocks 1\n";
 
 /// What is said where one world is kept at most.
 const SOME_OUTCOMES: &str = "outcomes 0 and perhaps more\n";
+
+/// A module: a sum of two numbers, and a phase of a clock on which main is alone.
+const SUM_AND_PHASE: &str =
+    r#"{"version":1,"shared":[],"units":[{"kind":"main","params":"","slots":3,"code":[["lit",0,2],["lit",1,3],["add",0,0,1],["make",2],["advance"],["print",0],["ret"]]}]}"#;
+
+const SUMMED: &str = "5\nended steps 8\n";
+
+const SUM_LOG: &str = "x10log 1\n0 1\n0 1\n0 1\n0 1\n0 1\n0 1\n0 1\n0 1\nend 8\n";
+
+const SUM_CHARTED: &str = "step 5 clock 0 phase 1 acts 0\n";
 
 const NO_PROGRAM: &str = "x10clock: F2 Syntax at 0\n";
 
@@ -223,12 +234,28 @@ fn done(
     Row {
         name,
         command,
+        form: Form::Source,
         program: IN_STEP,
         log,
         status: 0,
         out,
         err: "",
         log_out,
+    }
+}
+
+/// A row of the sum and the phase.
+fn of_module(
+    name: &'static str,
+    command: Command<'static>,
+    log: &'static str,
+    out: &'static str,
+    log_out: &'static str,
+) -> Row {
+    Row {
+        form: Form::Module,
+        program: SUM_AND_PHASE,
+        ..done(name, command, log, out, log_out)
     }
 }
 
@@ -254,6 +281,7 @@ fn refused(
     Row {
         name,
         command,
+        form: Form::Source,
         program,
         log,
         status,
@@ -295,7 +323,7 @@ fn too_large(name: &'static str, command: Command<'static>) -> Row {
 }
 
 /// Each command, and texts, a log and a list that are refused.
-pub fn rows() -> [Row; 27] {
+pub fn rows() -> [Row; 30] {
     let by_worker = Command::Run {
         drive: Workers::new(1).map(Drive::Workers),
         log: Some("log"),
@@ -312,8 +340,11 @@ pub fn rows() -> [Row; 27] {
         done("outcomes in a list", HELD, OUTCOMES, ALL_EXPECTED, ""),
         in_part("outcomes in no list", HELD, UNEXPECTED),
         refused("no list of outcomes", HELD, IN_STEP, BEGINNING, 3, STRAY),
+        of_module("run of a module", RUN, "", SUMMED, SUM_LOG),
         done("replay", REPLAY, LOG, PRINTED, ""),
+        of_module("replay of a module", REPLAY, SUM_LOG, SUMMED, ""),
         done("chart", CHART, LOG, CHARTED, ""),
+        of_module("chart of a module", CHART, SUM_LOG, SUM_CHARTED, ""),
         done("events", Command::Events { log: "log" }, LOG, EVENTS, ""),
         done("lanes", DRAWN, LOG, LANES, ""),
         too_large("a picture that is too large", PICTURED),

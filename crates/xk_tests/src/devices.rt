@@ -1,7 +1,8 @@
-//! Devices that fail, in each way in which one can.
+//! Devices that fail, in each way in which one can, and one that never ends.
 
 use std::io;
 use std::io::{ErrorKind, Read, Write};
+use xk_log::{LogFault, read_log};
 use xk_types::{Counted, Failed, Sink, Source};
 
 /// A reader and writer that is interrupted at each first call, moves one byte at each second one, and fails so at each third.
@@ -112,4 +113,28 @@ fn failures_are_counted(rt: HostRuntime) {
         );
         assert!(rt; writer.into_inner().calls == 3);
     }
+}
+
+/// Gives the digit 1 for ever, one with each read.
+#[derive(Drop)]
+struct Ones {
+    given: u64,
+}
+
+impl Read for Ones {
+    fn read(&mut self, buf: &mut [u8]) -> io::Result<usize> {
+        let count = buf.len().min(1);
+        buf[..count].fill(b'1');
+        self.given = self.given.saturating_add(1);
+        Ok(count)
+    }
+}
+
+/// A line without an end is left where it is longer than any line.
+#[test]
+fn a_line_has_no_end(rt: HostRuntime) {
+    let mut ones = Counted::new(Ones { given: 0 });
+    let fault = read_log(rt.alloc(), &mut ones).err();
+    assert_eq!(rt; fault, Some(LogFault::Grammar(1)));
+    assert_eq!(rt; ones.into_inner().given, 22);
 }

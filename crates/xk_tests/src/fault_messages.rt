@@ -1,4 +1,4 @@
-//! What faults say of themselves, which the program never prints.
+//! What faults of the libraries say of themselves, which the program never prints.
 
 use std::alloc::Global;
 use std::fmt::Display;
@@ -8,7 +8,6 @@ use xk_cli::WordsFault;
 use xk_log::{Device, LogFault};
 use xk_module::ModuleFault;
 use xk_replay::ReplayFault;
-use xk_serve::Fault;
 use xk_shape::ShapeError;
 use xk_tree::{FrontError, FrontFault, FrontRule};
 use xk_types::{Kind, Rule};
@@ -93,17 +92,11 @@ fn faults_are_told(rt: HostRuntime) {
         (ModuleFault::OutOfMemory, MEMORY_TEXT),
     ] {
         assert!(rt; says(alloc, &fault, wanted), "{wanted}");
-        assert!(rt; says(alloc, &Fault::Text(fault), wanted), "{wanted}");
     }
     assert!(rt; says(alloc, &FrontError::Fault(FRONT), FRONT_TEXT));
-    assert!(rt; says(alloc, &Fault::Front(FRONT), FRONT_TEXT));
-    let mismatch = Fault::Arguments { wants: 1, has: 0 };
-    assert!(rt; says(alloc, &mismatch, "main takes 1 numbers and is given 0"));
-    assert!(rt; says(alloc, &Fault::OutOfMemory, MEMORY_TEXT));
-    assert!(rt; says(alloc, &Fault::Device, DEVICE_TEXT));
 }
 
-/// Faults of logs and of tickets, as the libraries tell them.
+/// Faults of logs and of tickets.
 #[test]
 fn faults_of_runs_are_told(rt: HostRuntime) {
     let alloc = rt.alloc();
@@ -120,20 +113,6 @@ fn faults_of_runs_are_told(rt: HostRuntime) {
     assert!(rt; says(alloc, &ReplayFault::OutOfMemory, MEMORY_TEXT));
     assert!(rt; says(alloc, &CommitFault::Stale, STALE_TEXT));
     assert!(rt; says(alloc, &CommitFault::OutOfMemory, MEMORY_TEXT));
-}
-
-/// Faults of logs, as the program's library tells them.
-#[test]
-fn faults_of_replays_are_told(rt: HostRuntime) {
-    let alloc = rt.alloc();
-    let grammar = "line 7 of the log doesn't fit its place";
-    let truncated = "the log ends before its last line does";
-    let not_enabled = "entry 3 of the log has a step that isn't enabled";
-    let not_ended = "the log stops before its run does";
-    assert!(rt; says(alloc, &Fault::Grammar(7), grammar));
-    assert!(rt; says(alloc, &Fault::Truncated, truncated));
-    assert!(rt; says(alloc, &Fault::NotEnabled(3), not_enabled));
-    assert!(rt; says(alloc, &Fault::NotEnded, not_ended));
 }
 
 /// Words that are no job are told by a text of their own, or by one that is handed in.

@@ -1,5 +1,6 @@
 //! Tests of the libraries, of what neither their contracts say nor the built program shows: given schedules, runs that other choosers drive,
-//! workers that compute at once, kinds and rooms, devices that fail, a line without an end, and the texts of faults.
+//! workers that compute at once, kinds and rooms, devices that fail, a line without an end, and the texts of faults. What is answered between
+//! devices that fail, and the texts of the program's own faults, `xk_devices` has.
 #![tactic(auto)]
 
 #[cfg(test)]
@@ -12,8 +13,6 @@ mod fault_messages;
 mod programs;
 #[cfg(test)]
 mod runs;
-#[cfg(test)]
-mod serve_failures;
 #[cfg(test)]
 mod verifier;
 #[cfg(test)]
