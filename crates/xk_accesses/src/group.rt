@@ -27,7 +27,7 @@ impl Model for Group {
 }
 
 impl Group {
-    /// A group of one.
+    /// A group of one access.
     pub(crate) fn of(alloc: Global, x: &Access) -> Result<Group, AllocError>
         ensures { IfOk result (λ g. g ≡ single x.now) }
     {
@@ -36,14 +36,14 @@ impl Group {
         Ok(Group { last: *x, members })
     }
 
-    /// The last one.
+    /// The one that stands for all that were put into the group.
     pub fn last(&self) -> &Access
         ensures { result.now ≡ self.now.last }
     {
         &self.last
     }
 
-    /// The positions of all of them.
+    /// The positions of these.
     pub fn members(&self) -> &[usize]
         ensures { result.now ≡ self.now.members }
     {

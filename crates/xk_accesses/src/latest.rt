@@ -80,14 +80,16 @@ impl Latest {
         }
     }
 
-    /// The last ones of each activity and kind, in no order: as many as there are activities, or up to three times that.
+    /// For each access that was added one of its activity and kind that is no earlier, in no order. These are the last ones, so as many as there
+    /// are activities, or up to three times that: no clause says so.
     pub fn of_activities(&self) -> &[Access]
         ensures { result.now ≡ self.now.of_activities }
     {
         &self.of_activities
     }
 
-    /// The groups of each activity, kind and place, but for the accesses since the last call of `put_since`.
+    /// For each access that was added, but for those since the last call of `put_since`, a group of its activity, kind and place that has its
+    /// position. No clause says that a group has no others.
     pub fn of_places(&self) -> &[Group]
         ensures { result.now ≡ self.now.of_places }
     {

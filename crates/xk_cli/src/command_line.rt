@@ -389,7 +389,7 @@ fn limit_option<'a>(alloc: Global) -> Arg<'a>
         alloc,
         "LIMIT",
         "limit",
-        "How many worlds are kept at most, and how many outcomes are told: 40000 where nothing is said, and fewer where there may be many activities",
+        "The search stops once so many worlds are kept, or so many outcomes are told: 40000 where nothing is said, and fewer where there may be many activities",
     )
 }
 
