@@ -1,6 +1,6 @@
 -- An end is among those that a close waited for exactly where that is the first close behind it of the finish that governs who ended.
-use Rattle.std.proofs.Common.{◌≡◌, ℕ, ℤ, zero, suc, ◌-◌, ◌<◌, ◌≤◌, ◌⊎◌, inl, inr, Bool, true, false, true≢false, List, [], ◌∷◌, ◌++◌, length, take, Some, refl, sym, ap, ◌∙◌, subst, append_assoc, arith}
-use Rattle.std.specs.Prelude.{pred, slice_get}
+use Rattle.std.proofs.Common.{◌≡◌, ℕ, ℤ, zero, suc, ◌-◌, ◌<◌, ◌≤◌, ◌⊎◌, inl, inr, Bool, true, false, true≢false, List, [], ◌∷◌, ◌++◌, length, Some, refl, sym, ap, ◌∙◌, subst, append_assoc, arith}
+use Rattle.std.specs.Prelude.{slice_get}
 use Rattle.std.specs.Option.{option_map_or}
 use Rattle.std.proofs.lemmas.Bool.{cases_eq, cases_lt}
 use Rattle.std.proofs.lemmas.Option.{none-some, same_Some, slice_get_within}
@@ -14,8 +14,7 @@ use Rattle.xk_types.specs.Step.{Stepped, awaits, innermost, is_under, step}
 use Rattle.xk_types.specs.Schedule.{Through, run, run_on, IsReached}
 use Rattle.xk_types.specs.Logs.{schedule_of}
 use Rattle.xk_types.proofs.ListLemmas.{get-set_same, get_inside}
-use Rattle.xk_laws.proofs.ReachabilityLemmas.{same_through, run_counts, opening_reached, reached_scoped}
-use Rattle.xk_laws.proofs.StepCountLemmas.{step_counts}
+use Rattle.xk_laws.proofs.ReachabilityLemmas.{same_through, opening_reached, reached_scoped}
 use Rattle.xk_laws.proofs.ScopeLemmas.FinishOwnerLemmas.{AreOwned, under_cases}
 use Rattle.xk_squares.proofs.AwaitIndependenceLemmas.{awaits_given}
 use Rattle.xk_squares.proofs.ChangeSquareLemmas.{found_of}
@@ -35,17 +34,12 @@ use Rattle.xk_determinacy.proofs.NumberedFinishLemmas.{Nest, AreNumbered, finish
 use Rattle.xk_determinacy.proofs.NestChangeLemmas.{Change, IsAbove, above_stays, activities_grow, base_stays, finishes_grow, governed_stays, number_stays, open_falls}
 use Rattle.xk_determinacy.proofs.StepNestingLemmas.{Nests, Effect, DoesGo, DoesStart, effect_of}
 use Rattle.xk_determinacy.proofs.TurnLemmas.{Turn, IsToldOf, deeds, deeds_run, deeds_first, told_at, deed_at, IsEarlier, AreOne, run_between, one_event, turn_reached, numbers_rise, in_order}
-use Rattle.xk_determinacy.proofs.DeedPartLemmas.{Says, IsPart, parts_of}
+use Rattle.xk_determinacy.proofs.DeedPartLemmas.{Says, part_is}
+use Rattle.xk_determinacy.proofs.RunWorldLemmas.{world_of}
 use Rattle.xk_determinacy.proofs.StepDeedLemmas.{IsDeedOf, first_deed}
 use Rattle.xk_determinacy.proofs.ScopeLemmas.{nest, opened_in, scopes_append, change_step, numbered_step, numbered_run, opening_numbered, ended_stays}
 use Rattle.xk_determinacy.proofs.OpenFinishLemmas.{IsClosedOn, IsEndedOn, StaysOpen, along_run, close_awaits, end_closed, ended_on, in_run, open_or_closed}
 use Rattle.xk_determinacy.proofs.LinkLemmas.{finish_is}
-
--- ---- steps by number
-
-take_length : {X : Type 0} (xs ys : List X) → take (length xs) (xs ++ ys) ≡ xs
-take_length [] ys = refl
-take_length (x ∷ xs) ys = ap (λ l. x ∷ l) (take_length xs ys)
 
 not_both : event.Ended ≡ event.Closed → ⊥
 not_both h = cc
@@ -117,20 +111,6 @@ module _ (m : ModuleValue) (args : List ℤ) (limits : IsWithinLimits m) (ok : I
 
   -- ---- ends and closes
 
-  part_is : (t : At) (k : ℕ) (d : Deed) (r : IsToldOf m w s t k d)
-      → IsPart m (run_step t.act t.here t.there t.e) t.here t.there t.e r.offset d
-  part_is t k d r = parts_of m t.act t.here t.there t.e r.offset d r.among
-
-  -- the step of a deed is taken in the world of its turn
-  world_of : (t : At) (k : ℕ) (d : Deed) → IsToldOf m w s t k d → IsWorldOf m args log d.step.number t.here
-  world_of t k d r =
-      let n = ap (λ (p : RunStep). p.number) (part_is t k d r).0 in
-      let i = step_counts m t.here t.there t.act t.e t.takes in
-      let j = run_counts m t.before w t.here t.leads in
-      let count : d.step.number ≡ suc (length t.before) = omega (arith, n, i, j) in
-      ap (λ c. run m (take (pred c) s) w) count ∙ ap (λ l. run m (take (length t.before) l) w) t.whole
-      ∙ ap (λ l. run m l w) (take_length t.before (t.act ∷ t.after)) ∙ t.leads
-
   -- deed number k is d, the first one of a step that is seen as this
   record Shows (k : ℕ) (d : Deed) (e : Event) : Type 0 where
     turn : At
@@ -149,7 +129,7 @@ module _ (m : ModuleValue) (args : List ℤ) (limits : IsWithinLimits m) (ok : I
         told = r;
         seen = says.0;
         first = says.1;
-        whose = ap (λ (p : RunStep). p.act) (part_is t k d r).0;
+        whose = ap (λ (p : RunStep). p.act) (part_is m w s t k d r).0;
         who = x.0;
         found = x.1;
       }
@@ -158,19 +138,19 @@ module _ (m : ModuleValue) (args : List ℤ) (limits : IsWithinLimits m) (ok : I
   shows_end k d at is =
       let r = told_at m s w z legal k d at in
       shows k d event.Ended r.0 r.1
-      (subst (Says m (run_step r.0.act r.0.here r.0.there r.0.e) r.0.here r.0.there r.0.e r.1.offset) is (part_is r.0 k d r.1).1)
+      (subst (Says m (run_step r.0.act r.0.here r.0.there r.0.e) r.0.here r.0.there r.0.e r.1.offset) is (part_is m w s r.0 k d r.1).1)
 
   shows_close : (k : ℕ) (d : Deed) → IsAt ds k d → d.part ≡ part.Close → Shows k d event.Closed
   shows_close k d at is =
       let r = told_at m s w z legal k d at in
       shows k d event.Closed r.0 r.1
-      (subst (Says m (run_step r.0.act r.0.here r.0.there r.0.e) r.0.here r.0.there r.0.e r.1.offset) is (part_is r.0 k d r.1).1)
+      (subst (Says m (run_step r.0.act r.0.here r.0.there r.0.e) r.0.here r.0.there r.0.e r.1.offset) is (part_is m w s r.0 k d r.1).1)
 
   -- who takes it, by the world of its number
   same_who : (k : ℕ) (d : Deed) (e : Event) (h : Shows k d e) (here : World) (x : Activity) → IsWorldOf m args log d.step.number here
       → slice_get here.activities d.step.act ≡ Some x → x ≡ h.who
   same_who k d e h here x there at =
-      let one : here ≡ h.turn.here = same_through here h.turn.here (sym there ∙ world_of h.turn k d h.told) in
+      let one : here ≡ h.turn.here = same_through here h.turn.here (sym there ∙ world_of m args log h.turn k d h.told) in
       same_Some x h.who
       (sym at ∙ ap (λ (v : World). slice_get v.activities d.step.act) one ∙ ap (slice_get h.turn.here.activities) h.whose ∙ h.found)
 
@@ -307,7 +287,7 @@ module _ (m : ModuleValue) (args : List ℤ) (limits : IsWithinLimits m) (ok : I
       abbrev shown : Shows first.number first.deed event.Closed
       shown = shows first.number first.deed event.Closed v first.told
           (subst (Says m (run_step v.act v.here v.there v.e) v.here v.there v.e first.told.offset) first.part
-          (part_is v first.number first.deed first.told).1)
+          (part_is m w s v first.number first.deed first.told).1)
 
       depth_is : shown.who.opened ≡ n
       depth_is = sym (many_open first.number first.deed event.Closed shown) ∙ c.depth
@@ -330,7 +310,7 @@ module _ (m : ModuleValue) (args : List ℤ) (limits : IsWithinLimits m) (ok : I
           at = deed_at m w s v first.number first.deed first.told;
           closes = first.part;
           here = c.here;
-          there = world_of v first.number first.deed first.told;
+          there = world_of m args log v first.number first.deed first.told;
           who = shown.who;
           found = ap (slice_get c.here.activities) shown.whose ∙ shown.found;
           deepest = ap (λ i. innermost i shown.who) shown.whose ∙ ap (finish a) depth_is;
@@ -555,7 +535,7 @@ module _ (m : ModuleValue) (args : List ℤ) (limits : IsWithinLimits m) (ok : I
       at = is.2;
       ends = is.3;
       here = h.turn.here;
-      there = world_of h.turn k is.1 h.told;
+      there = world_of m args log h.turn k is.1 h.told;
       who = h.who;
       found = ap (slice_get h.turn.here.activities) h.whose ∙ h.found;
       governed = governed_so k j is.1 e h g is.0 same;
@@ -567,7 +547,7 @@ module _ (m : ModuleValue) (args : List ℤ) (limits : IsWithinLimits m) (ok : I
         at = at;
         closes = closes;
         here = g.turn.here;
-        there = world_of g.turn j e g.told;
+        there = world_of m args log g.turn j e g.told;
         who = g.who;
         found = ap (slice_get g.turn.here.activities) g.whose ∙ g.found;
         deepest = ap (λ i. innermost i g.who) g.whose;
@@ -641,7 +621,7 @@ module _ (m : ModuleValue) (args : List ℤ) (limits : IsWithinLimits m) (ok : I
       ends = its_end.part;
       shown = shows its_end.number its_end.deed event.Ended its_turn its_end.told
           (subst (Says m (run_step x c.here c.there event.Ended) c.here c.there event.Ended its_end.told.offset) its_end.part
-          (part_is its_turn its_end.number its_end.deed its_end.told).1);
+          (part_is m w s its_turn its_end.number its_end.deed its_end.told).1);
       whose = refl;
       before = (c.after, c.whole);
     }
@@ -810,7 +790,7 @@ module _ (m : ModuleValue) (args : List ℤ) (limits : IsWithinLimits m) (ok : I
       g = shows_close j c.deed c.at c.closes
 
       one : c.here ≡ g.turn.here
-      one = same_through c.here g.turn.here (sym c.there ∙ world_of g.turn j c.deed g.told)
+      one = same_through c.here g.turn.here (sym c.there ∙ world_of m args log g.turn j c.deed g.told)
 
       under_it : is_under g.turn.here.activities (innermost g.turn.act g.who) x ≡ true
       under_it =

@@ -17,12 +17,12 @@ use Rattle.xk_races.specs.declared.deeds.Part.{Part}
 use Rattle.xk_races.specs.declared.deeds.Part.TheVariants as part
 use Rattle.xk_events.specs.Worlds.{each_below}
 use Rattle.xk_races.specs.Deeds.{awaits, awaiting, gives_way, has_resumed, resumed_by, has_left, deed, cell_at, signal, leave, advance, pass, plain, signals, leaves, at_clocks, tell_deeds}
-use Rattle.xk_determinacy.proofs.TurnLemmas.{get_split}
+use Rattle.xk_determinacy.proofs.TurnLemmas.{Turn, IsToldOf, get_split}
 
 -- ---- lists
 
 -- it holds of each
-abbrev Every : {X : Type 0} → (X → Type 0) → List X → Type 0
+abbrev pub Every : {X : Type 0} → (X → Type 0) → List X → Type 0
 Every P xs = Each (λ i x. P x) xs
 
 every_none : {X : Type 0} (P : X → Type 0) → Every P []
@@ -32,7 +32,7 @@ each_one : {X : Type 0} (P : ℕ → X → Type 0) (x : X) → P 0 x → Each P 
 each_one P x p zero y h = subst (P 0) (same_Some x y h) p
 each_one P x p (suc i) y h = absurd (none-some y h)
 
-every_one : {X : Type 0} (P : X → Type 0) (x : X) → P x → Every P (x ∷ [])
+pub every_one : {X : Type 0} (P : X → Type 0) (x : X) → P x → Every P (x ∷ [])
 every_one P x p = each_one (λ i y. P y) x p
 
 every_append : {X : Type 0} (P : X → Type 0) (xs ys : List X) → Every P xs → Every P ys → Every P (xs ++ ys)
@@ -42,12 +42,12 @@ every_append P xs ys p q i x h = by (get_split xs ys i x h)
     by (inl a) = p i x a.1
     by (inr a) = q a.0 x a.2
 
-every_flat : {X Y : Type 0} (Q : X → Type 0) (P : Y → Type 0) (f : X → List Y) (xs : List X) → Every Q xs → ((x : X) → Q x → Every P (f x))
+pub every_flat : {X Y : Type 0} (Q : X → Type 0) (P : Y → Type 0) (f : X → List Y) (xs : List X) → Every Q xs → ((x : X) → Q x → Every P (f x))
     → Every P (flat_map f xs)
 every_flat Q P f [] q p = every_none P
 every_flat Q P f (x ∷ xs) q p = every_append P (f x) (flat_map f xs) (p x (q 0 x refl)) (every_flat Q P f xs (λ i y at. q (suc i) y at) p)
 
-every_if : {X : Type 0} (P : X → Type 0) (b : Bool) (x : X) → (b ≡ true → P x) → Every P (if b then x ∷ [] else [])
+pub every_if : {X : Type 0} (P : X → Type 0) (b : Bool) (x : X) → (b ≡ true → P x) → Every P (if b then x ∷ [] else [])
 every_if P true x p = every_one P x (p refl)
 every_if P false x p = every_none P
 
@@ -73,7 +73,7 @@ is_pass event.Passed = true
 is_pass _ = false
 
 -- a clock advances
-abbrev is_advance : Part → Bool
+abbrev pub is_advance : Part → Bool
 is_advance (part.Advance c) = true
 is_advance _ = false
 
@@ -91,7 +91,7 @@ Says m s w v e i part.End = (e ≡ event.Ended) × (i ≡ 0)
 Says m s w v e i _ = Unit {0}
 
 -- it is a part of the step, and says so
-abbrev pub IsPart : ModuleValue → RunStep → World → World → Event → ℕ → Deed → Type 0
+abbrev IsPart : ModuleValue → RunStep → World → World → Event → ℕ → Deed → Type 0
 IsPart m s w v e i d = (d.step ≡ s) × Says m s w v e i d.part
 
 -- the part is of a clock
@@ -105,7 +105,7 @@ at_clock _ = false
 -- ---- advances among deeds
 
 -- no clock advances by this deed
-abbrev IsNoAdvance : Deed → Type 0
+abbrev pub IsNoAdvance : Deed → Type 0
 IsNoAdvance d = is_advance d.part ≡ false
 
 -- clock c advances by one of these deeds at most
@@ -241,7 +241,7 @@ module _ (m : ModuleValue) (a : ℕ) (w v : World) where
   any_number e i part.Print h says = absurd (true≢false (sym h))
 
   -- each deed of a step
-  pub parts_of : (e : Event) → Each (IsPart m (of_step e) w v e) (tell_deeds m a w v e)
+  parts_of : (e : Event) → Each (IsPart m (of_step e) w v e) (tell_deeds m a w v e)
   parts_of e i d h = by (get_split (plain m (of_step e)) (at_clocks v (of_step e) (resumed_by w a) (awaiting w a) e) i d h)
     where
       by : ((i < length (plain m (of_step e))) × (slice_get (plain m (of_step e)) i ≡ Some d))
@@ -287,3 +287,10 @@ module _ (m : ModuleValue) (a : ℕ) (w v : World) where
   advances_once event.Opened c = once_few c (tell_deeds m a w v event.Opened) (omega arith)
   advances_once event.Closed c = once_few c (tell_deeds m a w v event.Closed) (omega arith)
   advances_once event.Spawned c = once_few c (tell_deeds m a w v event.Spawned) (omega arith)
+
+-- ---- a turn
+
+-- a deed that is told of it is one of its step
+pub part_is : (m : ModuleValue) (w : World) (s : List ℕ) (t : Turn m w s) (k : ℕ) (d : Deed) (r : IsToldOf m w s t k d)
+    → IsPart m (run_step t.act t.here t.there t.e) t.here t.there t.e r.offset d
+part_is m w s t k d r = parts_of m t.act t.here t.there t.e r.offset d r.among

@@ -27,7 +27,7 @@ use Rattle.xk_races.specs.Deeds.{awaits, has_resumed, tell_deeds}
 use Rattle.xk_races.specs.Knowledge.{Scopes, nothing_known}
 use Rattle.xk_races.specs.Lists.{number_at}
 use Rattle.xk_races.proofs.OrderLemmas.{IsUpTo}
-use Rattle.xk_races.specs.Order.{IsAt, Reason, Own, Passed, Closed, Edge, Leads, IsLeave, IsAwaited, finish_at, scopes_after}
+use Rattle.xk_races.specs.Order.{IsAt, Reason, Own, Passed, Closed, Edge, Leads, IsLeave, IsAwaited, IsCounted, finish_at, scopes_after}
 use Rattle.xk_events.specs.declared.steps.RunStep.{RunStep}
 use Rattle.xk_events.specs.Steps.{run_step}
 use Rattle.xk_determinacy.proofs.EdgeListLemmas.{IsLed, UpTo, led_cause, led_own, led_through, up_through}
@@ -35,7 +35,7 @@ use Rattle.xk_determinacy.proofs.PhaseLemmas.{phase_grows, phase_advances}
 use Rattle.xk_determinacy.proofs.NumberedFinishLemmas.{AreNumbered, finish, base, number}
 use Rattle.xk_determinacy.proofs.StepNestingLemmas.{Nests, Effect, DoesGo, DoesStart, effect_of}
 use Rattle.xk_determinacy.proofs.TurnLemmas.{Turn, name_of, IsToldOf, deeds, deeds_run, deeds_first, told_at, deeds_around, deed_at, IsEarlier, AreOne, run_between, one_here, one_event, one_told, one_name, earlier_turns, turn_taken, turn_reached, in_order, offsets_rise}
-use Rattle.xk_determinacy.proofs.DeedPartLemmas.{Says, IsPart, is_pass, parts_of, advances_once}
+use Rattle.xk_determinacy.proofs.DeedPartLemmas.{Says, is_pass, advances_once, part_is}
 use Rattle.xk_determinacy.proofs.ScopeLemmas.{nest, opened_in, scopes_append, scopes_step, numbered_run, opening_numbered, ended_stays}
 
 -- ---- lists
@@ -50,7 +50,7 @@ take_front xs ys k is = ap (λ n. take n (xs ++ ys)) is ∙ by xs
 -- ---- standings
 
 -- what is told of where an activity stands on a clock, by the clock
-stands : (test : Standing → Bool) (w : World) (a c : ℕ)
+pub stands : (test : Standing → Bool) (w : World) (a c : ℕ)
     → (nat_lt a (length w.activities) && option_map_or (λ (k : Clock). test (standing_of k a)) (slice_get w.clocks c) false) ≡ true
     → test (standing_on w a c) ≡ true
 stands test w a c h =
@@ -63,14 +63,14 @@ stands test w a c h =
     by (Some k) g = g
 
 -- who is awaited on a clock is registered there, and holds it in its phase
-pending_holds : (p : ℕ) (st : Standing) → is_pending st ≡ true → (is_registered st ≡ true) × (held_in p st ≡ p)
+pub pending_holds : (p : ℕ) (st : Standing) → is_pending st ≡ true → (is_registered st ≡ true) × (held_in p st ≡ p)
 pending_holds p standing.Apart h = absurd (true≢false (sym h))
 pending_holds p standing.Open h = (refl, refl)
 pending_holds p standing.Signalled h = absurd (true≢false (sym h))
 pending_holds p standing.Ahead h = (refl, refl)
 
 -- who has resumed it is, too, and holds it in the next one
-signalled_holds : (p : ℕ) (st : Standing) → is_signalled st ≡ true → (is_registered st ≡ true) × (held_in p st ≡ suc p)
+pub signalled_holds : (p : ℕ) (st : Standing) → is_signalled st ≡ true → (is_registered st ≡ true) × (held_in p st ≡ suc p)
 signalled_holds p standing.Apart h = absurd (true≢false (sym h))
 signalled_holds p standing.Open h = absurd (true≢false (sym h))
 signalled_holds p standing.Signalled h = (refl, refl)
@@ -94,16 +94,12 @@ module _ (m : ModuleValue) (args : List ℤ) (limits : IsWithinLimits m) (ok : I
   start = nothing_known.scopes
 
   -- what a deed says of its turn
-  pub says : (t : Turn m w s) (k : ℕ) (d : Deed) (r : IsToldOf m w s t k d)
-      → IsPart m (run_step t.act t.here t.there t.e) t.here t.there t.e r.offset d
-  says t k d r = parts_of m t.act t.here t.there t.e r.offset d r.among
+  pub whose : (t : Turn m w s) (k : ℕ) (d : Deed) → IsToldOf m w s t k d → d.step.act ≡ t.act
+  whose t k d r = ap (λ (p : RunStep). p.act) (part_is m w s t k d r).0
 
-  whose : (t : Turn m w s) (k : ℕ) (d : Deed) → IsToldOf m w s t k d → d.step.act ≡ t.act
-  whose t k d r = ap (λ (p : RunStep). p.act) (says t k d r).0
-
-  says_so : (t : Turn m w s) (k : ℕ) (d : Deed) (r : IsToldOf m w s t k d) (p : Part) → d.part ≡ p
+  pub says_so : (t : Turn m w s) (k : ℕ) (d : Deed) (r : IsToldOf m w s t k d) (p : Part) → d.part ≡ p
       → Says m (run_step t.act t.here t.there t.e) t.here t.there t.e r.offset p
-  says_so t k d r p is = subst (Says m (run_step t.act t.here t.there t.e) t.here t.there t.e r.offset) is (says t k d r).1
+  says_so t k d r p is = subst (Says m (run_step t.act t.here t.there t.e) t.here t.there t.e r.offset) is (part_is m w s t k d r).1
 
   -- ---- an activity's own
 
@@ -143,7 +139,7 @@ module _ (m : ModuleValue) (args : List ℤ) (limits : IsWithinLimits m) (ok : I
   abbrev turn_of : (t : Turn m w s) → IsTurn m w s (name_of t)
   turn_of t = record { before = t.before; after = t.after; here = t.here; whole = t.whole; leads = t.leads; turn = refl }
 
-  phase_between : (t u : Turn m w s) (c : ℕ) → IsEarlier m w s t u ⊎ AreOne m w s t u → phase_of t.here c ≤ phase_of u.here c
+  pub phase_between : (t u : Turn m w s) (c : ℕ) → IsEarlier m w s t u ⊎ AreOne m w s t u → phase_of t.here c ≤ phase_of u.here c
   phase_between t u c (inl e) =
       phase_grows m (t.act ∷ e.0) t.here u.here c
       (sym (run_behind m t.before (t.act ∷ e.0) w t.here t.leads) ∙ ap (λ l. run m l w) (sym e.1) ∙ u.leads)
@@ -168,43 +164,46 @@ module _ (m : ModuleValue) (args : List ℤ) (limits : IsWithinLimits m) (ok : I
           (offsets_rise m w s l v i n f g p q one less)
           (ap (λ list. slice_get list p.offset) (sym (one_told m w s l v one)) ∙ p.among) q.among first second)
 
-  -- turn u passes a clock
-  module _ (t u : Turn m w s) (c : ℕ) (is : u.e ≡ event.Passed) (waits : awaits u.here u.act c ≡ true) where
-    pass_led : is_registered (standing_on t.here t.act c) ≡ true
-        → held_in (phase_of t.here c) (standing_on t.here t.act c) < phase_of u.here c
-        → IsLed m w s (name_of t) (name_of u)
-    pass_led registered further = led_cause m w s (name_of t) (name_of u) (inr (record {
-      first = turn_of t;
-      second = turn_of u;
-      clock = c;
-      registered = registered;
-      there = u.there;
-      passes = u.takes ∙ ap (Stepped u.there) is;
-      awaited = stands is_pending u.here u.act c waits;
-      advanced = further;
-    }))
+  -- by turn u clock c has come further than who takes turn t holds it
+  abbrev IsFurther : Turn m w s → Turn m w s → ℕ → Type 0
+  IsFurther t u c =
+      (is_registered (standing_on t.here t.act c) ≡ true)
+      × (held_in (phase_of t.here c) (standing_on t.here t.act c) < phase_of u.here c)
 
-    -- the clock advanced in turn v, and waited for turn t
-    signal_led : (v : Turn m w s) → IsEarlier m w s t v ⊎ AreOne m w s t v → IsEarlier m w s v u → awaits t.here t.act c ≡ true
-        → has_advanced v.there c ≡ true → IsLed m w s (name_of t) (name_of u)
-    signal_led v first second signals advances =
-        let h = pending_holds (phase_of t.here c) (standing_on t.here t.act c) (stands is_pending t.here t.act c signals) in
-        let held = h.1 in
-        let a = phase_between t v c first in
-        let b = phase_behind v u c second advances in
-        pass_led h.0 (omega (arith, held, a, b))
+  -- turn u passes it
+  pass_led : (t u : Turn m w s) (c : ℕ) → u.e ≡ event.Passed → awaits u.here u.act c ≡ true → IsFurther t u c
+      → IsLed m w s (name_of t) (name_of u)
+  pass_led t u c is waits further = led_cause m w s (name_of t) (name_of u) (inr (record {
+    first = turn_of t;
+    second = turn_of u;
+    clock = c;
+    registered = further.0;
+    there = u.there;
+    passes = u.takes ∙ ap (Stepped u.there) is;
+    awaited = stands is_pending u.here u.act c waits;
+    advanced = further.1;
+  }))
 
-    -- it advanced in turn l and in turn v; who takes turn t had resumed it
-    leave_led : (l v : Turn m w s) → IsEarlier m w s t l ⊎ AreOne m w s t l → IsEarlier m w s l v → IsEarlier m w s v u
-        → has_resumed t.here t.act c ≡ true → has_advanced l.there c ≡ true → has_advanced v.there c ≡ true
-        → IsLed m w s (name_of t) (name_of u)
-    leave_led l v first second third leaves once again =
-        let h = signalled_holds (phase_of t.here c) (standing_on t.here t.act c) (stands is_signalled t.here t.act c leaves) in
-        let held = h.1 in
-        let a = phase_between t l c first in
-        let b = phase_behind l v c second once in
-        let d = phase_behind v u c third again in
-        pass_led h.0 (omega (arith, held, a, b, d))
+  -- the clock advanced in turn v, and waited for turn t
+  signal_further : (t v u : Turn m w s) (c : ℕ) → IsEarlier m w s t v ⊎ AreOne m w s t v → IsEarlier m w s v u
+      → awaits t.here t.act c ≡ true → has_advanced v.there c ≡ true → IsFurther t u c
+  signal_further t v u c first second signals advances =
+      let h = pending_holds (phase_of t.here c) (standing_on t.here t.act c) (stands is_pending t.here t.act c signals) in
+      let held = h.1 in
+      let a = phase_between t v c first in
+      let b = phase_behind v u c second advances in
+      (h.0, omega (arith, held, a, b))
+
+  -- it advanced in turn l and in turn v; who takes turn t had resumed it
+  leave_further : (t l v u : Turn m w s) (c : ℕ) → IsEarlier m w s t l ⊎ AreOne m w s t l → IsEarlier m w s l v → IsEarlier m w s v u
+      → has_resumed t.here t.act c ≡ true → has_advanced l.there c ≡ true → has_advanced v.there c ≡ true → IsFurther t u c
+  leave_further t l v u c first second third leaves once again =
+      let h = signalled_holds (phase_of t.here c) (standing_on t.here t.act c) (stands is_signalled t.here t.act c leaves) in
+      let held = h.1 in
+      let a = phase_between t l c first in
+      let b = phase_behind l v c second once in
+      let d = phase_behind v u c third again in
+      (h.0, omega (arith, held, a, b, d))
 
   -- ---- a finish
 
@@ -336,21 +335,35 @@ module _ (m : ModuleValue) (args : List ℤ) (limits : IsWithinLimits m) (ok : I
   same_deed : (t : Turn m w s) (k : ℕ) (c d : Deed) → IsAt ds k c → IsToldOf m w s t k d → c ≡ d
   same_deed t k c d at r = same_Some c d (sym at ∙ deed_at m w s t k d r)
 
-  -- who passes a clock behind its advance comes behind each deed that this one waited for
-  awaited_led : (t v u : Turn m w s) (k n c : ℕ) (d f : Deed) → IsToldOf m w s t k d → IsToldOf m w s v n f → f.part ≡ part.Advance c
-      → IsEarlier m w s v u → u.e ≡ event.Passed → awaits u.here u.act c ≡ true → IsAwaited ds n c k → IsLed m w s (name_of t) (name_of u)
-  awaited_led t v u k n c d f p q is later passes waits (inl h) =
-      signal_led t u c passes waits v (in_order m w s t v k n d f p q h.0) later
+  -- where a clock has advanced, it has come beyond the phase in which each held it for whom that advance waited
+  awaited_further : (t v u : Turn m w s) (k n c : ℕ) (d f : Deed) → IsToldOf m w s t k d → IsToldOf m w s v n f → f.part ≡ part.Advance c
+      → IsEarlier m w s v u → IsAwaited ds n c k → IsFurther t u c
+  awaited_further t v u k n c d f p q is later (inl h) =
+      signal_further t v u c (in_order m w s t v k n d f p q h.0) later
       (says_so t k d p (part.Signal c) (ap (λ (x : Deed). x.part) (sym (same_deed t k h.1 d h.2 p)) ∙ h.3))
       (says_so v n f q (part.Advance c) is).0
-  awaited_led t v u k n c d f p q is later passes waits (inr h) = by (told_at m s w z legal h.0 h.2 h.3) h.5
+  awaited_further t v u k n c d f p q is later (inr h) = by (told_at m s w z legal h.0 h.2 h.3) h.5
     where
-      by : (l : Turn m w s) × IsToldOf m w s l h.0 h.2 → IsLeave ds h.0 c k → IsLed m w s (name_of t) (name_of u)
+      by : (l : Turn m w s) × IsToldOf m w s l h.0 h.2 → IsLeave ds h.0 c k → IsFurther t u c
       by (l, r) g =
-          leave_led t u c passes waits l v (in_order m w s t l k h.0 d h.2 p r g.0)
+          leave_further t l v u c (in_order m w s t l k h.0 d h.2 p r g.0)
           (advances_apart l v h.0 n c h.2 f r q h.1 h.4 is) later
           (says_so t k d p (part.Leave c) (ap (λ (x : Deed). x.part) (sym (same_deed t k g.1 d g.2 p)) ∙ g.3))
           (says_so l h.0 h.2 r (part.Advance c) h.4).0 (says_so v n f q (part.Advance c) is).0
+
+  -- so it is with all that a pass counts
+  pub counted_further : (t u : Turn m w s) (k j c : ℕ) (d e : Deed) → IsToldOf m w s t k d → IsToldOf m w s u j e → e.part ≡ part.Pass c
+      → IsCounted ds j c k → IsFurther t u c
+  counted_further t u k j c d e p q passes h = by (told_at m s w z legal h.0 h.2 h.3)
+    where
+      by : (v : Turn m w s) × IsToldOf m w s v h.0 h.2 → IsFurther t u c
+      by (v, r) = behind (in_order m w s v u h.0 j h.2 e r q h.1)
+        where
+          behind : IsEarlier m w s v u ⊎ AreOne m w s v u → IsFurther t u c
+          behind (inl later) = awaited_further t v u k h.0 c d h.2 p r h.4 later h.5
+          behind (inr one) = absurd (true≢false
+              (sym (ap is_pass (one_event m w s v u one ∙ (says_so u j e q (part.Pass c) passes).0))
+              ∙ (says_so v h.0 h.2 r (part.Advance c) h.4).1))
 
   reason_up : (t u : Turn m w s) (k j : ℕ) (d e : Deed) → IsToldOf m w s t k d → IsToldOf m w s u j e → Reason ds k j e
       → UpTo m w s (name_of t) (name_of u)
@@ -366,20 +379,9 @@ module _ (m : ModuleValue) (args : List ℤ) (limits : IsWithinLimits m) (ok : I
       by (inr starts) =
           let g = says_so t k d p (part.Start e.step.act) (ap (λ (c : Deed). c.part) (sym is) ∙ starts) in
           start_up t u g.0 (sym (whose u j e q) ∙ g.1)
-  reason_up t u k j d e p q (Passed c passes h) = by (told_at m s w z legal h.0 h.2 h.3)
-    where
-      last : (u.e ≡ event.Passed) × (awaits u.here u.act c ≡ true)
-      last = says_so u j e q (part.Pass c) passes
-
-      by : (v : Turn m w s) × IsToldOf m w s v h.0 h.2 → UpTo m w s (name_of t) (name_of u)
-      by (v, r) = behind (in_order m w s v u h.0 j h.2 e r q h.1)
-        where
-          middle : (has_advanced v.there c ≡ true) × (is_pass v.e ≡ false)
-          middle = says_so v h.0 h.2 r (part.Advance c) h.4
-
-          behind : IsEarlier m w s v u ⊎ AreOne m w s v u → UpTo m w s (name_of t) (name_of u)
-          behind (inl later) = inr (awaited_led t v u k h.0 c d h.2 p r h.4 later last.0 last.1 h.5)
-          behind (inr one) = absurd (true≢false (sym (ap is_pass (one_event m w s v u one ∙ last.0)) ∙ middle.1))
+  reason_up t u k j d e p q (Passed c passes h) =
+      let last = says_so u j e q (part.Pass c) passes in
+      inr (pass_led t u c last.0 last.1 (counted_further t u k j c d e p q passes h))
   reason_up t u k j d e p q (Closed closes h) = by (in_order m w s t u k j d e p q h.0)
     where
       is : h.1 ≡ d

@@ -1,5 +1,6 @@
--- Phases of clocks only grow; and where a clock is seen to have advanced in a step, its phase is greater behind it.
-use Rattle.std.proofs.Common.{◌≡◌, ℕ, zero, suc, ◌+◌, ◌<◌, ◌≤◌, ◌==◌, Bool, true, false, true≢false, cond, List, [], ◌∷◌, ◌++◌, map, length, Some, None, Option, refl, sym, ap, ◌∙◌, subst, eqb-true, arith}
+-- Phases of clocks only grow, by one in a step at most; and a clock is seen to have advanced in a step exactly where its phase is greater
+-- behind it.
+use Rattle.std.proofs.Common.{◌≡◌, ℕ, zero, suc, ◌+◌, ◌<◌, ◌≤◌, ◌==◌, Bool, true, false, true≢false, cond, List, [], ◌∷◌, ◌++◌, map, length, Some, None, Option, refl, sym, ap, ◌∙◌, subst, eqb-true, eq-eqb, arith}
 use Rattle.std.specs.Prelude.{slice_get, option_map}
 use Rattle.std.specs.Option.{option_map_or}
 use Rattle.xk_types.specs.declared.world.Standing.{Standing}
@@ -62,36 +63,71 @@ push_as_before (d ∷ cs) k (suc c) phase last = let r = push_as_before cs k c p
 record IsSettled (ds es : List Clock) (now c : ℕ) : Type 0 where
   grows : phase_by (at_clock ds c) ≤ phase_by (at_clock es c)
   advances : last_by (at_clock ds c) < now → last_by (at_clock es c) ≡ now → phase_by (at_clock ds c) < phase_by (at_clock es c)
+  near : phase_by (at_clock es c) ≤ suc (phase_by (at_clock ds c))
+  shows : phase_by (at_clock ds c) < phase_by (at_clock es c) → last_by (at_clock es c) ≡ now
 
 settled_marks : (now : ℕ) (ds : List Clock) (c : ℕ) → IsSettled ds (map (settled_clock now) ds) now c
-settled_marks now [] c = record { grows = omega arith; advances = λ h g. absurd (omega (arith, h, g)) }
+settled_marks now [] c =
+    record {
+      grows = omega arith;
+      advances = λ h g. absurd (omega (arith, h, g));
+      near = omega arith;
+      shows = λ h. absurd (omega (arith, h));
+    }
 settled_marks now (k ∷ ds) zero = by (is_ready k)
   where
     by : (b : Bool)
         → IsSettled (k ∷ ds) (cond b (record { phase = k.phase + 1; last = now; standings = map advanced k.standings }) k
         ∷ map (settled_clock now) ds) now zero
-    by true = record { grows = omega arith; advances = λ h g. omega arith }
-    by false = record { grows = omega arith; advances = λ h g. absurd (omega (arith, h, g)) }
-settled_marks now (k ∷ ds) (suc c) = let r = settled_marks now ds c in record { grows = r.grows; advances = r.advances }
+    by true = record { grows = omega arith; advances = λ h g. omega arith; near = omega arith; shows = λ h. refl }
+    by false = record {
+      grows = omega arith;
+      advances = λ h g. absurd (omega (arith, h, g));
+      near = omega arith;
+      shows = λ h. absurd (omega (arith, h));
+    }
+settled_marks now (k ∷ ds) (suc c) =
+    let r = settled_marks now ds c in record { grows = r.grows; advances = r.advances; near = r.near; shows = r.shows }
 
--- ---- a step
+-- ---- phases
 
--- it isn't a step, or phases only grow, and grow where a clock advances
-record GoesUp (w u : World) (c : ℕ) : Type 0 where
-  grows : phase_of w c ≤ phase_of u c
-  advances : last_by (at_clock w.clocks c) ≤ w.steps → last_by (at_clock u.clocks c) ≡ u.steps → phase_of w c < phase_of u c
+-- the phase of clock c
+abbrev pub phase_in : List Clock → ℕ → ℕ
+phase_in cs c = option_map_or (λ (k : Clock). k.phase) (slice_get cs c) 0
 
-abbrev GoUp : World → ℕ → Outcome → Type 0
-GoUp w c Blocked = Unit {0}
-GoUp w c (Wrong d) = Unit {0}
-GoUp w c (Stepped u e) = GoesUp w u c
-
-phase_marks : (cs : List Clock) (c : ℕ) → option_map_or (λ (k : Clock). k.phase) (slice_get cs c) 0 ≡ phase_by (at_clock cs c)
+phase_marks : (cs : List Clock) (c : ℕ) → phase_in cs c ≡ phase_by (at_clock cs c)
 phase_marks cs c = by (slice_get cs c)
   where
     by : (o : Option Clock) → option_map_or (λ (k : Clock). k.phase) o 0 ≡ phase_by (option_map marks o)
     by None = refl
     by (Some k) = refl
+
+-- before the end of a step it is as before
+pub moved_phase : (a : ℕ) (change : ℕ → Standing → Standing) (cs : List Clock) (c : ℕ) → phase_in (moved a change cs) c ≡ phase_in cs c
+moved_phase a change cs c =
+    phase_marks (moved a change cs) c ∙ ap phase_by (moved_marks a change cs c) ∙ sym (phase_marks cs c)
+
+pub joined_phase : (a : ℕ) (given : ℕ → Bool) (cs : List Clock) (c : ℕ) → phase_in (joined a given cs) c ≡ phase_in cs c
+joined_phase a given cs c =
+    phase_marks (joined a given cs) c ∙ ap phase_by (joined_marks a given cs c) ∙ sym (phase_marks cs c)
+
+pub pushed_phase : (cs : List Clock) (k : Clock) (c : ℕ) → k.phase ≡ 0 → k.last ≡ 0 → phase_in (cs ++ k ∷ []) c ≡ phase_in cs c
+pushed_phase cs k c phase last =
+    phase_marks (cs ++ k ∷ []) c ∙ sym ((push_as_before cs k c phase last).phase) ∙ sym (phase_marks cs c)
+
+-- ---- a step
+
+-- it isn't a step, or phases only grow, by one at most, where a clock advances
+record GoesUp (w u : World) (c : ℕ) : Type 0 where
+  grows : phase_of w c ≤ phase_of u c
+  advances : last_by (at_clock w.clocks c) ≤ w.steps → last_by (at_clock u.clocks c) ≡ u.steps → phase_of w c < phase_of u c
+  near : phase_of u c ≤ suc (phase_of w c)
+  shows : phase_of w c < phase_of u c → last_by (at_clock u.clocks c) ≡ u.steps
+
+abbrev GoUp : World → ℕ → Outcome → Type 0
+GoUp w c Blocked = Unit {0}
+GoUp w c (Wrong d) = Unit {0}
+GoUp w c (Stepped u e) = GoesUp w u c
 
 goes_up : (w u : World) (c : ℕ) (ds : List Clock) → IsAsBefore w.clocks ds c → u.clocks ≡ map (settled_clock (w.steps + 1)) ds
     → u.steps ≡ w.steps + 1 → GoesUp w u c
@@ -100,6 +136,8 @@ goes_up w u c ds near clocks steps = record {
   advances = λ old now.
       (let l = near.last in let e = ap (λ cs. last_by (at_clock cs c)) clocks in
       let g = s.advances (omega (arith, l, old)) (omega (arith, e, now, steps)) in omega (arith, g, first, second, near.phase));
+  near = (let g = s.near in omega (arith, g, first, second, near.phase));
+  shows = λ more. ap (λ cs. last_by (at_clock cs c)) clocks ∙ s.shows (omega (arith, more, first, second, near.phase)) ∙ sym steps;
 }
   where
     s : IsSettled ds (map (settled_clock (w.steps + 1)) ds) (w.steps + 1) c
@@ -144,6 +182,10 @@ phase_grows m (a ∷ list) w v c h =
     let rest = phase_grows m list x.0 v c x.3 in
     omega (arith, one, rest)
 
+-- by one in a step at most
+pub phase_near : (m : ModuleValue) (w u : World) (a c : ℕ) (e : Event) → step m w a ≡ Stepped u e → phase_of u c ≤ suc (phase_of w c)
+phase_near m w u a c e takes = (step_up m w u a c e takes).near
+
 -- where a clock is seen to have advanced in a step, its phase has grown by that
 pub phase_advances : (m : ModuleValue) (w u : World) (a c : ℕ) (e : Event) → step m w a ≡ Stepped u e
     → ((k : Clock) → slice_get w.clocks c ≡ Some k → k.last ≤ w.steps)
@@ -160,3 +202,14 @@ phase_advances m w u a c e takes old now =
         → last_by (option_map marks o) ≡ u.steps
     behind None is h = absurd (true≢false (sym h))
     behind (Some k) is h = eqb-true k.last u.steps h
+
+-- and where its phase has grown it is seen to have advanced
+pub phase_shows : (m : ModuleValue) (w u : World) (a c : ℕ) (e : Event) → step m w a ≡ Stepped u e → phase_of w c < phase_of u c
+    → option_map_or (λ (k : Clock). k.last == u.steps) (slice_get u.clocks c) false ≡ true
+phase_shows m w u a c e takes more = by (slice_get u.clocks c) refl
+  where
+    by : (o : Option Clock) → slice_get u.clocks c ≡ o → option_map_or (λ (k : Clock). k.last == u.steps) o false ≡ true
+    by None is =
+        let none : phase_of u c ≡ 0 = ap (λ o. option_map_or (λ (k : Clock). k.phase) o 0) is in absurd (omega (arith, more, none))
+    by (Some k) is = eq-eqb k.last u.steps
+        (sym (ap (λ o. last_by (option_map marks o)) is) ∙ (step_up m w u a c e takes).shows more)

@@ -35,7 +35,8 @@ use Rattle.xk_events.specs.Steps.{run_step}
 use Rattle.xk_races.specs.Deeds.{deed, tell_deeds}
 use Rattle.xk_determinacy.proofs.TurnLemmas.{Turn, name_of, deeds, deed_at, turn_reached, turn_of_step, name_inside}
 use Rattle.xk_determinacy.proofs.EdgeListLemmas.{Edges, no_cause, before_more, IsLed, Grows, Gathered, gather_pairs}
-use Rattle.xk_determinacy.proofs.LinkLemmas.{says, up_led}
+use Rattle.xk_determinacy.proofs.DeedPartLemmas.{part_is}
+use Rattle.xk_determinacy.proofs.LinkLemmas.{up_led}
 use Rattle.xk_determinacy.proofs.SeenLemmas.{IsSight, sight_of}
 use Rattle.xk_determinacy.proofs.StepDeedLemmas.{event_at, IsDeedOf, first_deed}
 
@@ -210,7 +211,7 @@ module _ (m : ModuleValue) (args : List ℤ) (limits : IsWithinLimits m) (ok : I
   act_at : (x : StepName) (p : IsPrintTurn x) → (sight_at x p).sight.deed.step.act ≡ x.0
   act_at x p =
       ap (λ (d : Deed). d.step.act) (sight_at x p).deed
-      ∙ ap (λ (r : RunStep). r.act) (says m args limits ok taken s z legal p.turn p.deed.number p.deed.deed p.deed.told).0
+      ∙ ap (λ (r : RunStep). r.act) (part_is m w s p.turn p.deed.number p.deed.deed p.deed.told).0
       ∙ ap (λ (n : StepName). n.0) p.name
 
   print_led : (x y : StepName) (p : IsPrintTurn x) (q : IsPrintTurn y) → (y.0 ≡ x.0 → ⊥) → (sight_at x p).place < (sight_at y q).place

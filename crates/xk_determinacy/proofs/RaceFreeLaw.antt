@@ -26,7 +26,8 @@ use Rattle.xk_races.specs.Exactness.{Has}
 use Rattle.xk_races.proofs.RaceListLemmas.{races_are_exact}
 use Rattle.xk_determinacy.proofs.TurnLemmas.{Turn, name_of, deeds, deed_at, turn_reached, IsTurnOf, turn_of_step, name_inside}
 use Rattle.xk_determinacy.proofs.EdgeListLemmas.{Edges, no_cause, before_more, IsLed, Grows, Gathered, gather_pairs}
-use Rattle.xk_determinacy.proofs.LinkLemmas.{says, up_led}
+use Rattle.xk_determinacy.proofs.DeedPartLemmas.{part_is}
+use Rattle.xk_determinacy.proofs.LinkLemmas.{up_led}
 use Rattle.xk_determinacy.proofs.SeenLemmas.{IsSight, sight_of, sight_up}
 use Rattle.xk_determinacy.proofs.AccessLemmas.{Mode, event_of, Accesses, Sort, Does, DoesNone, sort_of, apart_none, apart_turned, apart_by, IsAccess, access_of}
 
@@ -83,13 +84,13 @@ module _ (m : ModuleValue) (args : List ℤ) (limits : IsWithinLimits m) (ok : I
       → x.sight.deed.step.event ≡ event_of k
   event_seen t c k p x =
       ap (λ (d : Deed). d.step.event) x.deed
-      ∙ ap (λ (r : RunStep). r.event) (says m args limits ok taken s z legal t p.deed.number p.deed.deed p.deed.told).0 ∙ p.event
+      ∙ ap (λ (r : RunStep). r.event) (part_is m w s t p.deed.number p.deed.deed p.deed.told).0 ∙ p.event
 
   act_seen : (t : Turn m w s) (c : ℕ) (k : Mode) (p : IsAccess m w s t c k) (x : IsSight ds p.deed.number p.deed.deed)
       → x.sight.deed.step.act ≡ t.act
   act_seen t c k p x =
       ap (λ (d : Deed). d.step.act) x.deed
-      ∙ ap (λ (r : RunStep). r.act) (says m args limits ok taken s z legal t p.deed.number p.deed.deed p.deed.told).0
+      ∙ ap (λ (r : RunStep). r.act) (part_is m w s t p.deed.number p.deed.deed p.deed.told).0
 
   one_number : (f g : Part) (c d : ℕ) → f ≡ part.Access c → g ≡ part.Access d → c ≡ d → have_one_number f g ≡ true
   one_number f g c d p q same = ap (λ h. have_one_number h g) p ∙ ap (have_one_number (part.Access c)) q ∙ eq-eqb c d same

@@ -1,5 +1,5 @@
 -- A step at an instruction is seen to do what that instruction does, and the first deed that is told of it is one of the run.
-use Rattle.std.proofs.Common.{◌≡◌, ℕ, true, true≢false, List, length, Some, None, Option, refl, sym, ap, ◌∙◌, arith}
+use Rattle.std.proofs.Common.{◌≡◌, ℕ, true, true≢false, List, length, Some, None, Option, refl, sym, ap, ◌∙◌, ◌+◌}
 use Rattle.std.specs.Prelude.{slice_get, option_and_then}
 use Rattle.std.specs.Option.{option_map_or}
 use Rattle.std.proofs.lemmas.Option.{none-some, same_Some, get_or_from_slice_get}
@@ -68,12 +68,17 @@ module _ (m : ModuleValue) (w : World) (s : List ℕ) (t : Turn m w s) where
     pub told : IsToldOf m w s t number deed
     pub part : deed.part ≡ p
 
-  -- the first one is
-  pub first_deed : (p : Part)
-      → slice_get (tell_deeds m t.act t.here t.there t.e) 0 ≡ Some (deed (run_step t.act t.here t.there t.e) p) → IsDeedOf p
-  first_deed p first = record {
-    number = length (deeds m t.before w);
+  -- one that stands among its deeds is
+  pub deed_told : (p : Part) (i : ℕ)
+      → slice_get (tell_deeds m t.act t.here t.there t.e) i ≡ Some (deed (run_step t.act t.here t.there t.e) p) → IsDeedOf p
+  deed_told p i among = record {
+    number = length (deeds m t.before w) + i;
     deed = deed (run_step t.act t.here t.there t.e) p;
-    told = record { offset = 0; number = omega arith; among = first };
+    told = record { offset = i; number = refl; among = among };
     part = refl;
   }
+
+  -- as the first one
+  pub first_deed : (p : Part)
+      → slice_get (tell_deeds m t.act t.here t.there t.e) 0 ≡ Some (deed (run_step t.act t.here t.there t.e) p) → IsDeedOf p
+  first_deed p first = deed_told p 0 first
