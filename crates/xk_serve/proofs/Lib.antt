@@ -13,3 +13,4 @@ pub mod ExplanationLemmas
 pub mod UnfitModuleLemmas
 pub mod UnfitTextLemmas
 pub mod VerdictLemmas
+pub mod ListReadLemmas

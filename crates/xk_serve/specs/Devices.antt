@@ -1,5 +1,5 @@
 -- What the program does with its devices. This project's own.
-use Rattle.std.specs.Prelude.{◌≡◌, ◌≢◌, ℕ, ℤ, ◌⊎◌, List, [], Option, Some, IfSome, string_bytes, if◌then◌else◌}
+use Rattle.std.specs.Prelude.{◌≡◌, ◌≢◌, ℕ, ℤ, ◌⊎◌, true, List, [], Option, Some, IfSome, string_bytes, if◌then◌else◌}
 use Rattle.std.specs.Io.KnownBytes.{Appends}
 use Rattle.xk_types.specs.Acceptance.{IsAccepted}
 use Rattle.xk_types.specs.Code.{ModuleValue}
@@ -14,7 +14,8 @@ use Rattle.xk_serve.specs.declared.fault.Fault.TheVariants as fault
 use Rattle.xk_log.specs.Verdicts.{IsTruncated, IsWrongAt}
 use Rattle.xk_outcomes.specs.Expected.{stray_line}
 use Rattle.xk_log.specs.Writing.{AppendsBeginning}
-use Rattle.xk_serve.specs.Answer.{Answers, FailsBy, IsNoRun, IsNotRun, IsRefusal, Reply, Succeeds, Task, IsSaidOf, list_in, reads_more}
+use Rattle.xk_serve.specs.Answer.{Answers, FailsBy, IsNoRun, IsNotRun, IsRefusal, Reply, Succeeds, Doing, Task, IsSaidOf, list_in, longest_list, reads_list, reads_more}
+use Rattle.xk_serve.specs.Bytes.{LosesAtMost}
 use Rattle.xk_serve.specs.Faults.{GivesNoModule}
 use Rattle.xk_serve.specs.Programs.{Gives}
 use Rattle.xk_cli.specs.declared.job.Form.{Form}
@@ -33,6 +34,10 @@ IsBegun d out_old out_new log_old log_new = (AppendsBeginning out_old out_new (d
 -- the bytes of the log or the list that a task reads, where they are known; none where it reads neither
 abbrev pub read_of : Task → Option (List ℕ) → Option (List ℕ)
 read_of t known = if reads_more t.doing then known else Some []
+
+-- of a list of outcomes that was to be read no more bytes than count were read
+abbrev pub IsListReadToLimit : Doing → Option (List ℕ) → Option (List ℕ) → Type 0
+IsListReadToLimit what old new = reads_list what ≡ true → LosesAtMost longest_list old new
 
 -- the bytes of FILE and those of the log or the list that is read are known, and this holds of them
 abbrev pub IfKnown : Task → Option (List ℕ) → Option (List ℕ) → (List ℕ → List ℕ → Type 0) → Type 0

@@ -7,7 +7,7 @@ ghost use Rattle.xk_serve.specs.Answer.{Check, ComesTo, Compile, Explain, IsLogT
 ghost use Rattle.xk_cli.specs.CommandLine.{By, In};
 ghost use Rattle.xk_cli.specs.Status.{status_program};
 ghost use Rattle.xk_serve.specs.Lines.{status_of};
-ghost use Rattle.xk_serve.specs.Devices.{AgainstLog, AgainstModule, AgainstRun, read_of};
+ghost use Rattle.xk_serve.specs.Devices.{AgainstLog, AgainstModule, AgainstRun, IsListReadToLimit, read_of};
 ghost use Rattle.xk_serve.specs.declared.fault.Fault.TheVariants.{OutOfMemory};
 
 use crate::explanation::listing;
@@ -52,6 +52,8 @@ pub(crate) fn answer<R: Threads + Wait + Sync, L: Source>(
     // Where the program is refused, no log or list was read.
     ensures refused { IfErr result
         (λ f. status_of f ≡ status_program → log_in.new ≡ log_in.old) }
+    ensures list_no_further { IsListReadToLimit (task_of job.now).doing
+        (L.remaining log_in.old) (L.remaining log_in.new) }
 {
     let module = module_by(alloc, job.form, bytes)?;
     let arguments = job.arguments.as_slice();

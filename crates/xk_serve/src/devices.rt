@@ -9,7 +9,7 @@ ghost use Rattle.xk_serve.specs.Answer.{IsSaidOf, Succeeds, done_status, reads_m
 ghost use Rattle.xk_serve.specs.Bytes.{FailsRead, IsReadToLimit, kept};
 ghost use Rattle.xk_serve.specs.Lines.{device_line, done_ending, done_log, status_of};
 ghost use Rattle.xk_diagnostics.specs.Lines.{memory_line};
-ghost use Rattle.xk_serve.specs.Devices.{AgainstLog, Answered, ErrBegins, Explained, IfKnown, IsBegun, IsQuiet, IsWritten, OutBegins, Reports, StandsAgainst, Tells, TellsWords, read_of};
+ghost use Rattle.xk_serve.specs.Devices.{AgainstLog, Answered, ErrBegins, Explained, IfKnown, IsBegun, IsListReadToLimit, IsQuiet, IsWritten, OutBegins, Reports, StandsAgainst, Tells, TellsWords, read_of};
 
 use crate::bounded_read::read_front;
 use crate::commands::answer;
@@ -81,11 +81,13 @@ pub fn serve<R: Threads + Wait + Sync, P: Source, L: Source, O: Sink, E: Sink, K
         → Appends (E.contents err.old) (E.contents err.new) device_line
         ⊎ Rose (E.fault_count err.old) (E.fault_count err.new) }
 
-    // No log or list is read where the job is on none, nor where the program is refused; of a source text no more than one byte too many.
+    // What isn't wanted isn't read: no log or list where the job is on none or the program is refused, and no text or list beyond its limit.
     ensures log_in { reads_more (task_of job.now).doing ≡ false → log_in.new ≡ log_in.old }
     ensures log_unread { result ≡ status_program → log_in.new ≡ log_in.old }
     ensures no_further { IsReadToLimit (task_of job.now).form
         (P.remaining program.old) (P.remaining program.new) }
+    ensures list_no_further { IsListReadToLimit (task_of job.now).doing
+        (L.remaining log_in.old) (L.remaining log_in.new) }
 {
     match outcome(rt, alloc, job, program, log_in) {
         Ok((done, ending)) => print(alloc, &done, ending.as_str(), out, err, log_out),
@@ -122,6 +124,8 @@ fn outcome<R: Threads + Wait + Sync, P: Source, L: Source>(
         (λ r. status_of r.fault ≡ status_program → log_in.new ≡ log_in.old) }
     ensures no_further { IsReadToLimit (task_of job.now).form
         (P.remaining program.old) (P.remaining program.new) }
+    ensures list_no_further { IsListReadToLimit (task_of job.now).doing
+        (L.remaining log_in.old) (L.remaining log_in.new) }
 {
     match read_program(alloc, job.form, program) {
         Ok(bytes) => done_on(rt, alloc, job, &bytes, log_in),
@@ -148,6 +152,8 @@ fn done_on<R: Threads + Wait + Sync, L: Source>(
     ensures unread { reads_more (task_of job.now).doing ≡ false → log_in.new ≡ log_in.old }
     ensures refused { IfErr result
         (λ r. status_of r.fault ≡ status_program → log_in.new ≡ log_in.old) }
+    ensures list_no_further { IsListReadToLimit (task_of job.now).doing
+        (L.remaining log_in.old) (L.remaining log_in.new) }
 {
     match done_or_refused(rt, alloc, job, bytes, log_in) {
         Ok(done) => match done.ending(alloc) {
@@ -176,6 +182,8 @@ fn done_or_refused<R: Threads + Wait + Sync, L: Source>(
     ensures unread { reads_more (task_of job.now).doing ≡ false → log_in.new ≡ log_in.old }
     ensures refused { IfErr result
         (λ r. status_of r.fault ≡ status_program → log_in.new ≡ log_in.old) }
+    ensures list_no_further { IsListReadToLimit (task_of job.now).doing
+        (L.remaining log_in.old) (L.remaining log_in.new) }
 {
     match job.command {
         Command::Explain { json } => explained(alloc, json, job.form, job.file, bytes),

@@ -2,7 +2,8 @@
 
 ghost use Rattle.std.specs.Prelude.{◌≡◌, ◌≢◌, ℕ, List, IfOk, IfErr, IfSome, None, OnOk, option_map, unwrap_or};
 ghost use Rattle.xk_types.specs.World.{AreArguments};
-ghost use Rattle.xk_serve.specs.Answer.{ComesTo, Expected, IsFoundOut, IsHeldOut, IsNotRun, Outcomes, kept_log};
+ghost use Rattle.xk_serve.specs.Answer.{ComesTo, Expected, IsFoundOut, IsHeldOut, IsNotRun, Outcomes, kept_log, longest_list};
+ghost use Rattle.xk_serve.specs.Bytes.{LosesAtMost};
 ghost use Rattle.xk_cli.specs.Status.{status_program};
 ghost use Rattle.xk_serve.specs.Devices.{AgainstExpected, AgainstList};
 ghost use Rattle.xk_serve.specs.Lines.{status_of};
@@ -79,6 +80,8 @@ pub(crate) fn held<L: Source>(
         (L.fault_count source.old) (L.fault_count source.new)) }
     ensures refused { IfErr result
         (λ f. status_of f ≡ status_program → source.new ≡ source.old) }
+    ensures no_further { LosesAtMost longest_list
+        (L.remaining source.old) (L.remaining source.new) }
 {
     let verified = runnable(alloc, m, arguments)?;
     let limit = Limit::of(limit, verified.activities());
@@ -101,6 +104,8 @@ fn held_by<L: Source>(
     ensures fault { IfErr result (AgainstList (L.remaining source.old)
         (L.fault_count source.old) (L.fault_count source.new)) }
     ensures of_list { IfErr result (λ f. status_of f ≢ status_program) }
+    ensures no_further { LosesAtMost longest_list
+        (L.remaining source.old) (L.remaining source.new) }
 {
     let bytes = read_front(alloc, source, LONGEST_LIST)?;
     match expected_outcomes(alloc, sets, verified, arguments, limit, &bytes) {
