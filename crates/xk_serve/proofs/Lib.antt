@@ -13,4 +13,3 @@ pub mod ExplanationLemmas
 pub mod UnfitModuleLemmas
 pub mod UnfitTextLemmas
 pub mod VerdictLemmas
-pub mod ListReadLemmas
