@@ -39,10 +39,8 @@ pub(crate) fn clocked_finish<'t>(
         at: clock.at,
         paren: clock.at,
     };
-    let mut stmts = Vec::new(alloc);
-    stmts.push(Stmt::Declare(Binding::Hidden, clock, None, Right::Make(clock.at, verb)))?;
-    stmts.push(stmt)?;
-    stmts.push(Stmt::Drop(clock, verb))?;
+    let made = Stmt::Declare(Binding::Hidden, clock, None, Right::Make(clock.at, verb));
+    let stmts = Vec::from_array(alloc, [made, stmt, Stmt::Drop(clock, verb)])?;
     let block = Box::new(alloc, Stmt::Block(at, stmts))?;
     Ok(Stmt::Finish(at, block))
 }

@@ -1,6 +1,5 @@
 //! Tests of the libraries, of what neither their contracts say nor the built program shows: given schedules, runs that other choosers drive,
-//! workers that compute at once, kinds and rooms, devices that fail, a line without an end, and the texts of faults. What is answered between
-//! devices that fail, and the texts of the program's own faults, `xk_devices` has.
+//! workers that compute at once, kinds and rooms, devices that fail, a line without an end, and the texts of faults.
 #![tactic(auto)]
 
 #[cfg(test)]

@@ -9,14 +9,6 @@ use xk_core::Core;
 use xk_module::read_module;
 use xk_types::Module;
 
-/// A sum of two numbers, and a phase of a clock on which main is alone.
-pub const SUM_AND_PHASE: &str =
-    r#"{"version":1,"shared":[],"units":[{"kind":"main","params":"","slots":3,"code":[["lit",0,2],["lit",1,3],["add",0,0,1],["make",2],["advance"],["print",0],["ret"]]}]}"#;
-
-/// The same with another number: the slots of main, before its first step, are the same.
-pub const OTHER_SUM: &str =
-    r#"{"version":1,"shared":[],"units":[{"kind":"main","params":"","slots":3,"code":[["lit",0,2],["lit",1,4],["add",0,0,1],["make",2],["advance"],["print",0],["ret"]]}]}"#;
-
 /// Main and the activity that it starts add two numbers each, and print the sum.
 pub const TWO_SUMS: &str =
     r#"{"version":1,"shared":[],"units":[{"kind":"main","params":"","slots":2,"code":[["spawn",1,[]],["lit",0,2],["lit",1,3],["add",0,0,1],["print",0],["ret"]]},{"kind":"body","params":"","slots":2,"code":[["lit",0,2],["lit",1,3],["add",0,0,1],["print",0],["ret"]]}]}"#;
