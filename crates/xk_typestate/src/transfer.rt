@@ -119,10 +119,8 @@ pub(crate) fn kinds_after(
         Instr::Lit { d, .. } | Instr::For { k: d, .. } | Instr::Get { d, .. } => {
             write(*d, Kind::Number, slot, kind)
         }
-        Instr::Copy { d, a: x } | Instr::ForTo { k: d, x, .. } => {
-            read(*x, slot, kind)?;
-            write(*d, Kind::Number, slot, kind)
-        }
+        Instr::Copy { d, a: x } => copy(*d, *x, slot, kind),
+        Instr::ForTo { k: d, x, .. } => copy(*d, *x, slot, kind),
         Instr::Add { d, a: x, b: y } => compute(*d, *x, *y, slot, kind),
         Instr::Sub { d, a: x, b: y } => compute(*d, *x, *y, slot, kind),
         Instr::Mul { d, a: x, b: y } => compute(*d, *x, *y, slot, kind),
@@ -141,6 +139,14 @@ pub(crate) fn kinds_after(
         Instr::Jump(_) | Instr::Finish(_) => Ok(KindSet::of(kind)),
         Instr::Ret => after_ret(u, slot, kind),
     }
+}
+
+/// Reads a slot as a number, then writes a number.
+fn copy(d: u16, x: u16, slot: u16, kind: Kind) -> Result<KindSet, Rule>
+    ensures { IsRow (reads x slot kind (writes d Number slot kind)) result }
+{
+    read(x, slot, kind)?;
+    write(d, Kind::Number, slot, kind)
 }
 
 /// Reads two slots as numbers, then writes a number.
