@@ -44,14 +44,15 @@ ASKED = b"def main() { async { Console.OUT.println(2); } Console.OUT.println(1);
 
 @dataclass(frozen=True)
 class Call:
-    """Words, in which SECOND and LOG stand for files; what the program and the second file hold, or, where somebody is asked, what standard input
-    answers; and the status where no device fails."""
+    """Words, in which PROGRAM, SECOND and LOG stand for files; what the program and the second file hold, or, where somebody is asked, what standard
+    input answers; the status where no device fails; and what is told where one does."""
 
     words: str
     program: bytes
     second: bytes = b""
     status: int = 0
     asks: bool = False
+    line: bytes = DEVICE
 
 
 @dataclass(frozen=True)
@@ -92,7 +93,7 @@ CALLS = [
     *(Call(f"{command} - SECOND", IN_STEP, OTHER_LOG, status=3) for command in ("chart", "page")),
     Call("run --order ask --log LOG PROGRAM", ASKED, b"0\n1\n0\n1\n0\n", asks=True),
     Call("run --order ask --log LOG PROGRAM", ASKED, b"0\n2\n1\n0", status=6, asks=True),
-    Call("--help", b""),
+    Call("--help", b"", line=b""),
     Call("walk", b"", status=2),
 ]
 
@@ -134,7 +135,7 @@ def is_cut(text: bytes, whole: bytes) -> bool:
 
 def is_right(call: Call, failure: Failure, told: Told, whole: Told) -> bool:
     """Whether this is what has to come of the call where a device fails, which is answered as a whole otherwise."""
-    line = b"" if failure.silent or failure.device == "err" and not call.asks else DEVICE
+    line = b"" if failure.silent or failure.device == "err" and not call.asks else call.line
     if told.status != STATUS or not told.err.endswith(line):
         return False
     before = told.err.removesuffix(line)
@@ -142,7 +143,7 @@ def is_right(call: Call, failure: Failure, told: Told, whole: Told) -> bool:
         case "program":
             return told == Told(STATUS, b"", line, b"")
         case "second":
-            return not told.out and not told.log and (is_cut(before, whole.err) if call.asks else not before)
+            return not told.out and not told.log and (whole.err.startswith(before) if call.asks else not before)
         case "err":
             return is_cut(before, whole.err) and not told.log and told.out == (b"" if call.asks else whole.out)
         case "out":
