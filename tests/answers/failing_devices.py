@@ -1,8 +1,8 @@
 #!/usr/bin/env python3
 """The built program between devices that fail it: of each call every read and every write fails in its turn, of the program, of a log, a list or
-what somebody answers, of standard output, of standard error, and of the log that is written; once in whole pieces and once byte for byte. It has
-to end with status 5 and its line, and to leave a beginning of what it answers otherwise: nothing where it couldn't read, and no log before all
-of the result. Where devices move single bytes and none fails, it answers as ever.
+what somebody answers, of standard output, of standard error, and of the log that is written. Where devices move single bytes they fail, too: of
+long texts at some of them, and at the last. It has to end with status 5 and its line, and to leave a beginning of what it answers otherwise:
+nothing where it couldn't read, and no log before all of the result. Where devices move single bytes and none fails, it answers as ever.
 
     python3 tests/answers/failing_devices.py [--program PATH]
 
@@ -153,10 +153,10 @@ def is_right(call: Call, failure: Failure, told: Told, whole: Told) -> bool:
 
 
 def numbers(length: int, paced: bool) -> Iterator[int]:
-    """Which calls of a device fail in their turn: each, or of single bytes some up to the last one that there can be."""
+    """Which calls of a device fail in their turn: each, or of single bytes some up to the last one that there can be, which reads no more."""
     if not paced or length < BYTES:
         return itertools.count(1)
-    return iter(sorted({*range(1, BYTES // 2), *range(BYTES // 2, length, 2 * length // BYTES), length - 1, length}))
+    return iter(sorted({*range(1, BYTES // 2), *range(BYTES // 2, length, 2 * length // BYTES), length, length + 1}))
 
 
 def failures(call: Call, whole: Told) -> Iterator[tuple[Failure, int]]:
