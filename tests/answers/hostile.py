@@ -37,7 +37,7 @@ OVER_FILE = "x10clock: --log would write over FILE\n"
 LONG = "def main() { for (i in 1..900000000) ; Console.OUT.println(1); }"
 SECONDS = 60
 # The least stack, in KB, in which texts as deep as they may be are answered.
-LEAST_STACK = 256
+LEAST_STACK = 192
 LIMITS_OF_MEMORY = (5, 10, 20, 40, 80, 160, 320, 640, 1_280, 3_000)
 
 

@@ -26,6 +26,7 @@ pub(crate) fn hidden_name<'t>(at: usize, levels: u32) -> Name<'t>
 }
 
 /// What a `clocked finish` of this statement stands for, whose `finish` stands at this offset, with this name for its clock.
+#[inline(never)]
 pub(crate) fn clocked_finish<'t>(
     alloc: Global,
     at: usize,
