@@ -12,7 +12,7 @@ Bugs stand in tests/prover/bugs/CRATE.bugs, each as
     old: a text that stands once in that file
     new: what stands there instead
 
-with further pairs of `old:` and `new:` where one isn't enough. A line `passes: reason` says that no contract refuses it, and why that is
+with further pairs of `old:` and `new:` where one isn't enough, and a further `file:` before those of another file. A line `passes: reason` says that no contract refuses it, and why that is
 right. Contracts are all that callers see, so bugs in different functions are planted together and tried by one `rt check`: each function
 says for itself whether it is refused; one that calls a function which is refused waits for another check, if it must. What becomes of a bug:
 
@@ -40,16 +40,22 @@ from dataclasses import dataclass, field
 
 
 @dataclass
+class Change:
+    file: str
+    old: str
+    new: str = ""
+
+
+@dataclass
 class Bug:
     name: str
     why: str = ""
     passes: str = ""
-    file: str = ""
-    pairs: list = field(default_factory=list)
+    changes: list = field(default_factory=list)
 
 
 def read_bugs(path):
-    bugs = []
+    bugs, file = [], ""
     for number, line in enumerate(open(path, encoding="utf-8"), 1):
         line = line.rstrip("\n")
         word, _, rest = line.partition(":")
@@ -58,19 +64,22 @@ def read_bugs(path):
             continue
         if word == "bug":
             bugs.append(Bug(rest))
-        elif word in ("why", "passes", "file"):
+            file = ""
+        elif word in ("why", "passes"):
             setattr(bugs[-1], word, rest)
+        elif word == "file":
+            file = rest
         elif word == "old":
-            bugs[-1].pairs.append([rest, ""])
+            bugs[-1].changes.append(Change(file, rest))
         elif word == "new":
-            bugs[-1].pairs[-1][1] = rest
+            bugs[-1].changes[-1].new = rest
         else:
             sys.exit(f"{path}:{number}: not understood: {line}")
     names = [b.name for b in bugs]
     for name in {n for n in names if names.count(n) > 1}:
         sys.exit(f"{path}: two bugs are called {name}")
     for bug in bugs:
-        if not bug.why or not bug.file or not bug.pairs:
+        if not bug.why or not bug.changes or not all(change.file for change in bug.changes):
             sys.exit(f"{path}: {bug.name} has no why, no file, or nothing that it changes")
     return bugs
 
@@ -120,19 +129,21 @@ class Crate:
 
     def places(self, bug):
         """The functions that a bug changes, or the lines, where it changes something outside of functions."""
-        text, hit = self.text(bug.file), set()
-        fs = functions(text)
-        for old, _ in bug.pairs:
-            line = text.count("\n", 0, text.find(old)) + 1
-            f = next((f for f in fs if f[0] <= line <= f[1]), None)
-            hit.add((bug.file, *f) if f else (bug.file, line, line, "", ""))
+        hit = set()
+        for change in bug.changes:
+            text = self.text(change.file)
+            line = text.count("\n", 0, text.find(change.old)) + 1
+            f = next((f for f in functions(text) if f[0] <= line <= f[1]), None)
+            hit.add((change.file, *f) if f else (change.file, line, line, "", ""))
         return hit
 
     def stale(self, bug):
-        if not os.path.exists(os.path.join(self.path, bug.file)):
-            return f"{bug.file} isn't there"
-        wrong = [old for old, _ in bug.pairs if self.text(bug.file).count(old) != 1]
-        return f"not once in {bug.file}: {wrong[0]}" if wrong else ""
+        for change in bug.changes:
+            if not os.path.exists(os.path.join(self.path, change.file)):
+                return f"{change.file} isn't there"
+            if self.text(change.file).count(change.old) != 1:
+                return f"not once in {change.file}: {change.old}"
+        return ""
 
     def batches(self, bugs):
         """Bugs that change different functions; what changes no function is tried alone."""
@@ -155,9 +166,9 @@ class Crate:
     def planted(self, bugs):
         cuts = {}
         for bug in bugs:
-            for old, new in bug.pairs:
-                at = self.text(bug.file).find(old)
-                cuts.setdefault(bug.file, []).append((at, at + len(old), new))
+            for change in bug.changes:
+                at = self.text(change.file).find(change.old)
+                cuts.setdefault(change.file, []).append((at, at + len(change.old), change.new))
         texts = {}
         for file, found in cuts.items():
             text = self.text(file)

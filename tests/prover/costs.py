@@ -86,9 +86,12 @@ def edits_of(crate: pathlib.Path) -> list[tuple[str, bugs.Bug]]:
     """The crate's edits, and its bugs that aren't said to pass."""
     found = []
     for file in sorted((crate / "must-fail").glob("*.edit")):
-        edit, lines = bugs.Bug(file.stem), file.read_text(encoding="utf-8").split("\n")
-        edit.file = next(line[len("file: ") :] for line in lines if line.startswith("file: "))
-        edit.pairs = [[line[len("old: ") :], ""] for line in lines if line.startswith("old: ")]
+        edit, name = bugs.Bug(file.stem), ""
+        for line in file.read_text(encoding="utf-8").split("\n"):
+            if line.startswith("file: "):
+                name = line[len("file: ") :]
+            elif line.startswith("old: "):
+                edit.changes.append(bugs.Change(name, line[len("old: ") :]))
         found.append(("edit", edit))
     planted = TOP / "tests/prover/bugs" / f"{crate.name}.bugs"
     return found + [("bug", bug) for bug in (bugs.read_bugs(planted) if planted.exists() else []) if not bug.passes]

@@ -16,7 +16,7 @@ import subprocess
 import sys
 import tempfile
 
-from bugs import read_bugs
+from bugs import Crate, read_bugs
 
 TOP = os.path.normpath(os.path.join(os.path.dirname(os.path.abspath(__file__)), "../.."))
 BELOW = ["xk_types", "xk_tree", "xk_names", "xk_callgraph"]
@@ -85,21 +85,16 @@ def main():
         print(f"as it is: {first} {line}", flush=True)
         if first != "proved":
             sys.exit(1)
+        crate = Crate(folder, "xk_simulation")
         for bug in bugs:
-            path = os.path.join(folder, "crates", "xk_simulation", bug.file)
-            right = open(path, encoding="utf-8").read()
-            text = right
-            for old, new in bug.pairs:
-                if text.count(old) != 1:
-                    sys.exit(f"{bug.name}: not once in {bug.file}: {old}")
-                text = text.replace(old, new)
-            with open(path, "w", encoding="utf-8") as f:
-                f.write(text)
+            if stale := crate.stale(bug):
+                sys.exit(f"{bug.name}: {stale}")
+            wrong_texts = crate.planted([bug])
+            crate.write(wrong_texts)
             word, line = says(folder)
             print(f"  {bug.name:34} {word:10} {line[:150]}", flush=True)
             wrong += [bug.name] if word != "refused" else []
-            with open(path, "w", encoding="utf-8") as f:
-                f.write(right)
+            crate.write({file: crate.text(file) for file in wrong_texts})
     print(f"{len(bugs)} wrong compilers, {len(bugs) - len(wrong)} refused")
     sys.exit(1 if wrong else 0)
 
