@@ -1,4 +1,4 @@
-//! Small programs as module text, and as source text, and logs.
+//! Small programs as module text, and logs.
 
 /// A sum of two numbers, and a phase of a clock on which main is alone.
 const SUM_AND_PHASE: &str =
@@ -34,8 +34,9 @@ pub fn given() -> [(&'static str, &'static [i64]); 4] {
     ]
 }
 
-/// Programs that the verifier accepts: of one activity, of several, and with shared numbers; and a run of some thousand steps.
-pub fn accepted() -> [&'static str; 18] {
+/// Programs that the verifier accepts: of one activity, of several, and with shared numbers; fifty activities that a loop starts; and a run of some
+/// thousand steps.
+pub fn accepted() -> [&'static str; 19] {
     [
         SUM_AND_PHASE,
         r#"{"version":1,"shared":[7,-7],"units":[{"kind":"main","params":"","slots":1,"code":[["make",0],["resume",0],["resume",0],["advance"],["drop",0],["ret"]]}]}"#,
@@ -54,6 +55,7 @@ pub fn accepted() -> [&'static str; 18] {
         r#"{"version":1,"shared":[],"units":[{"kind":"main","params":"","slots":1,"code":[["finish",4],["make",0],["spawn",1,[0]],["drop",0],["endfinish",0],["ret"]]},{"kind":"body","params":"c","slots":1,"code":[["advance"],["ret"]]}]}"#,
         r#"{"version":1,"shared":[],"units":[{"kind":"main","params":"","slots":2,"code":[["make",0],["for",1,1,2,3],["call",1,[0,1]],["next",1],["ret"]]},{"kind":"method","params":"cn","slots":3,"code":[["finish",7],["make",2],["spawn",2,[2,1]],["resume",2],["spawn",2,[2,1]],["advance"],["drop",2],["endfinish",0],["resume",0],["ret"]]},{"kind":"body","params":"cn","slots":2,"code":[["advance"],["print",1],["ret"]]}]}"#,
         r#"{"version":1,"shared":[0],"units":[{"kind":"main","params":"","slots":2,"code":[["finish",4],["for",0,1,3,3],["spawn",1,[0]],["next",1],["endfinish",0],["get",1,0],["print",1],["ret"]]},{"kind":"body","params":"n","slots":1,"code":[["addto",0,0],["ret"]]}]}"#,
+        r#"{"version":1,"shared":[],"units":[{"kind":"main","params":"","slots":1,"code":[["for",0,1,50,2],["spawn",1,[]],["next",0],["ret"]]},{"kind":"body","params":"","slots":0,"code":[["ret"]]}]}"#,
         r#"{"version":1,"shared":[],"units":[{"kind":"main","params":"","slots":1,"code":[["for",0,1,3000,1],["next",0],["print",0],["ret"]]}]}"#,
     ]
 }
@@ -77,39 +79,6 @@ pub fn refused() -> [&'static str; 16] {
         r#"{"version":1,"shared":[],"units":[{"kind":"main","params":"","slots":1,"code":[["for",0,1,999999999,1],["next",0],["ret"]]}]}"#,
         r#"{"version":2,"shared":[],"units":[{"kind":"main","params":"","slots":1,"code":[["forto",0,1,0,3,1],["next",0],["ret"]]}]}"#,
         r#"{"version":2,"shared":[],"units":[{"kind":"main","params":"c","slots":1,"code":[["drop",0],["ret"]]}]}"#,
-    ]
-}
-
-/// Source texts to be run, and the numbers that each prints where always the least activity goes first: two activities on a clock; three, each
-/// on two of three clocks; a method that goes a phase on; a shared sum; a finish with a clock; a sum and a phase; fifty activities that a loop
-/// starts.
-pub fn sources() -> [(&'static str, &'static [i64]); 7] {
-    [
-        (
-            "def main() { val c = Clock.make(); async clocked(c) { Clock.advanceAll(); Console.OUT.println(2); } Clock.advanceAll(); Console.OUT.println(1); }",
-            &[1, 2],
-        ),
-        (
-            "def main() { val c = Clock.make(); val d = Clock.make(); val e = Clock.make(); async clocked(c, d) { Clock.advanceAll(); Clock.advanceAll(); } async clocked(d, e) { Clock.advanceAll(); Clock.advanceAll(); } async clocked(e, c) { Clock.advanceAll(); Clock.advanceAll(); } }",
-            &[],
-        ),
-        (
-            "def step(c: Clock) { Clock.advanceAll(); } def main() { val a = Clock.make(); val b = Clock.make(); b.resume(); step(a); b.resume(); }",
-            &[],
-        ),
-        (
-            "shared s = 0; def main() { finish { for (i in 1..3) async { atomic s = s + i; } } val r = s; Console.OUT.println(r); }",
-            &[6],
-        ),
-        (
-            "def main() { clocked finish { clocked async { Clock.advanceAll(); Console.OUT.println(12); } Clock.advanceAll(); Console.OUT.println(11); } Console.OUT.println(3); }",
-            &[11, 12, 3],
-        ),
-        (
-            "def main() { val sum = 2 + 3; val c = Clock.make(); Clock.advanceAll(); Console.OUT.println(sum); }",
-            &[5],
-        ),
-        ("def main() { for (i in 1..50) async { } }", &[]),
     ]
 }
 

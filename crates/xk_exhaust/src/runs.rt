@@ -9,12 +9,6 @@ use xk_core::Core;
 use xk_scheduler::{Driver, Halt, Last, Ran, run_schedule};
 use xk_types::{Act, Event};
 
-/// A module is run in each way, its main being given these numbers.
-pub fn on_verified(alloc: Global, verified: &Verified, arguments: &[i64]) -> Result<(), Wrong> {
-    by_hand(alloc, verified, arguments)?;
-    by_turns(alloc, verified, arguments)
-}
-
 /// A core, at the second try where memory was refused.
 pub fn opened<'m>(
     alloc: Global,
@@ -35,7 +29,7 @@ pub fn opened<'m>(
 
 /// One step of an activity that can take it, at the second try where memory was refused, and what it does. No step asks for memory where a
 /// program starts nobody.
-pub fn stepped(core: &mut Core, act: Act) -> Result<Event, Wrong> {
+fn stepped(core: &mut Core, act: Act) -> Result<Event, Wrong> {
     if !core.enabled(act) {
         return Err(Wrong("a step isn't enabled"));
     }
@@ -70,7 +64,7 @@ fn by_steps(core: &mut Core, schedule: &mut Vec<u32>) -> Result<(), Wrong> {
 }
 
 /// A run by single steps, and the same by its schedule.
-fn by_hand(alloc: Global, verified: &Verified, arguments: &[i64]) -> Result<(), Wrong> {
+pub fn by_hand(alloc: Global, verified: &Verified, arguments: &[i64]) -> Result<(), Wrong> {
     let mut core = opened(alloc, verified, arguments)?;
     let mut schedule = Vec::new(alloc);
     by_steps(&mut core, &mut schedule)?;
@@ -141,7 +135,7 @@ fn turns(driver: &mut Driver) -> Result<(), Wrong> {
 }
 
 /// A run by turns.
-fn by_turns(alloc: Global, verified: &Verified, arguments: &[i64]) -> Result<(), Wrong> {
+pub fn by_turns(alloc: Global, verified: &Verified, arguments: &[i64]) -> Result<(), Wrong> {
     let mut driver = taken_over(alloc, verified, arguments)?;
     turns(&mut driver)
 }

@@ -1,4 +1,4 @@
-//! Modules, as text, and the beginning of their runs.
+//! A module, as text, and the beginning of its run.
 
 ghost use Rattle.std.specs.Prelude.{◌≡◌, IfOk};
 
@@ -13,20 +13,8 @@ use xk_types::Module;
 pub const TWO_SUMS: &str =
     r#"{"version":1,"shared":[],"units":[{"kind":"main","params":"","slots":2,"code":[["spawn",1,[]],["lit",0,2],["lit",1,3],["add",0,0,1],["print",0],["ret"]]},{"kind":"body","params":"","slots":2,"code":[["lit",0,2],["lit",1,3],["add",0,0,1],["print",0],["ret"]]}]}"#;
 
-/// Main starts an activity behind an `advance`.
-pub const LATE_CHILD: &str =
-    r#"{"version":1,"shared":[],"units":[{"kind":"main","params":"","slots":0,"code":[["advance"],["spawn",1,[]],["ret"]]},{"kind":"body","params":"","slots":0,"code":[["advance"],["ret"]]}]}"#;
-
-/// Main starts an activity on its clock, and both go one phase on.
-pub const IN_STEP: &str =
-    r#"{"version":1,"shared":[],"units":[{"kind":"main","params":"","slots":2,"code":[["make",0],["spawn",1,[0]],["advance"],["lit",1,1],["print",1],["ret"]]},{"kind":"body","params":"c","slots":2,"code":[["advance"],["lit",1,2],["print",1],["ret"]]}]}"#;
-
-/// The sum of the numbers up to the square of the one that main is given, and to ten at most.
-pub const SUM_TO_SQUARE: &str =
-    r#"{"version":2,"shared":[],"units":[{"kind":"main","params":"n","slots":4,"code":[["lit",1,0],["mul",3,0,0],["forto",2,1,3,10,4],["add",1,1,2],["next",2],["print",1],["ret"]]}]}"#;
-
 /// The module that a text names.
-pub fn module(alloc: Global, text: &str) -> Result<Module, Fail> {
+fn module(alloc: Global, text: &str) -> Result<Module, Fail> {
     match read_module(alloc, text.as_bytes()) {
         Ok(program) => Ok(program),
         Err(_) => Err("a text is no module".into()),
