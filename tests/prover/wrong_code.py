@@ -6,8 +6,8 @@
 They stand in tests/prover/bugs/xk_simulation.bugs, in the form that tests/prover/bugs.py tells; each changes the definition of the code of
 statements (crates/xk_emit/specs) or of what a text means (crates/xk_semantics/specs), which the law is about. The functions of `xk_emit` would be
 refused first, by the contract that names the definition; so in a copy of the crates below that one is left with its definitions and what the
-law's proof cites of its lemmas, and `xk_semantics` is checked over it: as it is, where it has to be proved, and with each change, where it must not
-be.
+law's proof cites of its lemmas, and `xk_simulation`, which has the law, is checked over it and `xk_semantics`, both without their examples: as it is,
+where it has to be proved, and with each change, where it must not be.
 """
 import os
 import re
@@ -46,6 +46,16 @@ def with_definitions_alone(folder):
             f.write("".join(f"pub mod {name}\n" for name in names))
 
 
+def without_examples(folder, name):
+    """Leaves the crate in this folder without its file of examples, which would refuse what the law is asked about."""
+    shutil.rmtree(os.path.join(folder, "out"), ignore_errors=True)
+    os.remove(os.path.join(folder, "proofs", f"{name}.antt"))
+    path = os.path.join(folder, "proofs", "Lib.antt")
+    kept = [line for line in open(path, encoding="utf-8") if line.split() != ["pub", "mod", name]]
+    with open(path, "w", encoding="utf-8") as f:
+        f.writelines(kept)
+
+
 def copied(folder):
     """Makes a copy of the crates that the law needs."""
     crates = os.path.join(folder, "crates")
@@ -57,6 +67,8 @@ def copied(folder):
     with open(os.path.join(folder, "crates.txt"), "w", encoding="utf-8") as f:
         f.write("".join(line + "\n" for line in wanted))
     with_definitions_alone(os.path.join(crates, "xk_emit"))
+    without_examples(os.path.join(crates, "xk_semantics"), "Examples")
+    without_examples(os.path.join(crates, "xk_simulation"), "PremiseExample")
 
 
 def says(folder):
