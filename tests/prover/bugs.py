@@ -12,9 +12,10 @@ Bugs stand in tests/prover/bugs/CRATE.bugs, each as
     old: a text that stands once in that file
     new: what stands there instead
 
-with further pairs of `old:` and `new:` where one isn't enough, and a further `file:` before those of another file. A line `passes: reason` says that no contract refuses it, and why that is
-right. Contracts are all that callers see, so bugs in different functions are planted together and tried by one `rt check`: each function
-says for itself whether it is refused; one that calls a function which is refused waits for another check, if it must. What becomes of a bug:
+with further pairs of `old:` and `new:` where one isn't enough, and a further `file:` before those of another file. A line `passes: reason` says that
+no contract refuses it, and why that is right. Contracts are all that callers see, so bugs in different functions are planted together and tried by
+one `rt check`: each function says for itself whether it is refused; one that calls a function which is refused waits for another check, if it must.
+What becomes of a bug:
 
     refused             a goal of its function isn't proved
     refused at answer   the answer that a proof file has for a goal of its function proves it no more
