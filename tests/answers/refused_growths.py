@@ -1,12 +1,12 @@
 #!/usr/bin/env python3
-"""Refuses each growth of memory in turn, the first, the second and so on, until a run ends without a refusal: in `xk_exhaust`, which makes
+"""Refuses each growth of memory in turn, the first, the second and so on, until a run ends without a refusal: in `xk_tests_memory`, which makes
 library calls again that were refused memory and handed back what they were given, and in `x10clock` itself on small programs, modules and source texts, and on words that are no
 job, which has to answer as it does with ample memory, or with status 4, an empty standard output, nothing in the log that it was to write, and
 its line.
 
     tests/answers/refused_growths.py [--counts] [--program PATH] [--exhaust PATH]
 
-crates/x10clock/out/x10clock and crates/xk_exhaust/out/xk_exhaust where nothing else is said. The calls are tried on all processors at once, each call's growths one after another. With `--counts` it tells how many each call has, and how
+crates/x10clock/out/x10clock and crates/xk_tests_memory/out/xk_tests_memory where nothing else is said. The calls are tried on all processors at once, each call's growths one after another. With `--counts` it tells how many each call has, and how
 long they took.
 """
 
@@ -27,7 +27,7 @@ TOP = pathlib.Path(__file__).resolve().parents[2]
 ROWS = TOP / "tests/answers/rows"
 LOGS = TOP / "tests/answers/logs"
 PROGRAM = TOP / "crates/x10clock/out/x10clock"
-EXHAUST = TOP / "crates/xk_exhaust/out/xk_exhaust"
+EXHAUST = TOP / "crates/xk_tests_memory/out/xk_tests_memory"
 
 # Source texts that have a module: of no statement; of all sorts of statements; of bodies that take numbers; of methods that call each other in a
 # chain; of a main that takes numbers, by which its loops end.
@@ -204,8 +204,8 @@ class Calls:
         return told
 
     def exhaust(self, program: pathlib.Path) -> None:
-        """Adds `xk_exhaust`, which answers the same whatever growth is refused."""
-        wanted = Answer(0, (TOP / "crates/xk_exhaust/stdout").read_bytes(), b"", None)
+        """Adds `xk_tests_memory`, which answers the same whatever growth is refused."""
+        wanted = Answer(0, (TOP / "crates/xk_tests_memory/stdout").read_bytes(), b"", None)
         for part in range(PARTS):
             self.calls.append(Call("exhaust", [str(program.resolve())], b"", wanted, first=part + 1, step=PARTS))
 

@@ -19,7 +19,7 @@ from typing import Iterator
 MOST_FUNCTIONS = 100
 LONG_FUNCTION = 40
 CLAUSE, CODE, DOC, FILE = 100, 140, 120, 800
-TESTS = {"xk_tests", "xk_exhaust"}
+TESTS = {"xk_tests", "xk_tests_memory"}
 FN = re.compile(r"^(\s*)((?:pub(?:\([^)]*\))? )?(?:const )?)fn (\w+)")
 NAME = re.compile(r"[^\s(){}\[\];,.λ]+")
 MODIFIERS = r"(?:pub |abbrev |unfoldable |record |data )*"

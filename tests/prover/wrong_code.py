@@ -3,10 +3,10 @@
 
     tests/prover/wrong_code.py [BUG ..]
 
-They stand in tests/prover/bugs/xk_simulation.bugs, in the form that tests/prover/bugs.py tells; each changes the definition of the code of
-statements (crates/xk_emit/specs) or of what a text means (crates/xk_semantics/specs), which the law is about. The functions of `xk_emit` would be
+They stand in tests/prover/bugs/xk_law_compiler.bugs, in the form that tests/prover/bugs.py tells; each changes the definition of the code of
+statements (crates/xk_emit/specs) or of what a text means (crates/xk_source_semantics/specs), which the law is about. The functions of `xk_emit` would be
 refused first, by the contract that names the definition; so in a copy of the crates below that one is left with its definitions and what the
-law's proof cites of its lemmas, and `xk_simulation`, which has the law, is checked over it and `xk_semantics`, both without their examples: as it is,
+law's proof cites of its lemmas, and `xk_law_compiler`, which has the law, is checked over it and `xk_source_semantics`, both without their examples: as it is,
 where it has to be proved, and with each change, where it must not be.
 """
 import os
@@ -20,7 +20,7 @@ from bugs import Crate, read_bugs
 
 TOP = os.path.normpath(os.path.join(os.path.dirname(os.path.abspath(__file__)), "../.."))
 BELOW = ["xk_types", "xk_tree", "xk_names", "xk_callgraph"]
-LAW = ["xk_emit", "xk_semantics", "xk_simulation"]
+LAW = ["xk_emit", "xk_source_semantics", "xk_law_compiler"]
 KEPT_PROOFS = ["ScopeLemmas", "CoverageLemmas", "CoverageLaw"]
 # what is said of the coder's answers, which the law doesn't ask
 OF_ANSWERS = ["Room", "EmittedCode"]
@@ -67,28 +67,28 @@ def copied(folder):
     with open(os.path.join(folder, "crates.txt"), "w", encoding="utf-8") as f:
         f.write("".join(line + "\n" for line in wanted))
     with_definitions_alone(os.path.join(crates, "xk_emit"))
-    without_examples(os.path.join(crates, "xk_semantics"), "Examples")
-    without_examples(os.path.join(crates, "xk_simulation"), "PremiseExample")
+    without_examples(os.path.join(crates, "xk_source_semantics"), "Examples")
+    without_examples(os.path.join(crates, "xk_law_compiler"), "PremiseExample")
 
 
 def says(folder):
-    """What the check of xk_simulation comes to: proved, refused, or a word on what went wrong before; and a line that says so."""
+    """What the check of xk_law_compiler comes to: proved, refused, or a word on what went wrong before; and a line that says so."""
     call = ["rt", "check", "--jobs", "1"]
     ran = subprocess.run(
-        call, cwd=os.path.join(folder, "crates", "xk_simulation"), stdout=subprocess.PIPE, stderr=subprocess.STDOUT, text=True, errors="replace", check=False
+        call, cwd=os.path.join(folder, "crates", "xk_law_compiler"), stdout=subprocess.PIPE, stderr=subprocess.STDOUT, text=True, errors="replace", check=False
     )
     lines = ran.stdout.splitlines()
     if ran.returncode == 0 and any(line.startswith("logic=proved functions=2 ") for line in lines[-8:]):
         return "proved", ""
     # that a tree has one module is not the law
     refused = [line for line in lines if re.match(r"(\./)?proofs/(?!CompiledOnce|OrderUniqueness|SettingLookup)\S+: error", line)]
-    if refused and any(line.startswith("fn xk_simulation::laws::means_its_source: not proved") for line in lines):
+    if refused and any(line.startswith("fn xk_law_compiler::laws::means_its_source: not proved") for line in lines):
         return "refused", refused[0]
     return "not tried", lines[-1] if lines else ""
 
 
 def main():
-    bugs = read_bugs(os.path.join(TOP, "tests", "prover", "bugs", "xk_simulation.bugs"))
+    bugs = read_bugs(os.path.join(TOP, "tests", "prover", "bugs", "xk_law_compiler.bugs"))
     bugs = [b for b in bugs if not sys.argv[1:] or b.name in sys.argv[1:]]
     wrong = []
     with tempfile.TemporaryDirectory() as folder:
@@ -97,7 +97,7 @@ def main():
         print(f"as it is: {first} {line}", flush=True)
         if first != "proved":
             sys.exit(1)
-        crate = Crate(folder, "xk_simulation")
+        crate = Crate(folder, "xk_law_compiler")
         for bug in bugs:
             if stale := crate.stale(bug):
                 sys.exit(f"{bug.name}: {stale}")

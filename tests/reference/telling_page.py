@@ -15,7 +15,7 @@ from telling_lanes import WHOLE, Window
 from telling_log import Played
 from telling_where import Place
 
-FURNITURE = pathlib.Path(__file__).resolve().parents[2] / "crates/xk_page/src/furniture.rt"
+FURNITURE = pathlib.Path(__file__).resolve().parents[2] / "crates/xk_show_page/src/furniture.rt"
 TEXT = re.compile(r'^pub(?:\(crate\))? const (\w+): &str = r(#+)"(.*?)"\2;$', re.MULTILINE | re.DOTALL)
 # Which of its texts stand before the source text, between it and the picture, between that and the moments, and behind these.
 HEAD, BEHIND_SOURCE, BEHIND_PICTURE, TAIL = ("TOP", "COLOURS", "PLACES", "MARKS", "BEGINNING"), ("LISTS",), ("BEHIND",), ("READER", "SHOWER", "MOVER")

@@ -10,8 +10,8 @@ use Rattle.xk_serve.specs.Bytes.{kept}
 use Rattle.xk_serve.specs.Devices.{IfKnown, read_of}
 use Rattle.xk_serve.proofs.ReplyLemmas.{of_known}
 use Rattle.xk_serve.proofs.TaskLemmas.{of_each}
-use Rattle.xk_dialogue.specs.AskedRun.{IsHandReply}
-use Rattle.xk_dialogue.proofs.AskedRunLemmas.{unread_ends}
+use Rattle.xk_serve_ask.specs.AskedRun.{IsHandReply}
+use Rattle.xk_serve_ask.proofs.AskedRunLemmas.{unread_ends}
 use Rattle.x10clock.specs.Requests.{AnswersHand, AnswersTask, EndsIn, IsAnswered}
 
 -- ---- a run by hand

@@ -10,7 +10,7 @@ use Rattle.xk_cli.specs.declared.job.Request.TheVariants as request
 use Rattle.xk_serve.specs.Answer.{Task, reads_more, task_of}
 use Rattle.xk_serve.specs.Bytes.{kept}
 use Rattle.xk_serve.specs.Devices.{Answered, ErrBegins, IfKnown, OutBegins}
-use Rattle.xk_dialogue.specs.AskedRun.{BeginsAsking, EndsAsking, IsHandReply, OutBeginsRun}
+use Rattle.xk_serve_ask.specs.AskedRun.{BeginsAsking, EndsAsking, IsHandReply, OutBeginsRun}
 
 -- where the log would be written over what is read: FILE, or the answers of a run by hand
 abbrev pub over_line : Request → List ℕ

@@ -13,7 +13,7 @@ use Rattle.xk_types.specs.Code.{UnitValue, ModuleValue, IsUnitWithinLimits, IsWi
 use Rattle.xk_types.specs.Shape.{HasShape}
 use Rattle.xk_types.specs.World.{Frame, slots_of, instruction_at}
 use Rattle.xk_types.specs.Bound.{stack_of, frames_of}
-use Rattle.xk_laws.proofs.BoundLemmas.TotalLemmas.{chain_own, chain_called, stack_own, stack_called}
+use Rattle.xk_law_schedules.proofs.BoundLemmas.TotalLemmas.{chain_own, chain_called, stack_own, stack_called}
 use Rattle.xk_activity.specs.declared.caller.Caller.{Caller}
 use Rattle.xk_activity.specs.Local.{FramesValue, Stepped, code_of, begun, called, returning, is_stepped}
 use Rattle.xk_activity.specs.declared.marks.Marks.{Marks}

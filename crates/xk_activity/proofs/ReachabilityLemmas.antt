@@ -12,8 +12,8 @@ use Rattle.xk_types.specs.World.{Frame, Activity, World, opening, instruction_at
 use Rattle.xk_types.specs.Step as world
 use Rattle.xk_types.specs.Schedule.{Through, Wronged, run, run_on, IsReached}
 use Rattle.xk_types.specs.Acceptance.{IsAccepted}
-use Rattle.xk_laws.proofs.EveryScheduleLaw.{every_schedule}
-use Rattle.xk_laws.proofs.ReachabilityLemmas.{same_through, first_step, reached_step}
+use Rattle.xk_law_schedules.proofs.EveryScheduleLaw.{every_schedule}
+use Rattle.xk_law_schedules.proofs.ReachabilityLemmas.{same_through, first_step, reached_step}
 use Rattle.xk_activity.specs.Local.{Outcome, Beyond, Wrong, Stepped, IsRight, IsSafe, Turn, FramesValue, then_step, ran, in_frame, carried, carried_on, local, local_at, code_of, spot_of, arguments_in, called, calling, returning}
 use Rattle.xk_activity.specs.FrameStack.{values_at}
 use Rattle.xk_activity.specs.StepAgreement.{frames_in, with_frames, Agrees}

@@ -7,7 +7,7 @@ ghost use Rattle.xk_types.specs.World.{AreArguments};
 ghost use Rattle.xk_types.specs.Logs.{one_step_of};
 ghost use Rattle.xk_types.specs.Schedule.{all_ended};
 ghost use Rattle.xk_log.specs.Writing.{AppendsBeginning};
-ghost use Rattle.xk_events.specs.Events.{no_text, places_of};
+ghost use Rattle.xk_show_events.specs.Events.{no_text, places_of};
 ghost use Rattle.xk_ask.specs.Answers.{answers, most_bytes};
 ghost use Rattle.xk_ask.specs.Play.{IsPlayed, all_said, behind, picked, played, played_log, question, said, taken, told_text, unread, unread_from};
 ghost use Rattle.xk_ask.specs.Asking.{BeginsByAnswers, BeginsSome, FailsToAsk, FailsToWrite, FollowsSome, IsByAnswers, Leaves, TakesAnswer, TakesLine, to_come};
@@ -19,10 +19,10 @@ use crate::turn::{picked, take_turn};
 use std::alloc::Global;
 use xk_bounds::Verified;
 use xk_core::Core;
-use xk_events::Places;
 use xk_log::{Device, write_all};
 use xk_origins::UnitOrigins;
 use xk_scheduler::Logged;
+use xk_show_events::Places;
 use xk_types::{Entry, Sink, Source};
 
 /// What was played.

@@ -6,7 +6,7 @@ ghost use Rattle.xk_ask.specs.Play.{able_line, able_lines, again_line, question}
 
 use std::alloc::{AllocError, Global};
 use xk_core::Core;
-use xk_events::{Places, place_words};
+use xk_show_events::{Places, place_words};
 use xk_types::Act;
 
 /// What is said to an answer that names nobody who can step.

@@ -8,8 +8,8 @@ ghost use Rattle.xk_ask.specs.Play.{IsTurnStep, picked, turn};
 
 use std::alloc::AllocError;
 use xk_core::Core;
-use xk_events::is_seen;
 use xk_scheduler::Logged;
+use xk_show_events::is_seen;
 use xk_types::Act;
 
 /// Who can step, if an answer names somebody who can.

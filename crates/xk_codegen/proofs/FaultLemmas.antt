@@ -18,13 +18,13 @@ use Rattle.xk_names.specs.WellScoped.{IsScoped}
 use Rattle.xk_types.specs.Code.{UnitValue, IsUnitWithinLimits}
 use Rattle.xk_emit.specs.CodeOf.{Setting}
 use Rattle.xk_numbering.specs.declared.parts.Part as declared
-use Rattle.xk_semantics.specs.Parts.{Part, OfMethod, OfBody}
+use Rattle.xk_source_semantics.specs.Parts.{Part, OfMethod, OfBody}
 use Rattle.xk_codegen.specs.PartCoverage.{AreCovered, IsPartCovered}
 use Rattle.xk_numbering.specs.Views.{offset, part}
-use Rattle.xk_semantics.specs.Compilation.{AreUnits, IsSetting, unit_of_part}
+use Rattle.xk_source_semantics.specs.Compilation.{AreUnits, IsSetting, unit_of_part}
 use Rattle.xk_codegen.specs.Faults.{IsTableFault, IsLarge, ManyShared, Beyond, Large}
-use Rattle.xk_simulation.proofs.UnitLemmas.SettingLemmas.{AreSettled}
-use Rattle.xk_simulation.proofs.UnitLemmas.CoverageLemmas.{entry_there, method_there, body_there}
+use Rattle.xk_law_compiler.proofs.UnitLemmas.SettingLemmas.{AreSettled}
+use Rattle.xk_law_compiler.proofs.UnitLemmas.CoverageLemmas.{entry_there, method_there, body_there}
 
 pub told : {A : Type 0} (g f : FrontFault) (r : FrontError) → r ≡ error.Fault g → ◌≡◌ {A = Result A FrontError} (Err r) (Err (error.Fault f)) → g ≡ f
 told g f r is e = let same : r ≡ error.Fault f = cc in let both : error.Fault g ≡ error.Fault f = sym is ∙ same in cc

@@ -7,7 +7,7 @@ use Rattle.xk_tree.specs.Tree.{shared_value}
 use Rattle.xk_names.specs.Scope.{Table, find, is_text}
 use Rattle.xk_names.specs.FaultList.{put}
 use Rattle.xk_callgraph.proofs.NameNumberLemmas.{put_number}
-use Rattle.xk_semantics.specs.Compilation.{shared_among}
+use Rattle.xk_source_semantics.specs.Compilation.{shared_among}
 
 -- ---- the shared numbers at the start
 

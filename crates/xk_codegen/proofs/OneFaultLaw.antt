@@ -11,10 +11,10 @@ use Rattle.xk_tree.specs.Fault.{front_number}
 use Rattle.xk_tree.specs.Tree.{SharedValue, TreeValue}
 use Rattle.xk_names.specs.Faults.{HasFault, IsNoLater, IsReported, fault}
 use Rattle.xk_emit.specs.CodeOf.{Setting}
-use Rattle.xk_semantics.specs.Parts.{Part}
-use Rattle.xk_semantics.specs.Compilation.{IsCompiled, unit_of_part}
-use Rattle.xk_simulation.proofs.CompiledOnceLaw.{alike, one_units}
-use Rattle.xk_simulation.proofs.SettingLookupLemmas.{IsAlike, same_part}
+use Rattle.xk_source_semantics.specs.Parts.{Part}
+use Rattle.xk_source_semantics.specs.Compilation.{IsCompiled, unit_of_part}
+use Rattle.xk_law_compiler.proofs.CompiledOnceLaw.{alike, one_units}
+use Rattle.xk_law_compiler.proofs.SettingLookupLemmas.{IsAlike, same_part}
 use Rattle.xk_codegen.specs.Faults.{Beyond, HasLargePart, InCalls, InNames, InTables, IsClean, IsFalling, IsFaultOf, IsLarge, IsTableFault, IsToldOnce, Large, LargePart, ManyShared}
 use Rattle.xk_numbering.specs.Views.{offset}
 

@@ -5,7 +5,7 @@ use Rattle.std.proofs.Math.ListN.{drop_of_length-le}
 use Rattle.xk_types.specs.Code.{UnitValue, IsUnitWithinLimits}
 use Rattle.xk_emit.specs.CodeOf.{Setting}
 use Rattle.xk_numbering.specs.declared.parts.Part as declared
-use Rattle.xk_semantics.specs.Compilation.{unit_of_part}
+use Rattle.xk_source_semantics.specs.Compilation.{unit_of_part}
 use Rattle.xk_numbering.specs.Views.{part}
 use Rattle.xk_numbering.proofs.ListLemmas.{parts_left}
 

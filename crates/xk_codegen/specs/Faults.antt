@@ -7,10 +7,10 @@ use Rattle.xk_tree.specs.Tree.{SharedValue, TreeValue}
 use Rattle.xk_names.specs.Faults.{HasFault, IsReported, fault}
 use Rattle.xk_callgraph.specs.Recursion.{HasRecursion}
 use Rattle.xk_emit.specs.CodeOf.{Setting}
-use Rattle.xk_semantics.specs.Parts.{Part}
+use Rattle.xk_source_semantics.specs.Parts.{Part}
 use Rattle.xk_numbering.specs.Views.{offset}
 pub use Rattle.xk_numbering.specs.Recursion.{IsFalling}
-use Rattle.xk_semantics.specs.Compilation.{AreUnits, IsSetting, unit_of_part}
+use Rattle.xk_source_semantics.specs.Compilation.{AreUnits, IsSetting, unit_of_part}
 
 -- a part of these units goes beyond a limit: the 1,025th, or one whose unit has too many slots or instructions, or an instruction with too many
 -- arguments

@@ -4,7 +4,7 @@ use Rattle.xk_tree.specs.Tree.{Block}
 use Rattle.xk_emit.specs.CodeOf.{Setting, body_at, body_params}
 use Rattle.xk_emit.specs.Unit.{names_of_params}
 use Rattle.xk_emit.specs.NameCoverage.{IsUnitCovered}
-use Rattle.xk_semantics.specs.Parts.{Part, OfMethod, OfBody}
+use Rattle.xk_source_semantics.specs.Parts.{Part, OfMethod, OfBody}
 
 -- the code of a part needs no more names than there are
 abbrev pub IsPartCovered : Setting → Part → Type 0

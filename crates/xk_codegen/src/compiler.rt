@@ -12,8 +12,8 @@ ghost use Rattle.xk_names.specs.WellScoped.{IsScoped};
 ghost use Rattle.xk_callgraph.specs.Recursion.{HasRecursion};
 ghost use Rattle.xk_numbering.specs.Views.{offset, part};
 ghost use Rattle.xk_codegen.specs.PartCoverage.{AreCovered, IsPartCovered};
-ghost use Rattle.xk_semantics.specs.Meaning.{Means};
-ghost use Rattle.xk_semantics.specs.Compilation.{AreUnits, IsCompiled, IsSetting, method_kind, unit_of_part};
+ghost use Rattle.xk_source_semantics.specs.Meaning.{Means};
+ghost use Rattle.xk_source_semantics.specs.Compilation.{AreUnits, IsCompiled, IsSetting, method_kind, unit_of_part};
 ghost use Rattle.xk_codegen.specs.Faults.{IsFaultOf, IsFirstLarge, IsTableFault};
 ghost use Rattle.xk_codegen.specs.ShapeRules.{KeepsShape};
 

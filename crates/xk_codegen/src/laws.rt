@@ -1,7 +1,7 @@
 //! Which fault of a program is told.
 
 ghost use Rattle.xk_codegen.specs.Faults.{IsClean, IsFalling, IsFaultOf, IsToldOnce};
-ghost use Rattle.xk_semantics.specs.Compilation.{IsCompiled};
+ghost use Rattle.xk_source_semantics.specs.Compilation.{IsCompiled};
 ghost use Rattle.xk_tree.specs.Tree.{TreeValue};
 ghost use Rattle.xk_tree.specs.declared.fault.FrontFault.{FrontFault};
 ghost use Rattle.xk_types.specs.Code.{IsWithinLimits, ModuleValue};

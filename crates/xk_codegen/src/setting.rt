@@ -9,9 +9,9 @@ ghost use Rattle.xk_names.specs.Scope.{find};
 ghost use Rattle.xk_names.specs.Uses.{signatures};
 ghost use Rattle.xk_names.specs.WellScoped.{IsScoped};
 ghost use Rattle.xk_emit.specs.CodeOf.{Body as BodyValue};
-ghost use Rattle.xk_semantics.specs.Parts.{Part as PartValue, method_among};
+ghost use Rattle.xk_source_semantics.specs.Parts.{Part as PartValue, method_among};
 ghost use Rattle.xk_numbering.specs.Views.{part};
-ghost use Rattle.xk_semantics.specs.Compilation.{IsSetting, settled_body, shared_among, taken, unit_number};
+ghost use Rattle.xk_source_semantics.specs.Compilation.{IsSetting, settled_body, shared_among, taken, unit_number};
 
 use indexmap::IndexMap;
 use std::alloc::{AllocError, Global};

@@ -6,8 +6,8 @@ use Rattle.xk_types.specs.Code.{ModuleValue}
 use Rattle.xk_types.specs.World.{Activity, Clock, World, standing_of}
 use Rattle.xk_activity.specs.Activities.{act_at}
 use Rattle.xk_finishes.specs.Tree.{NodeValue, node_at, HaveSameFinishes}
-use Rattle.xk_laws.proofs.ReachabilityLemmas.{reached_sound}
-use Rattle.xk_squares.specs.PlainWorlds.{plain_clock}
+use Rattle.xk_law_schedules.proofs.ReachabilityLemmas.{reached_sound}
+use Rattle.xk_law_commute.specs.PlainWorlds.{plain_clock}
 use Rattle.xk_core.specs.Core.{IsCore}
 use Rattle.xk_core.specs.FinishView.{with_node, with_nodes}
 use Rattle.xk_core.specs.Alikeness.{AreUnderSameFinishes, StandsAlike, IsAlikeClock}

@@ -14,8 +14,8 @@ use Rattle.xk_types.specs.Acceptance.{IsAccepted}
 use Rattle.std.specs.Prelude.{option_and_then}
 use Rattle.xk_types.proofs.ListLemmas.{get_inside}
 use Rattle.xk_activity.specs.Activities.{act_at, nobody}
-use Rattle.xk_laws.proofs.Invariant.{IsSound, IsClockSound}
-use Rattle.xk_laws.proofs.ReachabilityLemmas.{HasRoom, opening_only, reached_step, reached_sound, reached_scoped, reached_room, reached_ends}
+use Rattle.xk_law_schedules.proofs.Invariant.{IsSound, IsClockSound}
+use Rattle.xk_law_schedules.proofs.ReachabilityLemmas.{HasRoom, opening_only, reached_step, reached_sound, reached_scoped, reached_room, reached_ends}
 use Rattle.xk_core.specs.InstructionEffect.{IsRoomy, carried_by, carried, passing_by, passed_on}
 use Rattle.xk_core.specs.Enabledness.{is_able, is_kept}
 use Rattle.xk_core.specs.Core.{IsCore, instruction_by, instruction_of, next_instruction}

@@ -9,10 +9,10 @@ use Rattle.xk_types.specs.World.{Activity, World, instruction_at}
 use Rattle.xk_types.specs.Step.{Outcome, Blocked, waits, step_by, step_of, run_at}
 use Rattle.xk_types.specs.Schedule.{is_step, is_enabled}
 use Rattle.xk_types.specs.Acceptance.{IsAccepted}
-use Rattle.xk_laws.proofs.Invariant.{IsSound}
-use Rattle.xk_laws.proofs.ScopeLemmas.Invariant.{IsScoped}
-use Rattle.xk_laws.proofs.SafetyLemmas.InstructionLemmas.{standing_at, instruction_found}
-use Rattle.xk_laws.proofs.SafetyLemmas.StepLemmas.{running_enabled}
+use Rattle.xk_law_schedules.proofs.Invariant.{IsSound}
+use Rattle.xk_law_schedules.proofs.ScopeLemmas.Invariant.{IsScoped}
+use Rattle.xk_law_schedules.proofs.SafetyLemmas.InstructionLemmas.{standing_at, instruction_found}
+use Rattle.xk_law_schedules.proofs.SafetyLemmas.StepLemmas.{running_enabled}
 use Rattle.std.proofs.lemmas.Option.{none-some}
 use Rattle.xk_core.specs.Core.{instruction_by, instruction_of}
 use Rattle.xk_core.specs.Enabledness.{able_by, able_of, is_able, kept_by, is_kept}
@@ -24,7 +24,7 @@ waiting false o h = sym h
 
 -- what keeps back who runs
 kept_is : (m : ModuleValue) (ok : IsAccepted m) (w : World) (sound : IsSound m w) (scoped : IsScoped m w) (a : ℕ) (act : Activity) (i : Instr)
-    → kept_by w a (Some act) (Some i) ≡ Rattle.xk_laws.proofs.SafetyLemmas.StepLemmas.is_kept m ok w sound scoped a act i
+    → kept_by w a (Some act) (Some i) ≡ Rattle.xk_law_schedules.proofs.SafetyLemmas.StepLemmas.is_kept m ok w sound scoped a act i
 kept_is m ok w sound scoped a act (instr.EndFinish b) = refl
 kept_is m ok w sound scoped a act _ = refl
 

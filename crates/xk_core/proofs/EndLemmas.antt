@@ -14,9 +14,9 @@ use Rattle.xk_types.specs.World.{Frame, Activity, World, instruction_at, is_ende
 use Rattle.xk_types.specs.Step.{Outcome, Blocked, Wrong, Stepped, step, onward, left, arrived, ended, child}
 use Rattle.xk_types.specs.Schedule.{Through, run, IsReached}
 use Rattle.xk_types.proofs.ListLemmas.{Each, each_set, each_push, get_inside}
-use Rattle.xk_laws.proofs.Invariant.{IsActivitySound, looks}
-use Rattle.xk_laws.proofs.StepFormLemmas.{step_kind}
-use Rattle.xk_laws.proofs.ReachabilityLemmas.{same_through, first_step, reached_sound}
+use Rattle.xk_law_schedules.proofs.Invariant.{IsActivitySound, looks}
+use Rattle.xk_law_schedules.proofs.StepFormLemmas.{step_kind}
+use Rattle.xk_law_schedules.proofs.ReachabilityLemmas.{same_through, first_step, reached_sound}
 use Rattle.xk_activity.specs.Local as frames
 use Rattle.xk_activity.specs.StepAgreement.{frames_in}
 use Rattle.xk_activity.specs.Activities.{nobody}

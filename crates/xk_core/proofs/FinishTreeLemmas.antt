@@ -17,12 +17,12 @@ use Rattle.xk_types.specs.World.{Activity, World, base_unit, is_ended, instructi
 use Rattle.xk_types.specs.Step.{Outcome, Blocked, Wrong, Stepped, waits, step_by, step_of, step, carried_out, past, done, none, all, passed, onward, moved, settled, left, closing, awaits, innermost, child}
 use Rattle.xk_types.specs.Schedule.{is_step, is_enabled}
 use Rattle.xk_types.proofs.ListLemmas.{get_inside, get-set_same, get-set_other, get_push, get-push_other}
-use Rattle.xk_laws.proofs.StepCountLemmas.{step_counts}
-use Rattle.xk_laws.proofs.Invariant.{IsSound}
-use Rattle.xk_laws.proofs.ScopeLemmas.Invariant.{IsScoped, based}
-use Rattle.xk_laws.proofs.ReachabilityLemmas.{reached_sound, reached_scoped, opening_reached}
-use Rattle.xk_laws.proofs.SafetyLemmas.InstructionLemmas.{standing_at, instruction_found}
-use Rattle.xk_laws.proofs.SafetyLemmas.StepLemmas.{room_at_finish, open_at_end, closed_at_end}
+use Rattle.xk_law_schedules.proofs.StepCountLemmas.{step_counts}
+use Rattle.xk_law_schedules.proofs.Invariant.{IsSound}
+use Rattle.xk_law_schedules.proofs.ScopeLemmas.Invariant.{IsScoped, based}
+use Rattle.xk_law_schedules.proofs.ReachabilityLemmas.{reached_sound, reached_scoped, opening_reached}
+use Rattle.xk_law_schedules.proofs.SafetyLemmas.InstructionLemmas.{standing_at, instruction_found}
+use Rattle.xk_law_schedules.proofs.SafetyLemmas.StepLemmas.{room_at_finish, open_at_end, closed_at_end}
 use Rattle.xk_finishes.specs.Tree.{NodeValue, node_at, fresh_node, node_entered, node_left, node_ended, changed_at, governing_of, awaits_innermost, IsNodeOf, AreNodesOf}
 use Rattle.xk_finishes.specs.Tree as tree
 use Rattle.xk_finishes.proofs.ActivityLemmas.{awaits_same}

@@ -11,8 +11,8 @@ use Rattle.xk_types.specs.declared.world.Event.TheVariants as event
 use Rattle.xk_types.specs.Code.{ModuleValue}
 use Rattle.xk_types.specs.World.{Frame, Activity, Clock, World, base_of, base_unit, is_ended}
 use Rattle.xk_types.specs.Step.{Outcome, Blocked, Wrong, Stepped, spawned, new_clock, onward, with_slots, arrived, ended, none, all, resumed, dropped, called, back_in, settled, moved, child, governing, joined, is_given}
-use Rattle.xk_laws.proofs.StepFormLemmas.{Finishes, act_with, finishes_of, HoldsOfFamilies, spawning_form, instruction_form}
-use Rattle.xk_laws.proofs.ScopeLemmas.Invariant.{based}
+use Rattle.xk_law_schedules.proofs.StepFormLemmas.{Finishes, act_with, finishes_of, HoldsOfFamilies, spawning_form, instruction_form}
+use Rattle.xk_law_schedules.proofs.ScopeLemmas.Invariant.{based}
 use Rattle.xk_finishes.specs.Tree.{NodeValue}
 use Rattle.xk_core.specs.InstructionEffect.{concerns_finishes, carried}
 use Rattle.xk_core.specs.FinishView.{with_node, with_nodes, with_finishes, is_end}

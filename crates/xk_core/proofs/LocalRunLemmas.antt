@@ -15,10 +15,10 @@ use Rattle.xk_types.specs.Step.{step, is_ready, settled_clock, moved, none}
 use Rattle.xk_types.specs.Schedule.{Through, run, events, events_on, is_local, IsReached}
 use Rattle.xk_types.specs.Acceptance.{IsAccepted}
 use Rattle.xk_types.proofs.ListLemmas.{Each, get-set_same}
-use Rattle.xk_laws.proofs.Invariant.{IsSound}
-use Rattle.xk_laws.proofs.ScopeLemmas.Invariant.{IsScoped, based}
-use Rattle.xk_laws.proofs.SafetyLemmas.StepLemmas.{Keeps, step_keeps}
-use Rattle.xk_laws.proofs.ReachabilityLemmas.{same_through, first_step, run_more, reached_step, reached_sound, reached_scoped}
+use Rattle.xk_law_schedules.proofs.Invariant.{IsSound}
+use Rattle.xk_law_schedules.proofs.ScopeLemmas.Invariant.{IsScoped, based}
+use Rattle.xk_law_schedules.proofs.SafetyLemmas.StepLemmas.{Keeps, step_keeps}
+use Rattle.xk_law_schedules.proofs.ReachabilityLemmas.{same_through, first_step, run_more, reached_step, reached_sound, reached_scoped}
 use Rattle.xk_activity.specs.Local.{Outcome, Beyond, Wrong, Stepped, Turn, FramesValue, IsRight, then_step, ran, in_frame, frame_on, carried, carried_on, local, local_at, code_of, spot_of, arguments_in, called, calling, returning}
 use Rattle.xk_activity.specs.FrameStack.{values_at}
 use Rattle.xk_activity.specs.StepAgreement.{frames_in, with_frames, IsLocally, Agrees}

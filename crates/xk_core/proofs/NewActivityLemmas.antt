@@ -4,7 +4,7 @@ use Rattle.xk_types.specs.declared.instr.Instr.TheVariants as instr
 use Rattle.xk_types.specs.Step.{child, is_given}
 use Rattle.xk_types.specs.Schedule.{is_step}
 use Rattle.xk_activity.specs.Activities.{ActivityValue, act_at}
-use Rattle.xk_laws.specs.ClockRoom.{places_of}
+use Rattle.xk_law_schedules.specs.ClockRoom.{places_of}
 use Rattle.xk_registrations.specs.View.{held}
 use Rattle.xk_registrations.specs.RegistrationChanges.{RegistrationsValue, IsGiven}
 use Rattle.xk_core.specs.InstructionEffect.{carried}

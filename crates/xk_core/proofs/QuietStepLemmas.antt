@@ -6,7 +6,7 @@ use Rattle.xk_types.specs.Code.{ModuleValue}
 use Rattle.xk_types.specs.World.{Activity, World, instruction_at}
 use Rattle.xk_finishes.specs.Tree.{NodeValue}
 use Rattle.xk_activity.specs.Activities.{act_at, nobody}
-use Rattle.xk_squares.specs.Conflicts.{next_instruction}
+use Rattle.xk_law_commute.specs.Conflicts.{next_instruction}
 use Rattle.xk_core.specs.FinishView.{with_nodes, with_finishes}
 use Rattle.xk_core.proofs.FinishViewLemmas.{length_told}
 use Rattle.xk_core.proofs.AlikenessLemmas.{act_told}

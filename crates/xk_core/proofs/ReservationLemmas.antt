@@ -7,10 +7,10 @@ use Rattle.xk_types.specs.declared.instr.Instr.TheVariants as instr
 use Rattle.xk_types.specs.Code.{ModuleValue}
 use Rattle.xk_types.specs.World.{Activity, World, base_of, base_unit}
 use Rattle.xk_types.proofs.ListLemmas.{get_inside, get-set_same, get-set_other, get_push, get-push_other}
-use Rattle.xk_laws.proofs.ScopeLemmas.Invariant.{based}
+use Rattle.xk_law_schedules.proofs.ScopeLemmas.Invariant.{based}
 use Rattle.xk_types.specs.Bound.{places_from}
-use Rattle.xk_laws.specs.ClockRoom.{HasRoomLeft, registrations, places_of}
-use Rattle.xk_laws.proofs.RoomLaw.{made_has_room}
+use Rattle.xk_law_schedules.specs.ClockRoom.{HasRoomLeft, registrations, places_of}
+use Rattle.xk_law_schedules.proofs.RoomLaw.{made_has_room}
 use Rattle.xk_finishes.specs.Tree.{NodeValue}
 use Rattle.xk_registrations.specs.Standings.{Rooms, HasRoomToMake}
 use Rattle.xk_activity.specs.declared.frames.Next.{Next}

@@ -1,7 +1,7 @@
 -- What two cores have to have in common, for their worlds to be alike.
 use Rattle.std.specs.Prelude.{◌≡◌, ℕ, Bool, IsTrue, option_map, slice_get}
 use Rattle.xk_types.specs.World.{Activity, World, standing_of}
-use Rattle.xk_squares.specs.PlainWorlds.{plain_activity, plain_clock}
+use Rattle.xk_law_commute.specs.PlainWorlds.{plain_activity, plain_clock}
 use Rattle.xk_core.specs.Core.{CoreValue}
 
 -- two activities have as many finishes open, and the same governs them

@@ -3,7 +3,7 @@ use Rattle.std.specs.Prelude.{◌≡◌, ℕ, ◌≤◌, List, length, Some, sli
 use Rattle.xk_types.specs.Code.{ModuleValue}
 use Rattle.xk_types.specs.World.{Activity}
 use Rattle.xk_types.specs.Bound.{clocks_bound}
-use Rattle.xk_laws.specs.ClockRoom.{places_of}
+use Rattle.xk_law_schedules.specs.ClockRoom.{places_of}
 use Rattle.xk_registrations.specs.Standings.{Rooms}
 
 -- for as many clocks as a run may have, and with each activity for as many registrations as it may have

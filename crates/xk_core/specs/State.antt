@@ -8,7 +8,7 @@ use Rattle.xk_types.specs.Step.{child, is_given}
 use Rattle.xk_types.specs.Schedule.{is_step}
 use Rattle.xk_activity.specs.Activities.{act_at}
 use Rattle.xk_activity.specs.FrameStack.{values_at}
-use Rattle.xk_laws.specs.ClockRoom.{places_of}
+use Rattle.xk_law_schedules.specs.ClockRoom.{places_of}
 use Rattle.xk_registrations.specs.View.{Registration, held}
 use Rattle.xk_registrations.specs.RegistrationChanges.{IsGiven}
 use Rattle.xk_core.specs.InstructionEffect.{carried}

@@ -2,7 +2,7 @@
 
 ghost use Rattle.std.specs.Prelude.{◌≡◌, ◌<◌, IsTrue, length, map};
 ghost use Rattle.std.specs.Bool.{Decides};
-ghost use Rattle.xk_squares.specs.PlainWorlds.{AreAlike, plain_activity, plain_clock};
+ghost use Rattle.xk_law_commute.specs.PlainWorlds.{AreAlike, plain_activity, plain_clock};
 ghost use Rattle.xk_core.specs.Alikeness.{IsAlikeActivity, IsAlikeClock, Tells};
 
 use crate::machine::Core;

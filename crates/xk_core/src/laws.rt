@@ -4,7 +4,7 @@ ghost use Rattle.xk_types.specs.Acceptance.{EverySchedule};
 ghost use Rattle.xk_types.specs.Kinds.{KindsAreSound};
 
 use xk_bounds::Verified;
-use xk_laws::{every_accepted_module, kind_soundness};
+use xk_law_schedules::{every_accepted_module, kind_soundness};
 
 /// What holds of every schedule of the module, whoever makes it: no step raises ClockUseException or meets a missing or
 /// wrong operand; the schedule has at most [`Verified::steps`] steps, and its worlds at most [`Verified::activities`]

@@ -10,7 +10,7 @@ ghost use Rattle.xk_core.specs.Core.{is_living, is_running, IsBeyond, Locally, n
 ghost use Rattle.xk_core.specs.LocalRun.{RunsTo, AreLocal, IsUnseen, after_steps};
 ghost use Rattle.xk_core.specs.TicketAcceptance.{Accepts};
 ghost use Rattle.xk_core.specs.Alikeness.{AreUnderSameFinishes};
-ghost use Rattle.xk_squares.specs.Conflicts as conflicts;
+ghost use Rattle.xk_law_commute.specs.Conflicts as conflicts;
 ghost use Rattle.xk_activity.specs.Activities.{act_at};
 ghost use Rattle.xk_activity.specs.StepAgreement.{frames_in};
 ghost use Rattle.xk_core.specs.Enabledness.{is_kept};

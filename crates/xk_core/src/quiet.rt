@@ -1,7 +1,7 @@
 //! Steps that may as well be taken first.
 
 ghost use Rattle.std.specs.Prelude.{◌≡◌};
-ghost use Rattle.xk_squares.specs.QuietSteps.{has_quiet_step, is_loud};
+ghost use Rattle.xk_law_commute.specs.QuietSteps.{has_quiet_step, is_loud};
 
 use crate::machine::Core;
 use xk_types::{Act, Instr};

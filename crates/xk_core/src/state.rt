@@ -11,7 +11,7 @@ ghost use Rattle.xk_activity.specs.Activities.{act_at, Stands, Takes};
 ghost use Rattle.xk_activity.specs.Local.{IsRight, IsSafe, local};
 ghost use Rattle.xk_registrations.specs.Standings.{told_of};
 ghost use Rattle.xk_activity.specs.StepAgreement.{frames_in};
-ghost use Rattle.xk_laws.specs.ClockRoom.{HasRoomLeft};
+ghost use Rattle.xk_law_schedules.specs.ClockRoom.{HasRoomLeft};
 ghost use Rattle.xk_core.specs.LocalRun.{after_steps, HasRoomForSteps, TakesSteps};
 ghost use Rattle.xk_core.specs.TicketAcceptance.{Accepts};
 ghost use Rattle.xk_core.specs.Enabledness.{is_able};

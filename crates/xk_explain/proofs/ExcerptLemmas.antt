@@ -1,6 +1,6 @@
 -- The line of a place with carets, put together.
 use Rattle.std.proofs.Common.{◌≡◌, ◌∙◌, ℕ, List, [], ◌∷◌, ◌++◌, drop, append_assoc, ap}
-use Rattle.xk_positions.specs.Excerpts.{excerpt}
+use Rattle.xk_lines.specs.Excerpts.{excerpt}
 use Rattle.xk_explain.specs.Explanations.{excerpt_lines, marked_from}
 
 -- what was added to a text is the excerpt and a line feed

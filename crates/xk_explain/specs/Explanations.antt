@@ -14,10 +14,10 @@ use Rattle.xk_typestate.specs.declared.fault.KindFault.{KindFault}
 use Rattle.xk_bounds.specs.declared.refusal.BoundFault.{BoundFault}
 use Rattle.xk_bounds.specs.declared.refusal.Refusal.{Refusal}
 use Rattle.xk_bounds.specs.declared.refusal.Refusal.TheVariants as refusal
-use Rattle.xk_positions.specs.declared.lines.Position.{Position}
-use Rattle.xk_positions.specs.Lines.{position_of}
-use Rattle.xk_positions.specs.Excerpts.{excerpt}
-use Rattle.xk_repairs.specs.Repairs.{repair_at}
+use Rattle.xk_lines.specs.declared.lines.Position.{Position}
+use Rattle.xk_lines.specs.Lines.{position_of}
+use Rattle.xk_lines.specs.Excerpts.{excerpt}
+use Rattle.xk_explain_repairs.specs.Repairs.{repair_at}
 use Rattle.xk_explain.specs.declared.module_rule.ModuleRule.{ModuleRule}
 use Rattle.xk_explain.specs.Notes.{NoteValue, note_lines, plain_lines}
 use Rattle.xk_explain.specs.Messages.{front_message, front_repair, kind_message, module_message, module_name, module_number, module_repair, rule_message, rule_repair}

@@ -10,7 +10,7 @@ use Rattle.xk_module.specs.declared.fault.ModuleFault.{ModuleFault}
 use Rattle.xk_module.specs.declared.fault.ModuleFault.TheVariants as fault
 use Rattle.xk_explain.specs.declared.module_rule.ModuleRule.{ModuleRule}
 use Rattle.xk_explain.specs.declared.module_rule.ModuleRule.TheVariants as text
-pub use Rattle.xk_repairs.specs.Rules.{front_repair}
+pub use Rattle.xk_explain_repairs.specs.Rules.{front_repair}
 
 -- ---- source texts
 

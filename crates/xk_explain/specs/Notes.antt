@@ -3,8 +3,8 @@
 use Rattle.std.specs.Prelude.{ℕ, min, List, ◌++◌, length, Option, codes, decimal}
 use Rattle.std.specs.List.{flat_map}
 use Rattle.std.specs.Option.{option_map_or}
-use Rattle.xk_positions.specs.declared.lines.Position.{Position}
-use Rattle.xk_positions.specs.Lines.{position_of}
+use Rattle.xk_lines.specs.declared.lines.Position.{Position}
+use Rattle.xk_lines.specs.Lines.{position_of}
 
 -- a note: an offset in the text, if it speaks of a place there, and its words
 pub record NoteValue : Type 0 where

@@ -9,9 +9,9 @@ use Rattle.xk_shape.specs.declared.fault.ShapeFault.{ShapeFault}
 use Rattle.xk_typestate.specs.declared.fault.KindFault.{KindFault}
 use Rattle.xk_bounds.specs.declared.refusal.Refusal.{Refusal}
 use Rattle.xk_bounds.specs.declared.refusal.Refusal.TheVariants as refusal
-use Rattle.xk_positions.specs.declared.lines.Position.{Position}
-use Rattle.xk_positions.specs.Lines.{position_of, words_at}
-use Rattle.xk_positions.specs.Signs.{signs, shown_signs}
+use Rattle.xk_lines.specs.declared.lines.Position.{Position}
+use Rattle.xk_lines.specs.Lines.{position_of, words_at}
+use Rattle.xk_lines.specs.Signs.{signs, shown_signs}
 use Rattle.xk_origins.specs.UnitOrigins.{Head, UnitOrigins}
 use Rattle.xk_explain.specs.Notes.{NoteValue, note_lines, place_title}
 use Rattle.xk_explain.specs.Messages.{kind_message, rule_message, rule_repair}

@@ -9,8 +9,8 @@ use crate::module_rule::ModuleRule;
 use crate::note::{Note, note_lines};
 use crate::places::{push_excerpt, push_head_at};
 use std::alloc::{AllocError, Global};
-use xk_positions::LineStarts;
-use xk_repairs::{front_repair, repair_at};
+use xk_explain_repairs::{front_repair, repair_at};
+use xk_lines::LineStarts;
 use xk_tree::{FrontFault, FrontRule};
 
 /// All that is said of a fault of the source text in FILE: `FILE:3:5: F2 Syntax: ..`, the line there with carets, these notes, and the usual repair.

@@ -6,7 +6,7 @@ ghost use Rattle.xk_explain.specs.Notes.{note_line, note_lines, place_title, pla
 use crate::lines::push_text;
 use std::alloc::{AllocError, Global};
 use std::marker::Model;
-use xk_positions::{LineStarts, Position};
+use xk_lines::{LineStarts, Position};
 
 /// What is told beside the fault itself, and where in the text it stands, if it has a place there.
 #[derive(Debug, Drop)]

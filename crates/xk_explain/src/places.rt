@@ -6,7 +6,7 @@ ghost use Rattle.xk_explain.specs.Explanations.{excerpt_lines, head_at, is_word_
 
 use crate::lines::push_text;
 use std::alloc::{AllocError, Global};
-use xk_positions::{LineStarts, Position};
+use xk_lines::{LineStarts, Position};
 
 /// Adds the first line of what has a place in the text: `FILE:3:5: F2 Syntax: ..`.
 pub(crate) fn push_head_at(

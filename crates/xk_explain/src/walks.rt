@@ -8,8 +8,8 @@ use crate::messages::kind_message;
 use crate::note::place_title;
 use crate::source_refusals::origin_at;
 use std::alloc::{AllocError, Global};
+use xk_lines::{LineStarts, Position, shown_front};
 use xk_origins::{Head, UnitOrigins};
-use xk_positions::{LineStarts, Position, shown_front};
 use xk_types::{Kind, Visit};
 
 /// How many signs of a line are told at most.

@@ -4,7 +4,7 @@ use Rattle.std.specs.Prelude.{⊤}
 use Rattle.std.specs.Option.{option_map_or}
 use Rattle.serde_json.specs.Data.{Data, string, Members, no_members, put}
 use Rattle.xk_types.specs.declared.rules.Visit.{Visit}
-use Rattle.xk_positions.specs.Lines.{position_of}
+use Rattle.xk_lines.specs.Lines.{position_of}
 use Rattle.xk_origins.specs.UnitOrigins.{UnitOrigins}
 use Rattle.xk_explain.specs.Notes.{NoteValue}
 use Rattle.xk_explain.specs.SourceExplanations.{origin_at}

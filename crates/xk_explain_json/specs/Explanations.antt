@@ -13,12 +13,12 @@ use Rattle.xk_typestate.specs.declared.fault.KindFault.{KindFault}
 use Rattle.xk_bounds.specs.declared.refusal.BoundFault.{BoundFault}
 use Rattle.xk_bounds.specs.declared.refusal.Refusal.{Refusal}
 use Rattle.xk_bounds.specs.declared.refusal.Refusal.TheVariants as refusal
-use Rattle.xk_positions.specs.declared.lines.Position.{Position}
-use Rattle.xk_positions.specs.Lines.{position_of}
+use Rattle.xk_lines.specs.declared.lines.Position.{Position}
+use Rattle.xk_lines.specs.Lines.{position_of}
 use Rattle.xk_origins.specs.UnitOrigins.{Head, UnitOrigins}
 use Rattle.xk_explain.specs.declared.module_rule.ModuleRule.{ModuleRule}
 use Rattle.xk_explain.specs.Messages.{front_message, kind_message, module_message, module_name, module_number, module_repair, rule_message, rule_repair}
-use Rattle.xk_repairs.specs.Repairs.{repair_at}
+use Rattle.xk_explain_repairs.specs.Repairs.{repair_at}
 use Rattle.xk_explain.specs.Explanations.{has_place, shown_at}
 use Rattle.xk_explain.specs.SourceExplanations.{is_name, origin_at, slot_name}
 use Rattle.xk_explain.specs.Notes.{NoteValue, place_title}

@@ -9,7 +9,7 @@ use crate::notes::put_notes_in;
 use crate::object::Object;
 use std::alloc::{AllocError, Global};
 use xk_explain::{ModuleRule, Note, has_place, shown_at};
-use xk_positions::LineStarts;
+use xk_lines::LineStarts;
 use xk_tree::FrontFault;
 
 /// All that is said of a fault of the source text in FILE, with these notes: a JSON object in one line, `{"accepted":false,"column":5,"file":"FILE",

@@ -12,8 +12,8 @@ use xk_explain::{
     ModuleRule, front_message, kind_message, module_message, module_repair, rule_message,
     rule_repair, shown_at,
 };
-use xk_positions::Position;
-use xk_repairs::repair_at;
+use xk_explain_repairs::repair_at;
+use xk_lines::Position;
 use xk_tree::FrontFault;
 use xk_types::{Kind, Rule};
 

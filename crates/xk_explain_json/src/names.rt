@@ -9,8 +9,8 @@ use crate::object::Object;
 use serde_json::Value;
 use std::alloc::{AllocError, Global};
 use xk_explain::{is_name, origin_at, place_title, slot_name};
+use xk_lines::LineStarts;
 use xk_origins::{Head, UnitOrigins};
-use xk_positions::LineStarts;
 
 /// `main`, `f`, or `async at 3:5`.
 fn unit_name(

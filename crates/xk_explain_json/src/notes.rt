@@ -10,7 +10,7 @@ use crate::object::Object;
 use serde_json::Value;
 use std::alloc::{AllocError, Global};
 use xk_explain::Note;
-use xk_positions::LineStarts;
+use xk_lines::LineStarts;
 
 /// A note on a text, with its place there, if it has one.
 fn note_in(

@@ -13,8 +13,8 @@ use crate::walks::put_walk_in;
 use std::alloc::{AllocError, Global};
 use xk_bounds::Refusal;
 use xk_explain::Note;
+use xk_lines::LineStarts;
 use xk_origins::UnitOrigins;
-use xk_positions::LineStarts;
 use xk_shape::ShapeFault;
 use xk_typestate::KindFault;
 

@@ -10,8 +10,8 @@ use crate::object::Object;
 use serde_json::Value;
 use std::alloc::{AllocError, Global};
 use xk_explain::origin_at;
+use xk_lines::LineStarts;
 use xk_origins::UnitOrigins;
-use xk_positions::LineStarts;
 use xk_types::Visit;
 
 /// Adds the instruction at which a walk stops, and the slot's kind before it.

@@ -10,7 +10,7 @@ use Rattle.xk_types.specs.declared.unit.UnitKind.TheVariants as unit_kind
 use Rattle.xk_types.specs.Code.{ModuleValue}
 use Rattle.xk_typestate.specs.KindSet.{KindsValue}
 use Rattle.xk_origins.specs.UnitOrigins.{UnitOrigins}
-use Rattle.xk_positions.specs.Signs.{signs}
+use Rattle.xk_lines.specs.Signs.{signs}
 use Rattle.xk_listing.specs.Words.{one, three, unless, forto_loop, next_argument, words}
 use Rattle.xk_listing.specs.Fields.{at_left, at_right, clock_at, clock_item, line_text, origin_field, place_title}
 use Rattle.xk_listing.specs.Listing.{head_place, kinds_field, line_front, listing, module_clocks, module_head, module_line, module_unit, slot_count, source_head, source_line, source_unit, unit_front, unit_name, unit_text}

@@ -4,9 +4,9 @@ use Rattle.std.specs.List.{list_any}
 use Rattle.xk_types.specs.declared.rules.Kind.{Kind}
 use Rattle.xk_types.specs.declared.rules.Kind.TheVariants as kind
 use Rattle.xk_types.specs.RuleNames.{kind_name}
-use Rattle.xk_positions.specs.Lines.{position_of, words_at}
-use Rattle.xk_positions.specs.declared.lines.Position.{Position}
-use Rattle.xk_positions.specs.Signs.{signs, shown_signs}
+use Rattle.xk_lines.specs.Lines.{position_of, words_at}
+use Rattle.xk_lines.specs.declared.lines.Position.{Position}
+use Rattle.xk_lines.specs.Signs.{signs, shown_signs}
 use Rattle.xk_typestate.specs.KindSet.{KindsValue, kinds_have}
 use Rattle.xk_typestate.specs.KindTable.{kinds_at}
 

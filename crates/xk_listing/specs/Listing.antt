@@ -8,7 +8,7 @@ use Rattle.xk_types.specs.declared.unit.ParamKind.{ParamKind}
 use Rattle.xk_types.specs.declared.unit.ParamKind.TheVariants as param
 use Rattle.xk_types.specs.Code.{UnitValue, ModuleValue}
 use Rattle.xk_types.specs.Shape.{HasShape}
-use Rattle.xk_positions.specs.Lines.{position_of}
+use Rattle.xk_lines.specs.Lines.{position_of}
 use Rattle.xk_typestate.specs.KindSet.{KindsValue}
 use Rattle.xk_typestate.specs.KindTable.{AreKindTables}
 use Rattle.xk_origins.specs.UnitOrigins.{Head, UnitOrigins}

@@ -4,7 +4,7 @@ ghost use Rattle.std.specs.Prelude.{◌≡◌, ◌++◌, ◌≤◌, length, repl
 ghost use Rattle.xk_listing.specs.Fields.{at_left, at_right, is_first, line_text, origin_at, origin_field, place_field, place_title};
 
 use std::alloc::{AllocError, Global};
-use xk_positions::{LineStarts, Position, shown_front};
+use xk_lines::{LineStarts, Position, shown_front};
 
 /// How many signs of a line are told at most.
 const TOLD: usize = 60;

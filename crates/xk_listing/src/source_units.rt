@@ -7,8 +7,8 @@ use crate::fields::{place_title, push_at_left, push_at_right, push_origin, push_
 use crate::slots::{clocks, push_slots};
 use crate::words::words;
 use std::alloc::{AllocError, Global};
+use xk_lines::LineStarts;
 use xk_origins::{Head, UnitOrigins};
-use xk_positions::LineStarts;
 use xk_types::{Instr, Unit};
 use xk_typestate::KindTables;
 

@@ -4,7 +4,7 @@ use Rattle.std.proofs.lemmas.Option.{slice_get-map, slice_get_read}
 use Rattle.std.specs.Prelude.{Option, Some}
 use Rattle.xk_tree.specs.declared.tree.Method.{Method}
 use Rattle.xk_tree.specs.Tree.{method_value}
-use Rattle.xk_semantics.specs.Parts.{Part as Value}
+use Rattle.xk_source_semantics.specs.Parts.{Part as Value}
 use Rattle.xk_numbering.specs.declared.parts.Part.{Part}
 use Rattle.xk_numbering.specs.Views.{part}
 

@@ -6,9 +6,9 @@ use Rattle.xk_tree.specs.AsyncOffsets.{asyncs, asyncs_in, asyncs_of_methods}
 use Rattle.xk_names.specs.Scope.{Has}
 use Rattle.xk_callgraph.specs.Callees.{callees, callees_all}
 use Rattle.xk_names.proofs.MembershipLemmas.{has_left, has_right, has_either}
-use Rattle.xk_semantics.specs.Parts.{Part, OfMethod, OfBody, Run, Calls, Starts, bodies, bodies_all, method_parts, runs, runs_all, part_runs}
-use Rattle.xk_simulation.proofs.UnitLemmas.RisingListLemmas.{Rising, rising_left, rising_right, rising_apart}
-use Rattle.xk_simulation.proofs.UnitLemmas.NestingLemmas.{of_some}
+use Rattle.xk_source_semantics.specs.Parts.{Part, OfMethod, OfBody, Run, Calls, Starts, bodies, bodies_all, method_parts, runs, runs_all, part_runs}
+use Rattle.xk_law_compiler.proofs.UnitLemmas.RisingListLemmas.{Rising, rising_left, rising_right, rising_apart}
+use Rattle.xk_law_compiler.proofs.UnitLemmas.NestingLemmas.{of_some}
 
 -- ---- methods
 

@@ -7,12 +7,12 @@ use Rattle.xk_tree.specs.Tree.{TreeValue}
 use Rattle.xk_names.specs.Scope.{find}
 use Rattle.xk_names.specs.WellScoped.{IsScoped}
 use Rattle.xk_numbering.specs.declared.parts.Part as declared
-use Rattle.xk_semantics.specs.Parts.{Part, Run, Calls, Starts, opening, parts, part_runs, place_of}
+use Rattle.xk_source_semantics.specs.Parts.{Part, Run, Calls, Starts, opening, parts, part_runs, place_of}
 use Rattle.xk_numbering.specs.Views.{part}
 use Rattle.xk_numbering.specs.PartPlaces.{Places, ArePlaces, place_in}
-use Rattle.xk_semantics.specs.PartGraph.{place_or_last, graph, graph_by, IsOrder}
-use Rattle.xk_simulation.proofs.UnitLemmas.PartLookupLemmas.{fits_there}
-use Rattle.xk_simulation.proofs.UnitLemmas.NestingLemmas.{main_place}
+use Rattle.xk_source_semantics.specs.PartGraph.{place_or_last, graph, graph_by, IsOrder}
+use Rattle.xk_law_compiler.proofs.UnitLemmas.PartLookupLemmas.{fits_there}
+use Rattle.xk_law_compiler.proofs.UnitLemmas.NestingLemmas.{main_place}
 use Rattle.xk_numbering.proofs.UnitOrderLemmas.{graph_length, is_first, is_there}
 
 same_place : (ps : List Part) (q : Places) → ArePlaces ps q → (r : Run) → place_in q r ≡ place_or_last ps r

@@ -13,12 +13,12 @@ use Rattle.xk_names.specs.WellScoped.{IsScoped}
 use Rattle.xk_callgraph.specs.Recursion.{number_among, HasCall, CallsBy, LeadTo, IsReached, ComesBack, HasRecursion}
 use Rattle.xk_callgraph.specs.Callees.{callees_all}
 use Rattle.xk_callgraph.proofs.CallPlaceLemmas.{has_at, stands_among}
-use Rattle.xk_semantics.specs.Parts.{Part, OfMethod, OfBody, Run, Calls, Starts, bodies_all, method_parts, parts, part_runs, place_of, method_among}
-use Rattle.xk_semantics.specs.PartGraph.{graph}
-use Rattle.xk_simulation.proofs.UnitLemmas.PartLookupLemmas.{Fits, fits_there}
-use Rattle.xk_simulation.proofs.UnitLemmas.NestingLemmas.{has_place}
+use Rattle.xk_source_semantics.specs.Parts.{Part, OfMethod, OfBody, Run, Calls, Starts, bodies_all, method_parts, parts, part_runs, place_of, method_among}
+use Rattle.xk_source_semantics.specs.PartGraph.{graph}
+use Rattle.xk_law_compiler.proofs.UnitLemmas.PartLookupLemmas.{Fits, fits_there}
+use Rattle.xk_law_compiler.proofs.UnitLemmas.NestingLemmas.{has_place}
 use Rattle.xk_numbering.proofs.UnitOrderLemmas.{is_run_at, known_place}
-use Rattle.xk_simulation.proofs.UnitLemmas.RisingListLemmas.{is_rising}
+use Rattle.xk_law_compiler.proofs.UnitLemmas.RisingListLemmas.{is_rising}
 use Rattle.xk_numbering.proofs.PartBodyLemmas.{rising_in, same_method, IsInside, body_inside, part_held, depth, part_deeper}
 
 -- ---- the method that a part stands in

@@ -9,11 +9,11 @@ use Rattle.xk_names.specs.Scope.{Has}
 use Rattle.xk_names.specs.WellScoped.{IsScoped}
 use Rattle.xk_callgraph.proofs.CallPlaceLemmas.{has_at, place_of as place_among}
 use Rattle.xk_callgraph.proofs.CallGraphLemmas.{mapped_at, at_mapped, row_of, of_row}
-use Rattle.xk_semantics.specs.Parts.{Part, OfMethod, OfBody, Run, opening, parts, part_runs, place_of}
-use Rattle.xk_semantics.specs.PartGraph.{graph, graph_by, place_or_last, IsOrder}
-use Rattle.xk_semantics.specs.Compilation.{AreUnits, HasLater}
-use Rattle.xk_simulation.proofs.UnitLemmas.PartLookupLemmas.{Fits, FitsAt, found, fits_there, same_place}
-use Rattle.xk_simulation.proofs.UnitLemmas.NestingLemmas.{has_place}
+use Rattle.xk_source_semantics.specs.Parts.{Part, OfMethod, OfBody, Run, opening, parts, part_runs, place_of}
+use Rattle.xk_source_semantics.specs.PartGraph.{graph, graph_by, place_or_last, IsOrder}
+use Rattle.xk_source_semantics.specs.Compilation.{AreUnits, HasLater}
+use Rattle.xk_law_compiler.proofs.UnitLemmas.PartLookupLemmas.{Fits, FitsAt, found, fits_there, same_place}
+use Rattle.xk_law_compiler.proofs.UnitLemmas.NestingLemmas.{has_place}
 
 -- ---- calls in the graph
 

@@ -2,7 +2,7 @@
 use Rattle.std.specs.Prelude.{◌≡◌, ℕ, nat_eq, List, length, unwrap_or}
 use Rattle.std.specs.Map.{lookup}
 use Rattle.xk_names.specs.Scope.{Table, find}
-use Rattle.xk_semantics.specs.Parts.{Part, Run, Calls, Starts, method_among, body_among}
+use Rattle.xk_source_semantics.specs.Parts.{Part, Run, Calls, Starts, method_among, body_among}
 
 -- the places of methods by their names, and of bodies by the offsets of their `async`; and one that stands for all that aren't there
 pub record Places : Type 0 where

@@ -3,7 +3,7 @@ use Rattle.std.specs.Prelude.{ℕ, option_map}
 use Rattle.xk_tree.specs.Tree.{method_value, clock_list, statement}
 use Rattle.xk_numbering.specs.declared.parts.Part as declared
 use Rattle.xk_numbering.specs.declared.parts.Part.TheVariants as variant
-use Rattle.xk_semantics.specs.Parts.{Part, OfMethod, OfBody}
+use Rattle.xk_source_semantics.specs.Parts.{Part, OfMethod, OfBody}
 
 abbrev pub part : declared.Part → Part
 part (variant.Method m) = OfMethod (method_value m.now)

@@ -5,10 +5,10 @@ ghost use Rattle.std.specs.Map.{lookup};
 ghost use Rattle.xk_callgraph.specs.CallGraph.{adjacency};
 ghost use Rattle.xk_tree.specs.Tree.{statement, statements, word};
 ghost use Rattle.xk_names.specs.Scope.{find};
-ghost use Rattle.xk_semantics.specs.Parts.{Calls, Starts, body_among, method_among, part_runs, runs, runs_all};
+ghost use Rattle.xk_source_semantics.specs.Parts.{Calls, Starts, body_among, method_among, part_runs, runs, runs_all};
 ghost use Rattle.xk_numbering.specs.Views.{part};
 ghost use Rattle.xk_numbering.specs.PartPlaces.{ArePlaces, place_in};
-ghost use Rattle.xk_semantics.specs.PartGraph.{graph_by};
+ghost use Rattle.xk_source_semantics.specs.PartGraph.{graph_by};
 
 use crate::parts::Part;
 use indexmap::IndexMap;

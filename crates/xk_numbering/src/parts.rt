@@ -3,7 +3,7 @@
 ghost use Rattle.std.specs.Prelude.{◌≡◌, [], ◌∷◌, ◌++◌, map, option_map, OnOk, IfOk};
 ghost use Rattle.xk_tree.specs.Tree.{clock_list, method_value, statement, statements};
 ghost use Rattle.xk_tree.specs.Program.{tree_value};
-ghost use Rattle.xk_semantics.specs.Parts.{OfBody, bodies, bodies_all, method_parts, parts};
+ghost use Rattle.xk_source_semantics.specs.Parts.{OfBody, bodies, bodies_all, method_parts, parts};
 ghost use Rattle.xk_numbering.specs.Views.{part};
 
 use std::alloc::{AllocError, Global};

@@ -4,12 +4,12 @@ ghost use Rattle.std.specs.Prelude.{◌≡◌, ◌<◌, ℕ, Some, length, map, 
 ghost use Rattle.xk_tree.specs.Program.{tree_value};
 ghost use Rattle.xk_names.specs.WellScoped.{IsScoped};
 ghost use Rattle.xk_numbering.specs.Views.{part};
-ghost use Rattle.xk_semantics.specs.Parts.{opening, parts, place_of};
-ghost use Rattle.xk_semantics.specs.PartGraph.{IsOrder, graph};
+ghost use Rattle.xk_source_semantics.specs.Parts.{opening, parts, place_of};
+ghost use Rattle.xk_source_semantics.specs.PartGraph.{IsOrder, graph};
 ghost use Rattle.xk_callgraph.specs.CallGraph.{adjacency};
 ghost use Rattle.xk_numbering.specs.Recursion.{IsFalling};
 ghost use Rattle.xk_numbering.specs.PartPlaces.{ArePlaces};
-ghost use Rattle.xk_semantics.specs.Compilation.{AreUnits};
+ghost use Rattle.xk_source_semantics.specs.Compilation.{AreUnits};
 
 use crate::part_graph::Places;
 use crate::parts::{Part, add_part, parts};

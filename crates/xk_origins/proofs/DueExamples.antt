@@ -8,11 +8,11 @@ use Rattle.xk_types.specs.Schedule.{Course, Through, Held, Wronged, run, Leads}
 use Rattle.xk_tree.specs.Tree.{Statement, Assign, IfElse}
 use Rattle.xk_names.proofs.WellScopedLaw.{scoped_tree}
 use Rattle.xk_emit.specs.CodeOf.{Setting, code_of}
-use Rattle.xk_semantics.specs.Parts.{Part, OfBody, parts}
-use Rattle.xk_semantics.specs.Source.{Do, SourceWorld, source_step, source_opening}
-use Rattle.xk_semantics.specs.Meaning.{Goes, moments}
-use Rattle.xk_semantics.proofs.Examples.{w, lit, var, val_is, print, block, reading, reading_code}
-use Rattle.xk_simulation.proofs.PremiseExample.{reading_compiled, reading_clean, one_body, few}
+use Rattle.xk_source_semantics.specs.Parts.{Part, OfBody, parts}
+use Rattle.xk_source_semantics.specs.Source.{Do, SourceWorld, source_step, source_opening}
+use Rattle.xk_source_semantics.specs.Meaning.{Goes, moments}
+use Rattle.xk_source_semantics.proofs.Examples.{w, lit, var, val_is, print, block, reading, reading_code}
+use Rattle.xk_law_compiler.proofs.PremiseExample.{reading_compiled, reading_clean, one_body, few}
 use Rattle.xk_origins.specs.Origin.{Does, Leaves, origins}
 use Rattle.xk_origins.specs.Due.{IsDue, IsDueAt, at_once, behind_else, origins_of, HasRunBeside}
 use Rattle.xk_origins.proofs.DueLaw.{runs_beside}

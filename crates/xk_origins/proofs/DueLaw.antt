@@ -7,10 +7,10 @@ use Rattle.xk_types.specs.Schedule.{Leads}
 use Rattle.xk_tree.specs.AsyncOffsets.{HasBodiesApart}
 use Rattle.xk_tree.specs.Tree.{TreeValue}
 use Rattle.xk_names.specs.WellScoped.{IsScoped}
-use Rattle.xk_semantics.specs.Compilation.{IsCompiled}
-use Rattle.xk_semantics.specs.Meaning.{moments}
-use Rattle.xk_simulation.proofs.SimulationLaw.{made_follows}
-use Rattle.xk_simulation.proofs.MeansItsSourceLaw.{compiled_made, whole_of}
+use Rattle.xk_source_semantics.specs.Compilation.{IsCompiled}
+use Rattle.xk_source_semantics.specs.Meaning.{moments}
+use Rattle.xk_law_compiler.proofs.SimulationLaw.{made_follows}
+use Rattle.xk_law_compiler.proofs.MeansItsSourceLaw.{compiled_made, whole_of}
 use Rattle.xk_origins.specs.Due.{HasRunBeside}
 use Rattle.xk_origins.proofs.DueLemmas.{stand_beside}
 

@@ -18,15 +18,15 @@ use Rattle.xk_tree.specs.Tree.{Word, Expression, Make, Value, Bound, UpTo, Least
 use Rattle.xk_names.specs.Scope.{find, has}
 use Rattle.xk_names.specs.Captures.{shared_texts}
 use Rattle.xk_emit.specs.CodeOf.{Scope, before}
-use Rattle.xk_semantics.specs.Parts.{Part}
-use Rattle.xk_semantics.specs.Source.{Todo, Do, Turn, Close, Names, Doing, SourceActivity}
-use Rattle.xk_semantics.specs.Compilation.{IsCompiled, unit_of_part}
-use Rattle.xk_simulation.proofs.PlaceLemmas.{code_in}
-use Rattle.xk_simulation.proofs.PairwiseLemmas.{Pairs}
-use Rattle.xk_simulation.proofs.RelationLemmas.{Along, Whole, Here, limit_of}
-use Rattle.xk_simulation.proofs.StepLemmas.{Between, Within, RunsAs, Stage, Waits, IsAs}
-use Rattle.xk_simulation.proofs.MeansItsSourceLaw.{whole_of}
-use Rattle.xk_simulation.proofs.UnitLemmas.SettingLemmas.{shared_placed}
+use Rattle.xk_source_semantics.specs.Parts.{Part}
+use Rattle.xk_source_semantics.specs.Source.{Todo, Do, Turn, Close, Names, Doing, SourceActivity}
+use Rattle.xk_source_semantics.specs.Compilation.{IsCompiled, unit_of_part}
+use Rattle.xk_law_compiler.proofs.PlaceLemmas.{code_in}
+use Rattle.xk_law_compiler.proofs.PairwiseLemmas.{Pairs}
+use Rattle.xk_law_compiler.proofs.RelationLemmas.{Along, Whole, Here, limit_of}
+use Rattle.xk_law_compiler.proofs.StepLemmas.{Between, Within, RunsAs, Stage, Waits, IsAs}
+use Rattle.xk_law_compiler.proofs.MeansItsSourceLaw.{whole_of}
+use Rattle.xk_law_compiler.proofs.UnitLemmas.SettingLemmas.{shared_placed}
 use Rattle.xk_origins.specs.Origin.{Origin, Does, Ends, Leaves, part_origins}
 use Rattle.xk_origins.specs.OwnInstructions.{AreOf, is_of}
 use Rattle.xk_origins.specs.Laws.{code_at}

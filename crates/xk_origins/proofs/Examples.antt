@@ -10,7 +10,7 @@ use Rattle.xk_tree.specs.declared.tree.Number.{Number}
 use Rattle.xk_tree.specs.declared.tree.Verb.{Verb}
 use Rattle.xk_tree.specs.Tree.{Word, Expression, Literal, Named, Binary, Value, UpTo, Least, Statement, Done, More, Block, Declare, Assign, IfElse, For, Async, Finish, Print, MethodValue, TreeValue}
 use Rattle.xk_emit.specs.CodeOf.{Setting, code_of}
-use Rattle.xk_semantics.specs.Parts.{OfMethod, OfBody}
+use Rattle.xk_source_semantics.specs.Parts.{OfMethod, OfBody}
 use Rattle.xk_origins.specs.Origin.{Does, Ends, offset_of, origins}
 use Rattle.xk_origins.specs.UnitOrigins.{slot_names, unit_origins}
 

@@ -4,7 +4,7 @@ use Rattle.std.proofs.lemmas.List.{map-append}
 use Rattle.xk_tree.specs.Tree.{Expression, Literal, Named, Paren, Negation, Binary, Source, Make, Value, Bound, UpTo, Least, has_turns, Statement, Statements, Done, More, Block, Empty, Declare, Assign, Atomic, If, IfElse, For, Async, Finish, Call, Resume, Drop, AdvanceAll, Print, TreeValue}
 use Rattle.xk_names.specs.Scope.{has}
 use Rattle.xk_names.specs.Captures.{shared_texts}
-use Rattle.xk_semantics.specs.Parts.{Part, OfMethod, OfBody}
+use Rattle.xk_source_semantics.specs.Parts.{Part, OfMethod, OfBody}
 use Rattle.xk_origins.specs.Origin.{Does, Ends, Leaves, brings, brings_all, closed, does, offset_of, origins, origins_all, own, part_origins, place_of, puts, puts_limit, puts_source}
 use Rattle.xk_origins.specs.UnitOrigins.{Head, UnitOrigins, head_of, slot_names, unit_origins}
 use Rattle.xk_origins.specs.Offsets.{offsets, offsets_all, part_offsets}

@@ -15,9 +15,9 @@ use Rattle.xk_names.specs.Scope.{find, has}
 use Rattle.xk_names.specs.Captures.{shared_texts}
 use Rattle.xk_emit.specs.CodeOf.{Scope, Setting, argument_slots, before_assigned, before_bound, before_into, behind, body_params, both, code_of, code_of_all, count, declared, eval, eval_all, head_of, instr_of, last_assigned, last_into, last_value, loop_slots, number_of, second, slot_for, within_loop}
 use Rattle.xk_emit.specs.Unit.{first_temporary, names_of_params, scope_from, unit_code}
-use Rattle.xk_semantics.specs.Parts.{Part, OfMethod, OfBody}
-use Rattle.xk_semantics.specs.Compilation.{IsCompiled, unit_of_part}
-use Rattle.xk_simulation.proofs.UnitLemmas.SettingLemmas.{shared_placed}
+use Rattle.xk_source_semantics.specs.Parts.{Part, OfMethod, OfBody}
+use Rattle.xk_source_semantics.specs.Compilation.{IsCompiled, unit_of_part}
+use Rattle.xk_law_compiler.proofs.UnitLemmas.SettingLemmas.{shared_placed}
 use Rattle.xk_origins.specs.Origin.{Origin, Does, Ends, Leaves, brings, brings_all, origins, origins_all, own, part_origins, puts, puts_limit}
 use Rattle.xk_origins.specs.Laws.{code_at}
 use Rattle.xk_origins.specs.OwnInstructions.{AreOf, does, is_of, reckons, uses}

@@ -7,9 +7,9 @@ use Rattle.xk_tree.specs.declared.tree.Number.{Number}
 use Rattle.xk_tree.specs.Tree.{Word, Expression, Literal, Named, Paren, Negation, Binary, Source, Make, Value, Bound, UpTo, Least, top, Statement, Block, Empty, Declare, Assign, Atomic, If, IfElse, For, Async, Finish, Call, Resume, Drop, AdvanceAll, Print, Statements, More}
 use Rattle.xk_names.specs.Scope.{find, has}
 use Rattle.xk_emit.specs.CodeOf.{Scope, Setting, before, before_assigned, before_bound, before_into, both, code_of, eval}
-use Rattle.xk_semantics.specs.Parts.{Part, OfMethod, OfBody}
-use Rattle.xk_simulation.proofs.PlaceLemmas.{body_of, Lies, LieAll, is_whole, is_first, is_then, is_either, is_else, is_turn, is_awaited, is_block, are_others}
-use Rattle.xk_simulation.proofs.RelationLemmas.{HoldsAt, holds_front, holds_back, holds_all, IsSimple, EndsLoop}
+use Rattle.xk_source_semantics.specs.Parts.{Part, OfMethod, OfBody}
+use Rattle.xk_law_compiler.proofs.PlaceLemmas.{body_of, Lies, LieAll, is_whole, is_first, is_then, is_either, is_else, is_turn, is_awaited, is_block, are_others}
+use Rattle.xk_law_compiler.proofs.RelationLemmas.{HoldsAt, holds_front, holds_back, holds_all, IsSimple, EndsLoop}
 use Rattle.xk_origins.specs.Origin.{Origin, Does, Ends, Leaves, brings, brings_all, does, origins, origins_all, own, part_origins, puts, puts_limit, puts_source}
 use Rattle.xk_origins.proofs.LengthLemmas.{Same, both_then, puts_length, brings_then, all_length, limit_length, assigned_length, code_length}
 

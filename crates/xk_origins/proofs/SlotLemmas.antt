@@ -14,12 +14,12 @@ use Rattle.xk_names.specs.Uses.{clocks_listed}
 use Rattle.xk_names.specs.Captures.{loop_words}
 use Rattle.xk_emit.specs.CodeOf.{Body, Scope, Setting, count, count_all, declared, loop_slots, within_loop}
 use Rattle.xk_emit.specs.Unit.{scope_from}
-use Rattle.xk_semantics.specs.Parts.{Part, OfMethod, OfBody, Starts}
-use Rattle.xk_semantics.specs.Compilation.{IsCompiled}
+use Rattle.xk_source_semantics.specs.Parts.{Part, OfMethod, OfBody, Starts}
+use Rattle.xk_source_semantics.specs.Compilation.{IsCompiled}
 use Rattle.xk_callgraph.proofs.CallPlaceLemmas.{has_at}
-use Rattle.xk_simulation.proofs.CompiledOnceLaw.{one_units}
-use Rattle.xk_simulation.proofs.UnitLemmas.PartLookupLemmas.{found}
-use Rattle.xk_simulation.proofs.UnitLemmas.SettingLemmas.{AreSettled, body_unit_of}
+use Rattle.xk_law_compiler.proofs.CompiledOnceLaw.{one_units}
+use Rattle.xk_law_compiler.proofs.UnitLemmas.PartLookupLemmas.{found}
+use Rattle.xk_law_compiler.proofs.UnitLemmas.SettingLemmas.{AreSettled, body_unit_of}
 use Rattle.xk_origins.specs.UnitOrigins.{UnitOrigins, names, names_all, params, slot_names, slots_at, unit_origins}
 use Rattle.xk_origins.specs.VisibleNames.{AreSlotNames, IsNamed, scopes, scopes_all, unit_body, unit_params}
 use Rattle.xk_origins.specs.Laws.{AreOrigins}

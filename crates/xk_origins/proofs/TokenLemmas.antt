@@ -21,7 +21,7 @@ use Rattle.xk_syntax.specs.Spelling.{word, number, expr, comparison_sign, type_n
 use Rattle.xk_names.specs.Scope.{Has, has}
 use Rattle.xk_names.specs.Captures.{shared_texts}
 use Rattle.xk_names.proofs.MembershipLemmas.{has_either}
-use Rattle.xk_semantics.specs.Parts.{Part, bodies, bodies_all, method_parts, parts}
+use Rattle.xk_source_semantics.specs.Parts.{Part, bodies, bodies_all, method_parts, parts}
 use Rattle.xk_origins.specs.Origin.{brings, brings_all, closed, own, puts, puts_limit, puts_source}
 use Rattle.xk_origins.specs.UnitOrigins.{UnitOrigins, head_of, unit_origins}
 use Rattle.xk_origins.specs.Laws.{AreAtTokens, AreOrigins, IsAtTokens}

@@ -11,10 +11,10 @@ use Rattle.xk_names.specs.Scope.{find, has}
 use Rattle.xk_names.specs.Captures.{shared_texts}
 use Rattle.xk_emit.specs.CodeOf.{Setting, body_params, code_of}
 use Rattle.xk_emit.specs.Unit.{first_temporary, names_of_params, scope_from, unit_code}
-use Rattle.xk_semantics.specs.Parts.{Part, OfMethod, OfBody}
-use Rattle.xk_semantics.specs.Compilation.{IsCompiled, unit_of_part}
-use Rattle.xk_simulation.proofs.CompiledOnceLaw.{one_units}
-use Rattle.xk_simulation.proofs.UnitLemmas.SettingLemmas.{shared_placed}
+use Rattle.xk_source_semantics.specs.Parts.{Part, OfMethod, OfBody}
+use Rattle.xk_source_semantics.specs.Compilation.{IsCompiled, unit_of_part}
+use Rattle.xk_law_compiler.proofs.CompiledOnceLaw.{one_units}
+use Rattle.xk_law_compiler.proofs.UnitLemmas.SettingLemmas.{shared_placed}
 use Rattle.xk_origins.specs.Origin.{Origin, Leaves, offset_of, origins, part_origins}
 use Rattle.xk_origins.specs.UnitOrigins.{UnitOrigins, offsets_at, unit_origins}
 use Rattle.xk_origins.specs.Laws.{AreOrigins, HasOneForEach}

@@ -11,9 +11,9 @@ use Rattle.xk_types.specs.declared.instr.Comparison.{Comparison}
 use Rattle.xk_tree.specs.declared.tree.Verb.{Verb}
 use Rattle.xk_tree.specs.Tree.{Word, Expression, UpTo, Least, Statement, IfElse, For, Finish, Call, AdvanceAll, TreeValue}
 use Rattle.xk_names.specs.Captures.{shared_texts}
-use Rattle.xk_semantics.specs.Parts.{Part}
-use Rattle.xk_semantics.specs.Source.{Todo, Do, Turn, Close, Doing, SourceActivity}
-use Rattle.xk_semantics.specs.Meaning.{HasRun, Moment, have_ended}
+use Rattle.xk_source_semantics.specs.Parts.{Part}
+use Rattle.xk_source_semantics.specs.Source.{Todo, Do, Turn, Close, Doing, SourceActivity}
+use Rattle.xk_source_semantics.specs.Meaning.{HasRun, Moment, have_ended}
 use Rattle.xk_origins.specs.Origin.{Origin, Does, Ends, Leaves, part_origins}
 use Rattle.xk_origins.specs.Laws.{code_at}
 

@@ -7,8 +7,8 @@ use Rattle.xk_tree.specs.Tree.{TreeValue}
 use Rattle.xk_lexer.specs.Tokens.{TokenValue}
 use Rattle.xk_lexer.specs.Pieces.{offsets}
 use Rattle.xk_names.specs.Scope.{Has}
-use Rattle.xk_semantics.specs.Parts.{Part}
-use Rattle.xk_semantics.specs.Compilation.{AreUnits}
+use Rattle.xk_source_semantics.specs.Parts.{Part}
+use Rattle.xk_source_semantics.specs.Compilation.{AreUnits}
 use Rattle.xk_origins.specs.UnitOrigins.{UnitOrigins, offsets_at, unit_origins}
 
 -- these are the origins of a program, unit by unit

@@ -1,7 +1,7 @@
 -- The offsets of origins, as the code lists them: each is that of an origin, in the same order. This project's own.
 use Rattle.std.specs.Prelude.{ℕ, List, [], ◌∷◌, ◌++◌, if◌then◌else◌}
 use Rattle.xk_tree.specs.Tree.{has_turns, Statement, Statements, Done, More, Block, If, IfElse, For, Finish}
-use Rattle.xk_semantics.specs.Parts.{Part, OfMethod, OfBody}
+use Rattle.xk_source_semantics.specs.Parts.{Part, OfMethod, OfBody}
 use Rattle.xk_origins.specs.Origin.{closed, own, place_of}
 
 abbrev mutual

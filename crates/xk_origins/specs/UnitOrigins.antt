@@ -8,8 +8,8 @@ use Rattle.xk_names.specs.Scope.{texts}
 use Rattle.xk_names.specs.Uses.{clocks_listed}
 use Rattle.xk_names.specs.Captures.{loop_words, shared_texts}
 use Rattle.xk_emit.specs.Unit.{names_of_params}
-use Rattle.xk_semantics.specs.Parts.{Part, OfMethod, OfBody}
-use Rattle.xk_semantics.specs.Compilation.{method_kind, taken}
+use Rattle.xk_source_semantics.specs.Parts.{Part, OfMethod, OfBody}
+use Rattle.xk_source_semantics.specs.Compilation.{method_kind, taken}
 use Rattle.xk_origins.specs.Origin.{offset_of, part_origins}
 
 -- ---- slots

@@ -3,7 +3,7 @@ use Rattle.std.specs.Prelude.{◌≡◌, ℕ, ◌+◌, All, List, [], ◌∷◌,
 use Rattle.xk_tree.specs.Tree.{Statement, Statements, Done, More, Block, If, IfElse, For, Finish}
 use Rattle.xk_emit.specs.CodeOf.{Scope, Setting, body_params, count, declared, loop_slots, within_loop}
 use Rattle.xk_emit.specs.Unit.{first_temporary, names_of_params, scope_from}
-use Rattle.xk_semantics.specs.Parts.{Part, OfMethod, OfBody}
+use Rattle.xk_source_semantics.specs.Parts.{Part, OfMethod, OfBody}
 
 abbrev mutual
   -- The scopes with which `code_of` goes over a statement, row by row, where n is the next slot: that of each statement in it, and what is visible behind

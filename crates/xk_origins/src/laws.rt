@@ -14,9 +14,9 @@ ghost use Rattle.xk_names.specs.Scope.{find, has};
 ghost use Rattle.xk_names.specs.Captures.{shared_texts};
 ghost use Rattle.xk_emit.specs.CodeOf.{Scope, Setting, code_of};
 ghost use Rattle.xk_syntax.specs.Spelling.{SpellsTree};
-ghost use Rattle.xk_semantics.specs.Parts.{Part};
-ghost use Rattle.xk_semantics.specs.Compilation.{IsCompiled};
-ghost use Rattle.xk_semantics.specs.Meaning.{moments};
+ghost use Rattle.xk_source_semantics.specs.Parts.{Part};
+ghost use Rattle.xk_source_semantics.specs.Compilation.{IsCompiled};
+ghost use Rattle.xk_source_semantics.specs.Meaning.{moments};
 ghost use Rattle.xk_origins.specs.Due.{HasRunBeside};
 ghost use Rattle.xk_origins.specs.Laws.{AreAtTokens, AreOrigins, HasOneForEach, code_at};
 ghost use Rattle.xk_origins.specs.Origin.{origins, part_origins};
@@ -63,7 +63,7 @@ pub fn a_token_stands_there()
 {}
 
 /// What the origin of an instruction says is what the source has to do there: origins are no hint. For each legal run of a compiled module
-/// there is a run of the tree with the same arguments and the same moments, as `means_its_source` of `xk_simulation` has it, at the end of
+/// there is a run of the tree with the same arguments and the same moments, as `means_its_source` of `xk_law_compiler` has it, at the end of
 /// which activities are beside each other, one for one, with the same status and as many open `finish`es. What one of the tree has to do
 /// first is what the origin of the place says at which the last frame of the module's stands; where that is a jump over an `else`, of where
 /// it leads. In an `advanceAll` whose first half is done, and in a frame that waits at a call, it is so of the place behind. The call does

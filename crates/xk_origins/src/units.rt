@@ -9,7 +9,7 @@ ghost use Rattle.xk_names.specs.Captures.{shared_texts};
 ghost use Rattle.xk_names.specs.WellScoped.{IsScoped};
 ghost use Rattle.xk_numbering.specs.Recursion.{IsFalling};
 ghost use Rattle.xk_numbering.specs.Views.{part};
-ghost use Rattle.xk_semantics.specs.Compilation.{AreUnits, method_kind, taken};
+ghost use Rattle.xk_source_semantics.specs.Compilation.{AreUnits, method_kind, taken};
 ghost use Rattle.xk_origins.specs.UnitOrigins.{head_of, slot_names, unit_origins};
 ghost use Rattle.xk_origins.specs.Offsets.{part_offsets};
 ghost use Rattle.xk_origins.specs.Laws.{AreOrigins};

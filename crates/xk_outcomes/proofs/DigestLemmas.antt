@@ -8,9 +8,9 @@ use Rattle.xk_types.specs.declared.world.Value.{Value}
 use Rattle.xk_types.specs.Code.{ModuleValue, UnitValue}
 use Rattle.xk_types.specs.World.{Activity, World, slots_of}
 use Rattle.xk_activity.specs.Activities.{act_at, nobody}
-use Rattle.xk_laws.proofs.Invariant.{IsActivitySound, looks}
-use Rattle.xk_laws.proofs.ReachabilityLemmas.{reached_sound}
-use Rattle.xk_squares.specs.PlainWorlds.{AreAlike, plain_activity}
+use Rattle.xk_law_schedules.proofs.Invariant.{IsActivitySound, looks}
+use Rattle.xk_law_schedules.proofs.ReachabilityLemmas.{reached_sound}
+use Rattle.xk_law_commute.specs.PlainWorlds.{AreAlike, plain_activity}
 use Rattle.xk_core.specs.Core.{IsCore}
 use Rattle.xk_outcomes.specs.Digest.{mixed, with_activity, with_numbers, with_values, word_of, world_digest}
 

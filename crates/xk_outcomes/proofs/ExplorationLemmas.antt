@@ -9,12 +9,12 @@ use Rattle.xk_types.specs.Code.{ModuleValue, IsWithinLimits}
 use Rattle.xk_types.specs.World.{World, opening, AreArguments}
 use Rattle.xk_types.specs.Step.{Stepped, step}
 use Rattle.xk_types.specs.Schedule.{Through, run, all_ended, number_printed, printed}
-use Rattle.xk_laws.proofs.ReachabilityLemmas.{run_more}
-use Rattle.xk_squares.specs.QuietSteps.{has_quiet_step}
-use Rattle.xk_squares.specs.Exploration.{IsLedTo, HasNext}
-use Rattle.xk_squares.proofs.ChangeSquareLemmas.{same_step}
-use Rattle.xk_squares.proofs.QuietStepLaw.{quiet_steps_go_first, alike_worlds_go_alike}
-use Rattle.xk_squares.proofs.ExplorationLaw.{nobody_steps, nothing_missed}
+use Rattle.xk_law_schedules.proofs.ReachabilityLemmas.{run_more}
+use Rattle.xk_law_commute.specs.QuietSteps.{has_quiet_step}
+use Rattle.xk_law_commute.specs.Exploration.{IsLedTo, HasNext}
+use Rattle.xk_law_commute.proofs.ChangeSquareLemmas.{same_step}
+use Rattle.xk_law_commute.proofs.QuietStepLaw.{quiet_steps_go_first, alike_worlds_go_alike}
+use Rattle.xk_law_commute.proofs.ExplorationLaw.{nobody_steps, nothing_missed}
 use Rattle.xk_core.specs.Core.{CoreValue}
 use Rattle.xk_outcomes.specs.Found.{FoundValue}
 use Rattle.xk_outcomes.specs.Search.{LeadsQuietly, AreFound, Has, IsKnown, AreExpanded, AreAllFound}

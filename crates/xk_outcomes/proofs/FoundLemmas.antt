@@ -10,9 +10,9 @@ use Rattle.xk_types.specs.Code.{ModuleValue, IsWithinLimits}
 use Rattle.xk_types.specs.World.{World}
 use Rattle.xk_types.specs.Step.{Outcome, Blocked, Wrong, Stepped, step}
 use Rattle.xk_types.specs.Schedule.{number_printed}
-use Rattle.xk_laws.proofs.ReachabilityLemmas.{run_more}
-use Rattle.xk_squares.specs.QuietSteps.{has_quiet_step}
-use Rattle.xk_squares.proofs.QuietStepLaw.{enabled_step, quiet_enabled, quiet_steps_go_first}
+use Rattle.xk_law_schedules.proofs.ReachabilityLemmas.{run_more}
+use Rattle.xk_law_commute.specs.QuietSteps.{has_quiet_step}
+use Rattle.xk_law_commute.proofs.QuietStepLaw.{enabled_step, quiet_enabled, quiet_steps_go_first}
 use Rattle.xk_core.specs.Core.{CoreValue}
 use Rattle.xk_outcomes.specs.Found.{FoundValue, along, at_rest, first_found, least, least_quiet, next, one_more, or_this, settled, with_outcome, with_step}
 use Rattle.xk_outcomes.specs.Search.{Has, HasAfter, IsFound, IsGrown, IsKnown, IsSettled, LeadsQuietly}

@@ -8,8 +8,8 @@ use Rattle.xk_types.specs.Code.{ModuleValue}
 use Rattle.xk_types.specs.World.{opening}
 use Rattle.xk_types.specs.Schedule.{run, all_ended, printed}
 use Rattle.xk_types.specs.Logs.{schedule_of}
-use Rattle.xk_laws.proofs.ReachabilityLemmas.{same_through}
-use Rattle.xk_squares.specs.PlainWorlds.{AreAlike, plain}
+use Rattle.xk_law_schedules.proofs.ReachabilityLemmas.{same_through}
+use Rattle.xk_law_commute.specs.PlainWorlds.{AreAlike, plain}
 use Rattle.xk_core.specs.Core.{opening_core}
 use Rattle.xk_outcomes.specs.Found.{FoundValue}
 use Rattle.xk_outcomes.specs.declared.listing.Outcome.{Outcome}

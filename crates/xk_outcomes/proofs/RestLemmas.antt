@@ -7,11 +7,11 @@ use Rattle.xk_types.specs.Code.{IsWithinLimits}
 use Rattle.xk_types.specs.World.{AreArguments, opening}
 use Rattle.xk_types.specs.Step.{Stepped, step}
 use Rattle.xk_types.specs.Schedule.{IsReached, Through, run}
-use Rattle.xk_laws.proofs.ReachabilityLemmas.{reached_room, run_arguments}
-use Rattle.xk_laws.proofs.StepCountLemmas.{step_counts}
-use Rattle.xk_squares.specs.QuietSteps.{has_quiet_step}
-use Rattle.xk_squares.proofs.ChangeSquareLemmas.{found_of}
-use Rattle.xk_squares.proofs.QuietStepLaw.{enabled_step, quiet_enabled}
+use Rattle.xk_law_schedules.proofs.ReachabilityLemmas.{reached_room, run_arguments}
+use Rattle.xk_law_schedules.proofs.StepCountLemmas.{step_counts}
+use Rattle.xk_law_commute.specs.QuietSteps.{has_quiet_step}
+use Rattle.xk_law_commute.proofs.ChangeSquareLemmas.{found_of}
+use Rattle.xk_law_commute.proofs.QuietStepLaw.{enabled_step, quiet_enabled}
 use Rattle.xk_core.specs.Core.{CoreValue}
 use Rattle.xk_outcomes.specs.Found.{FoundValue, at_rest, least, least_quiet, one_more, or_this, settled, with_outcome, with_step}
 use Rattle.xk_outcomes.specs.Outcomes.{IsAtRest}

@@ -11,8 +11,8 @@ use Rattle.xk_types.specs.Code.{ModuleValue}
 use Rattle.xk_types.specs.World.{World}
 use Rattle.xk_types.specs.Step.{Stepped, step}
 use Rattle.xk_types.specs.Schedule.{Through, run, is_local, events, events_on, number_printed, printed}
-use Rattle.xk_laws.proofs.ReachabilityLemmas.{same_through, first_step}
-use Rattle.xk_squares.proofs.ChangeSquareLemmas.{found_of}
+use Rattle.xk_law_schedules.proofs.ReachabilityLemmas.{same_through, first_step}
+use Rattle.xk_law_commute.proofs.ChangeSquareLemmas.{found_of}
 use Rattle.xk_outcomes.specs.Found.{FoundValue}
 use Rattle.xk_outcomes.specs.Digest.{world_digest}
 use Rattle.xk_outcomes.specs.Search.{IsGrown, Has, HasAfter, IsAt, IsKnown, AreDifferent, AreDigests, AreExpanded, found_digest}

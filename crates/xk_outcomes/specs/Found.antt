@@ -4,7 +4,7 @@ use Rattle.std.specs.Option.{option_to_list}
 use Rattle.xk_types.specs.Step.{Outcome, Blocked, Wrong, Stepped, step}
 use Rattle.xk_types.specs.Schedule.{number_printed}
 use Rattle.xk_types.specs.Bound.{steps_bound}
-use Rattle.xk_squares.specs.QuietSteps.{has_quiet_step}
+use Rattle.xk_law_commute.specs.QuietSteps.{has_quiet_step}
 use Rattle.xk_core.specs.Core.{CoreValue, with_world}
 
 -- a core, the numbers that were printed by then, and a schedule that leads there and prints them

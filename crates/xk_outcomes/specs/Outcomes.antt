@@ -5,8 +5,8 @@ use Rattle.xk_types.specs.Code.{ModuleValue}
 use Rattle.xk_types.specs.World.{World, opening}
 use Rattle.xk_types.specs.Schedule.{Through, run, all_ended, printed}
 use Rattle.xk_types.specs.Logs.{schedule_of}
-use Rattle.xk_squares.specs.PlainWorlds.{AreAlike}
-use Rattle.xk_squares.specs.QuietSteps.{has_quiet_step}
+use Rattle.xk_law_commute.specs.PlainWorlds.{AreAlike}
+use Rattle.xk_law_commute.specs.QuietSteps.{has_quiet_step}
 use Rattle.xk_outcomes.specs.declared.listing.Outcome.{Outcome}
 
 -- a legal schedule of the module with these arguments, after which all have ended, and which prints these numbers

@@ -6,8 +6,8 @@ use Rattle.xk_types.specs.Code.{ModuleValue}
 use Rattle.xk_types.specs.World.{World}
 use Rattle.xk_types.specs.Step.{Stepped, step}
 use Rattle.xk_types.specs.Schedule.{Through, run, all_ended, number_printed, printed}
-use Rattle.xk_squares.specs.PlainWorlds.{AreAlike}
-use Rattle.xk_squares.specs.QuietSteps.{has_quiet_step}
+use Rattle.xk_law_commute.specs.PlainWorlds.{AreAlike}
+use Rattle.xk_law_commute.specs.QuietSteps.{has_quiet_step}
 use Rattle.xk_core.specs.Core.{CoreValue}
 use Rattle.xk_outcomes.specs.Found.{FoundValue, at_rest}
 use Rattle.xk_outcomes.specs.Digest.{world_digest}

@@ -3,7 +3,7 @@
 ghost use Rattle.std.specs.Prelude.{◌≡◌, ◌++◌, [], true, length, IfOk, IfSome, OnOk};
 ghost use Rattle.std.specs.Option.{option_to_list};
 ghost use Rattle.xk_types.specs.Schedule.{number_printed};
-ghost use Rattle.xk_squares.specs.QuietSteps.{has_quiet_step};
+ghost use Rattle.xk_law_commute.specs.QuietSteps.{has_quiet_step};
 ghost use Rattle.xk_outcomes.specs.Found.{along, at_rest, first_found, least_quiet, next, one_more};
 
 use std::alloc::{AllocError, Global};

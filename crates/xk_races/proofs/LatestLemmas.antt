@@ -10,11 +10,11 @@ use Rattle.std.proofs.lemmas.List.{append-nil, get_or-set_same, get_or-set_other
 use Rattle.std.proofs.lemmas.List.Folds.{list_any-append}
 use Rattle.xk_types.specs.declared.world.Event.{Event}
 use Rattle.xk_types.specs.declared.world.Event.TheVariants as event
-use Rattle.xk_accesses.specs.declared.access.Access.{Access}
-use Rattle.xk_accesses.specs.declared.access.Detail.{Detail}
-use Rattle.xk_accesses.specs.declared.access.Detail.TheVariants.{Activity, Place}
-use Rattle.xk_accesses.specs.declared.access.AccessKind.{AccessKind}
-use Rattle.xk_accesses.specs.declared.access.AccessKind.TheVariants.{Read, Addition}
+use Rattle.xk_races_summary.specs.declared.access.Access.{Access}
+use Rattle.xk_races_summary.specs.declared.access.Detail.{Detail}
+use Rattle.xk_races_summary.specs.declared.access.Detail.TheVariants.{Activity, Place}
+use Rattle.xk_races_summary.specs.declared.access.AccessKind.{AccessKind}
+use Rattle.xk_races_summary.specs.declared.access.AccessKind.TheVariants.{Read, Addition}
 use Rattle.xk_races.specs.declared.deeds.Part.{Part}
 use Rattle.xk_races.specs.declared.deeds.Part.TheVariants as part
 use Rattle.xk_races.specs.declared.pairs.Race.{Race}
@@ -22,8 +22,8 @@ use Rattle.xk_races.specs.Lists.{number_at}
 use Rattle.xk_races.specs.Knowledge.{Sight}
 use Rattle.xk_races.specs.Races.{clash, have_one_number, have_same_places, is_race, race, with_race, with_races_of}
 use Rattle.xk_races.specs.Accesses.{AreAllCovered, AreCovered, access_of, cell_accessed, is_new, is_race_of, latest_at, new_members, race_of, sights_at}
-use Rattle.xk_accesses.specs.Accesses.{Group, IsCovered, Latest, covers, groups_of, has_member, is_placed, is_same_place, kind_of, none_yet, single}
-use Rattle.xk_accesses.proofs.AccessLemmas.{any_from, covers_parts, place_true}
+use Rattle.xk_races_summary.specs.Accesses.{Group, IsCovered, Latest, covers, groups_of, has_member, is_placed, is_same_place, kind_of, none_yet, single}
+use Rattle.xk_races_summary.proofs.AccessLemmas.{any_from, covers_parts, place_true}
 use Rattle.xk_races.proofs.RowLemmas.{padded}
 use Rattle.xk_races.proofs.RaceListLemmas.{one_behind}
 use Rattle.xk_races.proofs.PlaceListLemmas.{some_tell_all}

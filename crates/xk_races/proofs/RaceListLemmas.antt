@@ -6,8 +6,8 @@ use Rattle.std.proofs.lemmas.Bool.{cases_lt, eq-eqb, false≢true}
 use Rattle.std.proofs.lemmas.List.{append_assoc}
 use Rattle.std.proofs.lemmas.Option.{same_Some, slice_get_within}
 use Rattle.xk_types.proofs.ListLemmas.{get-append_left}
-use Rattle.xk_events.specs.declared.steps.RunStep.{RunStep}
-use Rattle.xk_accesses.specs.Accesses.{is_same_place}
+use Rattle.xk_show_events.specs.declared.steps.RunStep.{RunStep}
+use Rattle.xk_races_summary.specs.Accesses.{is_same_place}
 use Rattle.xk_races.specs.declared.pairs.Race.{Race}
 use Rattle.xk_races.specs.Knowledge.{Sight}
 use Rattle.xk_races.specs.Races.{is_race, race, have_same_places, with_race, with_races_of, races_from}

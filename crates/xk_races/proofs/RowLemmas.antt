@@ -3,7 +3,7 @@ use Rattle.std.proofs.Common.{◌≡◌, ◌∙◌, ℕ, zero, suc, ◌-◌, ◌
 use Rattle.std.proofs.lemmas.Bool.{cases_lt}
 use Rattle.std.proofs.lemmas.List.{get_or-set_same, get_or-set_other, get_or_past, get_or-replicate, get_or-append_right, get_or_append_left, length-replicate}
 use Rattle.std.proofs.Math.Seq.{get_or-append_seam}
-use Rattle.xk_events.specs.Worlds.{each_below}
+use Rattle.xk_show_events.specs.Worlds.{each_below}
 use Rattle.xk_races.specs.Lists.{number_at, with_at, joined}
 
 filler : {X : Type 0} (d : X) (n i : ℕ) → get_or (replicate n d) i d ≡ d

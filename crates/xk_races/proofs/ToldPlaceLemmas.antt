@@ -9,8 +9,8 @@ use Rattle.std.specs.List.{list_any}
 use Rattle.std.proofs.lemmas.Bool.{ltb-true, ne_eqb}
 use Rattle.std.proofs.lemmas.Cmp.{nat_eq_equiv}
 use Rattle.std.proofs.lemmas.List.Folds.{list_any-append}
-use Rattle.xk_events.specs.declared.steps.RunStep.{RunStep}
-use Rattle.xk_accesses.specs.Accesses.{is_same_place}
+use Rattle.xk_show_events.specs.declared.steps.RunStep.{RunStep}
+use Rattle.xk_races_summary.specs.Accesses.{is_same_place}
 use Rattle.xk_races.specs.declared.pairs.Race.{Race}
 use Rattle.xk_races.specs.Races.{have_same_places}
 use Rattle.xk_races.specs.ToldPlaces.{Key, AreTold, key, key_back, key_cmp, text_place, text_place_cmp}

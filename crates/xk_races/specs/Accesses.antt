@@ -3,8 +3,8 @@
 use Rattle.std.specs.Prelude.{◌≡◌, ℕ, nat_le, Bool, true, not, ◌&&◌, List, [], flat_map, Option, Some, None, slice_get, slice_index_or, if◌then◌else◌}
 use Rattle.std.specs.Option.{option_to_list}
 use Rattle.std.specs.List.{list_any}
-use Rattle.xk_accesses.specs.declared.access.Access.{Access}
-use Rattle.xk_accesses.specs.Accesses.{Group, IsCovered, Latest, none_yet}
+use Rattle.xk_races_summary.specs.declared.access.Access.{Access}
+use Rattle.xk_races_summary.specs.Accesses.{Group, IsCovered, Latest, none_yet}
 use Rattle.xk_races.specs.declared.deeds.Part.{Part}
 use Rattle.xk_races.specs.declared.deeds.Part.TheVariants as part
 use Rattle.xk_races.specs.declared.pairs.Race.{Race}

@@ -14,9 +14,9 @@ use Rattle.xk_types.specs.Code.{ModuleValue}
 use Rattle.xk_types.specs.World.{World, standing_of}
 use Rattle.xk_types.specs.Step.{is_pending, is_signalled}
 use Rattle.xk_core.specs.Core.{advanced_now, has_advanced, is_registered_on}
-use Rattle.xk_events.specs.declared.steps.RunStep.{RunStep}
-use Rattle.xk_events.specs.Worlds.{those_below}
-use Rattle.xk_events.specs.Steps.{Teller, run_step, told_of_run}
+use Rattle.xk_show_events.specs.declared.steps.RunStep.{RunStep}
+use Rattle.xk_show_events.specs.Worlds.{those_below}
+use Rattle.xk_show_events.specs.Steps.{Teller, run_step, told_of_run}
 use Rattle.xk_races.specs.declared.deeds.Deed.{Deed}
 use Rattle.xk_races.specs.declared.deeds.Part.{Part}
 use Rattle.xk_races.specs.declared.deeds.Part.TheVariants as part

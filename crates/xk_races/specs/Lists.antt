@@ -1,6 +1,6 @@
 -- Lists that read as if they went on for ever. This project's own.
 use Rattle.std.specs.Prelude.{ℕ, suc, ◌-◌, max, List, [], ◌∷◌, ◌++◌, length, replicate, slice_index_or, slice_set}
-use Rattle.xk_events.specs.Worlds.{each_below}
+use Rattle.xk_show_events.specs.Worlds.{each_below}
 
 -- number k of a list in which all that isn't there is 0
 abbrev pub number_at : List ℕ → ℕ → ℕ

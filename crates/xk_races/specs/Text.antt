@@ -2,8 +2,8 @@
 use Rattle.std.specs.Prelude.{ℕ, ℤ, List, [], ◌∷◌, ◌++◌, length, flat_map, Option, Some, None, codes, decimal}
 use Rattle.xk_types.specs.declared.world.Entry.{Entry}
 use Rattle.xk_types.specs.Code.{ModuleValue}
-use Rattle.xk_events.specs.declared.steps.RunStep.{RunStep}
-use Rattle.xk_events.specs.Events.{PlacesValue, event_words, origin_of, place_words}
+use Rattle.xk_show_events.specs.declared.steps.RunStep.{RunStep}
+use Rattle.xk_show_events.specs.Events.{PlacesValue, event_words, origin_of, place_words}
 use Rattle.xk_races.specs.declared.pairs.Race.{Race}
 use Rattle.xk_races.specs.declared.pairs.Gap.{Gap}
 use Rattle.xk_races.specs.Races.{races_in, gap_in, sights_of_run}
@@ -32,7 +32,7 @@ print_line_if_free p (r ∷ rs) g = []
 unfoldable pub count_line : ℕ → List ℕ
 count_line n = codes "races " ++ (decimal n ++ codes "\n")
 
--- Of which runs it holds: where there is no race, this one speaks for all (`one_speaks_for_all` of `xk_determinacy`).
+-- Of which runs it holds: where there is no race, this one speaks for all (`one_speaks_for_all` of `xk_law_races`).
 abbrev pub scope_line : List Race → Option Gap → List ℕ
 scope_line [] None = codes "every schedule prints these numbers in this order\n"
 scope_line [] (Some g) = codes "every schedule prints these numbers\n"

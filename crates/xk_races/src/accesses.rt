@@ -2,7 +2,7 @@
 
 ghost use Rattle.std.specs.Prelude.{◌≡◌, ◌<◌, ◌-◌, ◌++◌, suc, [], ◌∷◌, length, flat_map, replicate, IfOk, OnOk};
 ghost use Rattle.std.specs.List.{list_any};
-ghost use Rattle.xk_accesses.specs.Accesses.{KeepsCovered, none_yet};
+ghost use Rattle.xk_races_summary.specs.Accesses.{KeepsCovered, none_yet};
 ghost use Rattle.xk_races.specs.declared.deeds.Part.TheVariants as part;
 ghost use Rattle.xk_races.specs.Races.{with_races_of};
 ghost use Rattle.xk_races.specs.Accesses.{AreAllCovered, AreCovered, access_of, cell_accessed, is_new, is_race_of, new_members, race_of};
@@ -13,7 +13,7 @@ use crate::race_list::RaceList;
 use crate::rows::number_at;
 use crate::sights::Sight;
 use std::alloc::{AllocError, Global};
-use xk_accesses::{Access, Group, Latest};
+use xk_races_summary::{Access, Group, Latest};
 
 /// What is kept of an access.
 fn access_of(position: usize, y: &Sight) -> Access

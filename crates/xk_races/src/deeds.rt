@@ -4,13 +4,13 @@ ghost use Rattle.std.specs.Prelude.{◌≡◌, ◌<◌, true, [], ◌∷◌, ◌
 ghost use Rattle.xk_types.specs.Step.{is_pending, is_signalled};
 ghost use Rattle.xk_types.specs.Schedule.{Through, is_enabled, run};
 ghost use Rattle.xk_core.specs.Core.{StepsTo, advanced_now};
-ghost use Rattle.xk_events.specs.Steps.{IsLegalFrom, told, told_of_run};
+ghost use Rattle.xk_show_events.specs.Steps.{IsLegalFrom, told, told_of_run};
 ghost use Rattle.xk_races.specs.Deeds.{advance, at_clocks, awaiting, awaits, cell_at, cell_of, deeds_of_run, gives_way, has_left, has_resumed, leave, pass, plain, plain_part, resumed_by, signal, signals, tell_deeds};
 
 use std::alloc::{AllocError, Global};
 use xk_core::Core;
-use xk_events::{RunStep, take_step};
 use xk_scheduler::Ended;
+use xk_show_events::{RunStep, take_step};
 use xk_types::{Act, ClockId, Entry, Event, Instr, Module, Standing};
 
 /// What a step has to do with the order of a run.

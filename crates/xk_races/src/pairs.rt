@@ -10,7 +10,7 @@ use crate::deeds::Part;
 use crate::race_list::RaceList;
 use crate::sights::{Sight, comes_before};
 use std::alloc::{AllocError, Global};
-use xk_events::RunStep;
+use xk_show_events::RunStep;
 use xk_types::Event;
 
 /// Two accesses of a shared number that aren't in order.

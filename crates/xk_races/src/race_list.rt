@@ -9,7 +9,7 @@ use crate::pairs::Race;
 use std::alloc::{AllocError, Global};
 use std::collections::BTreeSet;
 use std::marker::Model;
-use xk_events::RunStep;
+use xk_show_events::RunStep;
 
 /// A place in the text: a unit, and a place in it.
 type TextPlace = (u16, u32);

@@ -1,7 +1,7 @@
 //! The whole report.
 
 ghost use Rattle.std.specs.Prelude.{◌≡◌, IfOk};
-ghost use Rattle.xk_events.specs.Events.{no_text, places_of};
+ghost use Rattle.xk_show_events.specs.Events.{no_text, places_of};
 ghost use Rattle.xk_races.specs.Races.{is_race_free};
 ghost use Rattle.xk_races.specs.Text.{races_text};
 
@@ -10,9 +10,9 @@ use crate::pairs::{gap_in, races_in};
 use crate::sights::sights_of;
 use crate::text::text_by;
 use std::alloc::{AllocError, Global};
-use xk_events::Places;
 use xk_origins::UnitOrigins;
 use xk_scheduler::Ended;
+use xk_show_events::Places;
 
 /// What is told of the races of a run, and whether it has none.
 #[derive(Drop)]

@@ -5,7 +5,7 @@ ghost use Rattle.xk_races.specs.Text.{access_words, count_line, print_line, prin
 
 use crate::pairs::{Gap, Race};
 use std::alloc::{AllocError, Global};
-use xk_events::{Places, RunStep, event_words, place_words};
+use xk_show_events::{Places, RunStep, event_words, place_words};
 
 /// A step, and where it was taken: `step 9 act 1 at 13:9`.
 #[tactic(auto, unfolding(crate::specs::Text::step_words))]

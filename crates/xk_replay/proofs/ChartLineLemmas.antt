@@ -15,7 +15,7 @@ use Rattle.xk_types.specs.World.{Clock, World}
 use Rattle.xk_types.specs.Step.{Stepped, step}
 use Rattle.xk_types.specs.Schedule.{Course, Through, run, run_on}
 use Rattle.xk_types.specs.Logs.{schedule_of}
-use Rattle.xk_laws.proofs.ReachabilityLemmas.{same_through, first_step}
+use Rattle.xk_law_schedules.proofs.ReachabilityLemmas.{same_through, first_step}
 use Rattle.xk_core.specs.Core.{CoreValue, IsCore, advanced_now, has_advanced, is_quiet, is_registered_on, opening_core}
 use Rattle.xk_collections.specs.NumberSets.{numbers_from}
 use Rattle.xk_collections.proofs.RisingListLemmas.{member_passes}

@@ -17,9 +17,9 @@ use Rattle.xk_types.specs.Code.{ModuleValue}
 use Rattle.xk_types.specs.World.{Activity, Clock, World, standing_of, instruction_at, is_ended}
 use Rattle.xk_types.specs.Step.{Outcome, Blocked, Wrong, Stepped, step, step_by, step_of, run_at, done, closing, passing, awaits, innermost, waits, passed, all, none, onward, with_slots, entered, left, arrived, past, ended, called, back_in, child, is_registered}
 use Rattle.xk_types.proofs.ListLemmas.{get_inside, get-append_left, get-push_other, get-set_other, get-set_same, get_push}
-use Rattle.xk_laws.proofs.StepFormLemmas.{HoldsOfFamilies, ends, finishes_of, instruction_form, starts_or_arrives}
-use Rattle.xk_laws.proofs.Invariant.{IsClockSound, IsSound, Stands}
-use Rattle.xk_laws.proofs.ReachabilityLemmas.{opening_only, reached_room, reached_sound}
+use Rattle.xk_law_schedules.proofs.StepFormLemmas.{HoldsOfFamilies, ends, finishes_of, instruction_form, starts_or_arrives}
+use Rattle.xk_law_schedules.proofs.Invariant.{IsClockSound, IsSound, Stands}
+use Rattle.xk_law_schedules.proofs.ReachabilityLemmas.{opening_only, reached_room, reached_sound}
 use Rattle.xk_collections.specs.NumberSets.{SetValue, numbers_from, with_member}
 use Rattle.xk_collections.proofs.RisingListLemmas.{member_added, member_changed, members_few, same_members}
 use Rattle.xk_core.specs.Core.{CoreValue, IsCore, is_registered_on}

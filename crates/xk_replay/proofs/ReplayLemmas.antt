@@ -13,7 +13,7 @@ use Rattle.xk_types.specs.World.{opening, AreArguments}
 use Rattle.xk_types.specs.Step.{Stepped, step}
 use Rattle.xk_types.specs.Schedule.{Through, run, is_enabled, number_printed, printed}
 use Rattle.xk_types.specs.Logs.{schedule_of}
-use Rattle.xk_laws.proofs.ReachabilityLemmas.{run_more, run_arguments}
+use Rattle.xk_law_schedules.proofs.ReachabilityLemmas.{run_more, run_arguments}
 use Rattle.xk_core.specs.Core.{CoreValue}
 use Rattle.xk_scheduler.specs.LoggedRuns.{IsRunOf}
 use Rattle.xk_core.specs.LocalRun.{RunsTo, IsUnseen}

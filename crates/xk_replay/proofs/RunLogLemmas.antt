@@ -10,7 +10,7 @@ use Rattle.xk_types.specs.Step.{step}
 use Rattle.xk_types.specs.Schedule.{Through, Leads, IsReached, run}
 use Rattle.xk_types.specs.Acceptance.{IsAccepted}
 use Rattle.xk_types.specs.Logs.{schedule_of}
-use Rattle.xk_laws.proofs.ReachabilityLemmas.{first_step, run_counts, reached_room, reached_run}
+use Rattle.xk_law_schedules.proofs.ReachabilityLemmas.{first_step, run_counts, reached_room, reached_run}
 use Rattle.xk_core.specs.Core.{CoreValue, IsCore}
 use Rattle.xk_scheduler.specs.LoggedRuns.{IsRunOf}
 use Rattle.xk_scheduler.proofs.RunSequenceLemmas.{run_then}

@@ -10,7 +10,7 @@ use Rattle.xk_types.specs.Code.{ModuleValue}
 use Rattle.xk_types.specs.World.{World, opening}
 use Rattle.xk_types.specs.Schedule.{Through, Leads, run, all_ended}
 use Rattle.xk_types.specs.Logs.{schedule_of}
-use Rattle.xk_laws.proofs.ReachabilityLemmas.{same_through}
+use Rattle.xk_law_schedules.proofs.ReachabilityLemmas.{same_through}
 use Rattle.xk_scheduler.proofs.ScheduleLemmas.{split_before, barred}
 use Rattle.xk_replay.specs.declared.fault.ReplayFault.{ReplayFault}
 use Rattle.xk_replay.specs.declared.fault.ReplayFault.TheVariants as fault

@@ -9,14 +9,14 @@ use Rattle.xk_types.specs.declared.world.Event.{Event}
 use Rattle.xk_types.specs.Code.{ModuleValue}
 use Rattle.xk_types.specs.World.{Clock, World, standing_of}
 use Rattle.xk_types.specs.Step.{Outcome, Blocked, Wrong, Stepped, step, is_signalled, settled_clock, moved, joined, new_clock, is_given, none, all, dropped, resumed, waits}
-use Rattle.xk_laws.proofs.Invariant.{IsClockSound}
+use Rattle.xk_law_schedules.proofs.Invariant.{IsClockSound}
 use Rattle.xk_types.proofs.ListLemmas.{Each}
 use Rattle.xk_types.proofs.MembershipLemmas.{same_test}
 use Rattle.xk_types.proofs.StandingLemmas.{advanced_quiet}
-use Rattle.xk_laws.proofs.StepFormLemmas.{step_kind}
-use Rattle.xk_laws.proofs.ReachabilityLemmas.{reached_sound}
-use Rattle.xk_laws.proofs.ClockLemmas.AdvanceLemmas.{settled_cases, stand-advanced}
-use Rattle.xk_laws.proofs.ClockLemmas.StandingLemmas.{stand_other, new_other, stand_joined_old}
+use Rattle.xk_law_schedules.proofs.StepFormLemmas.{step_kind}
+use Rattle.xk_law_schedules.proofs.ReachabilityLemmas.{reached_sound}
+use Rattle.xk_law_schedules.proofs.ClockLemmas.AdvanceLemmas.{settled_cases, stand-advanced}
+use Rattle.xk_law_schedules.proofs.ClockLemmas.StandingLemmas.{stand_other, new_other, stand_joined_old}
 use Rattle.xk_core.specs.Core.{IsCore, is_quiet}
 use Rattle.xk_core.specs.Core.{is_held_back_by, has_advanced}
 

@@ -10,7 +10,7 @@ use Rattle.xk_types.specs.Code.{ModuleValue}
 use Rattle.xk_types.specs.World.{World}
 use Rattle.xk_types.specs.Step.{Stepped, step}
 use Rattle.xk_types.specs.Schedule.{Through, run, events, is_local, seen, number_printed, printed}
-use Rattle.xk_laws.proofs.ReachabilityLemmas.{same_through, first_step}
+use Rattle.xk_law_schedules.proofs.ReachabilityLemmas.{same_through, first_step}
 use Rattle.xk_core.proofs.LocalRunLemmas.{events_more}
 use Rattle.xk_scheduler.proofs.ScheduleLemmas.{events_append}
 use Rattle.xk_scheduler.specs.Choosers.{enabled_in, Names, Follows, goes_on, state_after, state_on}

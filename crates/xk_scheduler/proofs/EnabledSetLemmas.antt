@@ -13,7 +13,7 @@ use Rattle.xk_types.specs.Step.{Stepped, step, step_by, step_of}
 use Rattle.xk_types.specs.Schedule.{is_step, is_enabled, all_ended}
 use Rattle.xk_core.specs.Core.{IsCore, governor}
 use Rattle.xk_types.specs.Bound.{activities_bound, clocks_bound}
-use Rattle.xk_laws.proofs.ReachabilityLemmas.{reached_room}
+use Rattle.xk_law_schedules.proofs.ReachabilityLemmas.{reached_room}
 use Rattle.xk_collections.specs.NumberSets.{IsRising, numbers_from, with_member}
 use Rattle.xk_scheduler.specs.Choosers.{enabled_in}
 use Rattle.xk_scheduler.specs.EnabledSet.{other_to_list}

@@ -7,14 +7,14 @@ use Rattle.xk_types.specs.Code.{ModuleValue}
 use Rattle.xk_types.specs.World.{Finish, Activity, World, instruction_at, is_ended, opening}
 use Rattle.xk_types.specs.Step.{Outcome, Blocked, Wrong, Stepped, step, onward, left, ended, arrived, child, governing, innermost, awaits}
 use Rattle.xk_types.specs.Schedule.{Through, run}
-use Rattle.xk_laws.proofs.Invariant.{IsActivitySound, IsSound, looks}
+use Rattle.xk_law_schedules.proofs.Invariant.{IsActivitySound, IsSound, looks}
 use Rattle.xk_types.proofs.ListLemmas.{each_set, each_push, get-set_same, get-set_other, get_once, get-append_left}
-use Rattle.xk_laws.proofs.StepFormLemmas.{GoesOn, step_kind}
-use Rattle.xk_laws.proofs.ReachabilityLemmas.{same_through, first_step, opening_reached, reached_sound, reached_scoped}
-use Rattle.xk_laws.proofs.SafetyLemmas.StepLemmas.{closed_at_end}
-use Rattle.xk_laws.proofs.ScopeLemmas.Invariant.{IsScoped, finish_at, governing_at}
-use Rattle.xk_laws.proofs.ScopeLemmas.FinishOwnerLemmas.{AreOwned, under_governed}
-use Rattle.xk_squares.proofs.AwaitIndependenceLemmas.{same_or_not, awaits_given, HasOpen, IsOpen, AreOpen}
+use Rattle.xk_law_schedules.proofs.StepFormLemmas.{GoesOn, step_kind}
+use Rattle.xk_law_schedules.proofs.ReachabilityLemmas.{same_through, first_step, opening_reached, reached_sound, reached_scoped}
+use Rattle.xk_law_schedules.proofs.SafetyLemmas.StepLemmas.{closed_at_end}
+use Rattle.xk_law_schedules.proofs.ScopeLemmas.Invariant.{IsScoped, finish_at, governing_at}
+use Rattle.xk_law_schedules.proofs.ScopeLemmas.FinishOwnerLemmas.{AreOwned, under_governed}
+use Rattle.xk_law_commute.proofs.AwaitIndependenceLemmas.{same_or_not, awaits_given, HasOpen, IsOpen, AreOpen}
 use Rattle.xk_core.specs.Core.{IsCore}
 use Rattle.xk_core.proofs.CoreLemmas.{core_stepped}
 

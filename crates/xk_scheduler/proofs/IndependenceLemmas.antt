@@ -16,16 +16,16 @@ use Rattle.xk_types.specs.World.{Finish, Activity, World, is_ended}
 use Rattle.xk_types.specs.Step.{Outcome, Blocked, Wrong, Stepped, step, onward, left, ended, arrived, child, innermost, awaits, waits}
 use Rattle.xk_types.specs.Schedule.{is_enabled}
 use Rattle.xk_types.proofs.ListLemmas.{get-set_same, get-set_other, get-push_other, get-append_left}
-use Rattle.xk_laws.proofs.StepFormLemmas.{GoesOn, starts_or_arrives, step_kind}
-use Rattle.xk_laws.proofs.ScopeLemmas.Invariant.{governing_at}
-use Rattle.xk_laws.proofs.ScopeLemmas.FinishOwnerLemmas.{AreOwned}
+use Rattle.xk_law_schedules.proofs.StepFormLemmas.{GoesOn, starts_or_arrives, step_kind}
+use Rattle.xk_law_schedules.proofs.ScopeLemmas.Invariant.{governing_at}
+use Rattle.xk_law_schedules.proofs.ScopeLemmas.FinishOwnerLemmas.{AreOwned}
 use Rattle.xk_core.specs.Enabledness.{able_by, able_of, kept_by}
 use Rattle.xk_core.specs.Core.{IsCore, is_quiet, governor, instruction_of}
 use Rattle.xk_core.proofs.CoreLemmas.{core_able, core_stepped}
 use Rattle.xk_core.specs.Core.{is_arrived, is_waiting}
 use Rattle.xk_scheduler.proofs.BlockingClockLemmas.{waits_same}
 use Rattle.xk_scheduler.proofs.FinishOwnerLemmas.{core_owned, core_open}
-use Rattle.xk_squares.proofs.AwaitIndependenceLemmas.{owned_set, awaits_on, awaits_end, awaits_push}
+use Rattle.xk_law_commute.proofs.AwaitIndependenceLemmas.{owned_set, awaits_on, awaits_end, awaits_push}
 
 -- ---- who is enabled
 

@@ -9,10 +9,10 @@ use Rattle.xk_types.specs.World.{Clock, World}
 use Rattle.xk_types.specs.Step.{Outcome, Blocked, Wrong, Stepped, step, none, moved, is_ready, settled_clock, waits}
 use Rattle.xk_types.specs.Schedule.{Through, run, events, events_on, is_local, is_step, is_enabled}
 use Rattle.xk_types.proofs.ListLemmas.{Each}
-use Rattle.xk_laws.proofs.Invariant.{IsClockSound}
-use Rattle.xk_laws.proofs.ReachabilityLemmas.{same_through, first_step, reached_sound}
-use Rattle.xk_laws.proofs.StepCountLemmas.{step_counts}
-use Rattle.xk_laws.proofs.StepFormLemmas.{step_kind}
+use Rattle.xk_law_schedules.proofs.Invariant.{IsClockSound}
+use Rattle.xk_law_schedules.proofs.ReachabilityLemmas.{same_through, first_step, reached_sound}
+use Rattle.xk_law_schedules.proofs.StepCountLemmas.{step_counts}
+use Rattle.xk_law_schedules.proofs.StepFormLemmas.{step_kind}
 use Rattle.xk_core.specs.Core.{CoreValue, IsCore, is_quiet, is_waiting, is_held_back_by}
 use Rattle.xk_core.specs.LocalRun.{RunsTo, AreLocal, IsUnseen}
 use Rattle.xk_core.proofs.CoreLemmas.{core_stepped}

@@ -5,7 +5,7 @@ use Rattle.xk_types.specs.World.{World}
 use Rattle.xk_types.specs.Step.{step}
 use Rattle.xk_types.specs.Schedule.{Through, run}
 pub use Rattle.xk_types.proofs.RunLemmas.{run_then}
-use Rattle.xk_laws.proofs.ReachabilityLemmas.{same_through, first_step}
+use Rattle.xk_law_schedules.proofs.ReachabilityLemmas.{same_through, first_step}
 use Rattle.xk_scheduler.specs.Choosers.{enabled_in, Follows, goes_on, state_after, state_on}
 
 -- where both follow the chooser, so do they together

@@ -10,7 +10,7 @@ use Rattle.xk_types.specs.Code.{ModuleValue}
 use Rattle.xk_types.specs.World.{World}
 use Rattle.xk_types.specs.Step.{Stepped, step}
 use Rattle.xk_types.specs.Schedule.{Through, run, is_step, is_enabled, is_local, events, events_on, seen}
-use Rattle.xk_laws.proofs.ReachabilityLemmas.{same_through, first_step, run_more}
+use Rattle.xk_law_schedules.proofs.ReachabilityLemmas.{same_through, first_step, run_more}
 use Rattle.xk_core.proofs.LocalRunLemmas.{events_more}
 use Rattle.xk_scheduler.specs.Schedules.{shown, events_seen, LeadsPart, StopsAt}
 use Rattle.xk_scheduler.proofs.RunSequenceLemmas.{run_then}

@@ -23,7 +23,7 @@ use Rattle.xk_scheduler.specs.EnabledSet.{with_or_without}
 use Rattle.xk_scheduler.specs.Rosters.{IsListed, RosterValue}
 use Rattle.xk_scheduler.proofs.IndependenceLemmas.{same_enabled}
 use Rattle.xk_scheduler.proofs.FinishOwnerLemmas.{core_owned}
-use Rattle.xk_squares.proofs.AwaitIndependenceLemmas.{awaits_on}
+use Rattle.xk_law_commute.proofs.AwaitIndependenceLemmas.{awaits_on}
 
 -- an activity that runs
 record Runner (w : World) (a : ℕ) : Type 0 where

@@ -12,8 +12,8 @@ use Rattle.xk_types.specs.Step.{Stepped, step}
 use Rattle.xk_types.specs.Schedule.{Through, Leads, run, run_on, seen, printed, number_printed}
 use Rattle.xk_types.specs.Bound.{steps_bound}
 use Rattle.xk_types.specs.Logs.{schedule_of, one_step_of}
-use Rattle.xk_laws.proofs.StepCountLemmas.{step_counts}
-use Rattle.xk_laws.proofs.ReachabilityLemmas.{run_more, run_arguments}
+use Rattle.xk_law_schedules.proofs.StepCountLemmas.{step_counts}
+use Rattle.xk_law_schedules.proofs.ReachabilityLemmas.{run_more, run_arguments}
 use Rattle.xk_core.specs.Core.{CoreValue}
 use Rattle.xk_core.specs.LocalRun.{RunsTo, IsUnseen}
 use Rattle.xk_scheduler.specs.Choosers.{enabled_in, Follows, state_after}

@@ -13,8 +13,8 @@ use Rattle.xk_scheduler.specs.Choosers.{enabled_in, Names, Follows, goes_on, sta
 use Rattle.xk_scheduler.specs.LoggedRuns.{IsTurn}
 use Rattle.xk_scheduler.specs.LocalRuns.{IsGone, IsStretch}
 use Rattle.xk_scheduler.specs.WholeRuns.{IsRunThat}
-use Rattle.xk_laws.proofs.StepCountLemmas.{step_counts}
-use Rattle.xk_laws.proofs.ReachabilityLemmas.{run_more, run_counts}
+use Rattle.xk_law_schedules.proofs.StepCountLemmas.{step_counts}
+use Rattle.xk_law_schedules.proofs.ReachabilityLemmas.{run_more, run_counts}
 use Rattle.xk_scheduler.proofs.ChooserScheduleLemmas.{follows_more, printed_more, printed_unseen, state_more}
 use Rattle.xk_scheduler.proofs.RunSequenceLemmas.{run_then, follows_then, state_then}
 use Rattle.xk_scheduler.proofs.TurnLemmas.{leads_with}

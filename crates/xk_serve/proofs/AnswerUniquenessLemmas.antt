@@ -32,10 +32,10 @@ use Rattle.xk_serve.specs.declared.fault.Fault.TheVariants as fault
 use Rattle.xk_serve.specs.Answer.{Answers, Check, ComesTo, Compile, Doing, Draw, Expected, Explain, IsLogText, IsMisfit, IsNoRun, IsSaidBy, IsSaidOf, IsTelling, IsText, Listing, Outcomes, Races, Replay, Reply, Run, Tally, Task, Where, asks_verifier, done_reply, done_status, fault_reply, list_in, reads_list, reads_log, runs, wants_whole, whole_status}
 use Rattle.xk_serve.specs.Explanation.{Tale}
 use Rattle.xk_serve.specs.declared.picture.Picture.{Picture}
-use Rattle.xk_output.specs.Lines.{number_lines}
+use Rattle.xk_io.specs.Lines.{number_lines}
 use Rattle.xk_serve.specs.Lines.{done_log, done_text, fault_line, status_of}
-use Rattle.xk_diagnostics.specs.Lines.{accepted_line, ended_line, refusal_status}
-use Rattle.xk_diagnostics.specs.Lines.{arguments_line, no_outcome_line}
+use Rattle.xk_messages.specs.Lines.{accepted_line, ended_line, refusal_status}
+use Rattle.xk_messages.specs.Lines.{arguments_line, no_outcome_line}
 use Rattle.xk_serve.specs.OneAnswer.{ComesToOne, HasOneStatus, IsDetermined, IsLeftOpen, IsSameLine, IsSameReply, TellFaults}
 use Rattle.xk_serve.specs.OrderedRun.{IsLoggedRun, IsOrderedRun, IsReplay}
 use Rattle.xk_serve.specs.Programs.{Gives, IsCompiledTo, IsNoModule, IsNoSource, IsUnread, longest_module}

@@ -8,7 +8,7 @@ use Rattle.xk_serve.specs.declared.fault.Fault.{Fault}
 use Rattle.xk_serve.specs.declared.fault.Fault.TheVariants as fault
 use Rattle.xk_origins.specs.UnitOrigins.{UnitOrigins}
 use Rattle.xk_explain.specs.Notes.{NoteValue}
-use Rattle.xk_sums.specs.Notes.{module_notes, refusal_notes}
+use Rattle.xk_explain_bounds.specs.Notes.{module_notes, refusal_notes}
 use Rattle.xk_serve.specs.Answer.{Check, Compile, Doing, Draw, Expected, Explain, IsSaidBy, IsSaidOf, Listing, Outcomes, Races, Replay, Run, Tally, Task, Where}
 use Rattle.xk_serve.specs.Explanation.{IsExplanation, Program, plain_said, refusal_said, source_said}
 use Rattle.xk_serve.specs.Devices.{IsQuiet}

@@ -17,7 +17,7 @@ use Rattle.xk_module.specs.declared.fault.ModuleFault.{ModuleFault}
 use Rattle.xk_serve.specs.Programs.{Gives, IsNoModule, IsNoSource, IsNoText, IsTooLong, longest_module, longest_source}
 use Rattle.xk_serve.specs.Bytes.{kept}
 use Rattle.xk_serve.specs.Answer.{Check, ComesTo, Compile, Doing, Draw, Expected, Explain, FailsBy, GivesAccepted, IsSaidBy, IsSaidOf, IsTelling, IsText, Listing, Outcomes, Races, Replay, Run, Succeeds, Tally, Task, Where}
-use Rattle.xk_expected.specs.Notes.{expected_notes}
+use Rattle.xk_explain_expected.specs.Notes.{expected_notes}
 use Rattle.xk_serve.specs.Explanation.{IsByProgram, IsByTree, IsExplanation, fault_said, front_said, refusal_said}
 use Rattle.xk_tree.specs.declared.fault.FrontRule.TheVariants as rule
 use Rattle.xk_serve.specs.Devices.{AgainstLog, IfKnown, IsRead, Reads, StandsAgainst, read_of}

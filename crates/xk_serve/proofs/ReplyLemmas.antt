@@ -11,7 +11,7 @@ use Rattle.xk_serve.specs.declared.fault.Fault.TheVariants as fault
 use Rattle.xk_serve.specs.Answer.{FailsBy, IsSaidOf, Succeeds, Task, done_reply, done_status, fault_reply}
 use Rattle.xk_log.specs.Writing.{AppendsBeginning}
 use Rattle.xk_serve.specs.Lines.{device_line, done_ending, done_front, done_text, fault_line, status_of}
-use Rattle.xk_diagnostics.specs.Lines.{memory_line}
+use Rattle.xk_messages.specs.Lines.{memory_line}
 use Rattle.xk_serve.specs.Devices.{Answered, ErrBegins, Explained, IfKnown, IsBegun, IsTold, IsWritten, OutBegins, Reads, Reports, StandsAgainst, Tells, read_of}
 
 -- nothing was written

@@ -13,7 +13,7 @@ use Rattle.xk_types.specs.Step.{Outcome, Blocked, Wrong, Stepped, step}
 use Rattle.xk_types.specs.Schedule.{Through, all_ended, is_step, printed, run}
 use Rattle.xk_types.specs.Logs.{one_step_of, schedule_of}
 use Rattle.xk_types.proofs.LogEntryLemmas.{entry_of, one_step_is}
-use Rattle.xk_laws.proofs.ReachabilityLemmas.{first_step, same_through}
+use Rattle.xk_law_schedules.proofs.ReachabilityLemmas.{first_step, same_through}
 use Rattle.xk_random.specs.Chance.{chance_after, chance_answer, chance_of}
 use Rattle.xk_scheduler.specs.Choosers.{Follows, enabled_in, goes_on, turn_after, turn_of}
 use Rattle.xk_scheduler.specs.WholeRuns.{IsRunThat}

@@ -3,7 +3,7 @@ use Rattle.std.proofs.Common.{◌≡◌, ◌∙◌, ℕ, ℤ, Bool, List, [], ma
 use Rattle.xk_types.specs.Code.{ModuleValue}
 use Rattle.xk_tree.specs.Tree.{TreeValue}
 use Rattle.xk_syntax.proofs.TextLemmas.{one_tree}
-use Rattle.xk_simulation.proofs.CompiledOnceLaw.{one_units}
+use Rattle.xk_law_compiler.proofs.CompiledOnceLaw.{one_units}
 use Rattle.xk_origins.specs.UnitOrigins.{UnitOrigins, unit_origins}
 use Rattle.xk_origins.specs.Laws.{AreOrigins}
 use Rattle.xk_listing.proofs.ListingLemmas.{one_listing}

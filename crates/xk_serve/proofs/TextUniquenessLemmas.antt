@@ -8,8 +8,8 @@ use Rattle.xk_types.specs.Code.{ModuleValue}
 use Rattle.xk_tree.specs.declared.fault.FrontFault.{FrontFault}
 use Rattle.xk_tree.specs.Tree.{TreeValue}
 use Rattle.xk_syntax.proofs.TextLemmas.{one_tree}
-use Rattle.xk_semantics.specs.Compilation.{IsCompiled}
-use Rattle.xk_simulation.proofs.CompiledOnceLaw.{one_compiled}
+use Rattle.xk_source_semantics.specs.Compilation.{IsCompiled}
+use Rattle.xk_law_compiler.proofs.CompiledOnceLaw.{one_compiled}
 use Rattle.xk_codegen.specs.Faults.{IsFaultOf, IsToldOnce}
 use Rattle.xk_codegen.proofs.OneFaultLaw.{not_faulty, same_fault, told_once}
 use Rattle.xk_serve.specs.OneAnswer.{IsLeftOpen}

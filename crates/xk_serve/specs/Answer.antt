@@ -19,8 +19,8 @@ use Rattle.xk_bounds.specs.Refusals.{Refuses}
 use Rattle.xk_bounds.specs.declared.refusal.Refusal.TheVariants as refusal
 use Rattle.xk_serve.specs.declared.job_result.Done.{Done}
 use Rattle.xk_serve.specs.declared.job_result.Done.TheVariants as done
-use Rattle.xk_lanes.specs.declared.window.Window.{Window}
-use Rattle.xk_lanes.specs.Lanes.{whole_run}
+use Rattle.xk_show_lanes.specs.declared.window.Window.{Window}
+use Rattle.xk_show_lanes.specs.Lanes.{whole_run}
 use Rattle.xk_serve.specs.declared.picture.Picture.{Picture}
 use Rattle.xk_serve.specs.declared.picture.Picture.TheVariants as picture
 use Rattle.xk_serve.specs.declared.fault.Fault.{Fault}

@@ -20,7 +20,7 @@ use Rattle.xk_serve.specs.Faults.{GivesNoModule}
 use Rattle.xk_serve.specs.Programs.{Gives}
 use Rattle.xk_cli.specs.declared.job.Form.{Form}
 use Rattle.xk_serve.specs.Lines.{device_line, done_log, done_text, excluded_line, fault_line, list_line, runs_line, seed_line, status_of}
-use Rattle.xk_diagnostics.specs.Lines.{memory_line}
+use Rattle.xk_messages.specs.Lines.{memory_line}
 
 -- all that is printed of it went to standard output, and its log to the log's device
 abbrev pub IsWritten : Done → Option (List ℕ) → Option (List ℕ) → Option (List ℕ) → Option (List ℕ) → Type 0

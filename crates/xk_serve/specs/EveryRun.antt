@@ -6,7 +6,7 @@ use Rattle.xk_types.specs.Step.{step}
 use Rattle.xk_types.specs.Schedule.{Leads, all_ended}
 use Rattle.xk_types.specs.Acceptance.{EverySchedule}
 use Rattle.xk_tree.specs.Tree.{TreeValue}
-use Rattle.xk_semantics.specs.Meaning.{HasRun, moments}
+use Rattle.xk_source_semantics.specs.Meaning.{HasRun, moments}
 
 -- every run of the module, whatever main is given and whoever makes it; a run is a list of activity numbers, one for each step
 pub record EveryRun (tree : TreeValue) (m : ModuleValue) : Type 0 where

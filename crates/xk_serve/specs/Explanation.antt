@@ -17,24 +17,24 @@ use Rattle.xk_explain.specs.Notes.{NoteValue, note_lines, plain_lines}
 use Rattle.xk_explain.specs.SourceExplanations.{source_explanation}
 use Rattle.xk_explain_json.specs.Objects.{json_line, text_of}
 use Rattle.xk_explain_json.specs.Explanations.{accepted_value, front_value, module_value, refusal_value, source_value}
-use Rattle.xk_declarations.specs.Notes.{front_notes}
-use Rattle.xk_expected.specs.Notes.{expected_notes}
-use Rattle.xk_sums.specs.Notes.{accepted_notes, module_notes, refusal_notes}
+use Rattle.xk_explain_names.specs.Notes.{front_notes}
+use Rattle.xk_explain_expected.specs.Notes.{expected_notes}
+use Rattle.xk_explain_bounds.specs.Notes.{accepted_notes, module_notes, refusal_notes}
 use Rattle.xk_listing.specs.Listing.{IsListing}
-use Rattle.xk_events.specs.Events.{PlacesValue, events_text, no_text}
-use Rattle.xk_lanes.specs.Lanes.{are_lanes_whole, lanes_text}
-use Rattle.xk_lanes.specs.declared.window.Window.{Window}
-use Rattle.xk_picture.specs.Picture.{is_drawn, picture_text}
-use Rattle.xk_page.specs.Page.{page_text}
+use Rattle.xk_show_events.specs.Events.{PlacesValue, events_text, no_text}
+use Rattle.xk_show_lanes.specs.Lanes.{are_lanes_whole, lanes_text}
+use Rattle.xk_show_lanes.specs.declared.window.Window.{Window}
+use Rattle.xk_show_picture.specs.Picture.{is_drawn, picture_text}
+use Rattle.xk_show_page.specs.Page.{page_text}
 use Rattle.xk_races.specs.Races.{is_race_free}
 use Rattle.xk_races.specs.Text.{races_text}
-use Rattle.xk_where.specs.Where.{are_steps_legal, where_text}
+use Rattle.xk_show_where.specs.Where.{are_steps_legal, where_text}
 use Rattle.xk_types.specs.declared.world.Entry.{Entry}
 use Rattle.xk_cli.specs.declared.job.Form.{Form}
 use Rattle.xk_cli.specs.declared.job.Form.TheVariants as form
 use Rattle.xk_serve.specs.declared.fault.Fault.{Fault}
 use Rattle.xk_serve.specs.declared.fault.Fault.TheVariants as fault
-use Rattle.xk_diagnostics.specs.Lines.{accepted_line}
+use Rattle.xk_messages.specs.Lines.{accepted_line}
 use Rattle.xk_serve.specs.Programs.{GiveNone, Gives, IsNoSource, IsNoText, IsSource}
 
 -- ---- where instructions come from

@@ -4,8 +4,8 @@ use Rattle.xk_types.specs.declared.rules.Rule.{Rule}
 use Rattle.xk_types.specs.declared.rules.Visit.{Visit}
 use Rattle.xk_types.specs.RuleNames.{rule_number, rule_name, kind_name}
 use Rattle.xk_log.specs.LogText.{log_text}
-use Rattle.xk_diagnostics.specs.Lines.{accepted_line, arguments_line, ended_line, front_text, grammar_line, label_line, label_status, line, memory_line, no_outcome_line, not_enabled_line, refusal_line, refusal_status}
-use Rattle.xk_output.specs.Lines.{number_lines}
+use Rattle.xk_messages.specs.Lines.{accepted_line, arguments_line, ended_line, front_text, grammar_line, label_line, label_status, line, memory_line, no_outcome_line, not_enabled_line, refusal_line, refusal_status}
+use Rattle.xk_io.specs.Lines.{number_lines}
 use Rattle.xk_cli.specs.Status.{status_device, status_log, status_memory, status_program}
 use Rattle.xk_module.specs.Faults.{fault_label}
 use Rattle.xk_tree.specs.declared.fault.FrontFault.{FrontFault}

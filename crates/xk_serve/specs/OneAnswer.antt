@@ -15,7 +15,7 @@ use Rattle.xk_serve.specs.declared.job_result.Done.TheVariants as done
 use Rattle.xk_serve.specs.declared.picture.Picture.TheVariants as picture
 use Rattle.xk_serve.specs.declared.fault.Fault.TheVariants as fault
 use Rattle.xk_serve.specs.Answer.{Answers, Doing, Draw, Expected, Explain, IsLogText, IsSaidOf, Outcomes, Reply, Replay, Run, Task, done_reply, fault_reply}
-use Rattle.xk_diagnostics.specs.Lines.{kind_text, line}
+use Rattle.xk_messages.specs.Lines.{kind_text, line}
 use Rattle.xk_serve.specs.Programs.{Gives, IsSource, SpellsNone}
 
 -- one slot is refused at one place, where it is of one kind, by one rule, and neither fault has a longer walk there

@@ -8,7 +8,7 @@ ghost use Rattle.xk_cli.specs.Status.{status_device, status_done, status_memory,
 ghost use Rattle.xk_serve.specs.Answer.{IsSaidOf, Succeeds, done_status, reads_more, task_of};
 ghost use Rattle.xk_serve.specs.Bytes.{FailsRead, IsReadToLimit, kept};
 ghost use Rattle.xk_serve.specs.Lines.{device_line, done_ending, done_log, status_of};
-ghost use Rattle.xk_diagnostics.specs.Lines.{memory_line};
+ghost use Rattle.xk_messages.specs.Lines.{memory_line};
 ghost use Rattle.xk_serve.specs.Devices.{AgainstLog, Answered, ErrBegins, Explained, IfKnown, IsBegun, IsListReadToLimit, IsQuiet, IsWritten, OutBegins, Reports, StandsAgainst, Tells, TellsWords, read_of};
 
 use crate::bounded_read::read_front;
@@ -22,8 +22,8 @@ use std::alloc::Global;
 use std::sync::Wait;
 use std::thread::Threads;
 use xk_cli::{Command, Form, Job, WordsFault, status};
-use xk_diagnostics::MEMORY_LINE;
 use xk_log::{Device, write_all, write_entries};
+use xk_messages::MEMORY_LINE;
 use xk_types::{Sink, Source};
 
 /// Reads the program, does the job, and writes what comes of it: its result to `out` and then the log of a run that is to have one

@@ -5,7 +5,7 @@ ghost use Rattle.std.specs.Option.{option_map_or};
 ghost use Rattle.xk_types.specs.Acceptance.{IsAccepted};
 ghost use Rattle.xk_tree.specs.Program.{tree_value};
 ghost use Rattle.xk_explain.specs.Messages.{module_rule};
-ghost use Rattle.xk_sums.specs.Notes.{module_notes, refusal_notes};
+ghost use Rattle.xk_explain_bounds.specs.Notes.{module_notes, refusal_notes};
 ghost use Rattle.xk_serve.specs.Explanation.{IsProgramListed, accepted_said, acceptance_said, fault_said, front_said, lines_of, module_said, plain_said, refusal_said, source_said};
 ghost use Rattle.xk_serve.specs.declared.fault.Fault.TheVariants as found;
 
@@ -14,19 +14,19 @@ use crate::program_loader::origins_in;
 use std::alloc::{AllocError, Global};
 use xk_bounds::{Refusal, Verified};
 use xk_cli::Form;
-use xk_declarations::front_notes;
-use xk_diagnostics::accepted_line;
-use xk_expected::expected_notes;
 use xk_explain::{
     ModuleRule, Note, explain_front, explain_module, explain_refusal, explain_source, note_lines,
     plain_lines,
 };
+use xk_explain_bounds::{accepted_notes, module_notes, refusal_notes};
+use xk_explain_expected::expected_notes;
 use xk_explain_json::{accepted_json, front_json, module_json, refusal_json, source_json};
+use xk_explain_names::front_notes;
+use xk_lines::LineStarts;
 use xk_listing::{list_module, list_source};
+use xk_messages::accepted_line;
 use xk_module::ModuleFault;
 use xk_origins::Origins;
-use xk_positions::LineStarts;
-use xk_sums::{accepted_notes, module_notes, refusal_notes};
 use xk_tree::{FrontFault, Tree};
 use xk_types::Module;
 

@@ -2,17 +2,17 @@
 
 ghost use Rattle.std.specs.Prelude.{◌≡◌, IfOk, string_bytes};
 ghost use Rattle.xk_serve.specs.Lines.{fault_line, status_of};
-ghost use Rattle.xk_diagnostics.specs.Lines.{label_status, refusal_status};
+ghost use Rattle.xk_messages.specs.Lines.{label_status, refusal_status};
 
 use std::alloc::{AllocError, Global};
 use thiserror::Error;
 use xk_bounds::Refusal;
 use xk_cli::status;
-use xk_diagnostics::{
+use xk_log::{Log, LogFault};
+use xk_messages::{
     MEMORY_LINE, arguments_line, front_text, grammar_line, label_line, label_status, line,
     no_outcome_line, not_enabled_line, refusal_line, refusal_status,
 };
-use xk_log::{Log, LogFault};
 use xk_module::ModuleFault;
 use xk_replay::ReplayFault;
 use xk_tree::{FrontError, FrontFault};

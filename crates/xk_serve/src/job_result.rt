@@ -8,13 +8,13 @@ ghost use Rattle.xk_log.specs.LogText.{log_text};
 ghost use Rattle.xk_log.specs.Writing.{AppendsBeginning};
 ghost use Rattle.xk_serve.specs.Answer.{done_status};
 ghost use Rattle.xk_serve.specs.Lines.{done_ending, done_front, done_log, done_text};
-ghost use Rattle.xk_diagnostics.specs.Lines.{accepted_line, ended_line};
+ghost use Rattle.xk_messages.specs.Lines.{accepted_line, ended_line};
 
 use std::alloc::{AllocError, Global};
 use xk_cli::status;
-use xk_diagnostics::{accepted_line, ended_line};
+use xk_io::write_numbers;
 use xk_log::{Device, write_all};
-use xk_output::write_numbers;
+use xk_messages::{accepted_line, ended_line};
 use xk_types::{Entry, Sink};
 
 /// What a job comes to where nothing stands against it.

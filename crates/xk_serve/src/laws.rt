@@ -13,8 +13,8 @@ ghost use Rattle.xk_cli.specs.declared.job.Form.TheVariants as form;
 ghost use Rattle.xk_cli.specs.CommandLine.{Way};
 ghost use Rattle.xk_cli.specs.Status.{status_done, status_memory};
 
-use xk_laws::every_accepted_module;
-use xk_simulation::laws::means_its_source;
+use xk_law_compiler::laws::means_its_source;
+use xk_law_schedules::every_accepted_module;
 
 /// What holds of every source text that is compiled to a module which is accepted, of all arguments that its main may be given, and of
 /// every schedule of its activity steps. No step raises ClockUseException or meets a missing or wrong operand. A run has at most the

@@ -16,13 +16,13 @@ use crate::program_loader::origins_in;
 use std::alloc::{AllocError, Global};
 use xk_bounds::Verified;
 use xk_cli::Form;
-use xk_events::{module_events, source_events};
-use xk_lanes::{Window, module_lanes, source_lanes};
-use xk_page::{module_page, source_page};
-use xk_picture::{module_picture, source_picture};
 use xk_races::{module_races, source_races};
 use xk_replay::chart;
 use xk_scheduler::Ended;
+use xk_show_events::{module_events, source_events};
+use xk_show_lanes::{Window, module_lanes, source_lanes};
+use xk_show_page::{module_page, source_page};
+use xk_show_picture::{module_picture, source_picture};
 use xk_types::{Module, Source};
 
 /// What is told of a run.

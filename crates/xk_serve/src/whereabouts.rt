@@ -18,8 +18,8 @@ use std::alloc::{AllocError, Global};
 use xk_bounds::Verified;
 use xk_cli::Form;
 use xk_log::read_log;
+use xk_show_where::{module_where, source_where};
 use xk_types::{Entry, Module, Source};
-use xk_where::{module_where, source_where};
 
 /// How things stand behind the steps of the log, as far as they can be taken, of the module that these bytes give with these arguments, if it is
 /// accepted and main takes as many. Where it isn't run, no log is read.

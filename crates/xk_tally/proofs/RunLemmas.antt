@@ -8,7 +8,7 @@ use Rattle.xk_types.specs.Code.{ModuleValue}
 use Rattle.xk_types.specs.World.{World, opening}
 use Rattle.xk_types.specs.Step.{Outcome, Blocked, Wrong, Stepped, step}
 use Rattle.xk_types.specs.Schedule.{Through, all_ended, is_step, printed, run}
-use Rattle.xk_laws.proofs.ReachabilityLemmas.{first_step, same_through}
+use Rattle.xk_law_schedules.proofs.ReachabilityLemmas.{first_step, same_through}
 use Rattle.xk_scheduler.specs.Choosers.{Follows, enabled_in, goes_on}
 use Rattle.xk_scheduler.specs.WholeRuns.{IsRunBy}
 use Rattle.xk_scheduler.proofs.EnabledSetLemmas.{going}

@@ -7,7 +7,7 @@ use Rattle.xk_types.specs.Code.{ModuleValue}
 use Rattle.xk_types.specs.World.{World}
 use Rattle.xk_types.specs.Step.{Stepped, step}
 use Rattle.xk_types.specs.Schedule.{Through, run, events, events_on}
-use Rattle.xk_laws.proofs.ReachabilityLemmas.{same_through, first_step}
+use Rattle.xk_law_schedules.proofs.ReachabilityLemmas.{same_through, first_step}
 use Rattle.xk_core.specs.Core.{CoreValue, IsCore, is_next_local}
 use Rattle.xk_core.specs.LocalRun.{RunsTo, AreLocal}
 use Rattle.xk_core.proofs.CoreLemmas.{core_stepped}

@@ -9,7 +9,7 @@ use Rattle.xk_types.specs.Code.{ModuleValue}
 use Rattle.xk_types.specs.World.{Activity, World}
 use Rattle.xk_types.specs.Step.{Outcome, Blocked, Wrong, Stepped, step, onward, left, ended, arrived, child}
 use Rattle.xk_types.proofs.ListLemmas.{get-set_other, get-push_other}
-use Rattle.xk_laws.proofs.StepFormLemmas.{step_kind}
+use Rattle.xk_law_schedules.proofs.StepFormLemmas.{step_kind}
 use Rattle.xk_core.specs.Core.{CoreValue, IsCore, is_running, runs_now, is_taken_locally, is_next_local}
 use Rattle.xk_core.proofs.NextLocalLemmas.{unless_running, next_is}
 

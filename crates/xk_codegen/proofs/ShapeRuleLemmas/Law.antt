@@ -17,16 +17,16 @@ use Rattle.xk_emit.proofs.ShapeLemmas.SharedNumberLemmas.{SharedBelow}
 use Rattle.xk_emit.proofs.ShapeLemmas.NameLemmas.{body_count}
 use Rattle.xk_emit.proofs.ShapeLemmas.ModuleLemmas.{IsCompiled as IsUnitCompiled, is_left, compiled_soundly, module_keeps}
 use Rattle.xk_emit.proofs.ShapeLemmas.TreeLemmas.{compiled_method}
-use Rattle.xk_semantics.specs.Parts.{Part, OfMethod, OfBody}
+use Rattle.xk_source_semantics.specs.Parts.{Part, OfMethod, OfBody}
 use Rattle.xk_numbering.specs.declared.parts.Part as declared
 use Rattle.xk_numbering.specs.Views.{part}
-use Rattle.xk_semantics.specs.Meaning.{Means}
-use Rattle.xk_simulation.proofs.MeansItsSourceLaw.{compiled_means}
-use Rattle.xk_semantics.specs.Compilation.{AreUnits, IsSetting, IsCompiled, method_kind, unit_of_part}
+use Rattle.xk_source_semantics.specs.Meaning.{Means}
+use Rattle.xk_law_compiler.proofs.MeansItsSourceLaw.{compiled_means}
+use Rattle.xk_source_semantics.specs.Compilation.{AreUnits, IsSetting, IsCompiled, method_kind, unit_of_part}
 use Rattle.xk_codegen.specs.ShapeRules.{is_kept, KeepsShape}
-use Rattle.xk_simulation.proofs.UnitLemmas.BodyScopeLemmas.{part_of}
-use Rattle.xk_simulation.proofs.UnitLemmas.SettingLemmas.{AreSettled, shared_below}
-use Rattle.xk_simulation.proofs.UnitLemmas.CoverageLemmas.{unit_parts, setting_for, body_there}
+use Rattle.xk_law_compiler.proofs.UnitLemmas.BodyScopeLemmas.{part_of}
+use Rattle.xk_law_compiler.proofs.UnitLemmas.SettingLemmas.{AreSettled, shared_below}
+use Rattle.xk_law_compiler.proofs.UnitLemmas.CoverageLemmas.{unit_parts, setting_for, body_there}
 use Rattle.xk_codegen.proofs.ShapeRuleLemmas.UnitLemmas.{in_place, finds_units, find_units}
 
 module _ (t : TreeValue) (scoped : IsScoped t) (units : List Part) (cx : Setting) (h : AreSettled t units cx) (made : ModuleValue)

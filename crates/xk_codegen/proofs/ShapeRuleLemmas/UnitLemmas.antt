@@ -21,12 +21,12 @@ use Rattle.xk_emit.specs.CodeOf.{Setting, Body, number_of, body_unit}
 use Rattle.xk_emit.specs.Unit.{kinds_of_params, body_kinds}
 use Rattle.xk_emit.proofs.ShapeLemmas.InstructionLemmas.{EachInside, EachOf}
 use Rattle.xk_emit.proofs.ShapeLemmas.NameLemmas.{FindsUnits, Stands as StandsUnit}
-use Rattle.xk_semantics.specs.Parts.{Part, OfMethod, OfBody, Run, Calls, Starts, bodies, bodies_all, parts, runs, runs_all, place_of, method_among}
-use Rattle.xk_semantics.specs.Compilation.{AreUnits, HasLater, method_kind, unit_of_part, unit_number}
-use Rattle.xk_simulation.proofs.UnitLemmas.PartLookupLemmas.{Fits, fits_there}
-use Rattle.xk_simulation.proofs.UnitLemmas.PartUniquenessLemmas.{one_method, signed}
-use Rattle.xk_simulation.proofs.UnitLemmas.BodyScopeLemmas.{part_of}
-use Rattle.xk_simulation.proofs.UnitLemmas.SettingLemmas.{AreSettled, AreParts, body_unit_of}
+use Rattle.xk_source_semantics.specs.Parts.{Part, OfMethod, OfBody, Run, Calls, Starts, bodies, bodies_all, parts, runs, runs_all, place_of, method_among}
+use Rattle.xk_source_semantics.specs.Compilation.{AreUnits, HasLater, method_kind, unit_of_part, unit_number}
+use Rattle.xk_law_compiler.proofs.UnitLemmas.PartLookupLemmas.{Fits, fits_there}
+use Rattle.xk_law_compiler.proofs.UnitLemmas.PartUniquenessLemmas.{one_method, signed}
+use Rattle.xk_law_compiler.proofs.UnitLemmas.BodyScopeLemmas.{part_of}
+use Rattle.xk_law_compiler.proofs.UnitLemmas.SettingLemmas.{AreSettled, AreParts, body_unit_of}
 
 -- ---- main
 

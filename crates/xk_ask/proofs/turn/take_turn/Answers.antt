@@ -1,4 +1,4 @@
-use Rattle.xk_laws.proofs.ReachabilityLemmas.{run_arguments}
+use Rattle.xk_law_schedules.proofs.ReachabilityLemmas.{run_arguments}
 use Rattle.xk_ask.specs.Play.{turn}
 use Rattle.xk_ask.proofs.TurnLemmas.{turning_on, turning_ends}
 use Rattle.xk_ask.proofs.turn.take_turn.Goals as goal

@@ -3,8 +3,8 @@ use Rattle.std.specs.Prelude.{nat_eq}
 use Rattle.std.specs.Map.{lookup}
 use Rattle.std.specs.Option.{option_or}
 use Rattle.xk_tree.specs.Program.{tree_value}
-use Rattle.xk_semantics.specs.Parts.{Part}
-use Rattle.xk_semantics.specs.Compilation.{settled_body}
+use Rattle.xk_source_semantics.specs.Parts.{Part}
+use Rattle.xk_source_semantics.specs.Compilation.{settled_body}
 use Rattle.xk_numbering.specs.Views.{part}
 use Rattle.xk_numbering.proofs.ListLemmas.{parts_left}
 use Rattle.xk_codegen.proofs.setting.add_bodies.Goals as goal

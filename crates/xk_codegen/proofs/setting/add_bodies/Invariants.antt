@@ -3,7 +3,7 @@ use Rattle.std.specs.Map.{lookup}
 use Rattle.std.specs.Option.{option_or}
 use Rattle.xk_tree.specs.Program.{tree_value}
 use Rattle.xk_numbering.specs.Views.{part}
-use Rattle.xk_semantics.specs.Compilation.{settled_body}
+use Rattle.xk_source_semantics.specs.Compilation.{settled_body}
 use Rattle.xk_codegen.proofs.setting.add_bodies.Given as goal
 
 -- what the table has for an offset, or the units that are left

@@ -4,8 +4,8 @@ use Rattle.std.specs.Option.{option_or}
 use Rattle.xk_names.specs.Scope.{find, is_text}
 use Rattle.xk_names.specs.FaultList.{put}
 use Rattle.xk_callgraph.proofs.NameNumberLemmas.{put_number}
-use Rattle.xk_semantics.specs.Parts.{Part, method_among}
-use Rattle.xk_semantics.specs.Compilation.{unit_number}
+use Rattle.xk_source_semantics.specs.Parts.{Part, method_among}
+use Rattle.xk_source_semantics.specs.Compilation.{unit_number}
 use Rattle.xk_numbering.specs.Views.{part}
 use Rattle.xk_codegen.proofs.ListLemmas.{numbered_or}
 use Rattle.xk_codegen.proofs.setting.add_method.Goals as goal

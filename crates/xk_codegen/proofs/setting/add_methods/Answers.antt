@@ -1,8 +1,8 @@
 use Rattle.std.proofs.Common.{◌+◌, List, map, drop, option_map, ap, sym, ◌∙◌, refl}
 use Rattle.std.specs.Option.{option_or}
 use Rattle.xk_names.specs.Scope.{find}
-use Rattle.xk_semantics.specs.Parts.{Part, method_among}
-use Rattle.xk_semantics.specs.Compilation.{unit_number}
+use Rattle.xk_source_semantics.specs.Parts.{Part, method_among}
+use Rattle.xk_source_semantics.specs.Compilation.{unit_number}
 use Rattle.xk_numbering.specs.Views.{part}
 use Rattle.xk_numbering.proofs.ListLemmas.{parts_left}
 use Rattle.xk_codegen.proofs.setting.add_methods.Goals as goal

@@ -1,9 +1,9 @@
 use Rattle.std.proofs.Common.{◌≡◌, ℕ, List, drop, map, option_map}
 use Rattle.std.specs.Option.{option_or}
 use Rattle.xk_names.specs.Scope.{find}
-use Rattle.xk_semantics.specs.Parts.{method_among}
+use Rattle.xk_source_semantics.specs.Parts.{method_among}
 use Rattle.xk_numbering.specs.Views.{part}
-use Rattle.xk_semantics.specs.Compilation.{unit_number}
+use Rattle.xk_source_semantics.specs.Compilation.{unit_number}
 use Rattle.xk_codegen.proofs.setting.add_methods.Given as goal
 
 -- what the table has for a name, or the units that are left

@@ -2,7 +2,7 @@ use Rattle.std.proofs.Common.{◌≡◌, ℕ, List, drop, map}
 use Rattle.std.specs.Option.{option_or}
 use Rattle.xk_tree.specs.Tree.{shared_value}
 use Rattle.xk_names.specs.Scope.{find}
-use Rattle.xk_semantics.specs.Compilation.{shared_among}
+use Rattle.xk_source_semantics.specs.Compilation.{shared_among}
 use Rattle.xk_codegen.proofs.setting.add_shared.Given as goal
 
 -- what the table has for a name, or the shared numbers that are left

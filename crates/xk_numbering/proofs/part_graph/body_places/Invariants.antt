@@ -1,7 +1,7 @@
 use Rattle.std.proofs.Common.{◌≡◌, ℕ, drop, map, nat_eq}
 use Rattle.std.specs.Map.{lookup}
 use Rattle.std.specs.Option.{option_or}
-use Rattle.xk_semantics.specs.Parts.{body_among}
+use Rattle.xk_source_semantics.specs.Parts.{body_among}
 use Rattle.xk_numbering.specs.Views.{part}
 use Rattle.xk_numbering.proofs.part_graph.body_places.Given as goal
 

@@ -4,7 +4,7 @@ use Rattle.std.specs.Prelude.{option_map}
 use Rattle.std.specs.Option.{option_or}
 use Rattle.xk_names.specs.Scope.{find, is_text}
 use Rattle.xk_callgraph.proofs.NameNumberLemmas.{put_number}
-use Rattle.xk_semantics.specs.Parts.{Part, OfMethod, OfBody, method_among}
+use Rattle.xk_source_semantics.specs.Parts.{Part, OfMethod, OfBody, method_among}
 use Rattle.xk_numbering.specs.Views.{part}
 use Rattle.xk_numbering.proofs.ListLemmas.{parts_left}
 use Rattle.xk_numbering.proofs.part_graph.method_places.Goals as goal

@@ -1,7 +1,7 @@
 use Rattle.std.proofs.Common.{◌≡◌, ℕ, List, drop, map}
 use Rattle.std.specs.Option.{option_or}
 use Rattle.xk_names.specs.Scope.{find}
-use Rattle.xk_semantics.specs.Parts.{method_among}
+use Rattle.xk_source_semantics.specs.Parts.{method_among}
 use Rattle.xk_numbering.specs.Views.{part}
 use Rattle.xk_numbering.proofs.part_graph.method_places.Given as goal
 

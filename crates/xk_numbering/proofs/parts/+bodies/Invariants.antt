@@ -1,6 +1,6 @@
 use Rattle.std.proofs.Common.{◌≡◌, ◌++◌, drop, map}
 use Rattle.xk_tree.specs.Tree.{statements}
-use Rattle.xk_semantics.specs.Parts.{bodies_all}
+use Rattle.xk_source_semantics.specs.Parts.{bodies_all}
 use Rattle.xk_numbering.specs.Views.{part}
 use Rattle.xk_numbering.proofs.parts.+bodies.Given as goal
 

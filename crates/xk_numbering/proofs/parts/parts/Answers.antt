@@ -2,7 +2,7 @@ use Rattle.std.proofs.Common.{◌≡◌, ◌+◌, ◌<◌, ◌++◌, List, lengt
 use Rattle.std.specs.List.{flat_map}
 use Rattle.xk_tree.specs.declared.tree.Method.{Method}
 use Rattle.xk_tree.specs.Tree.{MethodValue, method_value}
-use Rattle.xk_semantics.specs.Parts.{Part, method_parts}
+use Rattle.xk_source_semantics.specs.Parts.{Part, method_parts}
 use Rattle.xk_numbering.specs.Views.{part}
 use Rattle.xk_numbering.proofs.ListLemmas.{methods_left}
 use Rattle.xk_numbering.proofs.parts.parts.Goals as goal

@@ -2,7 +2,7 @@ use Rattle.std.proofs.Common.{◌≡◌, ◌++◌, drop, map}
 use Rattle.std.specs.List.{flat_map}
 use Rattle.xk_tree.specs.Tree.{method_value}
 use Rattle.xk_tree.specs.Program.{tree_value}
-use Rattle.xk_semantics.specs.Parts.{method_parts, parts}
+use Rattle.xk_source_semantics.specs.Parts.{method_parts, parts}
 use Rattle.xk_numbering.specs.Views.{part}
 use Rattle.xk_numbering.proofs.parts.parts.Given as goal
 

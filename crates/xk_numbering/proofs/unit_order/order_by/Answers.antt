@@ -3,8 +3,8 @@ use Rattle.std.proofs.lemmas.List.{length-map}
 use Rattle.xk_callgraph.specs.CallGraph.{AreWithin, AreReached, IsRecursive}
 use Rattle.xk_callgraph.specs.TopologicalOrder.{AreLeast, IsInOrder}
 use Rattle.xk_tree.specs.Program.{tree_value}
-use Rattle.xk_semantics.specs.PartGraph.{IsOrder}
-use Rattle.xk_semantics.specs.Parts.{parts}
+use Rattle.xk_source_semantics.specs.PartGraph.{IsOrder}
+use Rattle.xk_source_semantics.specs.Parts.{parts}
 use Rattle.xk_numbering.proofs.PartRecursionLemmas.{never_again}
 use Rattle.xk_numbering.proofs.UnitOrderLemmas.{within}
 use Rattle.xk_numbering.proofs.PartGraphLemmas.{main_within}

@@ -1,5 +1,5 @@
 use Rattle.std.proofs.Common.{◌≡◌, ◌∙◌, ◌<◌, length, ap, arith, subst, sym}
-use Rattle.xk_squares.specs.QuietSteps.{has_quiet_step}
+use Rattle.xk_law_commute.specs.QuietSteps.{has_quiet_step}
 use Rattle.xk_outcomes.specs.Found.{least}
 use Rattle.xk_outcomes.proofs.FoundLemmas.{least_found, least_more}
 use Rattle.xk_outcomes.proofs.found.quiet_act.Goals as goal

@@ -1,5 +1,5 @@
 use Rattle.std.proofs.Common.{◌≡◌, None}
-use Rattle.xk_squares.specs.QuietSteps.{has_quiet_step}
+use Rattle.xk_law_commute.specs.QuietSteps.{has_quiet_step}
 use Rattle.xk_outcomes.specs.Found.{least}
 use Rattle.xk_outcomes.proofs.found.quiet_act.Given as goal
 

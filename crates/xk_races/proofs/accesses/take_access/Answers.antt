@@ -1,7 +1,7 @@
 -- The shared number has those that stand for its earlier accesses, and they stand for this one, too.
 use Rattle.std.proofs.Common.{◌≡◌, true, sym, subst}
 use Rattle.xk_races.specs.Races.{have_one_number}
-use Rattle.xk_accesses.specs.Accesses.{IsCovered, none_yet}
+use Rattle.xk_races_summary.specs.Accesses.{IsCovered, none_yet}
 use Rattle.xk_races.specs.Accesses.{access_of}
 use Rattle.xk_races.proofs.LatestLemmas.{all_covered}
 use Rattle.xk_races.proofs.accesses.take_access.Goals as goal

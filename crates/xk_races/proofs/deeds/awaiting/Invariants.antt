@@ -1,5 +1,5 @@
 use Rattle.std.proofs.Common.{◌≡◌}
-use Rattle.xk_events.specs.Worlds.{those_below}
+use Rattle.xk_show_events.specs.Worlds.{those_below}
 use Rattle.xk_races.specs.Deeds.{awaits}
 use Rattle.xk_races.proofs.deeds.awaiting.Given as goal
 

@@ -4,8 +4,8 @@ use Rattle.xk_types.specs.Code.{ModuleValue}
 use Rattle.xk_types.specs.World.{World}
 use Rattle.xk_types.specs.Schedule.{Through, run}
 use Rattle.xk_core.specs.Core.{opening_core}
-use Rattle.xk_events.specs.Steps.{told}
-use Rattle.xk_events.proofs.StepLemmas.{IsTold, told_starts, entry_legal, entry_told}
+use Rattle.xk_show_events.specs.Steps.{told}
+use Rattle.xk_show_events.proofs.StepLemmas.{IsTold, told_starts, entry_legal, entry_told}
 use Rattle.xk_races.specs.Deeds.{tell_deeds}
 use Rattle.xk_races.proofs.deeds.deeds_of_run.Goals as goal
 

@@ -1,5 +1,5 @@
 use Rattle.std.proofs.Common.{[]}
-use Rattle.xk_events.proofs.StepLemmas.{IsTold}
+use Rattle.xk_show_events.proofs.StepLemmas.{IsTold}
 use Rattle.xk_races.specs.Deeds.{tell_deeds}
 use Rattle.xk_races.proofs.deeds.deeds_of_run.Given as goal
 

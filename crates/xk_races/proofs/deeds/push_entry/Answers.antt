@@ -1,8 +1,8 @@
 use Rattle.std.proofs.Common.{◌≡◌, ◌∙◌, true, suc, ◌+◌, ◌-◌, ◌++◌, replicate, subst, sym, arith}
 use Rattle.xk_types.specs.Step.{Stepped, step}
 use Rattle.xk_types.specs.Schedule.{run, is_enabled}
-use Rattle.xk_events.specs.Steps.{told}
-use Rattle.xk_events.proofs.StepLemmas.{can_step, rest_run, rest_told}
+use Rattle.xk_show_events.specs.Steps.{told}
+use Rattle.xk_show_events.proofs.StepLemmas.{can_step, rest_run, rest_told}
 use Rattle.xk_races.specs.Deeds.{tell_deeds}
 use Rattle.xk_races.proofs.deeds.push_entry.Goals as goal
 

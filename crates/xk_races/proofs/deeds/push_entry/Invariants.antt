@@ -1,6 +1,6 @@
 use Rattle.std.proofs.Common.{◌≡◌, ◌-◌, ◌++◌, replicate}
 use Rattle.xk_types.specs.Schedule.{run}
-use Rattle.xk_events.specs.Steps.{told}
+use Rattle.xk_show_events.specs.Steps.{told}
 use Rattle.xk_races.specs.Deeds.{tell_deeds}
 use Rattle.xk_races.proofs.deeds.push_entry.Given as goal
 

@@ -1,6 +1,6 @@
 use Rattle.std.proofs.Common.{◌≡◌, [], ◌∷◌}
 use Rattle.std.specs.Prelude.{max}
-use Rattle.xk_events.specs.Worlds.{each_below}
+use Rattle.xk_show_events.specs.Worlds.{each_below}
 use Rattle.xk_races.specs.Lists.{number_at}
 use Rattle.xk_races.proofs.rows.joined.Given as goal
 

@@ -1,6 +1,6 @@
 use Rattle.std.proofs.Common.{refl, arith}
 use Rattle.std.proofs.lemmas.Bool.{false≢true}
-use Rattle.xk_squares.specs.PlainWorlds.{plain_activity}
+use Rattle.xk_law_commute.specs.PlainWorlds.{plain_activity}
 use Rattle.xk_core.proofs.AlikenessLemmas.{same_maps, maps_same}
 use Rattle.xk_core.proofs.machine.Core.are_activities_alike.Goals as goal
 

@@ -1,7 +1,7 @@
 use Rattle.std.proofs.Common.{◌≡◌, ◌<◌, Some, length, ◌∙◌, sym, subst, ap, arith}
 use Rattle.xk_types.specs.World.{instruction_at}
 use Rattle.xk_activity.specs.Activities.{act_at}
-use Rattle.xk_squares.specs.Conflicts.{next_instruction}
+use Rattle.xk_law_commute.specs.Conflicts.{next_instruction}
 use Rattle.xk_core.specs.Core.{CoreValue}
 use Rattle.xk_core.proofs.FinishTreeLemmas.{held, parts_roomy}
 use Rattle.xk_core.proofs.FinishViewLemmas.{length_told}

@@ -6,7 +6,7 @@ use Rattle.xk_core.specs.InstructionEffect.{carried, IsLast}
 use Rattle.xk_core.specs.Core.{CoreValue, next_instruction}
 use Rattle.xk_core.specs.FinishView.{with_finishes}
 use Rattle.xk_core.proofs.FinishTreeLemmas.{held, held_on, parts_in, parts_roomy, last_told, runs, exists, alive, carry_enabled, carry_stepped, carry_closed, carry_ended}
-use Rattle.xk_laws.specs.ClockRoom.{HasRoomLeft}
+use Rattle.xk_law_schedules.specs.ClockRoom.{HasRoomLeft}
 use Rattle.xk_core.proofs.ReservationLemmas.{make_left}
 use Rattle.xk_core.proofs.machine.Core.step_visible.Goals as goal
 

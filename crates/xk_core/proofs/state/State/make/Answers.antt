@@ -5,7 +5,7 @@ use Rattle.xk_types.specs.declared.world.Value.TheVariants as value
 use Rattle.xk_types.specs.World.{Activity, Clock, World}
 use Rattle.xk_types.specs.Step.{Stepped, settled_clock, new_clock, onward, with_slots}
 use Rattle.xk_types.specs.Schedule.{is_step}
-use Rattle.xk_laws.specs.ClockRoom.{HasRoomLeft}
+use Rattle.xk_law_schedules.specs.ClockRoom.{HasRoomLeft}
 use Rattle.xk_registrations.specs.Standings.{told_of, rooms_of}
 use Rattle.xk_activity.specs.Activities.{ActivitiesValue, act_at}
 use Rattle.xk_core.specs.InstructionEffect.{carried}

@@ -11,7 +11,7 @@ use Rattle.xk_types.specs.Bound.{places_from}
 use Rattle.xk_activity.specs.Activities.{act_at}
 use Rattle.xk_activity.specs.Local.{FramesValue}
 use Rattle.xk_activity.specs.FrameStack.{values_at, value_at}
-use Rattle.xk_laws.specs.ClockRoom.{places_of}
+use Rattle.xk_law_schedules.specs.ClockRoom.{places_of}
 use Rattle.xk_registrations.specs.View.{held}
 use Rattle.xk_registrations.specs.RegistrationChanges.{IsGiven}
 use Rattle.xk_registrations.specs.Standings.{told_of}

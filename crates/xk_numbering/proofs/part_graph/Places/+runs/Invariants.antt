@@ -1,6 +1,6 @@
 use Rattle.std.proofs.Common.{◌≡◌, ◌++◌, drop, map}
 use Rattle.xk_tree.specs.Tree.{statements}
-use Rattle.xk_semantics.specs.Parts.{runs_all}
+use Rattle.xk_source_semantics.specs.Parts.{runs_all}
 use Rattle.xk_numbering.specs.PartPlaces.{place_in}
 use Rattle.xk_numbering.proofs.part_graph.Places.+runs.Given as goal
 

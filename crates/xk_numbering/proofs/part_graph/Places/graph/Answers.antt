@@ -1,7 +1,7 @@
 use Rattle.std.proofs.Common.{◌+◌, ◌++◌, ◌∷◌, [], ℕ, List, map, drop, ap, sym, ◌∙◌, refl, append_assoc}
 use Rattle.xk_callgraph.specs.CallGraph.{adjacency}
-use Rattle.xk_semantics.specs.Parts.{Part, part_runs}
-use Rattle.xk_semantics.specs.PartGraph.{graph_by}
+use Rattle.xk_source_semantics.specs.Parts.{Part, part_runs}
+use Rattle.xk_source_semantics.specs.PartGraph.{graph_by}
 use Rattle.xk_numbering.specs.PartPlaces.{place_in}
 use Rattle.xk_numbering.specs.Views.{part}
 use Rattle.xk_numbering.proofs.ListLemmas.{parts_left}

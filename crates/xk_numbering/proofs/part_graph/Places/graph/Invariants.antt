@@ -1,6 +1,6 @@
 use Rattle.std.proofs.Common.{◌≡◌, ◌++◌, drop, map}
 use Rattle.xk_callgraph.specs.CallGraph.{adjacency}
-use Rattle.xk_semantics.specs.PartGraph.{graph_by}
+use Rattle.xk_source_semantics.specs.PartGraph.{graph_by}
 use Rattle.xk_numbering.specs.PartPlaces.{place_in}
 use Rattle.xk_numbering.specs.Views.{part}
 use Rattle.xk_numbering.proofs.part_graph.Places.graph.Given as goal

@@ -1,6 +1,0 @@
--- The law, from the lemmas.
-use Rattle.xk_classes.proofs.OneRunLaw.{begun}
-use Rattle.xk_classes.proofs.class_law.Goals as goal
-
-pub returns : goal.returns
-returns c m args s t z y limits ok taken = begun m args limits ok taken s t z y

@@ -1,8 +1,0 @@
-use Rattle.std.proofs.Common.{◌≡◌, ◌++◌, drop, map}
-use Rattle.xk_declarations.specs.Declarations.{declared_here}
-use Rattle.xk_declarations.specs.Notes.{note_of}
-use Rattle.xk_declarations.proofs.notes.push_notes.Given as goal
-
-abbrev pub invariant-loop-d : goal.invariant-loop-d
-invariant-loop-d l =
-    l.notes.items ++ map note_of (declared_here (drop l.d-index l.ds)) ≡ l.fn.notes.items ++ map note_of (declared_here l.ds)

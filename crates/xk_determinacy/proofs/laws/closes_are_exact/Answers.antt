@@ -1,6 +1,0 @@
--- The law, from the lemmas.
-use Rattle.xk_determinacy.proofs.ClosedFinishLaw.{closes_are_exact}
-use Rattle.xk_determinacy.proofs.laws.closes_are_exact.Goals as goal
-
-pub returns : goal.returns
-returns c m args log z limits ok taken legal = closes_are_exact m args limits ok taken log z legal

@@ -1,6 +1,0 @@
--- The law, from the lemmas.
-use Rattle.xk_determinacy.proofs.PassedClockLaw.{passes_are_exact}
-use Rattle.xk_determinacy.proofs.laws.passes_are_exact.Goals as goal
-
-pub returns : goal.returns
-returns c m args log z limits ok taken legal = passes_are_exact m args limits ok taken log z legal

@@ -1,0 +1,103 @@
+-- The other places that a rule on clocks speaks of: where a clock is made, and which finish is open. This project's own.
+use Rattle.std.specs.Prelude.{ℕ, suc, ◌-◌, nat_lt, Bool, true, false, not, ◌&&◌, ◌||◌, List, [], ◌∷◌, ◌++◌, length, take, find, Option, Some, None, option_map, option_and_then, slice_get, if◌then◌else◌}
+use Rattle.std.specs.Option.{option_map_or}
+use Rattle.xk_types.specs.declared.instr.Instr.{Instr}
+use Rattle.xk_types.specs.declared.instr.Instr.TheVariants as instr
+use Rattle.xk_types.specs.declared.rules.Rule.{Rule}
+use Rattle.xk_types.specs.declared.rules.Rule.TheVariants as rule
+use Rattle.xk_types.specs.Code.{ModuleValue, UnitValue, clock_arguments, params_of}
+use Rattle.xk_types.specs.Blocks.{block_at, homes, is_elsewhere, makes, same_block, takes_clock}
+use Rattle.xk_shape.specs.declared.fault.ShapeFault.{ShapeFault}
+use Rattle.xk_typestate.specs.declared.fault.KindFault.{KindFault}
+use Rattle.xk_explain_bounds.specs.declared.remark.Fact.{Fact}
+use Rattle.xk_explain_bounds.specs.declared.remark.Fact.TheVariants as fact
+use Rattle.xk_explain_bounds.specs.declared.remark.Remark.{Remark}
+
+-- a remark on a place of a unit, and one on a unit
+abbrev pub here : ℕ → Fact → ℕ → Remark
+here unit f at = record { unit = unit; at = Some at; fact = f }
+
+abbrev pub on_unit : ℕ → Fact → Remark
+on_unit unit f = record { unit = unit; at = None; fact = f }
+
+-- ---- where a clock is made
+
+-- the instruction at a place makes the clock of slot s, in another block than this
+abbrev pub makes_elsewhere : UnitValue → ℕ → List ℕ → ℕ → Instr → Bool
+makes_elsewhere u s block at i = makes s i && not (same_block block (block_at u at))
+
+-- the first place that does, among these instructions, the first of which stands at `at`
+abbrev pub first_elsewhere : UnitValue → ℕ → List ℕ → ℕ → List Instr → Option ℕ
+first_elsewhere u s block at [] = None
+first_elsewhere u s block at (i ∷ is) = if makes_elsewhere u s block at i then Some at else first_elsewhere u s block (suc at) is
+
+-- where a slot takes its clock in another block than this: from outside, in the whole unit, or where it is made
+abbrev pub is_outside : UnitValue → List ℕ → ℕ → Bool
+is_outside u block s = takes_clock (slice_get u.params s) && not (same_block block [])
+
+abbrev pub other_home : ℕ → UnitValue → List ℕ → ℕ → Option Remark
+other_home unit u block s =
+    if is_outside u block s then Some (on_unit unit (fact.Outside s)) else option_map (here unit (fact.Made s)) (first_elsewhere u s block 0 u.code)
+
+-- of the first of these slots that takes its clock in another block
+abbrev pub first_home : ℕ → UnitValue → List ℕ → List ℕ → Option Remark
+first_home unit u block [] = None
+first_home unit u block (s ∷ ss) = option_map_or (λ r. Some r) (other_home unit u block s) (first_home unit u block ss)
+
+abbrev pub listed : Option Remark → List Remark
+listed None = []
+listed (Some r) = r ∷ []
+
+-- ---- V8: a parameter, or where the clock of the slot is made before
+
+-- where the clock of a slot comes from beside the `make` at a place: from outside, or from one before that in another block
+abbrev pub made_before : ℕ → UnitValue → ℕ → ℕ → Option Remark
+made_before unit u at s =
+    if nat_lt s (length u.params) then Some (on_unit unit (fact.Outside s))
+    else option_map (here unit (fact.Made s)) (first_elsewhere u s (block_at u at) 0 (take at u.code))
+
+abbrev pub home_remarks : ℕ → UnitValue → ℕ → Instr → List Remark
+home_remarks unit u at (instr.Make d) = listed (made_before unit u at d)
+home_remarks unit u at (instr.Drop k) = on_unit unit (fact.Outside k) ∷ []
+home_remarks unit u at _ = []
+
+-- ---- V9: where the clock comes from that is handed on, and the innermost finish that is open
+
+-- the last finish of a block, if it has one: the innermost that is open
+abbrev pub last_finish : List ℕ → Option ℕ
+last_finish block = slice_get block (length block - 1)
+
+abbrev pub handed_on : ModuleValue → Instr → List ℕ
+handed_on m (instr.Call t args) = clock_arguments (params_of m t) args
+handed_on m (instr.Spawn t args) = clock_arguments (params_of m t) args
+handed_on m _ = []
+
+abbrev pub registers_remarks : ModuleValue → ℕ → UnitValue → ℕ → Instr → List Remark
+registers_remarks m unit u at i =
+    listed (first_home unit u (block_at u at) (handed_on m i)) ++ listed (option_map (here unit fact.Open) (last_finish (block_at u at)))
+
+-- ---- V12: where the finish begins that ends
+
+abbrev pub held_remarks : ℕ → Instr → List Remark
+held_remarks unit (instr.EndFinish b) = here unit fact.Begins b ∷ []
+held_remarks unit _ = []
+
+-- ---- faults
+
+-- beside an instruction of a unit that breaks a rule on shape
+abbrev pub shape_remarks_at : Rule → ModuleValue → ℕ → UnitValue → ℕ → Instr → List Remark
+shape_remarks_at rule.Home m unit u at i = home_remarks unit u at i
+shape_remarks_at rule.Registers m unit u at i = registers_remarks m unit u at i
+shape_remarks_at _ m unit u at i = []
+
+-- beside one whose slot is of the wrong kind
+abbrev pub kind_remarks_at : Rule → ℕ → Instr → List Remark
+kind_remarks_at rule.Held unit i = held_remarks unit i
+kind_remarks_at _ unit i = []
+
+abbrev pub shape_remarks : ModuleValue → ShapeFault → List Remark
+shape_remarks m f =
+    option_map_or (λ u. option_map_or (shape_remarks_at f.rule m f.unit u f.at) (slice_get u.code f.at) []) (slice_get m.units f.unit) []
+
+abbrev pub kind_remarks : ModuleValue → KindFault → List Remark
+kind_remarks m f = option_map_or (λ u. option_map_or (kind_remarks_at f.rule f.unit) (slice_get u.code f.at) []) (slice_get m.units f.unit) []

@@ -1,0 +1,84 @@
+-- The words of notes. Units and slots have their names of the text; where it isn't known where a unit comes from, they have their numbers. This
+-- project's own.
+use Rattle.std.specs.Prelude.{ℕ, List, [], ◌++◌, Option, Some, None, codes, decimal, slice_get}
+use Rattle.std.specs.Option.{option_map_or}
+use Rattle.xk_origins.specs.UnitOrigins.{UnitOrigins}
+use Rattle.xk_explain.specs.Notes.{NoteValue}
+use Rattle.xk_explain.specs.SourceExplanations.{slot_title}
+use Rattle.xk_explain_bounds.specs.declared.remark.Fact.{Fact}
+use Rattle.xk_explain_bounds.specs.declared.remark.Fact.TheVariants as fact
+use Rattle.xk_explain_bounds.specs.declared.remark.Remark.{Remark}
+use Rattle.xk_explain_bounds.specs.Amounts.{amount, counted}
+
+-- ---- names
+
+-- `unit 2`
+abbrev pub numbered : ℕ → List ℕ
+numbered unit = codes "unit " ++ decimal unit
+
+-- a unit that is spoken of at its own place: `main`, ``this `async` ``
+abbrev pub this_unit : List UnitOrigins → ℕ → List ℕ
+this_unit origins unit =
+    option_map_or (λ u. option_map_or (λ name. name) u.head.name (codes "this `async`")) (slice_get origins unit) (numbered unit)
+
+-- a unit that is spoken of at a place in it: `main`, ``the `async` around it``
+abbrev pub unit_around : List UnitOrigins → ℕ → List ℕ
+unit_around origins unit =
+    option_map_or (λ u. option_map_or (λ name. name) u.head.name (codes "the `async` around it")) (slice_get origins unit) (numbered unit)
+
+-- a slot of a unit: `` `c` ``, or `slot 3`
+abbrev pub slot_words : List UnitOrigins → ℕ → ℕ → List ℕ
+slot_words origins unit slot = option_map_or (λ u. slot_title u.slots slot) (slice_get origins unit) (codes "slot " ++ decimal slot)
+
+-- ---- words
+
+-- ` 12 times in one run of main`
+unfoldable pub times_words : ℕ → List ℕ → List ℕ
+times_words n around = ((codes " " ++ counted n (codes " time") (codes " times")) ++ codes " in one run of ") ++ around
+
+-- `this loop has 10 turns each time, 100 in one run of main`
+unfoldable pub loop_words : ℕ → ℕ → List ℕ → List ℕ
+loop_words turns all around =
+    ((((codes "this loop has " ++ counted turns (codes " turn") (codes " turns")) ++ codes " each time, ") ++ amount all) ++ codes " in one run of ") ++ around
+
+-- ` takes 20 steps at most`
+unfoldable pub most_words : List ℕ → ℕ → List ℕ → List ℕ → List ℕ
+most_words does n one many = (does ++ counted n one many) ++ codes " at most"
+
+-- ` has 3 slots, at most 12 with those that it calls`
+unfoldable pub slots_words : ℕ → ℕ → List ℕ
+slots_words own all =
+    (((codes " has " ++ counted own (codes " slot") (codes " slots")) ++ codes ", at most ") ++ amount all) ++ codes " with those that it calls"
+
+-- what is told of a place of a unit
+abbrev pub words : List UnitOrigins → ℕ → Fact → List ℕ
+words origins unit (fact.Loop turns all) = loop_words turns all (unit_around origins unit)
+words origins unit (fact.Call t n) = (this_unit origins t ++ codes " is called here") ++ times_words n (unit_around origins unit)
+words origins unit (fact.Start t n) = (this_unit origins t ++ codes " is started") ++ times_words n (unit_around origins unit)
+words origins unit (fact.Make n) = codes "a clock is made here" ++ times_words n (unit_around origins unit)
+words origins unit (fact.Steps n) = this_unit origins unit ++ most_words (codes " takes ") n (codes " step") (codes " steps")
+words origins unit (fact.Activities n) = this_unit origins unit ++ most_words (codes " starts ") n (codes " activity") (codes " activities")
+words origins unit (fact.Clocks n) = this_unit origins unit ++ most_words (codes " makes ") n (codes " clock") (codes " clocks")
+words origins unit (fact.Slots own all) = this_unit origins unit ++ slots_words own all
+words origins unit (fact.Made s) = slot_words origins unit s ++ codes " is made here"
+words origins unit (fact.Outside s) = slot_words origins unit s ++ codes " comes from outside"
+words origins unit fact.Open = codes "this finish is open"
+words origins unit fact.Begins = codes "the finish begins here"
+
+-- ---- notes
+
+-- `unit 0 at 3: `, before what is told of an instruction of a unit without origins
+abbrev pub place_before : ℕ → Option ℕ → List ℕ
+place_before unit None = []
+place_before unit (Some at) = codes "unit " ++ (decimal unit ++ (codes " at " ++ (decimal at ++ codes ": ")))
+
+-- where a remark on a unit with origins stands in the text
+abbrev pub place_in : UnitOrigins → Option ℕ → Option ℕ
+place_in u None = Some u.head.at
+place_in u (Some at) = slice_get u.offsets at
+
+-- the note of a remark
+abbrev pub note_of : List UnitOrigins → Remark → NoteValue
+note_of origins r =
+    option_map_or (λ u. record { at = place_in u r.at; text = words origins r.unit r.fact }) (slice_get origins r.unit)
+    (record { at = None; text = place_before r.unit r.at ++ words origins r.unit r.fact })

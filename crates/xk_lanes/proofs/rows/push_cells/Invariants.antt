@@ -1,9 +1,0 @@
-use Rattle.std.proofs.Common.{◌≡◌, ◌++◌}
-use Rattle.xk_events.specs.Worlds.{each_below}
-use Rattle.xk_lanes.specs.Fields.{at_left}
-use Rattle.xk_lanes.specs.Lanes.{cell}
-use Rattle.xk_lanes.proofs.rows.push_cells.Given as goal
-
--- the lanes so far were added
-abbrev pub invariant-loop-lane : goal.invariant-loop-lane
-invariant-loop-lane l = l.line.items ≡ l.fn.line.items ++ each_below (λ b. at_left l.grid.lane (cell l.core.module_run l.core.world l.step b)) l.lane

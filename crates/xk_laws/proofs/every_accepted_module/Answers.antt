@@ -1,6 +1,0 @@
--- The law of the contract, from the lemma over all schedules.
-use Rattle.xk_laws.proofs.EveryScheduleLaw.{every_schedule}
-use Rattle.xk_laws.proofs.every_accepted_module.Goals as goal
-
-pub returns : goal.returns
-returns c = every_schedule

@@ -1,6 +1,0 @@
-use Rattle.std.proofs.Common.{◌∙◌}
-use Rattle.xk_positions.proofs.Parts.{utf8_test}
-use Rattle.xk_positions.proofs.signs.is_utf8.Goals as goal
-
-pub returns : goal.returns
-returns c = c.is_ok.ensures.value ∙ utf8_test _ _ c.args.bytes.now c.from_utf8.result c.from_utf8.ensures.cases

@@ -1,0 +1,99 @@
+//! The steps of a run, one by one.
+
+ghost use Rattle.std.specs.Prelude.{◌≡◌, true, ◌++◌, replicate, IfOk, OnErr, OnOk};
+ghost use Rattle.xk_types.specs.Schedule.{Through, is_enabled, run};
+ghost use Rattle.xk_core.specs.Core.{StepsTo, WantsMemory};
+ghost use Rattle.xk_show_events.specs.Steps.{IsLegalFrom, if_seen, run_step, seen_steps, tell_seen, told};
+
+use crate::words::is_seen;
+use std::alloc::{AllocError, Global};
+use xk_core::Core;
+use xk_scheduler::Ended;
+use xk_types::{Act, Entry, Event};
+
+/// A step of a run.
+#[derive(Clone, Copy)]
+pub struct RunStep {
+    /// Which step of the run it was, counted from 1.
+    pub number: u64,
+    /// Whose it was.
+    pub act: u32,
+    /// The unit of the instruction at which that activity stood before it: of a pass, the `advance`.
+    pub unit: u16,
+    /// The place of that instruction.
+    pub place: u32,
+    /// How many clocks there were before it: the number of one that it made.
+    pub clocks: u32,
+    /// How many activities there were before it: the number of one that it started.
+    pub activities: u32,
+    /// What it was seen to do.
+    pub event: Event,
+}
+
+/// Takes a step of an activity that can take one, and says what is told of it. Only the start of an activity wants memory; where that is refused
+/// the core is as before.
+#[tactic(auto, using(crate::proofs::StepLemmas::enabled_there))]
+pub fn take_step(core: &mut Core<'_>, act: Act) -> Result<RunStep, AllocError>
+    requires { is_enabled core.old.module_run core.old.world act ≡ true }
+    ensures stepped { IfOk result (λ s. StepsTo core.old act core.new s.event) }
+    ensures told { IfOk result (λ s. s
+        ≡ run_step act core.old.world core.new.world s.event) }
+    ensures same_module { core.new.module_run ≡ core.old.module_run }
+    ensures refused { OnErr result (core.new ≡ core.old) }
+    ensures only_where_it_grows { OnErr result (WantsMemory core.old act) }
+{
+    let frames = core.frames(act);
+    let unit = frames.unit();
+    let place = frames.place();
+    let clocks = core.clocks();
+    let activities = core.activities();
+    let event = core.step(act)?;
+    Ok(RunStep {
+        number: core.steps_done(),
+        act: act.0,
+        unit,
+        place,
+        clocks,
+        activities,
+        event,
+    })
+}
+
+/// Adds a step, if other activities can see it.
+fn push_if_seen(list: &mut Vec<RunStep>, step: RunStep) -> Result<(), AllocError>
+    ensures { OnOk result (list.new.items ≡ list.old.items ++ if_seen step) }
+{
+    if is_seen(step.event) {
+        list.push(step)?;
+    }
+    Ok(())
+}
+
+/// Takes the steps of an entry, and adds those that other activities can see.
+fn push_entry(list: &mut Vec<RunStep>, core: &mut Core<'_>, entry: Entry) -> Result<(), AllocError>
+    requires { IsLegalFrom core.old (replicate entry.steps entry.act) }
+    ensures steps { OnOk result (list.new.items ≡ list.old.items
+        ++ told tell_seen core.old.module_run (replicate entry.steps entry.act) core.old.world) }
+    ensures led { OnOk result (run core.old.module_run (replicate entry.steps entry.act)
+        core.old.world ≡ Through core.new.world) }
+    ensures same_module { core.new.module_run ≡ core.old.module_run }
+{
+    for _done in 0..entry.steps {
+        let step = take_step(core, Act(entry.act))?;
+        push_if_seen(list, step)?;
+    }
+    Ok(())
+}
+
+/// The steps of a run that other activities can see, in their order. The log is played again for it. Err where memory was refused.
+pub fn seen_steps(alloc: Global, ended: &Ended<'_>) -> Result<Vec<RunStep>, AllocError>
+    ensures { IfOk result (λ v. v.items ≡ seen_steps
+        ended.now.module.now ended.now.core.world.arguments ended.now.log.items) }
+{
+    let mut core = Core::open(alloc, ended.module, ended.core.arguments())?;
+    let mut list = Vec::new(alloc);
+    for entry in &ended.log {
+        push_entry(&mut list, &mut core, *entry)?;
+    }
+    Ok(list)
+}

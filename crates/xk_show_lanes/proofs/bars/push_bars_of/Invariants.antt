@@ -1,0 +1,8 @@
+use Rattle.std.proofs.Common.{◌≡◌, ◌++◌, take}
+use Rattle.std.specs.List.{flat_map}
+use Rattle.xk_show_lanes.specs.Lanes.{bar}
+use Rattle.xk_show_lanes.proofs.bars.push_bars_of.Given as goal
+
+-- the bars of the clocks so far were added
+abbrev pub invariant-loop-clock : goal.invariant-loop-clock
+invariant-loop-clock l = l.out.items ≡ l.fn.out.items ++ flat_map (bar l.grid l.core.world l.act) (take l.clock-index l.clocks)

@@ -1,0 +1,215 @@
+//! The whole text: head, rows and bars.
+
+ghost use Rattle.std.specs.Prelude.{◌≡◌, true, ◌++◌, filter, replicate, IfOk, OnOk};
+ghost use Rattle.xk_types.specs.Schedule.{Through, is_enabled, run};
+ghost use Rattle.xk_core.specs.Core.{StepsTo};
+ghost use Rattle.xk_show_events.specs.Steps.{IsLegalFrom, told, told_of_run};
+ghost use Rattle.xk_show_events.specs.Events.{no_text, places_of};
+ghost use Rattle.xk_show_lanes.specs.Lanes.{are_lanes_whole, grid_for, is_asked, lanes_in, lanes_text, left_out_by, row_and_bars, tell_lanes};
+
+use crate::bars::push_bars;
+use crate::fields::push_text;
+use crate::grid::{DRAWN, Grid, grid_of};
+use crate::rows::{push_head, push_row_if_seen};
+use crate::window::Window;
+use std::alloc::{AllocError, Global};
+use xk_core::Core;
+use xk_origins::UnitOrigins;
+use xk_scheduler::Ended;
+use xk_show_events::{Places, RunStep, seen_steps, take_step};
+use xk_types::{Act, Entry, Event};
+
+/// What is drawn, and whether it is whole: no lane is left out. (A step that wasn't asked for isn't left out.)
+#[derive(Debug, Drop)]
+pub struct Drawing {
+    pub text: Vec<u8>,
+    pub whole: bool,
+}
+
+/// Adds the row and bars of a step that led to the core.
+fn push_row_and_bars(
+    alloc: Global,
+    out: &mut Vec<u8>,
+    core: &Core<'_>,
+    grid: Grid,
+    places: &Places<'_>,
+    step: &RunStep,
+) -> Result<(), AllocError>
+    ensures { OnOk result (out.new.items ≡ out.old.items
+        ++ row_and_bars grid places.now core.now.module_run core.now.world step.now) }
+{
+    push_row_if_seen(alloc, out, core, grid, places, step)?;
+    push_bars(alloc, out, core, grid, step.act)
+}
+
+/// Takes a step, and adds its row and bars, if it is asked for; what it was seen to do.
+fn push_step(
+    alloc: Global,
+    out: &mut Vec<u8>,
+    core: &mut Core<'_>,
+    grid: Grid,
+    places: &Places<'_>,
+    act: Act,
+) -> Result<Event, AllocError>
+    requires { is_enabled core.old.module_run core.old.world act ≡ true }
+    ensures stepped { IfOk result (StepsTo core.old act core.new) }
+    ensures told { IfOk result (λ e. out.new.items ≡ out.old.items
+        ++ tell_lanes grid places.now core.old.module_run act core.old.world core.new.world e) }
+    ensures same_module { core.new.module_run ≡ core.old.module_run }
+{
+    let step = take_step(core, act)?;
+    if grid.window.asks(step.number) {
+        push_row_and_bars(alloc, out, core, grid, places, &step)?;
+    }
+    Ok(step.event)
+}
+
+/// Takes the steps of an entry, and adds their rows and bars.
+fn push_entry(
+    alloc: Global,
+    out: &mut Vec<u8>,
+    core: &mut Core<'_>,
+    grid: Grid,
+    places: &Places<'_>,
+    entry: Entry,
+) -> Result<(), AllocError>
+    requires { IsLegalFrom core.old (replicate entry.steps entry.act) }
+    ensures told { OnOk result (out.new.items ≡ out.old.items
+        ++ told (tell_lanes grid places.now core.old.module_run) core.old.module_run
+        (replicate entry.steps entry.act) core.old.world) }
+    ensures led { OnOk result (run core.old.module_run (replicate entry.steps entry.act)
+        core.old.world ≡ Through core.new.world) }
+    ensures same_module { core.new.module_run ≡ core.old.module_run }
+{
+    for _done in 0..entry.steps {
+        push_step(alloc, out, core, grid, places, Act(entry.act))?;
+    }
+    Ok(())
+}
+
+/// Adds the rows and bars of a run. The log is played again for it.
+fn push_run(
+    alloc: Global,
+    out: &mut Vec<u8>,
+    grid: Grid,
+    places: &Places<'_>,
+    ended: &Ended<'_>,
+) -> Result<(), AllocError>
+    ensures { OnOk result (out.new.items ≡ out.old.items
+        ++ told_of_run (tell_lanes grid places.now ended.now.module.now)
+        ended.now.module.now ended.now.core.world.arguments ended.now.log.items) }
+{
+    let mut core = Core::open(alloc, ended.module, ended.core.arguments())?;
+    for entry in &ended.log {
+        push_entry(alloc, out, &mut core, grid, places, *entry)?;
+    }
+    Ok(())
+}
+
+/// Adds how many activities have no lane, if some have none.
+fn push_left_out(alloc: Global, out: &mut Vec<u8>, count: u32) -> Result<(), AllocError>
+    ensures { OnOk result (out.new.items ≡ out.old.items ++ left_out_by count) }
+{
+    if count == 0 {
+        return Ok(());
+    }
+    push_text(
+        out,
+        format!(in alloc; "lanes left out: {count}\n")?.as_str(),
+    )
+}
+
+/// The lanes of a run, in these columns.
+fn lanes_in(
+    alloc: Global,
+    grid: Grid,
+    places: &Places<'_>,
+    ended: &Ended<'_>,
+) -> Result<Vec<u8>, AllocError>
+    ensures { IfOk result (λ v. v.items ≡ lanes_in grid places.now ended.now.module.now
+        ended.now.log.items ended.now.core.world) }
+{
+    let mut out = Vec::new(alloc);
+    push_head(alloc, &mut out, grid)?;
+    push_run(alloc, &mut out, grid, places, ended)?;
+    push_left_out(
+        alloc,
+        &mut out,
+        ended.core.activities().saturating_sub(DRAWN),
+    )?;
+    Ok(out)
+}
+
+/// Those of these steps that are asked for.
+fn asked(alloc: Global, steps: &[RunStep], window: Window) -> Result<Vec<RunStep>, AllocError>
+    ensures { IfOk result (λ v. v.items
+        ≡ filter (λ s. is_asked window s.number) steps.now) }
+{
+    steps
+        .iter()
+        .copied()
+        .filter(|step| window.asks(step.number))
+        .collect(alloc)
+}
+
+/// The columns for these steps of a run.
+pub fn grid_for(
+    alloc: Global,
+    places: &Places<'_>,
+    ended: &Ended<'_>,
+    window: Window,
+) -> Result<Grid, AllocError>
+    ensures { IfOk result (λ g. g ≡ grid_for places.now window ended.now.module.now
+        ended.now.log.items ended.now.core.world) }
+{
+    let seen = seen_steps(alloc, ended)?;
+    let steps = asked(alloc, &seen, window)?;
+    grid_of(alloc, places, window, &steps, ended.core.activities())
+}
+
+/// The lanes of these steps of a run.
+fn lanes(
+    alloc: Global,
+    places: &Places<'_>,
+    ended: &Ended<'_>,
+    window: Window,
+) -> Result<Drawing, AllocError>
+    ensures text { IfOk result (λ d. d.text.items ≡ lanes_text places.now window
+        ended.now.module.now ended.now.log.items ended.now.core.world) }
+    ensures whole { IfOk result (λ d. d.whole ≡ are_lanes_whole ended.now.core.world) }
+{
+    let grid = grid_for(alloc, places, ended, window)?;
+    let text = lanes_in(alloc, grid, places, ended)?;
+    let whole = ended.core.activities() <= DRAWN;
+    Ok(Drawing { text, whole })
+}
+
+/// The lanes of these steps of a run of a source text's module: a column for each activity, and a row for each step that others can see, with its
+/// number, where it was taken, and what was done in the lane of who did it. Behind a step an activity that could go on shows `|`, one that is held
+/// back `:`, and one that hasn't started or has ended nothing. Where a clock advanced, a bar joins the lanes of those who are registered on it, and
+/// says in whose step that was. It is whole where each activity has a lane. Err where memory was refused.
+pub fn source_lanes(
+    alloc: Global,
+    text: &[u8],
+    origins: &[UnitOrigins<'_>],
+    ended: &Ended<'_>,
+    window: Window,
+) -> Result<Drawing, AllocError>
+    ensures text { IfOk result (λ d. d.text.items
+        ≡ lanes_text (places_of text.now origins.now) window
+        ended.now.module.now ended.now.log.items ended.now.core.world) }
+    ensures whole { IfOk result (λ d. d.whole ≡ are_lanes_whole ended.now.core.world) }
+{
+    let places = Places::of_source(alloc, text, origins)?;
+    lanes(alloc, &places, ended, window)
+}
+
+/// The same of a module without a text, with the unit and place of each step. Err where memory was refused.
+pub fn module_lanes(alloc: Global, ended: &Ended<'_>, window: Window) -> Result<Drawing, AllocError>
+    ensures text { IfOk result (λ d. d.text.items ≡ lanes_text no_text window
+        ended.now.module.now ended.now.log.items ended.now.core.world) }
+    ensures whole { IfOk result (λ d. d.whole ≡ are_lanes_whole ended.now.core.world) }
+{
+    let places = Places::of_module(alloc)?;
+    lanes(alloc, &places, ended, window)
+}

@@ -1,0 +1,86 @@
+-- A run on a page of HTML: its source text, the picture of its lanes (`xk_show_picture`), and how things stand behind each step (`xk_show_where`). These are
+-- the run's. What stands in each page besides, the script that shows them too, means nothing to a run: `src/furniture.rt` has these texts. That it is
+-- told so is this project's own.
+use Rattle.std.specs.Prelude.{ℕ, ◌==◌, Bool, not, ◌&&◌, List, [], ◌∷◌, ◌++◌, flat_map, None, codes, if◌then◌else◌}
+use Rattle.xk_types.specs.declared.world.Entry.{Entry}
+use Rattle.xk_types.specs.declared.world.Event.{Event}
+use Rattle.xk_types.specs.declared.world.Event.TheVariants as event
+use Rattle.xk_types.specs.Code.{ModuleValue}
+use Rattle.xk_types.specs.World.{World, opening}
+use Rattle.xk_types.specs.Schedule.{is_local}
+use Rattle.xk_show_events.specs.declared.steps.RunStep.{RunStep}
+use Rattle.xk_show_events.specs.Steps.{Teller, run_step, told_of_run}
+use Rattle.xk_show_events.specs.Events.{PlacesValue, event_line}
+use Rattle.xk_show_lanes.specs.declared.window.Window.{Window}
+use Rattle.xk_show_lanes.specs.Lanes.{is_asked}
+use Rattle.xk_show_picture.specs.Picture.{is_drawn, picture_text}
+use Rattle.xk_show_where.specs.Where.{standings_text}
+use Rattle.xk_show_page.specs.declared.furniture.TheConstants.{TOP, COLOURS, PLACES, MARKS, BEGINNING, LISTS, BEHIND, READER, SHOWER, MOVER}
+
+-- ---- what stands in each page
+
+-- before the source text
+unfoldable pub page_head : List ℕ
+page_head = (((TOP.now ++ COLOURS.now) ++ PLACES.now) ++ MARKS.now) ++ BEGINNING.now
+
+-- between it and the picture
+unfoldable pub behind_source : List ℕ
+behind_source = LISTS.now
+
+-- between the picture and the moments
+unfoldable pub behind_picture : List ℕ
+behind_picture = BEHIND.now
+
+-- behind the moments: the script that shows them
+unfoldable pub page_tail : List ℕ
+page_tail = (READER.now ++ SHOWER.now) ++ MOVER.now
+
+-- ---- the source text
+
+-- What stands for a byte: where HTML would take it for a reference's beginning, a tag's, or a line's end, a reference to it, and else the byte. HTML
+-- reads them back, but for NUL, which it can't hold.
+abbrev pub escaped_byte : ℕ → List ℕ
+escaped_byte b = if b == 38 then codes "&amp;" else (if b == 60 then codes "&lt;" else (if b == 13 then codes "&#13;" else b ∷ []))
+
+abbrev pub escaped : List ℕ → List ℕ
+escaped text = flat_map escaped_byte text
+
+-- ---- moments
+
+-- a step that others can see, and that is asked for
+abbrev pub is_moment : Window → RunStep → Bool
+is_moment window r = not (is_local r.event) && is_asked window r.number
+
+-- what was done in a step that led to world v, and how things stand there
+abbrev pub moment : PlacesValue → ModuleValue → World → RunStep → List ℕ
+moment p m v r = event_line p r ++ standings_text p m v None
+
+-- of a step that isn't told so: that it printed, if it did
+abbrev pub print_by : PlacesValue → RunStep → Event → List ℕ
+print_by p r (event.Printed n) = event_line p r
+print_by p r _ = []
+
+abbrev pub told_step : Window → PlacesValue → ModuleValue → World → RunStep → List ℕ
+told_step window p m v r = if is_moment window r then moment p m v r else print_by p r r.event
+
+abbrev pub tell_moment : Window → PlacesValue → ModuleValue → Teller ℕ
+tell_moment window p m a w v e = told_step window p m v (run_step a w v e)
+
+-- how things stand before the first step, and what is told of each
+abbrev pub moments : Window → PlacesValue → ModuleValue → List Entry → World → List ℕ
+moments window p m log last =
+    standings_text p m (opening m last.arguments) None ++ told_of_run (tell_moment window p m) m last.arguments log
+
+-- ---- the page
+
+-- of a source text, a picture and moments
+abbrev pub page_of : List ℕ → List ℕ → List ℕ → List ℕ
+page_of text picture told = (((((page_head ++ escaped text) ++ behind_source) ++ picture) ++ behind_picture) ++ told) ++ page_tail
+
+-- the page, if the picture is drawn, or else the line that stands in the picture's place
+abbrev pub page_by : Bool → List ℕ → List ℕ → List ℕ → List ℕ
+page_by drawn text picture told = if drawn then page_of text picture told else picture
+
+-- the page of these steps of the run that a log stands for, which ends in this world
+abbrev pub page_text : PlacesValue → Window → ModuleValue → List Entry → World → List ℕ
+page_text p window m log last = page_by (is_drawn window m log last) p.text (picture_text p window m log last) (moments window p m log last)

@@ -1,0 +1,196 @@
+//! How things stand behind each step.
+
+ghost use Rattle.std.specs.Prelude.{◌≡◌, None, true, ◌++◌, replicate, OnOk, IfOk};
+ghost use Rattle.xk_types.specs.World.{opening};
+ghost use Rattle.xk_types.specs.Schedule.{Through, is_enabled, run};
+ghost use Rattle.xk_core.specs.Core.{StepsTo};
+ghost use Rattle.xk_show_events.specs.Steps.{IsLegalFrom, told, told_of_run};
+ghost use Rattle.xk_show_events.specs.Events.{event_line};
+ghost use Rattle.xk_show_where.specs.Where.{standings_text};
+ghost use Rattle.xk_show_page.specs.Page.{is_moment, moment, moments, print_by, tell_moment, told_step};
+
+use crate::texts::put;
+use std::alloc::{AllocError, Global};
+use xk_core::Core;
+use xk_scheduler::Ended;
+use xk_show_events::{Places, RunStep, event_line, is_seen, take_step};
+use xk_show_lanes::Window;
+use xk_show_where::standings_text;
+use xk_types::{Act, Entry, Event};
+
+/// Whether others can see a step, and it is asked for.
+fn is_moment(window: Window, step: &RunStep) -> bool
+    ensures { result ≡ is_moment window step.now }
+{
+    is_seen(step.event) && window.asks(step.number)
+}
+
+/// Adds the line of a step.
+fn push_line(
+    alloc: Global,
+    out: &mut Vec<u8>,
+    places: &Places<'_>,
+    step: &RunStep,
+) -> Result<(), AllocError>
+    ensures { OnOk result (out.new.items ≡ out.old.items ++ event_line places.now step.now) }
+{
+    let line = event_line(alloc, places, step)?;
+    put(out, line.as_str())
+}
+
+/// Adds how things stand in a core.
+fn push_standings(
+    alloc: Global,
+    out: &mut Vec<u8>,
+    places: &Places<'_>,
+    core: &Core<'_>,
+) -> Result<(), AllocError>
+    ensures { OnOk result (out.new.items ≡ out.old.items
+        ++ standings_text places.now core.now.module_run core.now.world None) }
+{
+    let text = standings_text(alloc, places, core, None)?;
+    out.extend_from_slice(&text)
+}
+
+/// Adds what was done in a step that led to the core, and how things stand there.
+fn push_moment(
+    alloc: Global,
+    out: &mut Vec<u8>,
+    core: &Core<'_>,
+    places: &Places<'_>,
+    step: &RunStep,
+) -> Result<(), AllocError>
+    ensures { OnOk result (out.new.items ≡ out.old.items
+        ++ moment places.now core.now.module_run core.now.world step.now) }
+{
+    push_line(alloc, out, places, step)?;
+    push_standings(alloc, out, places, core)
+}
+
+/// Adds the line of a step, if it printed.
+fn push_print(
+    alloc: Global,
+    out: &mut Vec<u8>,
+    places: &Places<'_>,
+    step: &RunStep,
+    event: Event,
+) -> Result<(), AllocError>
+    ensures { OnOk result (out.new.items ≡ out.old.items
+        ++ print_by places.now step.now event) }
+{
+    match event {
+        Event::Printed(_) => push_line(alloc, out, places, step),
+        _ => Ok(()),
+    }
+}
+
+/// Adds what is told of a step that led to the core.
+fn push_told(
+    alloc: Global,
+    out: &mut Vec<u8>,
+    core: &Core<'_>,
+    window: Window,
+    places: &Places<'_>,
+    step: &RunStep,
+) -> Result<(), AllocError>
+    ensures { OnOk result (out.new.items ≡ out.old.items
+        ++ told_step window places.now core.now.module_run core.now.world step.now) }
+{
+    if is_moment(window, step) {
+        return push_moment(alloc, out, core, places, step);
+    }
+    push_print(alloc, out, places, step, step.event)
+}
+
+/// Takes a step, and adds what is told of it; what it was seen to do.
+fn push_step(
+    alloc: Global,
+    out: &mut Vec<u8>,
+    core: &mut Core<'_>,
+    window: Window,
+    places: &Places<'_>,
+    act: Act,
+) -> Result<Event, AllocError>
+    requires { is_enabled core.old.module_run core.old.world act ≡ true }
+    ensures stepped { IfOk result (StepsTo core.old act core.new) }
+    ensures told { IfOk result (λ e. out.new.items ≡ out.old.items ++ tell_moment
+        window places.now core.old.module_run act core.old.world core.new.world e) }
+    ensures same_module { core.new.module_run ≡ core.old.module_run }
+{
+    let step = take_step(core, act)?;
+    push_told(alloc, out, core, window, places, &step)?;
+    Ok(step.event)
+}
+
+/// Takes the steps of an entry, and adds what is told of them.
+fn push_entry(
+    alloc: Global,
+    out: &mut Vec<u8>,
+    core: &mut Core<'_>,
+    window: Window,
+    places: &Places<'_>,
+    entry: Entry,
+) -> Result<(), AllocError>
+    requires { IsLegalFrom core.old (replicate entry.steps entry.act) }
+    ensures told { OnOk result (out.new.items ≡ out.old.items
+        ++ told (tell_moment window places.now core.old.module_run)
+        core.old.module_run (replicate entry.steps entry.act) core.old.world) }
+    ensures led { OnOk result (run core.old.module_run (replicate entry.steps entry.act)
+        core.old.world ≡ Through core.new.world) }
+    ensures same_module { core.new.module_run ≡ core.old.module_run }
+{
+    for _done in 0..entry.steps {
+        push_step(alloc, out, core, window, places, Act(entry.act))?;
+    }
+    Ok(())
+}
+
+/// Adds what is told of the steps of a run. The log is played again for it.
+fn push_run(
+    alloc: Global,
+    out: &mut Vec<u8>,
+    window: Window,
+    places: &Places<'_>,
+    ended: &Ended<'_>,
+) -> Result<(), AllocError>
+    ensures { OnOk result (out.new.items ≡ out.old.items ++ told_of_run
+        (tell_moment window places.now ended.now.module.now)
+        ended.now.module.now ended.now.core.world.arguments ended.now.log.items) }
+{
+    let mut core = Core::open(alloc, ended.module, ended.core.arguments())?;
+    for entry in &ended.log {
+        push_entry(alloc, out, &mut core, window, places, *entry)?;
+    }
+    Ok(())
+}
+
+/// Adds how things stand before the first step of a run.
+fn push_opening(
+    alloc: Global,
+    out: &mut Vec<u8>,
+    places: &Places<'_>,
+    ended: &Ended<'_>,
+) -> Result<(), AllocError>
+    ensures { OnOk result (out.new.items ≡ out.old.items
+        ++ standings_text places.now ended.now.module.now
+        (opening ended.now.module.now ended.now.core.world.arguments) None) }
+{
+    let core = Core::open(alloc, ended.module, ended.core.arguments())?;
+    push_standings(alloc, out, places, &core)
+}
+
+/// Adds how things stand before the first step of a run, and what is told of each.
+pub(crate) fn push_moments(
+    alloc: Global,
+    out: &mut Vec<u8>,
+    window: Window,
+    places: &Places<'_>,
+    ended: &Ended<'_>,
+) -> Result<(), AllocError>
+    ensures { OnOk result (out.new.items ≡ out.old.items
+        ++ moments window places.now ended.now.module.now ended.now.log.items
+        ended.now.core.world) }
+{
+    push_opening(alloc, out, places, ended)?;
+    push_run(alloc, out, window, places, ended)
+}

@@ -1,0 +1,182 @@
+-- The picture of a run: what its lanes tell (`xk_show_lanes`), drawn. Time goes down. A row for each step that others can see, and below it one for each
+-- clock that advanced in it; a column for each activity. Who can take a step and when clocks advance, `xk_types` says in `Step.antt`; that it is
+-- drawn so is this project's own.
+use Rattle.std.specs.Prelude.{ℕ, ◌+◌, ◌-◌, ◌*◌, ◌%◌, min, nat_eq, nat_lt, nat_le, Bool, not, ◌&&◌, ◌||◌, ℤ, List, [], ◌∷◌, ◌++◌, length, count_by, flat_map, replicate, codes, if◌then◌else◌}
+use Rattle.xk_types.specs.declared.world.Entry.{Entry}
+use Rattle.xk_types.specs.declared.world.Event.{Event}
+use Rattle.xk_types.specs.declared.world.Event.TheVariants as event
+use Rattle.xk_types.specs.Code.{ModuleValue}
+use Rattle.xk_types.specs.World.{World}
+use Rattle.xk_types.specs.Schedule.{is_enabled, is_local}
+use Rattle.xk_core.specs.Core.{advanced_now, is_living, is_quiet}
+use Rattle.xk_show_events.specs.declared.steps.RunStep.{RunStep}
+use Rattle.xk_show_events.specs.Steps.{Teller, run_step, told_of_run}
+use Rattle.xk_show_events.specs.Events.{PlacesValue, event_words}
+use Rattle.xk_show_lanes.specs.declared.window.Window.{Window}
+use Rattle.xk_show_events.specs.Worlds.{each_below, phase_of}
+use Rattle.xk_show_lanes.specs.Lanes.{any_behind, any_below, bar_label, grid_for, is_asked, is_on, most_lanes, spot, title}
+use Rattle.xk_show_picture.specs.declared.sheet.Sheet.{Sheet}
+use Rattle.xk_show_picture.specs.Sheet.{band_left, labels, lane_left, middle, sheet_of, wide}
+use Rattle.xk_show_picture.specs.Shapes.{arrow, box_frame, box_head, box_words, described, front, label, lane_title, shape, stroke, svg_head, too_large, top}
+use Rattle.xk_show_picture.specs.Furniture.{legend, shapes, style}
+
+-- ---- rows
+
+-- a step that is asked for, and that others can see or in which a clock advanced
+abbrev pub is_shown : Window → World → Event → Bool
+is_shown window v e = is_asked window v.steps && (not (is_local e) || not (is_quiet v))
+
+-- its number, for its own row, and again for that of each clock that advanced in it
+abbrev pub rows_told : Window → World → Event → List ℕ
+rows_told window v e = if is_shown window v e then v.steps ∷ replicate (length (advanced_now v)) v.steps else []
+
+abbrev pub tell_rows : Window → Teller ℕ
+tell_rows window a w v e = rows_told window v e
+
+-- the rows of a run, from the top: for each the number of its step
+abbrev pub rows_of : Window → ModuleValue → List ℤ → List Entry → List ℕ
+rows_of window m args log = told_of_run (tell_rows window) m args log
+
+-- How many rows are drawn at most: where there are more there is no picture (`fits`), and so no row of one stands further down.
+abbrev pub most_rows : ℕ
+most_rows = 2000
+
+-- in which row step n is drawn: behind those of earlier steps
+abbrev pub row_of : List ℕ → ℕ → ℕ
+row_of rows n = min (count_by (λ k. nat_lt k n) rows) most_rows
+
+-- in which row the bar of clock c is drawn, which advanced in the step that led here: below the step, and those of smaller clocks
+abbrev pub bar_row : List ℕ → World → ℕ → ℕ
+bar_row rows v c = row_of rows v.steps + (1 + min (count_by (λ d. nat_lt d c) (advanced_now v)) most_rows)
+
+-- ---- what stands in each row
+
+-- how activity b stands in row k, behind a step that led to world v: a plain line, if it can take a step; hatched, if it can't, since a clock holds it
+-- back or somebody under its finish hasn't ended; nothing, if it hasn't started or has ended
+abbrev pub line : Sheet → ModuleValue → World → ℕ → ℕ → List ℕ
+line s m v k b =
+    if is_living v b then (if is_enabled m v b then shape (codes "free") (middle s b) (top k) else shape (codes "held") (middle s b) (top k)) else []
+
+-- two looks in turn, from phase to phase
+abbrev pub parity : ℕ → List ℕ
+parity phase = if nat_eq (phase % 2) 0 then codes "even" else codes "odd"
+
+-- the phase of clock c, if it was made
+abbrev pub band : Sheet → World → ℕ → ℕ → List ℕ
+band s v k c = if nat_lt c (length v.clocks) then shape (parity (phase_of v c)) (band_left s c) (top k) else []
+
+abbrev pub bands : Sheet → World → ℕ → List ℕ
+bands s v k = each_below (band s v k) s.bands
+
+-- ---- the row of a step
+
+abbrev pub kind : Event → List ℕ
+kind event.Local = codes "life"
+kind (event.Printed n) = codes "print"
+kind event.Made = codes "clock"
+kind event.Got = codes "shared"
+kind event.Put = codes "shared"
+kind event.Added = codes "shared"
+kind event.Opened = codes "life"
+kind event.Closed = codes "life"
+kind event.Spawned = codes "life"
+kind event.Resumed = codes "clock"
+kind event.Dropped = codes "clock"
+kind event.Arrived = codes "clock"
+kind event.Passed = codes "clock"
+kind event.Ended = codes "life"
+
+-- the box in the lane of who took it
+unfoldable pub boxed : Sheet → ℕ → RunStep → List ℕ → List ℕ → List ℕ
+boxed s k r place words =
+    box_head (kind r.event) r.number r.act place words
+    ++ (box_frame (lane_left s r.act + 4) (top k + 2) (2 * s.half - 8) ++ box_words (middle s r.act) (top k + 16) words)
+
+-- an arrow to the lane of who was started: the next activity
+abbrev pub start_by : Sheet → ℕ → RunStep → Event → List ℕ
+start_by s k r event.Spawned = arrow (middle s r.act + (s.half - 4)) (top k + 12) (middle s r.activities)
+start_by s k r _ = []
+
+-- how those stand who didn't take it
+abbrev pub other_line : Sheet → ModuleValue → World → RunStep → ℕ → ℕ → List ℕ
+other_line s m v r k b = if nat_eq b r.act then [] else line s m v k b
+
+unfoldable pub drawn_row : Sheet → PlacesValue → ModuleValue → World → RunStep → ℕ → List ℕ
+drawn_row s p m v r k =
+    (((each_below (other_line s m v r k) s.lanes ++ bands s v k) ++ front (top k + 16) r.number (spot p r)) ++ boxed s k r (spot p r) (event_words r)) ++ start_by s k r r.event
+
+abbrev pub step_row : Sheet → List ℕ → PlacesValue → ModuleValue → World → RunStep → List ℕ
+step_row s rows p m v r = if is_local r.event then [] else drawn_row s p m v r (row_of rows r.number)
+
+-- ---- the row of a bar
+
+abbrev pub stroke_if : Bool → ℕ → ℕ → ℕ → List ℕ
+stroke_if there x y long = if there then stroke x y long else []
+
+abbrev pub ring_if : Bool → ℕ → ℕ → List ℕ
+ring_if there x y = if there then shape (codes "ring") x y else []
+
+-- in lane b: strokes to the next lanes that are on the bar, and a ring, if it is on it
+abbrev pub bar_piece : Sheet → ℕ → ℕ → Bool → Bool → Bool → List ℕ
+bar_piece s k b here before behind =
+    stroke_if (before && (here || behind)) (lane_left s b) (top k + 12) s.half
+    ++ (stroke_if (behind && (here || before)) (middle s b) (top k + 12) s.half ++ ring_if here (middle s b) (top k + 12))
+
+abbrev pub lane_strokes : Sheet → World → ℕ → ℕ → ℕ → List ℕ
+lane_strokes s v c k b = bar_piece s k b (is_on v c b) (any_below (is_on v c) b) (any_behind (is_on v c) b s.lanes)
+
+unfoldable pub drawn_bar : Sheet → ModuleValue → World → ℕ → ℕ → ℕ → List ℕ
+drawn_bar s m v a c k =
+    ((each_below (line s m v k) s.lanes ++ bands s v k) ++ each_below (lane_strokes s v c k) s.lanes) ++ label (labels s) (top k + 16) (bar_label v a c)
+
+abbrev pub clock_bar : Sheet → List ℕ → ModuleValue → World → ℕ → ℕ → List ℕ
+clock_bar s rows m v a c = drawn_bar s m v a c (bar_row rows v c)
+
+-- ---- the picture
+
+abbrev pub rows_of_step : Sheet → List ℕ → PlacesValue → ModuleValue → World → RunStep → List ℕ
+rows_of_step s rows p m v r = step_row s rows p m v r ++ flat_map (clock_bar s rows m v r.act) (advanced_now v)
+
+-- of a step that is shown: its row, and below it the bars
+abbrev pub tell_picture : Sheet → List ℕ → PlacesValue → ModuleValue → Teller ℕ
+tell_picture s rows p m a w v e = if is_shown s.window v e then rows_of_step s rows p m v (run_step a w v e) else []
+
+abbrev pub lane_head : Sheet → ℕ → List ℕ
+lane_head s b = lane_title (middle s b) (title b)
+
+-- how high the picture is
+abbrev pub high : ℕ → ℕ
+high rows = top (min rows most_rows) + 16
+
+-- what stands in each picture
+abbrev pub furniture : List ℕ
+furniture = style ++ (shapes ++ legend)
+
+unfoldable pub head : Sheet → ℕ → ℕ → List ℕ
+head s activities rows =
+    (((svg_head (wide s) (high rows) ++ described activities rows) ++ furniture) ++ each_below (lane_head s) s.lanes)
+
+-- there are no more rows and activities than are drawn
+abbrev pub fits : ℕ → ℕ → Bool
+fits rows activities = nat_le rows most_rows && nat_le activities most_lanes
+
+abbrev pub picture_in : Sheet → List ℕ → PlacesValue → ModuleValue → List Entry → World → List ℕ
+picture_in s rows p m log last =
+    (head s (length last.activities) (length rows) ++ told_of_run (tell_picture s rows p m) m last.arguments log) ++ codes "</svg>\n"
+
+-- it isn't too large to be drawn
+abbrev pub is_drawn : Window → ModuleValue → List Entry → World → Bool
+is_drawn w m log last = fits (length (rows_of w m last.arguments log)) (length last.activities)
+
+-- where the columns stand of the run that a log stands for, which ends in this world
+abbrev pub sheet_for : PlacesValue → Window → ModuleValue → List Entry → World → Sheet
+sheet_for p w m log last = sheet_of (grid_for p w m log last) (length last.clocks)
+
+-- the picture of these rows, if it is drawn, or else a line that says how large it would be
+abbrev pub picture_by : Bool → PlacesValue → Window → List ℕ → ModuleValue → List Entry → World → List ℕ
+picture_by drawn p w rows m log last =
+    if drawn then picture_in (sheet_for p w m log last) rows p m log last else too_large (length rows) (length last.activities)
+
+-- the picture of these steps of that run
+abbrev pub picture_text : PlacesValue → Window → ModuleValue → List Entry → World → List ℕ
+picture_text p w m log last = picture_by (is_drawn w m log last) p w (rows_of w m last.arguments log) m log last

@@ -1,0 +1,158 @@
+//! The rows of bars, where a clock advanced.
+
+ghost use Rattle.std.specs.Prelude.{◌≡◌, ◌<◌, ◌++◌, length, flat_map, IfOk, OnOk, string_bytes};
+ghost use Rattle.xk_core.specs.Core.{advanced_now};
+ghost use Rattle.xk_show_events.specs.Worlds.{each_below};
+ghost use Rattle.xk_show_picture.specs.Picture.{bar_piece, clock_bar, drawn_bar, lane_strokes, ring_if, stroke_if};
+
+use crate::layout::bar_row;
+use crate::lines::{push_bands, push_lines, put};
+use crate::shapes::{label, shape, stroke, top};
+use crate::sheet::{Sheet, labels, lane_left, middle};
+use std::alloc::{AllocError, Global};
+use xk_core::Core;
+use xk_show_lanes::{advanced, any_behind, any_below, bar_label, is_on};
+use xk_types::ClockId;
+
+/// A stroke, if there is one.
+fn stroke_if(alloc: Global, there: bool, x: u64, y: u64, long: u16) -> Result<String, AllocError>
+    ensures { IfOk result (λ t. string_bytes t ≡ stroke_if there x y long) }
+{
+    if there {
+        return stroke(alloc, x, y, long);
+    }
+    Ok(String::new(alloc))
+}
+
+/// A ring, if there is one.
+fn ring_if(alloc: Global, there: bool, x: u64, y: u64) -> Result<String, AllocError>
+    ensures { IfOk result (λ t. string_bytes t ≡ ring_if there x y) }
+{
+    if there {
+        return shape(alloc, "ring", x, y);
+    }
+    Ok(String::new(alloc))
+}
+
+/// What a bar shows in a lane: whether that is on it, and some lane before it and behind it.
+fn bar_piece(
+    alloc: Global,
+    sheet: Sheet,
+    row: u32,
+    lane: u32,
+    here: bool,
+    before: bool,
+    behind: bool,
+) -> Result<String, AllocError>
+    ensures { IfOk result (λ t. string_bytes t
+        ≡ bar_piece sheet row lane here before behind) }
+{
+    let y = top(row) + 12;
+    let x = middle(sheet, lane);
+    let to_left = before && (here || behind);
+    let to_right = behind && (here || before);
+    let left = stroke_if(alloc, to_left, lane_left(sheet, lane), y, sheet.half)?;
+    let right = stroke_if(alloc, to_right, x, y, sheet.half)?;
+    let ring = ring_if(alloc, here, x, y)?;
+    format!(in alloc; "{left}{right}{ring}")
+}
+
+/// What the bar of a clock shows in a lane.
+fn lane_strokes(
+    alloc: Global,
+    core: &Core<'_>,
+    sheet: Sheet,
+    clock: ClockId,
+    row: u32,
+    lane: u32,
+) -> Result<String, AllocError>
+    requires { clock < length core.now.world.clocks }
+    ensures { IfOk result (λ t. string_bytes t
+        ≡ lane_strokes sheet core.now.world clock row lane) }
+{
+    let here = is_on(core, clock, lane);
+    let before = any_below(core, clock, lane);
+    let behind = any_behind(core, clock, lane, sheet.lanes);
+    bar_piece(alloc, sheet, row, lane, here, before, behind)
+}
+
+/// Adds what the bar of a clock shows in all lanes.
+fn push_bar_lanes(
+    alloc: Global,
+    out: &mut Vec<u8>,
+    core: &Core<'_>,
+    sheet: Sheet,
+    clock: ClockId,
+    row: u32,
+) -> Result<(), AllocError>
+    requires { clock < length core.now.world.clocks }
+    ensures { OnOk result (out.new.items ≡ out.old.items
+        ++ each_below (lane_strokes sheet core.now.world clock row) sheet.lanes) }
+{
+    for lane in 0..sheet.lanes {
+        let text = lane_strokes(alloc, core, sheet, clock, row, lane)?;
+        put(out, text.as_str())?;
+    }
+    Ok(())
+}
+
+/// Adds the row of the bar of a clock that advanced in the last step, which this activity took.
+#[tactic(auto, unfolding(crate::specs::Picture::drawn_bar))]
+fn push_bar_at(
+    alloc: Global,
+    out: &mut Vec<u8>,
+    core: &Core<'_>,
+    sheet: Sheet,
+    act: u32,
+    clock: ClockId,
+    row: u32,
+) -> Result<(), AllocError>
+    requires { clock < length core.now.world.clocks }
+    ensures { OnOk result (out.new.items ≡ out.old.items
+        ++ drawn_bar sheet core.now.module_run core.now.world act clock row) }
+{
+    let words = bar_label(alloc, core, act, clock)?;
+    let text = label(alloc, labels(sheet), top(row) + 16, words.as_str())?;
+    push_lines(alloc, out, core, sheet, row)?;
+    push_bands(alloc, out, core, sheet, row)?;
+    push_bar_lanes(alloc, out, core, sheet, clock, row)?;
+    put(out, text.as_str())
+}
+
+/// Adds the rows of the bars of these clocks.
+fn push_bars_of(
+    alloc: Global,
+    out: &mut Vec<u8>,
+    core: &Core<'_>,
+    sheet: Sheet,
+    rows: &[u64],
+    act: u32,
+    clocks: &[u32],
+) -> Result<(), AllocError>
+    requires { clocks.now ≡ advanced_now core.now.world }
+    ensures { OnOk result (out.new.items ≡ out.old.items
+        ++ flat_map (clock_bar sheet rows.now core.now.module_run core.now.world act) clocks.now) }
+{
+    for clock in clocks {
+        let row = bar_row(rows, core, clocks, *clock);
+        push_bar_at(alloc, out, core, sheet, act, ClockId(*clock), row)?;
+    }
+    Ok(())
+}
+
+/// Adds a row for the bar of each clock that advanced in the last step, which this activity took.
+pub(crate) fn push_bars(
+    alloc: Global,
+    out: &mut Vec<u8>,
+    core: &Core<'_>,
+    sheet: Sheet,
+    rows: &[u64],
+    act: u32,
+) -> Result<(), AllocError>
+    ensures { OnOk result (out.new.items ≡ out.old.items
+        ++ flat_map (clock_bar sheet rows.now core.now.module_run core.now.world act)
+        (advanced_now core.now.world)) }
+{
+    let clocks = advanced(alloc, core)?;
+    push_bars_of(alloc, out, core, sheet, rows, act, &clocks)
+}

@@ -1,6 +1,0 @@
--- The law, from the lemma.
-use Rattle.xk_squares.proofs.SquareLaw.{all_squares}
-use Rattle.xk_squares.proofs.squares.Goals as goal
-
-pub returns : goal.returns
-returns c = all_squares

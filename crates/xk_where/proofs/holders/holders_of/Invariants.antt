@@ -1,9 +1,0 @@
-use Rattle.std.proofs.Common.{◌≡◌}
-use Rattle.xk_types.specs.Step.{is_pending}
-use Rattle.xk_events.specs.Worlds.{those_below}
-use Rattle.xk_where.specs.Where.{standing_on}
-use Rattle.xk_where.proofs.holders.holders_of.Given as goal
-
--- those so far who hold the clock back are listed
-abbrev pub invariant-loop-act : goal.invariant-loop-act
-invariant-loop-act l = l.acts.items ≡ those_below (λ a. is_pending (standing_on l.core.world a l.clock)) l.act

@@ -1,8 +1,0 @@
-use Rattle.std.proofs.Common.{◌≡◌, ◌++◌}
-use Rattle.xk_events.specs.Worlds.{each_below}
-use Rattle.xk_where.specs.Where.{shared_line}
-use Rattle.xk_where.proofs.standings.push_all_shared.Given as goal
-
--- the lines so far were added
-abbrev pub invariant-loop-number : goal.invariant-loop-number
-invariant-loop-number l = l.out.items ≡ l.fn.out.items ++ each_below (shared_line l.cells) l.number

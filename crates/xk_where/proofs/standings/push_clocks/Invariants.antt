@@ -1,8 +1,0 @@
-use Rattle.std.proofs.Common.{◌≡◌, ◌++◌}
-use Rattle.xk_events.specs.Worlds.{each_below}
-use Rattle.xk_where.specs.Where.{clock_line}
-use Rattle.xk_where.proofs.standings.push_clocks.Given as goal
-
--- the lines so far were added
-abbrev pub invariant-loop-clock : goal.invariant-loop-clock
-invariant-loop-clock l = l.out.items ≡ l.fn.out.items ++ each_below (clock_line l.core.world) l.clock
