@@ -2,21 +2,16 @@
 """Times the built program: runs of a hundred million steps, in one unit, by calls and by finishes; runs of many activities in each order;
 and checks of many great units.
 
-    python3 bench/bench.py [PROGRAM]
+    python3 -m bench.bench [--program PATH]
 
-PROGRAM is crates/x10clock/out/x10clock unless another is named. Prints seconds and the most memory that a process took.
+Prints seconds and the most memory that a process took.
 """
-import os
-import resource
-import subprocess
-import sys
+import argparse
 import tempfile
-import time
 
-from modules import calling, counting, finishing, gathering, module, starting, starting_in_finish, unit
-
-PROGRAM = sys.argv[1] if len(sys.argv) > 1 else "crates/x10clock/out/x10clock"
-
+from bench.modules import calling, counting, finishing, gathering, module, starting, starting_in_finish, unit
+from bench.spent import spent
+from tests import harness
 
 ORDERS = ("first", "last", "round")
 
@@ -65,37 +60,53 @@ def chain(make_unit, count):
     return module([make_unit("main" if i == 0 else "body", i + 1 if i + 1 < count else None) for i in range(count)])
 
 
-def knows_orders():
-    told = subprocess.run([PROGRAM, "run", "--help"], capture_output=True, check=False).stdout
-    return b"--order" in told
+class Timer:
+    """Times calls of a program."""
+
+    def __init__(self, program):
+        self.program = program
+
+    def timed(self, name, command, text, words=()):
+        """The seconds that a call takes."""
+        with tempfile.NamedTemporaryFile("w", suffix=".json") as file:
+            file.write(text)
+            file.flush()
+            took = spent([self.program, command, *words, "--module", file.name])
+        said = (took.out + took.err).decode().strip().replace("\n", " | ")
+        print(f"{name}: {took.passed:.2f} s, {took.megabytes:.0f} MB, status {took.status}: {said}")
+        return took.passed
+
+    def runs(self):
+        seconds = self.timed("run of 100,010,002 steps", "run", counting(9999))
+        print(f"steps a second: {100_010_002 / seconds:,.0f}")
+        seconds = self.timed("run of 24,995,000 calls", "run", calling(4999))
+        print(f"calls a second: {24_995_000 / seconds:,.0f}")
+        seconds = self.timed("run of 24,995,000 finishes", "run", finishing(4999))
+        print(f"finishes a second: {24_995_000 / seconds:,.0f}")
+        for count in (4_000, 16_000, 64_000):
+            self.timed(f"run of {count} activities, each in a finish", "run", gathering(count))
+        for order in ORDERS:
+            words, many = ("--order", order), "run of 100,000 activities"
+            self.timed(f"{many}, order {order}", "run", starting(99_999), words)
+            self.timed(f"{many}, a finish round them, order {order}", "run", starting_in_finish(99_999), words)
+
+    def checks(self):
+        for count in (50, 100, 200):
+            what = f"check of {count} units of 4,096 instructions over 64 slots"
+            self.timed(what, "check", chain(great_unit, count))
+        what = "check of 200 units of 4,096 instructions"
+        self.timed(f"{what}, jumps inside of loops", "check", chain(jumping_unit, 200))
+        self.timed(f"{what}, additions", "check", chain(adding_unit, 200))
 
 
-def timed(name, command, text, words=()):
-    with tempfile.NamedTemporaryFile("w", suffix=".json", delete=False) as file:
-        file.write(text)
-    start = time.monotonic()
-    pid = subprocess.Popen([PROGRAM, command, *words, "--module", file.name], stdout=subprocess.PIPE, stderr=subprocess.STDOUT)
-    out = pid.stdout.read().decode().strip().replace("\n", " | ")
-    _, status, usage = os.wait4(pid.pid, 0)
-    seconds = time.monotonic() - start
-    os.unlink(file.name)
-    print(f"{name}: {seconds:.2f} s, {usage.ru_maxrss // 1024} MB, status {os.waitstatus_to_exitcode(status)}: {out}")
-    return seconds
+def main():
+    parser = argparse.ArgumentParser()
+    harness.add_option(parser)
+    timer = Timer(parser.parse_args().program)
+    # The runs first: memory counts from what this process held when a call began, and great modules are great here too.
+    timer.runs()
+    timer.checks()
 
 
-# The runs first: the memory of a process counts from what this one held when it began, and great modules are great here too.
-seconds = timed("run of 100,010,002 steps", "run", counting(9999))
-print(f"steps a second: {100_010_002 / seconds:,.0f}")
-seconds = timed("run of 24,995,000 calls", "run", calling(4999))
-print(f"calls a second: {24_995_000 / seconds:,.0f}")
-seconds = timed("run of 24,995,000 finishes", "run", finishing(4999))
-print(f"finishes a second: {24_995_000 / seconds:,.0f}")
-for count in (4_000, 16_000, 64_000):
-    timed(f"run of {count} activities, each in a finish", "run", gathering(count))
-for order in ORDERS if knows_orders() else ():
-    timed(f"run of 100,000 activities, order {order}", "run", starting(99_999), ("--order", order))
-    timed(f"run of 100,000 activities, a finish round them, order {order}", "run", starting_in_finish(99_999), ("--order", order))
-for count in (50, 100, 200):
-    timed(f"check of {count} units of 4,096 instructions over 64 slots", "check", chain(great_unit, count))
-timed("check of 200 units of 4,096 instructions, jumps inside of loops", "check", chain(jumping_unit, 200))
-timed("check of 200 units of 4,096 instructions, additions", "check", chain(adding_unit, 200))
+if __name__ == "__main__":
+    main()

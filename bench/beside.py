@@ -1,35 +1,31 @@
 #!/usr/bin/env python3
 """Times the built program beside the machine in bench/plain, on the modules of bench/modules.py.
 
-    python3 bench/beside.py [PROGRAM] [--only WORD] [--rounds N] [--builds N]
+    python3 -m bench.beside [--program PATH] [--only WORD] [--rounds N] [--builds N]
 
-PROGRAM is crates/x10clock/out/x10clock unless another is named. Both have to print the same bytes. The machine is built nine times: the builds
+Both have to print the same bytes. The machine is built nine times: the builds
 differ in where the functions stand alone, and so by half in the time that one loop takes. Beside each of them three runs are made in turn, of
 which the least counts. Each row has the seconds of processor time, the least of ours and the one of the middle build by hand; the ratio beside
 the middle build; the ratios beside the fastest and the slowest; and the most memory of each. A run of less than a twentieth of a second is
 marked as short: its ratio says little. Memory counts from what the measuring process held, some 15 MB.
 """
 import argparse
-import os
 import statistics
-import subprocess
 import sys
 import tempfile
 
-from by_hand import TOP, built
-from modules import ROWS
+from bench.by_hand import built
+from bench.modules import ROWS
+from bench.spent import spent
+from tests import harness
 
 SHORT = 0.05
-SECONDS = 600
 
 
 def ran(words):
     """What a call prints, its seconds of processor time, and its most memory in MB."""
-    with tempfile.TemporaryFile() as out:
-        called = subprocess.Popen(words, stdout=out, stderr=subprocess.STDOUT)
-        _, _, usage = os.wait4(called.pid, 0)
-        out.seek(0)
-        return out.read(), usage.ru_utime + usage.ru_stime, usage.ru_maxrss / 1024
+    took = spent(words)
+    return took.out + took.err, took.seconds, took.megabytes
 
 
 def in_turn(ours, machine, path, order, rounds):
@@ -57,7 +53,7 @@ def row(name, order, program, machines, path, rounds):
 
 def main():
     parser = argparse.ArgumentParser()
-    parser.add_argument("program", nargs="?", default=str(TOP / "crates/x10clock/out/x10clock"))
+    harness.add_option(parser)
     parser.add_argument("--only", default="")
     parser.add_argument("--rounds", type=int, default=3)
     parser.add_argument("--builds", type=int, default=9)

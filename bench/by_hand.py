@@ -3,7 +3,8 @@ import pathlib
 import subprocess
 import tempfile
 
-TOP = pathlib.Path(__file__).resolve().parent.parent
+from tests.harness import TOP
+
 ORDERS = ("first", "last", "round")
 
 

@@ -2,9 +2,9 @@
 """Counts the instructions of the built program beside those of the machine in bench/plain, by callgrind; and those of loops with a limit
 beside those of loops without one, which the machine in bench/plain doesn't know.
 
-    python3 bench/instructions.py [PROGRAM] [--only WORD]
+    python3 -m bench.instructions [--program PATH] [--only WORD]
 
-PROGRAM is crates/x10clock/out/x10clock unless another is named. A figure is what twice as much work takes more, so that starting a process and
+A figure is what twice as much work takes more, so that starting a process and
 reading the module don't count. It is the same on each run, whatever else the machine does; it says nothing of memory that isn't in a cache.
 """
 import argparse
@@ -13,8 +13,9 @@ import re
 import subprocess
 import tempfile
 
-import modules
-from by_hand import ORDERS, TOP, built
+from bench import modules
+from bench.by_hand import ORDERS, built
+from tests import harness
 
 FIRST = ("first",)
 # What a row counts, its module for so much work, and the orders.
@@ -82,7 +83,7 @@ def print_table(head, row, jobs):
 
 def main():
     parser = argparse.ArgumentParser()
-    parser.add_argument("program", nargs="?", default=str(TOP / "crates/x10clock/out/x10clock"))
+    harness.add_option(parser)
     parser.add_argument("--only", default="")
     given = parser.parse_args()
     rows = [row for row in ROWS if given.only in row[0]]

@@ -2,21 +2,20 @@
 """Times the built program on logs: runs that write them, their replay and their charts, beside runs that keep none and a plain copy of the log;
 and logs that claim much.
 
-    python3 bench/logs.py [PROGRAM]
+    python3 -m bench.logs [--program PATH]
 
-PROGRAM is crates/x10clock/out/x10clock unless another is named. Prints for each call its seconds of processor time, the seconds that passed, the
-most memory that it took, and its status.
+Prints for each call its seconds of processor time, the seconds that passed, the most memory that it took, and its
+status.
 """
+import argparse
 import itertools
 import json
 import os
 import pathlib
-import subprocess
-import sys
 import tempfile
-import time
 
-PROGRAM = str(pathlib.Path(sys.argv[1] if len(sys.argv) > 1 else "crates/x10clock/out/x10clock").resolve())
+from bench.spent import spent
+from tests import harness
 
 
 def module(units):
@@ -49,33 +48,28 @@ def many_clocks(count):
 def timed(name, words, out=None):
     """A call, and what it takes; its standard output goes to the file, if one is given."""
     with open(out or os.devnull, "wb") as sink:
-        start = time.monotonic()
-        called = subprocess.Popen(words, stdout=sink, stderr=subprocess.PIPE)
-        told = called.stderr.read().decode().strip()
-        _, status, usage = os.wait4(called.pid, 0)
-        seconds = time.monotonic() - start
-    spent = usage.ru_utime + usage.ru_stime
-    print(f"{name}: {spent:.2f} s, {seconds:.2f} s passed, {usage.ru_maxrss / 1024:.0f} MB, status {os.waitstatus_to_exitcode(status)} {told}", flush=True)
-    return spent
+        took = spent(words, sink)
+    memory, said = f"{took.megabytes:.0f} MB", took.err.decode().strip()
+    print(f"{name}: {took.seconds:.2f} s, {took.passed:.2f} s passed, {memory}, status {took.status} {said}", flush=True)
 
 
 def size(path):
     return f"{pathlib.Path(path).stat().st_size:,} bytes"
 
 
-def whole(name, text, folder):
+def whole(program, name, text, folder):
     """A run, the same with a log, its replay and its chart; a copy of the log, and the replay of one in which steps in a row are one entry."""
     file, log, chart, joined = (str(folder / part) for part in ("module", "log", "chart", "joined"))
     pathlib.Path(file).write_text(text)
     print(f"-- {name}")
-    timed("run", [PROGRAM, "run", "--module", file])
-    timed("run --log", [PROGRAM, "run", "--module", "--log", log, file])
+    timed("run", [program, "run", "--module", file])
+    timed("run --log", [program, "run", "--module", "--log", log, file])
     timed(f"a copy of the log, {size(log)}", ["cat", log], joined)
-    timed("replay", [PROGRAM, "replay", "--module", file, log])
-    timed("chart", [PROGRAM, "chart", "--module", file, log], chart)
+    timed("replay", [program, "replay", "--module", file, log])
+    timed("chart", [program, "chart", "--module", file, log], chart)
     print(f"the chart: {size(chart)}")
     join(log, joined)
-    timed(f"replay, entries joined, {size(joined)}", [PROGRAM, "replay", "--module", file, joined])
+    timed(f"replay, entries joined, {size(joined)}", [program, "replay", "--module", file, joined])
 
 
 def join(log, joined):
@@ -96,7 +90,7 @@ def join(log, joined):
         write.write(b"end %d\n" % entries)
 
 
-def hostile(folder):
+def hostile(program, folder):
     """Logs of which little is true."""
     file, log = folder / "module", folder / "log"
     file.write_text(counting(100))
@@ -106,28 +100,31 @@ def hostile(folder):
         with log.open("wb") as write:
             for part, times in parts:
                 write.writelines(itertools.repeat(part, times))
-        timed(f"{name}, {size(log)}", [PROGRAM, "replay", "--module", str(file), str(log)])
+        timed(f"{name}, {size(log)}", [program, "replay", "--module", file, log])
 
     head, many = (b"x10log 1\n", 1), 10_000_000
     replayed("end 1000000000 and no entry", head, (b"end 1000000000\n", 1))
     replayed("one entry of 4294967295 steps", head, (b"0 4294967295\nend 1\n", 1))
     replayed("10,000,000 entries that nobody can take", head, (b"4294967295 4294967295\n", many), (b"end %d\n" % many, 1))
     replayed("10,000,000 entries, and no last line", head, (b"0 1\n", many))
-    timed("/dev/zero", [PROGRAM, "replay", "--module", str(file), "/dev/zero"])
+    timed("/dev/zero", [program, "replay", "--module", file, "/dev/zero"])
     file.write_text(counting(499_000))
     print("-- of a program of 999,000,000 steps")
     replayed("one entry of 4294967295 steps", head, (b"0 4294967295\nend 1\n", 1))
 
 
 def main():
+    parser = argparse.ArgumentParser()
+    harness.add_option(parser)
+    program = parser.parse_args().program
     with tempfile.TemporaryDirectory() as name:
         folder = pathlib.Path(name)
-        whole("1,000,000 steps of one activity", counting(499), folder)
-        whole("10,000,000 steps of one activity", counting(4_997), folder)
-        whole("100 activities in step, 10,000 phases", in_step(100, 10_000), folder)
-        whole("2 activities in step, 1,000,000 phases", in_step(2, 1_000_000), folder)
-        whole("10,000 clocks, one after the other", many_clocks(10_000), folder)
-        hostile(folder)
+        whole(program, "1,000,000 steps of one activity", counting(499), folder)
+        whole(program, "10,000,000 steps of one activity", counting(4_997), folder)
+        whole(program, "100 activities in step, 10,000 phases", in_step(100, 10_000), folder)
+        whole(program, "2 activities in step, 1,000,000 phases", in_step(2, 1_000_000), folder)
+        whole(program, "10,000 clocks, one after the other", many_clocks(10_000), folder)
+        hostile(program, folder)
 
 
 if __name__ == "__main__":

@@ -1,17 +1,17 @@
 #!/usr/bin/env python3
 """Times the built program beside Lua 5.4 (Debian's package `lua5.4`) on the same two loops: a sum of fifty million numbers.
 
-    python3 bench/lua.py [PROGRAM] [--rounds N]
+    python3 -m bench.lua [--program PATH] [--rounds N]
 
-PROGRAM is crates/x10clock/out/x10clock unless another is named. Both have to print the same sum. Seconds are of processor time, the least
+Both have to print the same sum. Seconds are of processor time, the least
 of three runs, which are made in turn.
 """
 import argparse
 import tempfile
 
-from beside import ran
-from by_hand import TOP
-from modules import counting
+from bench.beside import ran
+from bench.modules import counting
+from tests import harness
 
 TURNS = 9999
 LOOPS = f"local t = 0; for i = 1, {TURNS} do for j = 1, 5000 do t = t + j end end; print(t)"
@@ -19,7 +19,7 @@ LOOPS = f"local t = 0; for i = 1, {TURNS} do for j = 1, 5000 do t = t + j end en
 
 def main():
     parser = argparse.ArgumentParser()
-    parser.add_argument("program", nargs="?", default=str(TOP / "crates/x10clock/out/x10clock"))
+    harness.add_option(parser)
     parser.add_argument("--rounds", type=int, default=3)
     given = parser.parse_args()
     ours, lua = [], []

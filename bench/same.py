@@ -2,25 +2,23 @@
 """Whether the machine in bench/plain prints what the program prints: on the modules of tests/answers/rows, the accepted rows of
 tests/answers/programs, and modules that nobody wrote (tests/generated/generated.py), in each order, byte for byte.
 
-    python3 bench/same.py [CASES] [SEED] [--program PATH]
+    python3 -m bench.same [CASES] [SEED] [--program PATH | --alone]
 
-400 cases and seed 1 where nothing else is said. The built program is asked where PATH is given; else the second telling of the rules is
-(tests/reference/telling.py).
+400 cases and seed 1 where nothing else is said. With `--alone` the second telling of the rules is asked in the place of the
+program (tests/reference/telling.py).
 """
 import argparse
 import collections
 import pathlib
 import random
-import subprocess
 import sys
 import tempfile
 
-from by_hand import ORDERS, TOP, built
+from bench.by_hand import ORDERS, TOP, built
+from tests import harness
+from tests.generated import generated, mutations
+from tests.reference import telling
 
-sys.path[:0] = [str(TOP / "tests/reference"), str(TOP / "tests/generated")]
-import generated
-import mutations
-import telling
 
 MOST_STEPS, MOST_WORK = 20_000, 2_000_000
 
@@ -44,7 +42,7 @@ def told(program, judged, path, order):
     if program is None:
         return telling.run(judged.module, telling.Order(order)).text()
     words = [program, "run", "--order", order, "--module", path]
-    return subprocess.run(words, capture_output=True, text=True, check=False).stdout
+    return harness.call(words).texts()[1]
 
 
 def is_known(module):
@@ -60,7 +58,7 @@ def main():
     parser = argparse.ArgumentParser()
     parser.add_argument("cases", nargs="?", type=int, default=400)
     parser.add_argument("seed", nargs="?", type=int, default=1)
-    parser.add_argument("--program")
+    harness.add_options(parser)
     given = parser.parse_args()
     machine, counts = built(), collections.Counter()
     with tempfile.NamedTemporaryFile(suffix=".json") as file:
@@ -77,9 +75,9 @@ def main():
             counts["of them with clocks"] += judged.bounds.clocks > 0
             for order in ORDERS:
                 wanted = told(given.program, judged, file.name, order)
-                got = subprocess.run([machine, file.name, order], capture_output=True, text=True, check=False)
+                got = harness.call([machine, file.name, order])
                 counts["runs"] += 1
-                if got.stdout != wanted:
+                if got.out.decode() != wanted:
                     counts["runs that differ"] += 1
                     print(f"{order}: {text!r}\n  wanted {wanted!r}\n  got {got}")
     print(", ".join(f"{count} {name}" for name, count in counts.items()))

@@ -1,7 +1,7 @@
 #!/usr/bin/env python3
 """Asks SPIN for all that some programs print, by the models of bench/spin, which were written by hand: without its partial order reduction, and with it.
 
-    python3 bench/spin.py [MODEL ..]
+    python3 -m bench.spin [MODEL ..]
 
 Needs `spin` and `gcc`. Prints for each model how many lists of numbers there are, and for both searches the states that were stored and the
 processor time of one search. `spin -o2`, since else it hides an array that is only written; no compression.

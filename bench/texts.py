@@ -1,21 +1,22 @@
 #!/usr/bin/env python3
 """Times the built program on large source texts: what it takes to compile three of them, and to answer some that are no programs.
 
-    python3 bench/texts.py [PROGRAM] [--count]
+    python3 -m bench.texts [--program PATH] [--count]
 
-PROGRAM is crates/x10clock/out/x10clock unless another is named. Prints for each text its bytes, the least processor time of five calls, which
-what else the machine does changes little, and how the answer begins. With `--count` it prints the instructions of one call as callgrind
-counts them (valgrind is needed), and how many of these are spent on memory: taking, giving back, copying.
+Prints for each text its bytes, the least processor time of five calls, which what else the machine does changes little,
+and how the answer begins. With `--count` it prints the instructions of one call as callgrind counts them (valgrind is
+needed), and how many of these are spent on memory: taking, giving back, copying.
 """
+import argparse
 import os
 import pathlib
 import re
 import subprocess
-import sys
 import tempfile
 
-WORDS = [word for word in sys.argv[1:] if word != "--count"]
-PROGRAM = WORDS[0] if WORDS else "crates/x10clock/out/x10clock"
+from bench.spent import spent
+from tests import harness
+
 MIB = 1_048_576
 MEMORY = re.compile(r"malloc|calloc|realloc|free|_int_|memcpy|memmove|memset|alloc", re.IGNORECASE)
 
@@ -59,22 +60,20 @@ TEXTS = {
 }
 
 
-def called(path):
+def called(program, path):
     """Processor time, and the answer."""
-    with subprocess.Popen([PROGRAM, "compile", path], stdout=subprocess.PIPE, stderr=subprocess.STDOUT) as ran:
-        out = ran.stdout.read()
-        _, _, usage = os.wait4(ran.pid, 0)
-        ran.returncode = 0
-    return usage.ru_utime + usage.ru_stime, out
+    took = spent([program, "compile", path])
+    return took.seconds, took.out + took.err
 
 
-def counted(path):
+def counted(program, path):
     """The instructions of a call, and those spent on memory."""
     with tempfile.TemporaryDirectory() as folder:
         told = os.path.join(folder, "told")
-        words = ["valgrind", "--tool=callgrind", f"--callgrind-out-file={told}", PROGRAM, "compile", path]
+        words = ["valgrind", "--tool=callgrind", f"--callgrind-out-file={told}", program, "compile", path]
         subprocess.run(words, capture_output=True, check=False)
-        lines = subprocess.run(["callgrind_annotate", "--threshold=100", told], capture_output=True, text=True, check=False).stdout.split("\n")
+        words = ["callgrind_annotate", "--threshold=100", told]
+        lines = subprocess.run(words, capture_output=True, text=True, check=False).stdout.split("\n")
     total = memory = 0
     for line in lines:
         found = re.match(r"\s*([\d,]+) \([^)]*\)\s+(.*)", line)
@@ -86,15 +85,20 @@ def counted(path):
 
 
 def main():
+    parser = argparse.ArgumentParser()
+    harness.add_option(parser)
+    parser.add_argument("--count", action="store_true")
+    given = parser.parse_args()
     for name, text in TEXTS.items():
         with tempfile.TemporaryDirectory() as folder:
             path = pathlib.Path(folder, "text")
             path.write_text(text)
-            if "--count" in sys.argv:
-                total, memory = counted(path)
-                print(f"{name}: {len(text)} bytes, {total:,} instructions, {total / len(text):.0f} a byte, {memory:,} of them for memory", flush=True)
+            if given.count:
+                total, memory = counted(given.program, path)
+                counts = f"{total:,} instructions, {total / len(text):.0f} a byte, {memory:,} of them for memory"
+                print(f"{name}: {len(text)} bytes, {counts}", flush=True)
                 continue
-            times = [called(path) for _ in range(5)]
+            times = [called(given.program, path) for _ in range(5)]
         seconds, out = min(times)
         print(f"{name}: {len(text)} bytes, {seconds:.3f} s: {out[:60]!r}", flush=True)
 

@@ -1,9 +1,9 @@
 #!/usr/bin/env python3
 """Times the built program by worker threads beside the order `first`: activities with long loops of their own, and many that advance together.
 
-    python3 bench/workers.py [PROGRAM] [--rounds N]
+    python3 -m bench.workers [--program PATH] [--rounds N]
 
-PROGRAM is crates/x10clock/out/x10clock unless another is named. Prints for each module the seconds that passed, the least of three runs: in
+Prints for each module the seconds that passed, the least of three runs: in
 the order `first`, and by 1, 2 and 4 workers.
 """
 import argparse
@@ -11,8 +11,8 @@ import subprocess
 import tempfile
 import time
 
-from by_hand import TOP
-from modules import counting_beside, module, unit
+from bench.modules import counting_beside, module, unit
+from tests import harness
 
 
 def in_step_with_sums(activities, phases):
@@ -41,7 +41,7 @@ def passed(words, rounds):
 
 def main():
     parser = argparse.ArgumentParser()
-    parser.add_argument("program", nargs="?", default=str(TOP / "crates/x10clock/out/x10clock"))
+    harness.add_option(parser)
     parser.add_argument("--rounds", type=int, default=3)
     given = parser.parse_args()
     print("| Program | `first` | 1 worker | 2 | 4 |")

@@ -15,10 +15,7 @@
 # `check` where that is a fault of the text (F1 to F15); below a row there may be `compile: ` and the module that it is compiled to.
 set -eu
 cd "$(dirname "$0")/../.."
-program=${X10CLOCK:-crates/x10clock/out/x10clock}
-[ -x "$program" ] || (cd crates/x10clock && rt run -- run --module - < stdin > /dev/null)
-work=$(mktemp -d)
-trap 'rm -rf "$work"' EXIT
+. tests/harness.sh
 
 fail() {
     echo "answers: $file, line $line: $*" >&2

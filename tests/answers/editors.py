@@ -7,9 +7,9 @@ names and blanks. `editors.py` from anywhere; status 1 where something is otherw
 import json
 import re
 import sys
-from pathlib import Path
 
-TOP = Path(__file__).resolve().parents[2]
+from tests.harness import TOP
+
 SCAN = TOP / "crates/xk_lexer/src/scan.rt"
 VIM = TOP / "editors/vim/syntax/x10clock.vim"
 TEXTMATE = TOP / "editors/textmate/x10clock.tmLanguage.json"

@@ -4,7 +4,7 @@ what somebody answers, of standard output, of standard error, and of the log tha
 long texts at some of them, and at the last. It has to end with status 5 and its line, and to leave a beginning of what it answers otherwise:
 nothing where it couldn't read, and no log before all of the result. Where devices move single bytes and none fails, it answers as ever.
 
-    python3 tests/answers/failing_devices.py [--program PATH]
+    python3 -m tests.answers.failing_devices [--program PATH]
 
 crates/x10clock/out/x10clock where nothing else is said.
 """
@@ -22,10 +22,11 @@ import tempfile
 from collections.abc import Iterator
 from dataclasses import dataclass, replace
 
-TOP = pathlib.Path(__file__).resolve().parents[2]
+from tests import harness
+from tests.harness import TOP
+
 ROWS = TOP / "tests/answers/rows"
 DEVICE, STATUS = b"x10clock: device\n", 5
-SECONDS = 60
 # The most single bytes of a device that are tried: the first ones, and others between them and the last.
 BYTES = 60
 
@@ -118,9 +119,9 @@ class Place:
             open(self.folder / "out", "wb") as out,
             open(self.folder / "err", "wb") as err,
         ):
-            ran = subprocess.run(words, stdin=given, stdout=out, stderr=err, env=self.environment(failure), timeout=SECONDS, check=False)
+            ended = harness.call(words, given, stdout=out, stderr=err, env=self.environment(failure))
         texts = [path.read_bytes() if (path := self.folder / name).exists() else b"" for name in ("out", "err", "log")]
-        return Told(ran.returncode, *texts), (self.folder / "mark").exists()
+        return Told(ended.status, *texts), (self.folder / "mark").exists()
 
     def environment(self, failure: Failure) -> dict[str, str]:
         asked = {"DEVICE": str(self.folder / failure.device), "DEVICE_CALL": str(failure.call), "DEVICE_FAILURE": failure.how,
@@ -190,8 +191,8 @@ def tried(call: Call, program: str, preloaded: str, folder: str) -> tuple[int, l
 
 def main() -> int:
     parser = argparse.ArgumentParser()
-    parser.add_argument("--program", type=pathlib.Path, default=TOP / "crates/x10clock/out/x10clock")
-    program = str(parser.parse_args().program.resolve())
+    harness.add_option(parser)
+    program = str(parser.parse_args().program)
     with tempfile.TemporaryDirectory() as folder:
         folder = os.path.realpath(folder)
         preloaded = f"{folder}/fail_devices.so"

@@ -2,7 +2,7 @@
 """The built program on files, pipes and devices that fail it, on closed streams, and under limits of the system: each call has to be answered with
 its status, within its time, and nothing of the user's may be lost.
 
-    python3 tests/answers/hostile.py [--program PATH]
+    python3 -m tests.answers.hostile [--program PATH]
 
 crates/x10clock/out/x10clock where nothing else is said. Needs Linux; what a limit for another user than root shows is left out where the caller isn't root.
 """
@@ -22,7 +22,9 @@ import time
 from collections.abc import Callable, Iterator
 from dataclasses import dataclass, field
 
-TOP = pathlib.Path(__file__).resolve().parents[2]
+from tests import harness
+from tests.harness import TOP
+
 ROWS = TOP / "tests/answers/rows"
 IN_STEP = ROWS / "in-step.x10"
 MODULE = ROWS / "in-step.json"
@@ -35,7 +37,6 @@ TOO_LONG = """/dev/zero: F4 TooLong: the text has more than 1048576 bytes
 """
 OVER_FILE = "x10clock: --log would write over FILE\n"
 LONG = "def main() { for (i in 1..900000000) ; Console.OUT.println(1); }"
-SECONDS = 60
 # The least stack, in KB, in which texts as deep as they may be are answered.
 LEAST_STACK = 192
 LIMITS_OF_MEMORY = (5, 10, 20, 40, 80, 160, 320, 640, 1_280, 3_000)
@@ -61,11 +62,7 @@ class Tried:
         """Runs a line of the shell in which `x` is the program; a status below 0 is a signal's death, or none in time."""
         self.calls += 1
         line = ["sh", "-c", f'x="{self.program}"; {script}', "sh", *map(str, words)]
-        try:
-            ran = subprocess.run(line, input=given, capture_output=True, timeout=SECONDS, cwd=self.folder, preexec_fn=limits, check=False)
-        except subprocess.TimeoutExpired:
-            return Ended(-1_000, "", "no answer in time")
-        return Ended(ran.returncode, ran.stdout.decode("utf-8", "replace"), ran.stderr.decode("utf-8", "replace"))
+        return Ended(*harness.call(line, given, cwd=self.folder, preexec_fn=limits).texts())
 
     def wants(self, what: str, got: object, wanted: object) -> None:
         if got != wanted:
@@ -190,7 +187,7 @@ def asked(tried: Tried) -> None:
         person.stdin.write("0\n")
         person.stdin.flush()
         told += [person.stderr.readline() for _ in range(2)]
-        out, _ = person.communicate(timeout=SECONDS)
+        out, _ = person.communicate(timeout=harness.SECONDS)
         tried.wants("what a person is asked", ("".join(told), out, person.returncode), (first + "act 0 at 3:5\nwho steps?\n", "stopped steps 1\n", 6))
     tried.wants("the log of what was played", (tried.folder / "played").read_text(), "x10log 1\n0 1\nend 1\n")
 
@@ -333,7 +330,7 @@ def all_of_them() -> Iterator[Callable[[Tried], None]]:
 
 def main() -> int:
     parser = argparse.ArgumentParser(description="Calls x10clock where files, streams and the system fail it.")
-    parser.add_argument("--program", type=pathlib.Path, default=TOP / "crates/x10clock/out/x10clock")
+    harness.add_option(parser)
     parser.add_argument("--only")
     given = parser.parse_args()
     wrong, calls = [], 0
@@ -342,7 +339,7 @@ def main() -> int:
             continue
         with tempfile.TemporaryDirectory() as folder:
             os.chmod(folder, 0o777)
-            tried = Tried(given.program.resolve(), pathlib.Path(folder))
+            tried = Tried(given.program, pathlib.Path(folder))
             tried.file("in-step.x10", IN_STEP.read_bytes())
             tried.file("bad.x10", "main")
             tried.file("log", LOG)

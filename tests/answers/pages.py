@@ -13,22 +13,23 @@ standard output with status 0; of `run`, a comma stands where a line ends. With 
 in a folder of the page's own, which has a copy of `examples` and what calls before have left. All other blocks are for the eye. With `--write`
 the answers are written anew. docs/REFUSALS.md has to have an answer with each rule.
 
-    python3 tests/answers/pages.py [--write] [PAGE ..]
+    python3 -m tests.answers.pages [--write] [--program PATH] [PAGE ..]
 """
 
 from __future__ import annotations
 
+import argparse
 import os
 import pathlib
 import re
 import shutil
-import subprocess
 import sys
 import tempfile
 from dataclasses import dataclass, field
 
-TOP = pathlib.Path(__file__).resolve().parents[2]
-PROGRAM = pathlib.Path(os.environ.get("X10CLOCK", TOP / "crates/x10clock/out/x10clock")).resolve()
+from tests import harness
+from tests.harness import TOP
+
 PAGES = [TOP / "README.md", TOP / "examples/README.md", *sorted((TOP / "docs").glob("*.md"))]
 REFUSALS = TOP / "docs/REFUSALS.md"
 # (L3, a read that failed, is told as `x10clock: device`.)
@@ -37,11 +38,13 @@ RULES = {f"{letter}{number}" for letter, numbers in NUMBERS.items() for number i
 
 BLOCK = re.compile(r"^```\w*\n(.*?)^```$", re.MULTILINE | re.DOTALL)
 QUESTION = re.compile(r"((?:check|compile|run)(?: --\w+(?:=-?\d+| (?!--)\w+)?)*): (.*)\n")
-SECONDS = 60
 
 
 @dataclass
 class Played:
+    """A page that is played: the program that is asked, and what came of it."""
+
+    program: pathlib.Path
     asked: int = 0
     labels: set[str] = field(default_factory=set)
     differing: list[str] = field(default_factory=list)
@@ -53,16 +56,15 @@ class Played:
             self.differing.append(f"{where}\n    page:    {wanted!r}\n    program: {got!r}")
 
 
-def answer(words: list[str], program: str) -> str:
-    """What the program says in the form of a question's answer."""
-    ran = subprocess.run([PROGRAM, *words, "-"], input=program.encode(), capture_output=True, timeout=SECONDS, check=False)
-    out, err = ran.stdout.decode(), ran.stderr.decode()
-    if ran.returncode == 0 and not err:
+def answer(program: pathlib.Path, words: list[str], text: str) -> str:
+    """What the program says of a text, in the form of a question's answer."""
+    status, out, err = harness.call([program, *words, "-"], text.encode()).texts()
+    if status == 0 and not err:
         lines = out.removesuffix("\n")
         return lines.replace("\n", ",") if words[0] == "run" else lines
-    if ran.returncode == 1 and not out and err.startswith("x10clock: "):
+    if status == 1 and not out and err.startswith("x10clock: "):
         return err.removesuffix("\n")
-    return f"status {ran.returncode}: {out}{err}"
+    return f"status {status}: {out}{err}"
 
 
 def asked(where: str, block: str, played: Played) -> str:
@@ -73,7 +75,7 @@ def asked(where: str, block: str, played: Played) -> str:
         block = block[found.end() :]
     given = []
     for words, wanted in questions:
-        got = answer(words.split(), block)
+        got = answer(played.program, words.split(), block)
         played.said(f"{where}: {words}", wanted, got)
         given.append((words, got))
     return "".join(f"{words}: {got}\n" for words, got in given) + block
@@ -85,9 +87,9 @@ def called(where: str, block: str, folder: str, played: Played) -> str:
     for call in re.split(r"^(?=\$ )", block, flags=re.MULTILINE)[1:]:
         line, wanted = call.split("\n", 1)
         script = f'x10clock() {{ "$PROGRAM" "$@"; }}\n{line[2:]}\n'
-        environ = {**os.environ, "PROGRAM": str(PROGRAM)}
-        ran = subprocess.run(["sh", "-c", script], cwd=folder, env=environ, capture_output=True, timeout=SECONDS, check=False)
-        got = ran.stdout.decode() + ran.stderr.decode()
+        environ, seconds = {**os.environ, "PROGRAM": str(played.program)}, harness.patience(played.program)
+        _, out, err = harness.call(["sh", "-c", script], seconds=seconds, cwd=folder, env=environ).texts()
+        got = out + err
         played.said(f"{where}: {line[2:]}", wanted, got)
         parts.append(f"{line}\n{got}")
     return "".join(parts)
@@ -109,21 +111,24 @@ def play(page: pathlib.Path, folder: str, played: Played) -> str:
     return BLOCK.sub(block, text)
 
 
-def main(words: list[str]) -> int:
-    write = "--write" in words
-    pages = [pathlib.Path(word).resolve() for word in words if word != "--write"] or PAGES
+def main() -> int:
+    parser = argparse.ArgumentParser(description="Compares what the pages say of x10clock with what it says.")
+    parser.add_argument("pages", nargs="*", type=harness.resolved, metavar="PAGE")
+    parser.add_argument("--write", action="store_true")
+    harness.add_option(parser)
+    given = parser.parse_args()
     differing, count = [], 0
-    for page in pages:
-        played = Played()
+    for page in given.pages or PAGES:
+        played = Played(given.program)
         with tempfile.TemporaryDirectory() as folder:
             shutil.copytree(TOP / "examples", f"{folder}/examples")
             text = play(page, folder, played)
-        if write:
+        if given.write:
             page.write_text(text)
         missing = RULES - played.labels if page == REFUSALS else set()
         if missing:
             differing.append(f"{page.name}: no answer with {' '.join(sorted(missing))}")
-        differing += [] if write else played.differing
+        differing += [] if given.write else played.differing
         count += played.asked
     print(*differing, sep="\n", end="\n" if differing else "", file=sys.stderr)
     if not count:
@@ -134,4 +139,4 @@ def main(words: list[str]) -> int:
 
 
 if __name__ == "__main__":
-    sys.exit(main(sys.argv[1:]))
+    sys.exit(main())

@@ -4,7 +4,7 @@ library calls again that were refused memory and handed back what they were give
 job, which has to answer as it does with ample memory, or with status 4, an empty standard output, nothing in the log that it was to write, and
 its line.
 
-    tests/answers/refused_growths.py [--counts] [--program PATH] [--exhaust PATH]
+    python3 -m tests.answers.refused_growths [--counts] [--program PATH] [--exhaust PATH]
 
 crates/x10clock/out/x10clock and crates/xk_tests_memory/out/xk_tests_memory where nothing else is said. The calls are tried on all processors at once, each call's growths one after another. With `--counts` it tells how many each call has, and how
 long they took.
@@ -23,11 +23,13 @@ import tempfile
 import time
 from dataclasses import dataclass
 
-TOP = pathlib.Path(__file__).resolve().parents[2]
+from tests import harness
+from tests.harness import TOP
+
 ROWS = TOP / "tests/answers/rows"
 LOGS = TOP / "tests/answers/logs"
-PROGRAM = TOP / "crates/x10clock/out/x10clock"
-EXHAUST = TOP / "crates/xk_tests_memory/out/xk_tests_memory"
+# Of a checkout, the folder of its crates has this program too.
+EXHAUST = "xk_tests_memory/out/xk_tests_memory"
 
 # Source texts that have a module: of no statement; of all sorts of statements; of bodies that take numbers; of methods that call each other in a
 # chain; of a main that takes numbers, by which its loops end.
@@ -63,7 +65,6 @@ MEMORY = b"x10clock: out of memory\n"
 LOG = "the log"
 # In how many parts the growths of one call are tried beside each other, where it has thousands.
 PARTS = 8
-SECONDS = 60
 
 
 class Wrong(Exception):
@@ -134,10 +135,10 @@ def ended(child: int) -> int:
     """The status that the process ends with, within a minute."""
     handle = os.pidfd_open(child)
     try:
-        if not select.select([handle], [], [], SECONDS)[0]:
+        if not select.select([handle], [], [], harness.SECONDS)[0]:
             os.kill(child, 9)
             os.waitpid(child, 0)
-            raise Wrong(f"no end within {SECONDS} seconds")
+            raise Wrong(f"no end within {harness.SECONDS} seconds")
         return os.waitstatus_to_exitcode(os.waitpid(child, 0)[1])
     finally:
         os.close(handle)
@@ -178,7 +179,7 @@ class Calls:
     """The calls that are to be tried, each asked once with ample memory."""
 
     def __init__(self, place: Place, program: pathlib.Path) -> None:
-        self.place, self.program = place, str(program.resolve())
+        self.place, self.program = place, str(program)
         self.calls: list[Call] = []
 
     def ask(self, name: str, words: list[str], text: bytes = b"", asks: bool = False) -> Answer:
@@ -207,7 +208,7 @@ class Calls:
         """Adds `xk_tests_memory`, which answers the same whatever growth is refused."""
         wanted = Answer(0, (TOP / "crates/xk_tests_memory/stdout").read_bytes(), b"", None)
         for part in range(PARTS):
-            self.calls.append(Call("exhaust", [str(program.resolve())], b"", wanted, first=part + 1, step=PARTS))
+            self.calls.append(Call("exhaust", [str(program)], b"", wanted, first=part + 1, step=PARTS))
 
 
 def given(row: pathlib.Path) -> list[str]:
@@ -405,22 +406,15 @@ def tried(number: int) -> tuple[int, int, float, str]:
         return number, 0, time.monotonic() - begun, str(wrong)
 
 
-def built(paths: list[pathlib.Path]) -> None:
-    """Builds the two programs where they are asked and aren't built yet."""
-    for path in (EXHAUST, PROGRAM):
-        if path in paths and not path.exists():
-            with (TOP / "crates/x10clock/stdin").open("rb") as stdin:
-                subprocess.run(["rt", "run", "--", "run", "--module", "-"], cwd=TOP / f"crates/{path.name}", stdin=stdin,
-                               stdout=subprocess.DEVNULL, check=True)
-
-
 def main() -> int:
     parser = argparse.ArgumentParser()
     parser.add_argument("--counts", action="store_true")
-    parser.add_argument("--program", type=pathlib.Path, default=PROGRAM)
-    parser.add_argument("--exhaust", type=pathlib.Path, default=EXHAUST)
+    harness.add_option(parser)
+    parser.add_argument("--exhaust", type=harness.resolved)
     options = parser.parse_args()
-    built([options.program, options.exhaust])
+    options.exhaust = options.exhaust or options.program.parents[2] / EXHAUST
+    for path in (options.exhaust, options.program):
+        harness.build(path)
     with tempfile.TemporaryDirectory() as folder:
         preloaded = f"{folder}/refuse.so"
         subprocess.run(["gcc", "-shared", "-fPIC", "-O2", "-o", preloaded, TOP / "tests/answers/refuse.c"], check=True)

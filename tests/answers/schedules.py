@@ -2,7 +2,7 @@
 """Schedules of small modules: whether the second telling of the rules (tests/reference/telling.py, telling_log.py) says of them what the rows of
 tests/answers/schedules.rows want, and whether the program says the same of their logs.
 
-    python3 tests/answers/schedules.py [--program PATH]
+    python3 -m tests.answers.schedules [--program PATH]
 
 The telling knows no phases and no numbers of steps: they are counted here. Where all schedules of a module are known, the program has to tell of
 all that they print by `outcomes`, and replays and charts the log of each, or, where there are more than 100, of 60 that are spread evenly among them;
@@ -12,26 +12,19 @@ tests/reference/meaning.py and by their modules.
 from __future__ import annotations
 
 import argparse
-import pathlib
 import re
 import sys
 import tempfile
 from collections import Counter
 from dataclasses import dataclass, field
 
-TESTS = pathlib.Path(__file__).resolve().parent.parent
-sys.path += [str(TESTS / "reference"), str(TESTS / "generated")]
-import logs
-import meaning
-import telling
-import telling_log
-import telling_outcomes
-import telling_runs
-import telling_source
-from logs import Program, Text, Told
-from telling import World, Wrong
+from tests import harness
+from tests.generated import logs
+from tests.generated.logs import Program, Text, Told
+from tests.harness import TOP
+from tests.reference import meaning, telling, telling_log, telling_outcomes, telling_runs, telling_source
+from tests.reference.telling import World, Wrong
 
-PROGRAM = TESTS.parent / "crates/x10clock/out/x10clock"
 MOST, SOME, TOLD = 100, 60, 5
 
 PRINTED = re.compile(r"(\d+) print((?: -?\d+)*)")
@@ -192,7 +185,7 @@ def ask_every(asked: Asked, program: Program, text: Text, row: str) -> None:
 def ask_rows(asked: Asked, program: Program) -> None:
     """The rows of modules."""
     text, schedule = Text(b""), []
-    for line in (TESTS / "answers/schedules.rows").read_text().splitlines():
+    for line in (TOP / "tests/answers/schedules.rows").read_text().splitlines():
         if line.startswith("{"):
             text = Text(line.encode(), is_module=True)
         if not line or line[0] in "{#":
@@ -235,7 +228,7 @@ def seen_of(world: meaning.World, schedule: str) -> str:
 def texts() -> list[tuple[str, str, str, str, str]]:
     """The rows of texts: the text, the numbers that it is given, its schedule, its module's schedule, what is seen."""
     row = r"^(.+)\n(?:args: (.*)\n)?text: (.*)\nmodule: (.*)\nseen: (.*)$"
-    return re.findall(row, (TESTS / "answers/texts.rows").read_text(), re.MULTILINE)
+    return re.findall(row, (TOP / "tests/answers/texts.rows").read_text(), re.MULTILINE)
 
 
 def ask_texts(asked: Asked) -> None:
@@ -249,12 +242,12 @@ def ask_texts(asked: Asked) -> None:
 
 def words() -> argparse.Namespace:
     parser = argparse.ArgumentParser(description="Compares what is known of schedules with a second telling, and asks the program.")
-    parser.add_argument("--program", type=pathlib.Path, default=PROGRAM)
+    harness.add_option(parser)
     return parser.parse_args()
 
 
 def main() -> int:
-    program, asked = words().program.resolve(), Asked()
+    program, asked = words().program, Asked()
     ask_texts(asked)
     with tempfile.TemporaryDirectory() as folder:
         ask_rows(asked, Program(program, folder))

@@ -9,11 +9,7 @@
 # are named, only these are played.
 set -eu
 cd "$(dirname "$0")/../.."
-program=${X10CLOCK:-$PWD/crates/x10clock/out/x10clock}
-case $program in /*) ;; *) program=$PWD/$program ;; esac
-[ -x "$program" ] || (cd crates/x10clock && rt run -- run --module - < stdin > /dev/null)
-work=$(mktemp -d)
-trap 'rm -rf "$work"' EXIT
+. tests/harness.sh
 
 # said LINE: what comes of the call in this line of a transcript.
 said() {

@@ -1,7 +1,7 @@
 #!/usr/bin/env python3
 """Whether the program gets along with the memory that docs/RELIABILITY.md says it can want at most, on the worst programs that are known.
 
-    python3 tests/answers/wants.py [--program PATH] [--least]
+    python3 -m tests.answers.wants [--program PATH] [--least]
 
 crates/x10clock/out/x10clock where nothing else is said. Each call has an address space of no more than what the formula says of it, and has to be answered
 as with ample memory. With `--least` the least address space in which it is answered so is told beside it, found by halving.
@@ -13,22 +13,21 @@ import argparse
 import json
 import pathlib
 import resource
-import subprocess
 import sys
 import tempfile
 from collections.abc import Iterator
 from dataclasses import dataclass
 
-TESTS = pathlib.Path(__file__).resolve().parent.parent
-sys.path.append(str(TESTS / "reference"))
-import telling
-import telling_source
+from tests import harness
+from tests.harness import Ended
+from tests.reference import telling, telling_source
 
 MEGABYTE = 1_000_000
 # What the program takes before it looks at anything.
 START = 6 * MEGABYTE
 LONGEST_TEXT = 1 << 20
-SECONDS = 120
+# How long a call may take: these are the largest.
+SECONDS = 2 * harness.SECONDS
 
 
 @dataclass(frozen=True)
@@ -244,13 +243,12 @@ class Calls:
             yield Call(f"outcomes --expect, {name} lines", ["outcomes", "--expect", path, self.file(text)], small + to_list(listed))
 
 
-def ask(program: pathlib.Path, call: Call, most: int | None) -> tuple[int, bytes, bytes]:
+def ask(program: pathlib.Path, call: Call, most: int | None) -> Ended:
     limit = (lambda: resource.setrlimit(resource.RLIMIT_AS, (most, most))) if most else None
-    ran = subprocess.run([program, *map(str, call.words)], capture_output=True, timeout=SECONDS, preexec_fn=limit, check=False)
-    return ran.returncode, ran.stdout, ran.stderr
+    return harness.call([program, *call.words], seconds=SECONDS, preexec_fn=limit)
 
 
-def least(program: pathlib.Path, call: Call, whole: tuple[int, bytes, bytes]) -> int:
+def least(program: pathlib.Path, call: Call, whole: Ended) -> int:
     """The least address space in which the call is answered, to a hundredth."""
     low, high = 0, 4 * call.most
     while high - low > max(high // 100, 10_000):
@@ -261,24 +259,24 @@ def least(program: pathlib.Path, call: Call, whole: tuple[int, bytes, bytes]) ->
 
 def main() -> int:
     parser = argparse.ArgumentParser(description="Tries x10clock in the memory that it can want at most.")
-    parser.add_argument("--program", type=pathlib.Path, default=TESTS.parent / "crates/x10clock/out/x10clock")
+    harness.add_option(parser)
     parser.add_argument("--least", action="store_true")
     given = parser.parse_args()
-    program, wrong, count = given.program.resolve(), [], 0
+    program, wrong, count = given.program, [], 0
     with tempfile.TemporaryDirectory() as folder:
         calls = Calls(pathlib.Path(folder))
         for kind in (calls.of_texts, calls.of_refused_texts, calls.of_modules, calls.of_runs, calls.of_logs, calls.of_lists):
             for call in kind():
                 count += 1
                 whole = ask(program, call, None)
-                if whole[0] not in (0, 1):
-                    wrong.append(f"{call.name}: {whole[0]} {whole[2]!r} with ample memory")
+                if whole.status not in (0, 1):
+                    wrong.append(f"{call.name}: {whole.status} {whole.err!r} with ample memory")
                 if given.least:
                     needed = least(program, call, whole)
                     ask(program, call, None)
                     print(f"{needed / MEGABYTE:8.1f} of {call.most / MEGABYTE:8.1f} MB, {needed / call.most:5.2f}: {call.name}", flush=True)
                 elif (limited := ask(program, call, call.most)) != whole:
-                    wrong.append(f"{call.name} in {call.most / MEGABYTE:.1f} MB: {limited[0]} {limited[2]!r}")
+                    wrong.append(f"{call.name} in {call.most / MEGABYTE:.1f} MB: {limited.status} {limited.err!r}")
     print(*wrong, sep="\n", end="\n" if wrong else "", file=sys.stderr)
     print(f"wants: {count} calls, {len(wrong)} that want more")
     return 1 if wrong or not count else 0

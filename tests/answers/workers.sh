@@ -8,10 +8,7 @@
 # 64 workers on two processors, within five minutes; how long that takes is told beside the same in the order `first`.
 set -eu
 cd "$(dirname "$0")/../.."
-program=${X10CLOCK:-crates/x10clock/out/x10clock}
-[ -x "$program" ] || (cd crates/x10clock && rt run -- run --module - < stdin > /dev/null)
-work=$(mktemp -d)
-trap 'rm -rf "$work"' EXIT
+. tests/harness.sh
 runs=0
 
 fail() {

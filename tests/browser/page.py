@@ -1,7 +1,7 @@
 #!/usr/bin/env python3
 """Opens pages of `page` in headless Chromium, and compares what they say at each moment with what the program says.
 
-    python3 tests/browser/page.py [--program PATH] [--shots FOLDER]
+    python3 -m tests.browser.page [--program PATH] [--shots FOLDER]
 
 At each moment of some runs: what the page says was done with `events`, how things stand, and which lines are marked, with `where` behind the
 log cut to so many steps, the printed numbers and the framed box with the events up to there. Then the keys and the buttons, and whether all
@@ -24,7 +24,9 @@ import sys
 import tempfile
 from typing import Any, NamedTuple
 
-ROOT = pathlib.Path(__file__).resolve().parents[2]
+from tests import harness
+from tests.harness import TOP
+
 BROWSERS = ("chromium", "chromium-browser", "google-chrome", "chrome")
 # A program whose text has what HTML takes for something else.
 SIGNS = """// </pre><script>alert(1)</script> &lt; & &amp; \u00e9\r
@@ -133,10 +135,18 @@ class Browser:
         self.process.wait()
 
 
+def answered(words: list[object]) -> str:
+    """What a call of the program tells, which has to be done."""
+    status, out, err = harness.call(words).texts()
+    if status:
+        raise Wrong(f"status {status}: {err}")
+    return out
+
+
 class Run(NamedTuple):
     """A program, its log, and which steps are asked for."""
 
-    program: str
+    program: pathlib.Path
     file: pathlib.Path
     log: pathlib.Path
     part: tuple[int, ...]
@@ -150,8 +160,7 @@ class Run(NamedTuple):
         return ["--module"] if self.is_module else []
 
     def ask(self, command: str, log: pathlib.Path, *more: str) -> str:
-        words = [self.program, command, *self.flags, *more, str(self.file), str(log)]
-        return subprocess.run(words, check=True, capture_output=True).stdout.decode()
+        return answered([self.program, command, *self.flags, *more, self.file, log])
 
     def standings(self, steps: int) -> list[str]:
         """How things stand behind so many steps of the log, which has an entry for each."""
@@ -238,14 +247,14 @@ def try_looks(browser: Browser, page: pathlib.Path, steps: int, shots: pathlib.P
             browser.shoot(shots / f"{page.stem}-{size}-{scheme}.png")
 
 
-def made(program: str, name: str, order: str, part: tuple[int, ...], folder: pathlib.Path) -> tuple[Run, pathlib.Path]:
+def made(program: pathlib.Path, name: str, order: str, part: tuple[int, ...], folder: pathlib.Path) -> tuple[Run, pathlib.Path]:
     """A run of a program, and its page."""
-    file = ROOT / "examples" / name
+    file = TOP / "examples" / name
     if not file.exists():
         file = folder / name
         file.write_bytes(SIGNS.encode())
     run = Run(program, file, folder / f"{name}.log", part)
-    subprocess.run([program, "run", *run.flags, "--order", order, "--log", run.log, run.file], check=True, capture_output=True)
+    answered([program, "run", *run.flags, "--order", order, "--log", run.log, run.file])
     page = folder / f"{file.stem}{'-part' if part else ''}.html"
     page.write_bytes(run.page().encode())
     return run, page
@@ -253,7 +262,7 @@ def made(program: str, name: str, order: str, part: tuple[int, ...], folder: pat
 
 def main() -> int:
     words = argparse.ArgumentParser()
-    words.add_argument("--program", default=str(ROOT / "crates/x10clock/out/x10clock"))
+    harness.add_option(words)
     words.add_argument("--shots", type=pathlib.Path)
     asked = words.parse_args()
     found = next(filter(None, map(shutil.which, BROWSERS)), None)

@@ -1,7 +1,7 @@
 #!/usr/bin/env python3
 """Plays the examples by answers that nobody wrote: whether `run --order ask` asks, prints and logs what the second telling does.
 
-    python3 tests/generated/asked.py [GAMES] [SEED] [--program PATH]
+    python3 -m tests.generated.asked [GAMES] [SEED] [--program PATH]
 
 3 games of each example, seed 1 and crates/x10clock/out/x10clock where nothing else is said. Most answers name an activity of a small number; some are no
 numbers, have blanks and zeros, or no line feed behind them, and some games end early. An example of more than 2,000 steps, or whose main takes numbers, is
@@ -13,22 +13,18 @@ from __future__ import annotations
 import argparse
 import pathlib
 import random
-import subprocess
 import sys
 import tempfile
 
-TOP = pathlib.Path(__file__).resolve().parents[2]
-sys.path.append(str(TOP / "tests/reference"))
-import telling
-import telling_ask
-import telling_source
-from telling import Accepted
-from telling_events import Program
+from tests import harness
+from tests.harness import TOP
+from tests.reference import telling, telling_ask, telling_source
+from tests.reference.telling import Accepted
+from tests.reference.telling_events import Program
 
 MOST_STEPS = 2_000
 STRANGE = (b"", b"-1", b"one", b"1 2", b"4294967296", b"99", b"\xff", b"0x0", b"+0")
 SHOWN = 5
-SECONDS = 60
 
 
 def answers(rng: random.Random, most: int) -> bytes:
@@ -46,15 +42,14 @@ def played(program: pathlib.Path, file: pathlib.Path, data: bytes) -> telling_as
     with tempfile.TemporaryDirectory() as folder:
         log = pathlib.Path(folder) / "log"
         words = [program, "run", "--order", "ask", "--log", log, file]
-        ran = subprocess.run(words, input=data, capture_output=True, timeout=SECONDS, check=False)
-        return telling_ask.Game(ran.returncode, ran.stdout.decode(), ran.stderr.decode(), log.read_bytes())
+        return telling_ask.Game(*harness.call(words, data).texts(), log.read_bytes())
 
 
 def main() -> int:
     parser = argparse.ArgumentParser(description="Plays the examples by answers that nobody wrote.")
     parser.add_argument("games", type=int, nargs="?", default=3)
     parser.add_argument("seed", type=int, nargs="?", default=1)
-    parser.add_argument("--program", type=pathlib.Path, default=TOP / "crates/x10clock/out/x10clock")
+    harness.add_option(parser)
     given = parser.parse_args()
     rng, count, early, differing = random.Random(given.seed), 0, 0, []
     for file in sorted((TOP / "examples").glob("*.x10")):
@@ -66,7 +61,7 @@ def main() -> int:
             said = answers(rng, judged.bounds.activities - 1)
             wanted = telling_ask.game(Program(data, is_module=False), judged, said)
             count, early = count + 1, early + (wanted.status == telling_ask.EARLY)
-            if played(given.program.resolve(), file, said) != wanted:
+            if played(given.program, file, said) != wanted:
                 differing.append(f"{file.name}, game {game}: {said!r}")
     print(*differing[:SHOWN], sep="\n", end="\n" if differing else "", file=sys.stderr)
     print(f"asked: {count} games, {early} that end early, {len(differing)} answered otherwise")

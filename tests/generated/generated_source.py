@@ -12,8 +12,8 @@ from collections.abc import Callable, Iterator
 from contextlib import contextmanager
 from dataclasses import dataclass, field
 
-import generated
-from generated import EDGES
+from tests.generated import generated
+from tests.generated.generated import EDGES
 
 Tokens = list[str]
 

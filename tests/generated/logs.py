@@ -2,7 +2,7 @@
 """Logs and what is told of them: whether a second telling (tests/reference/telling_log.py, telling_runs.py) says what the rows of
 tests/answers/logs.rows want, and, with `--program`, whether the program says the same of these rows, and of logs that nobody wrote.
 
-    python3 tests/generated/logs.py [CASES] [SEED] [--program PATH] [--jobs N] [--tally]
+    python3 -m tests.generated.logs [CASES] [SEED] [--program PATH | --alone] [--jobs N] [--tally]
 
 2,000 cases, seed 1 and 2 jobs where nothing else is said. A case is a program, as a source text or a module, and the log of a run by an order
 or by chance, which may be changed: an entry, a line, or a byte. Five cases in a row have the same program, which is run with `--log` in some
@@ -21,26 +21,20 @@ import itertools
 import pathlib
 import random
 import re
-import subprocess
 import sys
 import tempfile
 from collections.abc import Callable, Iterator
 from dataclasses import dataclass, replace
 
-TESTS = pathlib.Path(__file__).resolve().parent.parent
-sys.path.append(str(TESTS / "reference"))
-import generated
-import generated_source
-import tally
-import telling
-import telling_log
-import telling_runs
-import telling_source
-from telling import Accepted, Arguments, ByChance, Order, Refused, Way
-from telling_log import Answer, Entry, Fault, Log
+from tests import harness
+from tests.generated import generated, generated_source, tally
+from tests.harness import TOP
+from tests.reference import telling, telling_log, telling_runs, telling_source
+from tests.reference.telling import Accepted, Arguments, ByChance, Order, Refused, Way
+from tests.reference.telling_log import Answer, Entry, Fault, Log
 
-ROWS = TESTS / "answers/logs.rows"
-IN_STEP = TESTS / "answers/rows/in-step.x10"
+ROWS = TOP / "tests/answers/logs.rows"
+IN_STEP = TOP / "tests/answers/rows/in-step.x10"
 NEW_LINE = b"\n"
 MOST_STEPS = 600
 # Of the edges of a log all but the replay and the chart is asked for at one in so many.
@@ -48,7 +42,6 @@ SPARED = 10
 CHUNK = 100
 LOGS_OF_A_PROGRAM = 5
 SHOWN = 5
-SECONDS = 60
 
 ASKED = re.compile(r"(log|chart)(?: (last|round))?:(?: (.*))?|(replay|chart) (.*?): ?(.*)")
 ORDERS: dict[str | None, Way] = {None: Order.FIRST, "last": Order.LAST, "round": Order.ROUND}
@@ -109,11 +102,7 @@ class Program:
         self.answers: collections.Counter[str] = collections.Counter()
 
     def call(self, *words: object) -> Answer:
-        try:
-            ran = subprocess.run([self.program, *map(str, words)], capture_output=True, timeout=SECONDS, check=False)
-            answer = ran.returncode, ran.stdout.decode("utf-8", "replace"), ran.stderr.decode("utf-8", "replace")
-        except subprocess.TimeoutExpired:
-            answer = -1, "", "no answer in time"
+        answer = harness.call([self.program, *words]).texts()
         self.answers[tally.label(answer[0], answer[2])] += 1
         return answer
 
@@ -415,7 +404,7 @@ def words() -> argparse.Namespace:
     parser.add_argument("cases", nargs="?", type=int, default=2_000)
     parser.add_argument("seed", nargs="?", type=int, default=1)
     parser.add_argument("--jobs", type=int, default=2)
-    parser.add_argument("--program", type=pathlib.Path)
+    harness.add_options(parser)
     parser.add_argument("--tally", action="store_true")
     return parser.parse_args()
 
@@ -427,7 +416,7 @@ def asked_of(who: Told | Program) -> tuple[int, list[str]]:
 
 def main() -> int:
     given = words()
-    program = given.program and given.program.resolve()
+    program = given.program
     answers: collections.Counter[str] = collections.Counter()
     count, differing = asked_of(Told())
     for form in (Program, ProgramOnModules) if program else ():

@@ -2,22 +2,18 @@
 """Looks whether tests/reference/meaning.py would notice a wrong compiler: each of these coders, put in the place of the right one, has to be
 told otherwise.
 
-    python3 tests/generated/meaning_bugs.py [CASES]
+    python3 -m tests.generated.meaning_bugs [CASES]
 
 So many programs are tried at most for each, 500 where nothing else is said.
 """
 
 from __future__ import annotations
 
-import pathlib
 import sys
 from dataclasses import dataclass, replace
 
-sys.path.append(str(pathlib.Path(__file__).resolve().parent.parent / "reference"))
-import meaning
-import telling
-import telling_source as source
-from telling_source import Coder
+from tests.reference import meaning, telling, telling_source as source
+from tests.reference.telling_source import Coder
 
 RIGHT = source.Coder
 

@@ -12,7 +12,7 @@ and of examples, and `compile` is compared too, with what tests/reference/tellin
 with what the text means (tests/reference/meaning.py).
 Needs the built program and python3. The gate runs it with 2,000 cases.
 
-    python3 tests/generated/mutations.py [CASES] [SEED] [--source [--changed]] [--jobs N] [--program PATH] [--worlds N] [--tally] [--only CASE]
+    python3 -m tests.generated.mutations [CASES] [SEED] [--source [--changed]] [--jobs N] [--program PATH] [--worlds N] [--tally] [--only CASE]
 
 20,000 cases, seed 1, 2 jobs, crates/x10clock/out/x10clock and 1,000 worlds where nothing else is said. With `--changed` all texts but the first
 ones are changed byte by byte. `--tally` tells how often the program gave each answer; `--only` prints one case alone. It fails where something
@@ -29,7 +29,6 @@ import json
 import pathlib
 import random
 import re
-import subprocess
 import sys
 import tempfile
 import zlib
@@ -37,25 +36,23 @@ from collections.abc import Iterable, Iterator
 from dataclasses import dataclass, field, replace
 from functools import cached_property
 
-TOP = pathlib.Path(__file__).resolve().parents[2]
-TESTS = TOP / "tests"
-sys.path.append(str(TESTS / "reference"))
-import generated
-import generated_source
-import meaning
-import tally
-import telling
-import telling_explain
-import telling_explain_json
-import telling_listing
-import telling_log
-import telling_outcomes
-import telling_runs
-import telling_source
-from telling import Accepted, Arguments, ByChance, Order, Refused, Way
-from telling_outcomes import Asked
+from tests import harness
+from tests.generated import generated, generated_source, tally
+from tests.harness import TOP
+from tests.reference import (
+    meaning,
+    telling,
+    telling_explain,
+    telling_explain_json,
+    telling_listing,
+    telling_log,
+    telling_outcomes,
+    telling_runs,
+    telling_source,
+)
+from tests.reference.telling import Accepted, Arguments, ByChance, Order, Refused, Way
+from tests.reference.telling_outcomes import Asked
 
-SECONDS = 60
 # Runs of more steps than this are not made at all; those of more steps, or of more steps times activities and clocks, than these are
 # looked at for their form alone; and schedules are followed where there are no more activities than this.
 LONGEST_RUN, LONGEST_COMPARED, MOST_WORK, MOST_ACTIVITIES = 2_000_000, 20_000, 2_000_000, 64
@@ -75,7 +72,6 @@ RUNS_MEANT = 3
 CHUNK = 100
 SHOWN = 5
 
-LATE = "no answer in time"
 ENDED = re.compile(r"((?:-?\d+\n)*)ended steps (\d+)\n")
 WALK = re.compile(r"x10clock: (?P<refused>.* walk )(?P<places>\d+(?: \d+)*)\n")
 
@@ -122,14 +118,14 @@ def row_texts(path: pathlib.Path) -> list[bytes]:
 
 def source_texts() -> list[bytes]:
     """The texts of the rows of sources, and of the examples."""
-    found = [text for path in sorted((TESTS / "answers/programs").glob("sources*.rows")) for text in row_texts(path)]
+    found = [text for path in sorted((TOP / "tests/answers/programs").glob("sources*.rows")) for text in row_texts(path)]
     return found + [path.read_bytes() for path in sorted((TOP / "examples").glob("*.x10"))]
 
 
 def seed_texts(source: bool) -> list[bytes]:
     if source:
         return source_texts()
-    return [path.read_bytes() for path in sorted((TESTS / "answers/rows").glob("*.json"))] + [sharing(*form) for form in SHARING]
+    return [path.read_bytes() for path in sorted((TOP / "tests/answers/rows").glob("*.json"))] + [sharing(*form) for form in SHARING]
 
 
 @dataclass(frozen=True)
@@ -156,7 +152,7 @@ class Outcome:
     differences: list[str] = field(default_factory=list)
 
     def differ(self, words: str, wanted: object, got: Answer) -> None:
-        if got.err == LATE:
+        if got.status == harness.LATE:
             self.counts["answers that didn't come in time"] += 1
         self.differences.append(f"{words}\n      telling: {wanted}\n      program: {got}")
 
@@ -201,11 +197,7 @@ class Comparer:
     def ask(self, text: bytes, command: str, *more: str, log: str | None = None) -> Answer:
         form = [] if self.source else ["--module"]
         words = [self.program, command, *more, *form, "-", *([log] if log else [])]
-        try:
-            ran = subprocess.run(words, input=text, capture_output=True, timeout=SECONDS, check=False)
-            answer = Answer(ran.returncode, ran.stdout.decode("utf-8", "replace"), ran.stderr.decode("utf-8", "replace"))
-        except subprocess.TimeoutExpired:
-            answer = Answer(-1, "", LATE)
+        answer = Answer(*harness.call(words, text).texts())
         self.answers[tally.label(answer.status, answer.err)] += 1
         return answer
 
@@ -520,7 +512,7 @@ def words() -> argparse.Namespace:
     parser.add_argument("--source", action="store_true")
     parser.add_argument("--changed", action="store_true")
     parser.add_argument("--jobs", type=int, default=2)
-    parser.add_argument("--program", type=pathlib.Path, default=TOP / "crates/x10clock/out/x10clock")
+    harness.add_option(parser)
     parser.add_argument("--worlds", type=int, default=1_000)
     parser.add_argument("--tally", action="store_true")
     parser.add_argument("--only", type=int)
@@ -532,7 +524,7 @@ def words() -> argparse.Namespace:
 
 def main() -> int:
     given = words()
-    comparer = Comparer(given.program.resolve(), given.worlds, given.source)
+    comparer = Comparer(given.program, given.worlds, given.source)
     maker = Maker(given.seed, given.source, given.changed)
     if given.only is not None:
         sys.stdout.buffer.write(maker.text_of(given.only) + b"\n")

@@ -1,7 +1,7 @@
 #!/usr/bin/env python3
 """Changes each operand, each name and each field of some modules to each value that might be taken for it, and looks what the program says.
 
-    python3 tests/generated/operands.py [--jobs N] [--program PATH]
+    python3 -m tests.generated.operands [--jobs N] [--program PATH]
 
 2 jobs and crates/x10clock/out/x10clock where nothing else is said. The modules are what some texts of tests/answers/rows are compiled to. A
 number becomes 0 and one more; where it may have no sign also the greatest of 16 bits, one beyond it, and -1; where it may also both ends of 64
@@ -23,22 +23,19 @@ import sys
 import tempfile
 from collections.abc import Iterator
 
-TESTS = pathlib.Path(__file__).resolve().parent.parent
-sys.path.append(str(TESTS / "reference"))
-import generated
-import logs
-import telling
-import telling_source
-from mutations import SHORT, Comparer, Summary, in_order, refused
-from telling import Accepted, ByChance, Order, Role, Way
+from tests import harness
+from tests.generated import generated, logs
+from tests.generated.mutations import SHORT, Comparer, Summary, in_order, refused
+from tests.harness import TOP
+from tests.reference import telling, telling_source
+from tests.reference.telling import Accepted, ByChance, Order, Role, Way
 
-PROGRAM = TESTS.parent / "crates/x10clock/out/x10clock"
 # Two in step; a clock dropped on one of two ways; activities that add; a loop with a limit, whose main takes a number.
 TEXTS = [
-    (TESTS / "answers/rows/in-step.x10").read_bytes(),
+    (TOP / "tests/answers/rows/in-step.x10").read_bytes(),
     b"def main() { val c = Clock.make(); val n = 1; if (n == 1) { c.drop(); } c.resume(); }",
-    (TESTS / "answers/rows/shared-sum.x10").read_bytes(),
-    (TESTS / "answers/rows/as-many.x10").read_bytes(),
+    (TOP / "tests/answers/rows/shared-sum.x10").read_bytes(),
+    (TOP / "tests/answers/rows/as-many.x10").read_bytes(),
 ]
 ROW = b'{"version":1,"shared":[],"units":[{"kind":"main","params":"","slots":3,"code":[["lit",0,2],["lit",1,3],["add",0,0,1],["make",2],["advance"],["print",0],["ret"]]}]}'
 WAYS: list[Way] = [*Order, ByChance(7)]
@@ -158,9 +155,9 @@ def without_json(path: pathlib.Path) -> tuple[int, list[str]]:
 def main() -> int:
     parser = argparse.ArgumentParser(description="Compares what x10clock answers of modules with one thing changed.")
     parser.add_argument("--jobs", type=int, default=2)
-    parser.add_argument("--program", type=pathlib.Path, default=PROGRAM)
+    harness.add_option(parser)
     given = parser.parse_args()
-    path, summary = given.program.resolve(), Summary()
+    path, summary = given.program, Summary()
     cases = list(enumerate(texts()))
     chunks = [cases[start : start + CHUNK] for start in range(0, len(cases), CHUNK)]
     with concurrent.futures.ProcessPoolExecutor(given.jobs) as pool:

@@ -2,7 +2,7 @@
 """Small programs that nobody wrote: whether `outcomes` tells all that they print, and nothing else, as a walk through all schedules finds it
 (tests/reference/telling_outcomes.py), each outcome with a log that prints it.
 
-    python3 tests/generated/outcomes.py [CASES] [SEED] [--sets] [--program PATH] [--jobs N] [--worlds N] [--tally] [--only CASE]
+    python3 -m tests.generated.outcomes [CASES] [SEED] [--sets] [--program PATH] [--jobs N] [--worlds N] [--tally] [--only CASE]
 
 300 cases, seed 1, 2 jobs, crates/x10clock/out/x10clock and 3,000 worlds at most where nothing else is said. A program has 2 to 4 activities that
 print, and mostly shared numbers, clocks and finishes; some are asked about as their modules, some take numbers. The program is asked with no limit,
@@ -24,19 +24,14 @@ import tempfile
 from collections.abc import Callable, Iterator
 from dataclasses import dataclass, field
 
-TESTS = pathlib.Path(__file__).resolve().parent.parent
-sys.path.append(str(TESTS / "reference"))
-import generated
-import generated_source
-import tally
-import telling
-import telling_outcomes
-from generated_source import Tokens, Writer
-from logs import Program, Text
-from telling import Accepted
-from telling_outcomes import Answer, Asked, Walk
+from tests import harness
+from tests.generated import generated, generated_source, tally
+from tests.generated.generated_source import Tokens, Writer
+from tests.generated.logs import Program, Text
+from tests.reference import telling_outcomes
+from tests.reference.telling import Accepted
+from tests.reference.telling_outcomes import Answer, Asked, Walk
 
-PROGRAM = TESTS.parent / "crates/x10clock/out/x10clock"
 CHUNK = 10
 SHOWN = 5
 ORDERS = ("first", "last", "round")
@@ -247,7 +242,7 @@ def words() -> argparse.Namespace:
     parser.add_argument("cases", nargs="?", type=int, default=300)
     parser.add_argument("seed", nargs="?", type=int, default=1)
     parser.add_argument("--sets", action="store_true")
-    parser.add_argument("--program", type=pathlib.Path, default=PROGRAM)
+    harness.add_option(parser)
     parser.add_argument("--jobs", type=int, default=2)
     parser.add_argument("--worlds", type=int, default=3_000)
     parser.add_argument("--tally", action="store_true")
@@ -262,7 +257,7 @@ def main() -> int:
         return 0
     chunks = [range(start, min(start + CHUNK, given.cases)) for start in range(0, given.cases, CHUNK)]
     with concurrent.futures.ProcessPoolExecutor(given.jobs) as pool:
-        for part in pool.map(Cases(given.seed, given.worlds, given.program.resolve(), given.sets).compared, chunks):
+        for part in pool.map(Cases(given.seed, given.worlds, given.program, given.sets).compared, chunks):
             total.counts += part.counts
             total.answers += part.answers
             total.differing += part.differing

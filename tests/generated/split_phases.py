@@ -2,7 +2,7 @@
 """Programs of split phases that nobody wrote: whether `races` tells what the second telling does, and says by one run of a program what it says by
 each other one.
 
-    python3 tests/generated/split_phases.py [PROGRAMS] [SEED] [--program PATH]
+    python3 -m tests.generated.split_phases [PROGRAMS] [SEED] [--program PATH]
 
 200 programs, seed 1 and crates/x10clock/out/x10clock where nothing else is said. Activities resume clocks, leave them, or end behind that, between
 writes and reads of two shared numbers: what comes before what hangs on phases alone. A run without a race speaks for all runs, so no other one has
@@ -14,23 +14,18 @@ from __future__ import annotations
 import argparse
 import pathlib
 import random
-import subprocess
 import sys
 import tempfile
 
-TOP = pathlib.Path(__file__).resolve().parents[2]
-sys.path.append(str(TOP / "tests/reference"))
-import telling_log
-import telling_races
-import telling_source
-from telling import Accepted
-from telling_events import Program
+from tests import harness
+from tests.reference import telling_log, telling_races, telling_source
+from tests.reference.telling import Accepted
+from tests.reference.telling_events import Program
 
 ORDERS = ("first", "last", "round", "random:1", "random:2", "random:3")
 MOST_STEPS = 150
 CHILDREN = 3
 SHOWN = 5
-SECONDS = 60
 
 
 class Writer:
@@ -84,8 +79,8 @@ def written(rng: random.Random) -> tuple[bytes, Accepted]:
 
 
 def called(*words: object) -> tuple[int, str]:
-    ran = subprocess.run(list(map(str, words)), capture_output=True, timeout=SECONDS, check=False)
-    return ran.returncode, ran.stdout.decode() + ran.stderr.decode()
+    status, out, err = harness.call(words).texts()
+    return status, out + err
 
 
 def told(program: pathlib.Path, data: bytes, judged: Accepted, folder: pathlib.Path) -> tuple[list[str], set[str]]:
@@ -108,7 +103,7 @@ def main() -> int:
     parser = argparse.ArgumentParser(description="Holds what `races` says by one run of a program against what it says by others.")
     parser.add_argument("programs", type=int, nargs="?", default=200)
     parser.add_argument("seed", type=int, nargs="?", default=1)
-    parser.add_argument("--program", type=pathlib.Path, default=TOP / "crates/x10clock/out/x10clock")
+    harness.add_option(parser)
     given = parser.parse_args()
     found, free = [], 0
     with tempfile.TemporaryDirectory() as folder:

@@ -1,7 +1,7 @@
 #!/usr/bin/env python3
 """Command lines that nobody wrote: whether the built program says of them what a second telling says (tests/reference/telling_words.py).
 
-    python3 tests/generated/words.py [CASES] [SEED] [--program PATH] [--jobs N] [--tally] [--only CASE]
+    python3 -m tests.generated.words [CASES] [SEED] [--program PATH] [--jobs N] [--tally] [--only CASE]
 
 2,000 cases, seed 1, 2 jobs and crates/x10clock/out/x10clock where nothing else is said. The words are the program's own commands and options, such as it doesn't know, numbers at
 the ends of what may be given, and names of small files, of which some are texts, modules or logs, one is a folder, and some aren't there; mostly they make a call that could be meant,
@@ -22,30 +22,24 @@ import contextlib
 import os
 import pathlib
 import random
-import subprocess
 import sys
 import tempfile
 from collections.abc import Iterator
 from dataclasses import dataclass
 
-TESTS = pathlib.Path(__file__).resolve().parent.parent
-sys.path.append(str(TESTS / "reference"))
-import tally
-import telling_log
-import telling_outcomes
-import telling_runs
-import telling_source
-import telling_words
-from telling import Order
-from telling_outcomes import Answer
-from telling_words import Job, Told
+from tests import harness
+from tests.generated import tally
+from tests.harness import TOP
+from tests.reference import telling_log, telling_outcomes, telling_runs, telling_source, telling_words
+from tests.reference.telling import Order
+from tests.reference.telling_outcomes import Answer
+from tests.reference.telling_words import Job, Told
 
-SECONDS = 60
 # Of so many calls some have to tell what each of these commands tells.
 MANY, ANSWERED = 500, ("outcomes", "events", "lanes", "page")
 CHUNK = 50
 SHOWN = 5
-IN_STEP, AS_MANY = ((TESTS / f"answers/rows/{name}.x10").read_bytes() for name in ("in-step", "as-many"))
+IN_STEP, AS_MANY = ((TOP / f"tests/answers/rows/{name}.x10").read_bytes() for name in ("in-step", "as-many"))
 LOG = b"x10log 1\n" + b"".join(b"%d 1\n" % who for who in (0, 0, 0, 1, 0, 0, 0, 0, 1, 1, 1, 1)) + b"end 12\n"
 # Of a run with three activities beside main, as with each number from 3 on.
 LOG_OF_MANY = telling_log.text_of(telling_log.log_of(telling_source.judge(AS_MANY).module, Order.LAST, (3,)))
@@ -201,14 +195,10 @@ class Caller:
 
     def called(self, words: list[str], given: str) -> tuple[Told, Folder]:
         fill(self.folder)
-        line = [os.fsencode(word) for word in (str(self.program), *words)]
         with (self.folder / given).open("rb") as stdin:
-            try:
-                ran = subprocess.run(line, stdin=stdin, capture_output=True, timeout=SECONDS, cwd=self.folder, check=False)
-            except subprocess.TimeoutExpired:
-                return Told(-1, "", "no answer in time"), {}
-        out, err = (text.decode("utf-8", "replace") for text in (ran.stdout, ran.stderr))
-        return Told(ran.returncode, out, err.removesuffix("\n") if is_asked(words) else err.partition("\n")[0]), found(self.folder)
+            status, out, err = harness.call([self.program, *words], stdin, cwd=self.folder).texts()
+        told = err.removesuffix("\n") if is_asked(words) else err.partition("\n")[0]
+        return Told(status, out, told), found(self.folder)
 
     def told(self, words: list[str], given: str) -> tuple[Told, Folder]:
         fill(self.folder)
@@ -331,7 +321,7 @@ def main() -> int:
     parser = argparse.ArgumentParser(description="Compares what x10clock says of command lines with a second telling.")
     parser.add_argument("cases", nargs="?", type=int, default=2_000)
     parser.add_argument("seed", nargs="?", type=int, default=1)
-    parser.add_argument("--program", type=pathlib.Path, default=TESTS.parent / "crates/x10clock/out/x10clock")
+    harness.add_option(parser)
     parser.add_argument("--jobs", type=int, default=2)
     parser.add_argument("--tally", action="store_true")
     parser.add_argument("--only", type=int)

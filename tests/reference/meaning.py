@@ -8,8 +8,8 @@ to its next step that is seen: these two have to be the same event, and leave th
 activities ended in both or in neither. As often the program goes first and the module follows. Both get the same numbers, by chance, where
 `main` takes some.
 
-    python3 tests/reference/meaning.py [CASES] [SEED] [--runs N] [--jobs N] [--program PATH] [--only CASE]
-    python3 tests/reference/meaning.py --file FILE [--runs N]
+    python3 -m tests.reference.meaning [CASES] [SEED] [--runs N] [--jobs N] [--program PATH | --alone] [--only CASE]
+    python3 -m tests.reference.meaning --file FILE [--runs N] [--program PATH | --alone]
 
 2,000 programs that nobody wrote, seed 1, 3 runs of each and 2 jobs where nothing else is said. The module is the one that
 tests/reference/telling_source.py makes of the text, or with `--program` the one that this program prints for `compile`. `--only` prints one text
@@ -24,24 +24,20 @@ import concurrent.futures
 import enum
 import pathlib
 import random
-import subprocess
 import sys
 from collections.abc import Iterator
 from dataclasses import dataclass, field
 from typing import Protocol
 
-sys.path.append(str(pathlib.Path(__file__).resolve().parent.parent / "generated"))
-import generated
-import generated_source
-import telling
-import telling_source as source
-from telling import Arguments, ClockName, Standing, Status, Wrong, wrapped
+from tests import harness
+from tests.generated import generated, generated_source
+from tests.reference import telling, telling_source as source
+from tests.reference.telling import Arguments, ClockName, Standing, Status, Wrong, wrapped
 
 # A run is left after so many steps of who goes first.
 LONGEST = 400
 CHUNK = 50
 SHOWN = 5
-SECONDS = 60
 
 Value = int | ClockName
 # The phase of each clock and where each activity stands on it; the shared numbers; whether all have ended.
@@ -506,10 +502,10 @@ def module_of(text: bytes, program: pathlib.Path | None) -> telling.Module:
     """The module that a text is compiled to: by the telling, or by the program."""
     if program is None:
         return telling.read_module(source.module_text(text).encode())
-    ran = subprocess.run([program, "compile", "-"], input=text, capture_output=True, timeout=SECONDS, check=False)
-    if ran.returncode or ran.stderr:
-        raise Differs(f"it is not compiled: status {ran.returncode}, {ran.stderr.decode()}")
-    return telling.read_module(ran.stdout)
+    status, out, err = harness.call([program, "compile", "-"], text).texts()
+    if status or err:
+        raise Differs(f"it is not compiled: status {status}, {err}")
+    return telling.read_module(out.encode())
 
 
 def compare_runs(text: bytes, module: telling.Module, runs: int) -> collections.Counter[str]:
@@ -547,7 +543,7 @@ def words() -> argparse.Namespace:
     parser.add_argument("seed", nargs="?", type=int, default=1)
     parser.add_argument("--runs", type=int, default=3)
     parser.add_argument("--jobs", type=int, default=2)
-    parser.add_argument("--program", type=pathlib.Path)
+    harness.add_options(parser)
     parser.add_argument("--file", type=pathlib.Path)
     parser.add_argument("--only", type=int)
     return parser.parse_args()
@@ -563,7 +559,7 @@ def told(count: int, counts: collections.Counter[str], differing: list[tuple[int
 
 def main() -> int:
     given = words()
-    job = Job(given.seed, given.runs, given.program and given.program.resolve())
+    job = Job(given.seed, given.runs, given.program)
     if given.only is not None:
         sys.stdout.buffer.write(text_of_case(given.seed, given.only) + b"\n")
         return 0

@@ -6,9 +6,9 @@ them, and the machine keeps for each clock the sets of activities that are regis
 each open finish the set of activities that it waits for. Beside the answers it walks through all schedules of a small module and looks
 whether the promises hold: no wrong step, no longer schedule than was verified, and all have ended where nobody can step.
 
-    python3 tests/reference/telling.py check FILE                           what the program prints
-    python3 tests/reference/telling.py run FILE [ORDER [SEED]] [--arg=N]..  ORDER is first, last, round or random
-    python3 tests/reference/telling.py walk FILE [WORLDS] [--arg=N]..       all schedules, through so many worlds at most
+    python3 -m tests.reference.telling check FILE                           what the program prints
+    python3 -m tests.reference.telling run FILE [ORDER [SEED]] [--arg=N]..  ORDER is first, last, round or random
+    python3 -m tests.reference.telling walk FILE [WORLDS] [--arg=N]..       all schedules, through so many worlds at most
 """
 
 from __future__ import annotations

@@ -1,7 +1,7 @@
 #!/usr/bin/env python3
 """A second telling, in Python, of `run --order ask`: a person names who takes the next steps.
 
-    python3 tests/reference/telling_ask.py [--module] FILE [LOG] [--arg=N].. < ANSWERS
+    python3 -m tests.reference.telling_ask [--module] FILE [LOG] [--arg=N].. < ANSWERS
 """
 
 from __future__ import annotations
@@ -11,12 +11,10 @@ import re
 import sys
 from dataclasses import dataclass
 
-import telling
-import telling_log
-import telling_source
-from telling import Accepted, Arguments, Refused
-from telling_events import Program
-from telling_log import Entry, Played
+from tests.reference import telling, telling_log, telling_source
+from tests.reference.telling import Accepted, Arguments, Refused
+from tests.reference.telling_events import Program
+from tests.reference.telling_log import Entry, Played
 
 NUMBER = re.compile(rb"[ \t\r]*([0-9]+)[ \t\r]*")
 PROMPT, AGAIN = "who steps?\n", "none of these: who steps?\n"

@@ -4,10 +4,9 @@ from __future__ import annotations
 
 from dataclasses import dataclass
 
-import telling_explain
-import telling_origins
-from telling import Frame
-from telling_log import Played, Taken
+from tests.reference import telling_explain, telling_origins
+from tests.reference.telling import Frame
+from tests.reference.telling_log import Played, Taken
 
 # What others see of a step, by its name in tests/reference/telling.py; of a print, and of what gets a number, it has one behind it.
 WORDS = {

@@ -2,7 +2,7 @@
 
 from __future__ import annotations
 
-from telling_source import Fault, parse
+from tests.reference.telling_source import Fault, parse
 
 # Each token that is told alone, in the order of docs/EXPLAIN.md, and how it is told.
 ALONE = "; , ) } ( { = : . .. + - * == != < <= > >= shared def else in async finish Clock Long Math min make resume drop advanceAll OUT println".split()

@@ -2,17 +2,14 @@
 
 from __future__ import annotations
 
-import pathlib
 import re
 from functools import cache
 
-import telling_declarations
-import telling_expected
-import telling_origins
-import telling_sums
-from telling_sums import Note
+from tests.harness import TOP
+from tests.reference import telling_declarations, telling_expected, telling_origins, telling_sums
+from tests.reference.telling_sums import Note
 
-PAGE = pathlib.Path(__file__).resolve().parents[2] / "docs/EXPLAIN.md"
+PAGE = TOP / "docs/EXPLAIN.md"
 ROW = re.compile(r"\| (?P<rule>[FMV]\d+) \w+ \| (?P<wrong>.*) \| (?P<repair>.*) \|")
 HABIT = re.compile(r"\| (?P<rule>F\d+) \| (?P<where>at|behind|before|line) \| (?P<what>.*?) \| (?P<repair>.*) \|")
 KIND = re.compile(r"\| (?P<kind>unset|number|live|resumed|out) \| (?P<holds>.*) \|")

@@ -6,10 +6,20 @@ import json
 import re
 from collections.abc import Iterable
 
-import telling_origins
-import telling_sums
-from telling_explain import BOUND, FRONT, PLACE, TEXT, WITHOUT_PLACE, notes_on, place_title, position, repair_at, tables
-from telling_sums import Note
+from tests.reference import telling_origins, telling_sums
+from tests.reference.telling_explain import (
+    BOUND,
+    FRONT,
+    PLACE,
+    TEXT,
+    WITHOUT_PLACE,
+    notes_on,
+    place_title,
+    position,
+    repair_at,
+    tables,
+)
+from tests.reference.telling_sums import Note
 
 ACCEPTED = re.compile(r"accepted steps (?P<steps>\d+) activities (?P<activities>\d+) clocks (?P<clocks>\d+)\n?")
 Members = dict[str, object]

@@ -3,11 +3,10 @@ for each clock that advances."""
 
 from __future__ import annotations
 
-import telling
-import telling_events
-from telling import Module, Status, World
-from telling_events import Program
-from telling_log import Advance, Played, Taken
+from tests.reference import telling, telling_events
+from tests.reference.telling import Module, Status, World
+from tests.reference.telling_events import Program
+from tests.reference.telling_log import Advance, Played, Taken
 
 NUMBER, GAP = 6, 2
 MOST_LANES, NARROWEST = 64, 8

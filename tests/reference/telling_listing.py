@@ -1,7 +1,7 @@
 #!/usr/bin/env python3
 """A second telling of what `listing` prints, in Python, from docs/LISTING.md.
 
-    python3 tests/reference/telling_listing.py [--module] FILE
+    python3 -m tests.reference.telling_listing [--module] FILE
 """
 
 from __future__ import annotations
@@ -9,11 +9,9 @@ from __future__ import annotations
 import pathlib
 import sys
 
-import telling
-import telling_explain
-import telling_origins
-from telling import Instr, Kind, Kinds, Module, Role, Unit
-from telling_origins import Origins
+from tests.reference import telling, telling_explain, telling_origins
+from tests.reference.telling import Instr, Kind, Kinds, Module, Role, Unit
+from tests.reference.telling_origins import Origins
 
 # How wide a field is at least: an instruction's place, its words, the clocks, and where it comes from. Two blanks stand between fields.
 PLACE, WORDS, CLOCKS, FROM = 4, 17, 24, 7

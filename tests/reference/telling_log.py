@@ -5,7 +5,7 @@ A log is the schedule of a run, written down: lines of an activity and how many 
 by patterns, line by line; a replay takes the steps one by one, as tests/reference/telling.py has them; a chart has a line for each clock that
 advances.
 
-    python3 tests/reference/telling_log.py FILE [ORDER [SEED]] [--arg=N]..      the log of a run; ORDER is first, last, round or random
+    python3 -m tests.reference.telling_log FILE [ORDER [SEED]] [--arg=N]..      the log of a run; ORDER is first, last, round or random
 
 FILE is a module, or with a name that ends in `.x10` a source text. What is told of logs, tests/reference/telling_runs.py tells.
 """
@@ -19,9 +19,8 @@ from collections.abc import Callable, Iterable, Iterator
 from dataclasses import dataclass, field
 from typing import NamedTuple
 
-import telling
-import telling_source
-from telling import Arguments, Way
+from tests.reference import telling, telling_source
+from tests.reference.telling import Arguments, Way
 
 GREATEST = 4_294_967_295
 MOST_ENTRIES = 1_000_000_000

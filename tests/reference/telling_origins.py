@@ -5,10 +5,21 @@ from __future__ import annotations
 from dataclasses import dataclass
 from functools import lru_cache
 
-import telling
-import telling_source
-from telling import Module
-from telling_source import Async, Between, Block, Coder, Finish, Loop, Name, Names, Parser, Sort, Stmt, Tree, UnitForm
+from tests.reference import telling, telling_source
+from tests.reference.telling import Module
+from tests.reference.telling_source import (
+    Between,
+    Block,
+    Coder,
+    Finish,
+    Loop,
+    Names,
+    Parser,
+    Sort,
+    Stmt,
+    Tree,
+    UnitForm,
+)
 
 CLOSERS = ("next", "endfinish")
 

@@ -9,7 +9,7 @@ Where sets are asked for, lists of the same numbers, each as often, in whatever 
 
 Outcomes may be held against a list, a text of such lines: then one is told that isn't in it, or how many they are.
 
-    python3 tests/reference/telling_outcomes.py [--module] [--sets] [--expect=LIST] FILE [LIMIT] [--arg=N]..
+    python3 -m tests.reference.telling_outcomes [--module] [--sets] [--expect=LIST] FILE [LIMIT] [--arg=N]..
 """
 
 from __future__ import annotations
@@ -18,15 +18,12 @@ import pathlib
 import re
 import sys
 from collections.abc import Iterator
-from dataclasses import dataclass
 from functools import cached_property
 from typing import NamedTuple
 
-import telling
-import telling_log
-import telling_source
-from telling import Arguments, Module, World
-from telling_log import Entry, Log
+from tests.reference import telling, telling_log, telling_source
+from tests.reference.telling import Arguments, Module, World
+from tests.reference.telling_log import Entry, Log
 
 # No more worlds are walked through, and no more lists of numbers kept with one of them, than this.
 MOST_WORLDS, MOST_LISTS = 100_000, 100_000

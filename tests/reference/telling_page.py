@@ -4,18 +4,17 @@ page besides, with its script, means nothing to a run: it is taken from where th
 from __future__ import annotations
 
 import functools
-import pathlib
 import re
 from collections.abc import Iterator
 
-import telling_events
-import telling_picture
-from telling_events import Program
-from telling_lanes import WHOLE, Window
-from telling_log import Played
-from telling_where import Place
+from tests.harness import TOP
+from tests.reference import telling_events, telling_picture
+from tests.reference.telling_events import Program
+from tests.reference.telling_lanes import WHOLE, Window
+from tests.reference.telling_log import Played
+from tests.reference.telling_where import Place
 
-FURNITURE = pathlib.Path(__file__).resolve().parents[2] / "crates/xk_show_page/src/furniture.rt"
+FURNITURE = TOP / "crates/xk_show_page/src/furniture.rt"
 TEXT = re.compile(r'^pub(?:\(crate\))? const (\w+): &str = r(#+)"(.*?)"\2;$', re.MULTILINE | re.DOTALL)
 # Which of its texts stand before the source text, between it and the picture, between that and the moments, and behind these.
 HEAD, BEHIND_SOURCE, BEHIND_PICTURE, TAIL = ("TOP", "COLOURS", "PLACES", "MARKS", "BEGINNING"), ("LISTS",), ("BEHIND",), ("READER", "SHOWER", "MOVER")

@@ -2,12 +2,10 @@
 
 from __future__ import annotations
 
-import telling
-import telling_events
-import telling_lanes
-from telling_events import Program
-from telling_lanes import WHOLE, Window
-from telling_log import Advance, Played, Taken
+from tests.reference import telling, telling_events, telling_lanes
+from tests.reference.telling_events import Program
+from tests.reference.telling_lanes import WHOLE, Window
+from tests.reference.telling_log import Advance, Played, Taken
 
 # The most rows and activities that are drawn.
 MOST_ROWS, MOST_LANES = 2000, 64

@@ -7,10 +7,10 @@ from collections.abc import Iterator
 from dataclasses import dataclass, field
 from itertools import combinations
 
-import telling_events
-from telling import Frame, Standing
-from telling_events import Program
-from telling_log import Played, Taken
+from tests.reference import telling_events
+from tests.reference.telling import Frame, Standing
+from tests.reference.telling_events import Program
+from tests.reference.telling_log import Played, Taken
 
 AWAITED = (Standing.OPEN, Standing.AHEAD)
 ACCESSES = ("Got", "Put", "Added")

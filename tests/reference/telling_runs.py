@@ -1,8 +1,8 @@
 #!/usr/bin/env python3
 """A second telling, in Python, of what is told of a log: `replay`, `chart`, `events`, `lanes`, `page` and `races` of a whole run, and `where` of any.
 
-    python3 tests/reference/telling_runs.py events [--module] FILE LOG [--arg=N]..
-    python3 tests/reference/telling_runs.py lanes [--module] [--svg] FILE LOG [--arg=N]..
+    python3 -m tests.reference.telling_runs events [--module] FILE LOG [--arg=N]..
+    python3 -m tests.reference.telling_runs lanes [--module] [--svg] FILE LOG [--arg=N]..
 """
 
 from __future__ import annotations
@@ -11,19 +11,21 @@ import pathlib
 import sys
 from functools import partial
 
-import telling
-import telling_events
-import telling_lanes
-import telling_log
-import telling_page
-import telling_picture
-import telling_races
-import telling_source
-import telling_where
-from telling import Accepted, Arguments, Refused
-from telling_events import Program
-from telling_lanes import WHOLE
-from telling_log import Answer, Played, Teller
+from tests.reference import (
+    telling,
+    telling_events,
+    telling_lanes,
+    telling_log,
+    telling_page,
+    telling_picture,
+    telling_races,
+    telling_source,
+    telling_where,
+)
+from tests.reference.telling import Accepted, Arguments, Refused
+from tests.reference.telling_events import Program
+from tests.reference.telling_lanes import WHOLE
+from tests.reference.telling_log import Answer, Played, Teller
 
 # What is told of whole runs, and of any log.
 OF_RUNS, WHERE = ("replay", "chart", "events", "lanes", "page", "races"), "where"

@@ -5,10 +5,10 @@ It shares nothing with the program. A text becomes tokens, these a tree, or the 
 where it stands, and what it means is kept by its offset; the units that main reaches get their numbers and their code; and what is made
 of the module from there on is told by tests/reference/telling.py.
 
-    python3 tests/reference/telling_source.py compile FILE            what the program prints
-    python3 tests/reference/telling_source.py check FILE
-    python3 tests/reference/telling_source.py run FILE [ORDER] [--arg=N]..        ORDER is first, last or round
-    python3 tests/reference/telling_source.py walk FILE [WORLDS] [--arg=N]..      all schedules, through so many worlds at most
+    python3 -m tests.reference.telling_source compile FILE            what the program prints
+    python3 -m tests.reference.telling_source check FILE
+    python3 -m tests.reference.telling_source run FILE [ORDER] [--arg=N]..        ORDER is first, last or round
+    python3 -m tests.reference.telling_source walk FILE [WORLDS] [--arg=N]..      all schedules, through so many worlds at most
 """
 
 from __future__ import annotations
@@ -23,7 +23,7 @@ from collections.abc import Iterator
 from contextlib import contextmanager
 from dataclasses import dataclass, field
 
-import telling
+from tests.reference import telling
 
 LONGEST = 1_048_576
 DEEPEST = 64

@@ -10,9 +10,9 @@ import re
 from collections.abc import Callable, Iterable, Iterator
 from dataclasses import dataclass
 
-import telling
-from telling import WHOLE_UNIT, Instr, Module, Role, Unit
-from telling_origins import Origins, program
+from tests.reference import telling
+from tests.reference.telling import WHOLE_UNIT, Instr, Module, Role, Unit
+from tests.reference.telling_origins import Origins, program
 
 # A note: its offset in the text, if it has a place there, and its words.
 Note = tuple[int | None, str]

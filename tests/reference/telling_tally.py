@@ -2,8 +2,8 @@
 
 from __future__ import annotations
 
-import telling
-from telling import Arguments, ByChance, Module
+from tests.reference import telling
+from tests.reference.telling import Arguments, ByChance, Module
 
 SEEDS = 2**64
 

@@ -4,11 +4,10 @@ from __future__ import annotations
 
 from dataclasses import dataclass
 
-import telling
-import telling_log
-from telling import Accepted, Arguments, Refused, Standing, Status
-from telling_events import Program
-from telling_log import Answer, Entry, Fault, Log, Played
+from tests.reference import telling, telling_log
+from tests.reference.telling import Accepted, Arguments, Refused, Standing, Status
+from tests.reference.telling_events import Program
+from tests.reference.telling_log import Answer, Entry, Fault, Log, Played
 
 # So many activities are named in a row.
 NAMED = 8

@@ -9,25 +9,26 @@ from __future__ import annotations
 
 import itertools
 import os
-import pathlib
 import re
 from dataclasses import dataclass, field
 from typing import BinaryIO
 
-import telling
-import telling_ask
-import telling_explain
-import telling_explain_json
-import telling_listing
-import telling_log
-import telling_outcomes
-import telling_runs
-import telling_source
-import telling_tally
-from telling import Accepted, Arguments, Refused, Way
-from telling_events import Program
+from tests.harness import TOP
+from tests.reference import (
+    telling,
+    telling_ask,
+    telling_explain,
+    telling_explain_json,
+    telling_listing,
+    telling_log,
+    telling_outcomes,
+    telling_runs,
+    telling_source,
+    telling_tally,
+)
+from tests.reference.telling import Accepted, Arguments, Refused, Way
+from tests.reference.telling_events import Program
 
-TESTS = pathlib.Path(__file__).resolve().parent.parent
 # A number's digits are read one after another, up to the first that makes it too large.
 SIGNED, UNSIGNED = range(-(2**63), 2**63), range(2**64)
 WORKERS, COUNTS = range(1, 65), range(1, 2**64)
@@ -317,7 +318,7 @@ def of_all(word: str) -> Exception:
 def help_text(command: str) -> str:
     """The text of help, which stands in tests/answers/words.txt."""
     call = f"$ x10clock {command} --help\n".replace("  ", " ")
-    return re.split(r"^\$ ", (TESTS / "answers/words.txt").read_text().partition(call)[2], maxsplit=1, flags=re.MULTILINE)[0]
+    return re.split(r"^\$ ", (TOP / "tests/answers/words.txt").read_text().partition(call)[2], maxsplit=1, flags=re.MULTILINE)[0]
 
 
 # Jobs.

@@ -8,9 +8,12 @@ Of clap's texts it knows the help, and of each other the first line.
 
 from __future__ import annotations
 
+import pathlib
 import sys
 
-import telling_words
+# It is called as the program is, by its path and from any folder.
+sys.path.insert(0, str(pathlib.Path(__file__).resolve().parents[2]))
+from tests.reference import telling_words
 
 
 def main() -> int:

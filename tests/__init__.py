@@ -1,0 +1,1 @@
+"""What is tested beside the proofs (tests/README.md)."""

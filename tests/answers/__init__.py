@@ -1,0 +1,1 @@
+"""What must be answered, written down; and what fails the program."""

@@ -1,0 +1,1 @@
+"""What nobody wrote, of which program and reference must say the same."""

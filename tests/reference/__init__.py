@@ -1,0 +1,1 @@
+"""The rules told a second time."""
