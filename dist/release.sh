@@ -1,0 +1,70 @@
+#!/bin/sh
+# Makes the release in dist/ anew, from the present sources as `rt ci` proves, builds and tests them: the program, its man page, completions, what editors
+# want, sums and dist/BUILT. Refuses where the tree isn't clean, for what is committed is what is built, and where `rt ci` isn't green. Nothing that `rt ci`
+# leaves says that it was, so this runs it: over kept proofs in the time of its tests. Then `git add dist`, and commit.
+set -eu
+cd "$(dirname "$0")/.."
+git rev-parse --git-dir > /dev/null
+own="dist/release.sh dist/manual.py dist/sources.sh"
+program=crates/x10clock/out/x10clock
+
+refuse() {
+    echo "release: $1" >&2
+    exit 1
+}
+
+changes() {
+    # (an earlier release in dist/ goes)
+    git status --porcelain -- . ':(exclude)dist'
+    # shellcheck disable=SC2086
+    git status --porcelain -- $own
+}
+
+[ -z "$(changes)" ] || refuse "the tree isn't clean: git status"
+sources=$(sh dist/sources.sh)
+said=$(mktemp)
+made=$(mktemp -d)
+trap 'rm -rf "$said" "$made"' EXIT
+rt ci > "$said" 2>&1 || true
+verdict=$(tail -n 1 "$said")
+echo "$verdict" | grep -qx '[1-9][0-9]* passed, 0 failed' || { tail -n 20 "$said" >&2; refuse "rt ci isn't green"; }
+[ "$sources $(changes)" = "$(sh dist/sources.sh) " ] || refuse "the tree changed meanwhile"
+
+version=$($program --version)
+number=${version#x10clock }
+cp "$program" "$made/x10clock-$number-x86_64-linux"
+chmod 755 "$made/x10clock-$number-x86_64-linux"
+python3 dist/manual.py --program "$program" --to "$made"
+cp -R editors/vim "$made/vim"
+mkdir "$made/vscode"
+cp editors/textmate/x10clock.tmLanguage.json "$made/vscode"
+cat > "$made/vscode/package.json" << END
+{
+  "name": "x10clock", "version": "$number", "publisher": "x10clock", "engines": { "vscode": "^1.60.0" },
+  "contributes": {
+    "languages": [{ "id": "x10clock", "extensions": [".x10"] }],
+    "grammars": [{ "language": "x10clock", "scopeName": "source.x10clock", "path": "./x10clock.tmLanguage.json" }]
+  }
+}
+END
+# The newest version of a symbol of the C library is the oldest library that has them all.
+glibc=$(grep -ao 'GLIBC_2\.[0-9]*' "$program" | sort -u -t . -k 2n | tail -n 1)
+cat > "$made/BUILT" << END
+version $version
+kit $(rt version)
+sources $sources
+gate rt ci: $verdict
+needs x86-64 Linux, glibc ${glibc#GLIBC_} or later
+END
+(cd "$made" && find . -type f | LC_ALL=C sort | sed 's|^\./||' | xargs sha256sum) > "$said"
+cp "$said" "$made/SHA256SUMS"
+chmod 644 "$made/SHA256SUMS"
+
+for old in dist/*; do
+    case " $own " in
+        *" $old "*) ;;
+        *) rm -r "$old" ;;
+    esac
+done
+cp -R "$made/." dist
+cat dist/BUILT

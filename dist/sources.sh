@@ -1,0 +1,6 @@
+#!/bin/sh
+# The sum over all that the program is built from, on standard output: the names and the contents, in the order of names, of crates.txt, HANDLES and
+# each file in src/, specs/ and proofs/ of a crate (so of the crates of tests too). Nothing else is in it: no edit, no page, nothing under out/.
+set -eu
+cd "$(dirname "$0")/.."
+find crates.txt HANDLES crates/*/src crates/*/specs crates/*/proofs -type f | LC_ALL=C sort | xargs sha256sum | sha256sum | cut -d ' ' -f 1
