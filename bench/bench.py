@@ -1,6 +1,6 @@
 #!/usr/bin/env python3
-"""Times the built program: runs of a hundred million steps, in one unit, by calls and by finishes; runs of many activities in each order;
-and checks of many great units.
+"""Times the built program: runs of a hundred million steps, in one unit, by calls and by finishes; runs of many
+activities in each order; and checks of many great units.
 
     python3 -m bench.bench [--program PATH]
 

@@ -3,11 +3,12 @@
 
     python3 -m bench.beside [--program PATH] [--only WORD] [--rounds N] [--builds N]
 
-Both have to print the same bytes. The machine is built nine times: the builds
-differ in where the functions stand alone, and so by half in the time that one loop takes. Beside each of them three runs are made in turn, of
-which the least counts. Each row has the seconds of processor time, the least of ours and the one of the middle build by hand; the ratio beside
-the middle build; the ratios beside the fastest and the slowest; and the most memory of each. A run of less than a twentieth of a second is
-marked as short: its ratio says little. Memory counts from what the measuring process held, some 15 MB.
+Both have to print the same bytes. The machine is built nine times: the builds differ in where the functions stand
+alone, and so by half in the time that one loop takes. Beside each of them three runs are made in turn, of which the
+least counts. Each row has the seconds of processor time, the least of ours and the one of the middle build by hand; the
+ratio beside the middle build; the ratios beside the fastest and the slowest; and the most memory of each. A run of less
+than a twentieth of a second is marked as short: its ratio says little. Memory counts from what the measuring process
+held, some 15 MB.
 """
 import argparse
 import statistics
@@ -44,8 +45,9 @@ def row(name, order, program, machines, path, rounds):
     own, other = min(pair[0] for pair in seconds), statistics.median(pair[1] for pair in seconds)
     short = " (short)" if min(own, other) < SHORT else ""
     held = " | ".join(f"{min(sizes):.0f}" for sizes in zip(*memory))
+    steps, middle = int(printed[0].split()[-1]), statistics.median(ratios)
     print(
-        f"| {name} | {order} | {int(printed[0].split()[-1]):,} | {own:.3f} | {other:.3f} | {statistics.median(ratios):.2f}{short} "
+        f"| {name} | {order} | {steps:,} | {own:.3f} | {other:.3f} | {middle:.2f}{short} "
         f"| {min(ratios):.2f} to {max(ratios):.2f} | {held} |",
         flush=True,
     )

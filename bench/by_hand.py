@@ -9,8 +9,9 @@ ORDERS = ("first", "last", "round")
 
 
 def built(name="plain"):
-    """Builds the machine in bench/plain, with rustc alone, and gives its path. What is built under another name differs in nothing but where
-    the compiler puts the functions: their symbols are made from that name, and stand in their order."""
+    """Builds the machine in bench/plain, with rustc alone, and gives its path. What is built under another name differs
+    in nothing but where the compiler puts the functions: their symbols are made from that name, and stand in their
+    order."""
     path = pathlib.Path(tempfile.gettempdir()) / f"x10clock-{name}"
     source = TOP / "bench/plain/main.rs"
     words = ["rustc", "-C", "opt-level=3", "-C", f"metadata={name}", "--edition", "2024", "-o", path, source]

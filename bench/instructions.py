@@ -1,11 +1,11 @@
 #!/usr/bin/env python3
-"""Counts the instructions of the built program beside those of the machine in bench/plain, by callgrind; and those of loops with a limit
-beside those of loops without one, which the machine in bench/plain doesn't know.
+"""Counts the instructions of the built program beside those of the machine in bench/plain, by callgrind; and those of
+loops with a limit beside those of loops without one, which the machine in bench/plain doesn't know.
 
     python3 -m bench.instructions [--program PATH] [--only WORD]
 
-A figure is what twice as much work takes more, so that starting a process and
-reading the module don't count. It is the same on each run, whatever else the machine does; it says nothing of memory that isn't in a cache.
+A figure is what twice as much work takes more, so that starting a process and reading the module don't count. It is the
+same on each run, whatever else the machine does; it says nothing of memory that isn't in a cache.
 """
 import argparse
 import concurrent.futures
@@ -35,15 +35,25 @@ ROWS = [
 
 # What a row counts, its module with limits for so much work, and its module without.
 LIMITED = [
-    ("20,000 local steps, two loops with a limit", lambda k: modules.counting_to_limits(2 * k), lambda k: modules.counting(2 * k)),
-    ("10,000 loops of one turn with a limit", lambda k: modules.beginning_with_limits(2 * k), lambda k: modules.beginning(2 * k)),
+    (
+        "20,000 local steps, two loops with a limit",
+        lambda k: modules.counting_to_limits(2 * k),
+        lambda k: modules.counting(2 * k),
+    ),
+    (
+        "10,000 loops of one turn with a limit",
+        lambda k: modules.beginning_with_limits(2 * k),
+        lambda k: modules.beginning(2 * k),
+    ),
 ]
 
 
 def collected(words):
     """The instructions of one call."""
     call = ["valgrind", "--tool=callgrind", "--callgrind-out-file=/dev/null", *words]
-    return int(re.search(r"Collected : (\d+)", subprocess.run(call, capture_output=True, text=True, check=True).stderr)[1])
+    return int(
+        re.search(r"Collected : (\d+)", subprocess.run(call, capture_output=True, text=True, check=True).stderr)[1]
+    )
 
 
 def more(make, words):
@@ -88,9 +98,15 @@ def main():
     given = parser.parse_args()
     rows = [row for row in ROWS if given.only in row[0]]
     machine = built() if rows else ""
-    print_table("Ours | By hand", row, [(name, make, order, given.program, machine) for name, make, orders in rows for order in orders])
+    print_table(
+        "Ours | By hand",
+        row,
+        [(name, make, order, given.program, machine) for name, make, orders in rows for order in orders],
+    )
     limited = [row for row in LIMITED if given.only in row[0]]
-    print_table("With a limit | Without", limited_row, [(*one, order, given.program) for one in limited for order in ORDERS])
+    print_table(
+        "With a limit | Without", limited_row, [(*one, order, given.program) for one in limited for order in ORDERS]
+    )
 
 
 if __name__ == "__main__":

@@ -1,6 +1,6 @@
 #!/usr/bin/env python3
-"""Times the built program on logs: runs that write them, their replay and their charts, beside runs that keep none and a plain copy of the log;
-and logs that claim much.
+"""Times the built program on logs: runs that write them, their replay and their charts, beside runs that keep none and
+a plain copy of the log; and logs that claim much.
 
     python3 -m bench.logs [--program PATH]
 
@@ -27,8 +27,18 @@ def unit(kind, slots, code, params=""):
 
 
 def counting(turns):
-    """A loop in a loop: a sum, and the end of a turn; two steps for each turn of the inner one, of which there are a thousand."""
-    code = [["lit", 2, 0], ["for", 0, 1, turns, 5], ["for", 1, 1, 1000, 4], ["add", 2, 2, 1], ["next", 2], ["next", 1], ["print", 2], ["ret"]]
+    """A loop in a loop: a sum, and the end of a turn; two steps for each turn of the inner one, of which there are a
+    thousand."""
+    code = [
+        ["lit", 2, 0],
+        ["for", 0, 1, turns, 5],
+        ["for", 1, 1, 1000, 4],
+        ["add", 2, 2, 1],
+        ["next", 2],
+        ["next", 1],
+        ["print", 2],
+        ["ret"],
+    ]
     return module([unit("main", 3, code)])
 
 
@@ -42,7 +52,9 @@ def in_step(activities, phases):
 
 def many_clocks(count):
     """A clock in each turn, which advances once, and is dropped."""
-    return module([unit("main", 2, [["for", 0, 1, count, 4], ["make", 1], ["advance"], ["drop", 1], ["next", 0], ["ret"]])])
+    return module(
+        [unit("main", 2, [["for", 0, 1, count, 4], ["make", 1], ["advance"], ["drop", 1], ["next", 0], ["ret"]])]
+    )
 
 
 def timed(name, words, out=None):
@@ -50,7 +62,9 @@ def timed(name, words, out=None):
     with open(out or os.devnull, "wb") as sink:
         took = spent(words, sink)
     memory, said = f"{took.megabytes:.0f} MB", took.err.decode().strip()
-    print(f"{name}: {took.seconds:.2f} s, {took.passed:.2f} s passed, {memory}, status {took.status} {said}", flush=True)
+    print(
+        f"{name}: {took.seconds:.2f} s, {took.passed:.2f} s passed, {memory}, status {took.status} {said}", flush=True
+    )
 
 
 def size(path):
@@ -58,7 +72,8 @@ def size(path):
 
 
 def whole(program, name, text, folder):
-    """A run, the same with a log, its replay and its chart; a copy of the log, and the replay of one in which steps in a row are one entry."""
+    """A run, the same with a log, its replay and its chart; a copy of the log, and the replay of one in which steps in
+    a row are one entry."""
     file, log, chart, joined = (str(folder / part) for part in ("module", "log", "chart", "joined"))
     pathlib.Path(file).write_text(text)
     print(f"-- {name}")
@@ -105,7 +120,9 @@ def hostile(program, folder):
     head, many = (b"x10log 1\n", 1), 10_000_000
     replayed("end 1000000000 and no entry", head, (b"end 1000000000\n", 1))
     replayed("one entry of 4294967295 steps", head, (b"0 4294967295\nend 1\n", 1))
-    replayed("10,000,000 entries that nobody can take", head, (b"4294967295 4294967295\n", many), (b"end %d\n" % many, 1))
+    replayed(
+        "10,000,000 entries that nobody can take", head, (b"4294967295 4294967295\n", many), (b"end %d\n" % many, 1)
+    )
     replayed("10,000,000 entries, and no last line", head, (b"0 1\n", many))
     timed("/dev/zero", [program, "replay", "--module", file, "/dev/zero"])
     file.write_text(counting(499_000))

@@ -1,6 +1,7 @@
 #!/usr/bin/env python3
-"""Times the built program where it tells of programs and of runs: what `explain` and `listing` take beside `check`; what is told of long runs,
-of many activities, and of runs with many accesses of shared numbers; runs by chance; and all outcomes of the examples.
+"""Times the built program where it tells of programs and of runs: what `explain` and `listing` take beside `check`;
+what is told of long runs, of many activities, and of runs with many accesses of shared numbers; runs by chance; and all
+outcomes of the examples.
 
     python3 -m bench.looks [--program PATH]
 
@@ -33,12 +34,18 @@ LOOKS = [
 
 
 def racing(activities: int, turns: int, clocked: bool) -> str:
-    """Activities that each add to a shared number of their own and read another's, `clocked` in phases apart, so often."""
+    """Activities that each add to a shared number of their own and read another's, `clocked` in phases apart, so
+    often."""
     barrier = "Clock.advanceAll();" if clocked else ""
     cells = "".join(f"shared s{k} = 0;\n" for k in range(activities))
     body = "for (i in 1..{turns}) {{ x = s{mine}; s{mine} = x + 1; {barrier} x = s{other}; {barrier} }}"
     parts = (body.format(turns=turns, mine=k, other=(k + 1) % activities, barrier=barrier) for k in range(activities))
-    return cells + "def main() { clocked finish { " + "".join(f"clocked async {{ var x = 0; {part} }}\n" for part in parts) + "} }\n"
+    return (
+        cells
+        + "def main() { clocked finish { "
+        + "".join(f"clocked async {{ var x = 0; {part} }}\n" for part in parts)
+        + "} }\n"
+    )
 
 
 @dataclass

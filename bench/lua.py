@@ -1,10 +1,10 @@
 #!/usr/bin/env python3
-"""Times the built program beside Lua 5.4 (Debian's package `lua5.4`) on the same two loops: a sum of fifty million numbers.
+"""Times the built program beside Lua 5.4 (Debian's package `lua5.4`) on the same two loops: a sum of fifty million
+numbers.
 
     python3 -m bench.lua [--program PATH] [--rounds N]
 
-Both have to print the same sum. Seconds are of processor time, the least
-of three runs, which are made in turn.
+Both have to print the same sum. Seconds are of processor time, the least of three runs, which are made in turn.
 """
 import argparse
 import tempfile

@@ -12,44 +12,94 @@ def unit(kind, slots, code, params=""):
 
 def counting(turns):
     """A loop in a loop: a sum, and the end of a turn; two steps for each turn of the inner one."""
-    code = [["lit", 2, 0], ["for", 0, 1, turns, 5], ["for", 1, 1, 5000, 4], ["add", 2, 2, 1], ["next", 2], ["next", 1], ["print", 2], ["ret"]]
+    code = [
+        ["lit", 2, 0],
+        ["for", 0, 1, turns, 5],
+        ["for", 1, 1, 5000, 4],
+        ["add", 2, 2, 1],
+        ["next", 2],
+        ["next", 1],
+        ["print", 2],
+        ["ret"],
+    ]
     return module([unit("main", 3, code)])
 
 
 def counting_to_limits(turns):
     """The same, in which both loops have a limit that is no less than their last number."""
-    code = [["lit", 3, turns + 5000], ["lit", 2, 0], ["forto", 0, 1, 3, turns, 6], ["forto", 1, 1, 3, 5000, 5], ["add", 2, 2, 1], ["next", 3]]
+    code = [
+        ["lit", 3, turns + 5000],
+        ["lit", 2, 0],
+        ["forto", 0, 1, 3, turns, 6],
+        ["forto", 1, 1, 3, 5000, 5],
+        ["add", 2, 2, 1],
+        ["next", 3],
+    ]
     return module([unit("main", 4, [*code, ["next", 2], ["print", 2], ["ret"]])], version=2)
 
 
 def beginning(turns):
     """A loop in a loop that takes one turn: its beginning, and with the end of a turn three steps."""
-    code = [["for", 0, 1, turns, 5], ["for", 1, 1, 5000, 4], ["for", 2, 1, 1, 3], ["next", 2], ["next", 1], ["next", 0], ["ret"]]
+    code = [
+        ["for", 0, 1, turns, 5],
+        ["for", 1, 1, 5000, 4],
+        ["for", 2, 1, 1, 3],
+        ["next", 2],
+        ["next", 1],
+        ["next", 0],
+        ["ret"],
+    ]
     return module([unit("main", 3, code)])
 
 
 def beginning_with_limits(turns):
     """The same, in which the loop of one turn has a limit."""
-    code = [["lit", 3, 1], ["for", 0, 1, turns, 6], ["for", 1, 1, 5000, 5], ["forto", 2, 1, 3, 1, 4], ["next", 3], ["next", 2], ["next", 1], ["ret"]]
+    code = [
+        ["lit", 3, 1],
+        ["for", 0, 1, turns, 6],
+        ["for", 1, 1, 5000, 5],
+        ["forto", 2, 1, 3, 1, 4],
+        ["next", 3],
+        ["next", 2],
+        ["next", 1],
+        ["ret"],
+    ]
     return module([unit("main", 4, code)], version=2)
 
 
 def counting_beside(count, turns):
     """So many activities, each with such a loop."""
-    body = [["lit", 2, 0], ["for", 0, 1, turns, 5], ["for", 1, 1, 5000, 4], ["add", 2, 2, 1], ["next", 2], ["next", 1], ["ret"]]
+    body = [
+        ["lit", 2, 0],
+        ["for", 0, 1, turns, 5],
+        ["for", 1, 1, 5000, 4],
+        ["add", 2, 2, 1],
+        ["next", 2],
+        ["next", 1],
+        ["ret"],
+    ]
     main = [["for", 0, 1, count, 2], ["spawn", 1, []], ["next", 0], ["ret"]]
     return module([unit("main", 1, main), unit("body", 3, body)])
 
 
 def calling(turns):
-    """A loop in a loop that calls a method with a number: the call, a sum, the `ret` and the end of a turn are four steps."""
+    """A loop in a loop that calls a method with a number: the call, a sum, the `ret` and the end of a turn are four
+    steps."""
     code = [["for", 0, 1, turns, 4], ["for", 1, 1, 5000, 3], ["call", 1, [1]], ["next", 1], ["next", 0], ["ret"]]
     return module([unit("main", 2, code), unit("method", 2, [["add", 1, 0, 0], ["ret"]], "n")])
 
 
 def finishing(turns):
     """A loop in a loop that opens a finish and closes it: with the end of a turn three steps."""
-    code = [["for", 0, 1, turns, 5], ["for", 1, 1, 5000, 4], ["finish", 3], ["endfinish", 2], ["next", 1], ["next", 0], ["ret"]]
+    code = [
+        ["for", 0, 1, turns, 5],
+        ["for", 1, 1, 5000, 4],
+        ["finish", 3],
+        ["endfinish", 2],
+        ["next", 1],
+        ["next", 0],
+        ["ret"],
+    ]
     return module([unit("main", 2, code)])
 
 
@@ -60,14 +110,25 @@ def gathering(count):
 
 
 def starting(count):
-    """A loop that starts an activity in each turn: `for (i in 1..count) async { }`. Its steps are two for each turn, one for each
-    activity, and two."""
-    return module([unit("main", 1, [["for", 0, 1, count, 2], ["spawn", 1, []], ["next", 0], ["ret"]]), unit("body", 0, [["ret"]])])
+    """A loop that starts an activity in each turn: `for (i in 1..count) async { }`. Its steps are two for each turn,
+    one for each activity, and two."""
+    return module(
+        [unit("main", 1, [["for", 0, 1, count, 2], ["spawn", 1, []], ["next", 0], ["ret"]]), unit("body", 0, [["ret"]])]
+    )
 
 
 def starting_in_finish(count):
     """The same with a finish round the loop, and a shared number to which each activity adds one."""
-    main = [["finish", 4], ["for", 0, 1, count, 3], ["spawn", 1, []], ["next", 1], ["endfinish", 0], ["get", 0, 0], ["print", 0], ["ret"]]
+    main = [
+        ["finish", 4],
+        ["for", 0, 1, count, 3],
+        ["spawn", 1, []],
+        ["next", 1],
+        ["endfinish", 0],
+        ["get", 0, 0],
+        ["print", 0],
+        ["ret"],
+    ]
     return module([unit("main", 1, main), unit("body", 1, [["lit", 0, 1], ["addto", 0, 0], ["ret"]])], [0])
 
 
@@ -80,33 +141,48 @@ def in_step(activities, phases):
 
 
 def ring(activities, phases):
-    """A ring: each activity is registered on two clocks, of which each neighbour has one. A method makes a clock, starts an activity on
-    the clock before and this one, and calls the next method; the last one closes the ring."""
+    """A ring: each activity is registered on two clocks, of which each neighbour has one. A method makes a clock,
+    starts an activity on the clock before and this one, and calls the next method; the last one closes the ring."""
     body, chain = activities - 1, activities - 3
     units = [unit("main", 2, [["make", 0], ["make", 1], ["spawn", body, [0, 1]], ["call", 1, [0, 1]], ["ret"]])]
     for number in range(1, chain + 1):
         code = [["make", 2], ["spawn", body, [1, 2]], ["call", number + 1, [0, 2]], ["drop", 2], ["ret"]]
         units.append(unit("method", 3, code, "cc"))
-    units.append(unit("method", 3, [["make", 2], ["spawn", body, [1, 2]], ["spawn", body, [2, 0]], ["drop", 2], ["ret"]], "cc"))
+    units.append(
+        unit("method", 3, [["make", 2], ["spawn", body, [1, 2]], ["spawn", body, [2, 0]], ["drop", 2], ["ret"]], "cc")
+    )
     units.append(unit("body", 3, [["for", 2, 1, phases, 2], ["advance"], ["next", 0], ["ret"]], "cc"))
     return module(units)
 
 
 def clocks_in_turn(count):
     """A clock in each turn, which advances once and is dropped."""
-    return module([unit("main", 2, [["for", 0, 1, count, 4], ["make", 1], ["advance"], ["drop", 1], ["next", 0], ["ret"]])])
+    return module(
+        [unit("main", 2, [["for", 0, 1, count, 4], ["make", 1], ["advance"], ["drop", 1], ["next", 0], ["ret"]])]
+    )
 
 
 def clocks_then_activities(clocks, activities):
     """Clocks that are made and dropped at once, and then activities."""
-    code = [["for", 0, 1, clocks, 3], ["make", 1], ["drop", 1], ["next", 0], ["for", 0, 1, activities, 6], ["spawn", 1, []], ["next", 4], ["ret"]]
+    code = [
+        ["for", 0, 1, clocks, 3],
+        ["make", 1],
+        ["drop", 1],
+        ["next", 0],
+        ["for", 0, 1, activities, 6],
+        ["spawn", 1, []],
+        ["next", 4],
+        ["ret"],
+    ]
     return module([unit("main", 2, code), unit("body", 0, [["ret"]])])
 
 
 def clocks_beside_activities(count, phases):
     """Activities, each with a clock of its own that advances."""
     body = [["make", 0], ["for", 1, 1, phases, 3], ["advance"], ["next", 1], ["drop", 0], ["ret"]]
-    return module([unit("main", 1, [["for", 0, 1, count, 2], ["spawn", 1, []], ["next", 0], ["ret"]]), unit("body", 2, body)])
+    return module(
+        [unit("main", 1, [["for", 0, 1, count, 2], ["spawn", 1, []], ["next", 0], ["ret"]]), unit("body", 2, body)]
+    )
 
 
 def waiting(count, phases):

@@ -1,11 +1,12 @@
 #!/usr/bin/env python3
-"""Whether the machine in bench/plain prints what the program prints: on the modules of tests/answers/rows, the accepted rows of
-tests/answers/programs, and modules that nobody wrote (tests/generated/generated.py), in each order, byte for byte.
+"""Whether the machine in bench/plain prints what the program prints: on the modules of tests/answers/rows, the accepted
+rows of tests/answers/programs, and modules that nobody wrote (tests/generated/generated.py), in each order, byte for
+byte.
 
     python3 -m bench.same [CASES] [SEED] [--program PATH | --alone]
 
-400 cases and seed 1 where nothing else is said. With `--alone` the second telling of the rules is asked in the place of the
-program (tests/reference/telling.py).
+400 cases and seed 1 where nothing else is said. With `--alone` the second telling of the rules is asked in the place of
+the program (tests/reference/telling.py).
 """
 import argparse
 import collections
@@ -46,7 +47,8 @@ def told(program, judged, path, order):
 
 
 def is_known(module):
-    """Whether the plain machine knows all that a module has: no loops with a limit, and no numbers that main is given."""
+    """Whether the plain machine knows all that a module has: no loops with a limit, and no numbers that main is
+    given."""
     return not module.wants and not any(instr.name == "forto" for unit in module.units for instr in unit.code)
 
 
@@ -64,7 +66,8 @@ def main():
     with tempfile.NamedTemporaryFile(suffix=".json") as file:
         for text in texts(given.cases, given.seed):
             judged = telling.judge(text)
-            # The plain reader knows no escapes: those rows are about the text alone; and it reads the first version alone.
+            # The plain reader knows no escapes: those rows are about the text alone; and it reads the first version
+            # alone.
             accepted = isinstance(judged, telling.Accepted) and is_small(judged.bounds) and is_known(judged.module)
             if not accepted or b"\\" in text or b'"version":1' not in text:
                 counts["left out"] += 1

@@ -13,7 +13,8 @@ from typing import IO
 
 @dataclass(frozen=True)
 class Spent:
-    """What a call took: seconds of processor time, and those that passed; the most memory in MB; its status; what it wrote.
+    """What a call took: seconds of processor time, and those that passed; the most memory in MB; its status; what it
+    wrote.
 
     Memory counts from what the process held that made the call.
     """

@@ -1,10 +1,12 @@
 #!/usr/bin/env python3
-"""Asks SPIN for all that some programs print, by the models of bench/spin, which were written by hand: without its partial order reduction, and with it.
+"""Asks SPIN for all that some programs print, by the models of bench/spin, which were written by hand: without its
+partial order reduction, and with it.
 
     python3 -m bench.spin [MODEL ..]
 
-Needs `spin` and `gcc`. Prints for each model how many lists of numbers there are, and for both searches the states that were stored and the
-processor time of one search. `spin -o2`, since else it hides an array that is only written; no compression.
+Needs `spin` and `gcc`. Prints for each model how many lists of numbers there are, and for both searches the states that
+were stored and the processor time of one search. `spin -o2`, since else it hides an array that is only written; no
+compression.
 """
 from __future__ import annotations
 
@@ -25,7 +27,9 @@ def spent() -> float:
 
 def searched(folder: pathlib.Path, *flags: str) -> tuple[set[bytes], int, float]:
     """The lists, the states that were stored, and the processor time of the search."""
-    subprocess.run(["gcc", "-O2", "-w", "-DSAFETY", "-DMEMLIM=16000", *flags, "-o", "pan", "pan.c"], cwd=folder, check=True)
+    subprocess.run(
+        ["gcc", "-O2", "-w", "-DSAFETY", "-DMEMLIM=16000", *flags, "-o", "pan", "pan.c"], cwd=folder, check=True
+    )
     before = spent()
     ran = subprocess.run(["./pan", "-m100000", "-w24"], cwd=folder, capture_output=True, check=True)
     if found := re.search(rb"errors: ([1-9]\d*)|max search depth too small", ran.stdout):
@@ -38,10 +42,13 @@ def main() -> None:
     for name in sys.argv[1:] or sorted(path.stem for path in MODELS.glob("*.pml")):
         with tempfile.TemporaryDirectory() as made:
             folder = pathlib.Path(made)
-            subprocess.run(["spin", "-o2", "-a", MODELS / f"{name}.pml"], cwd=folder, check=True, stdout=subprocess.DEVNULL)
+            subprocess.run(
+                ["spin", "-o2", "-a", MODELS / f"{name}.pml"], cwd=folder, check=True, stdout=subprocess.DEVNULL
+            )
             (lists, states, seconds), (again, fewer, less) = searched(folder, "-DNOREDUCE"), searched(folder)
         same = "" if lists == again else f", but {len(again)} with reduction"
-        print(f"{name}: {len(lists)} lists{same}; {states:,} states in {seconds:.2f} s, {fewer:,} with reduction in {less:.2f} s", flush=True)
+        reduced = f"{fewer:,} with reduction in {less:.2f} s"
+        print(f"{name}: {len(lists)} lists{same}; {states:,} states in {seconds:.2f} s, {reduced}", flush=True)
 
 
 if __name__ == "__main__":

@@ -1,5 +1,6 @@
 #!/usr/bin/env python3
-"""Times the built program on large source texts: what it takes to compile three of them, and to answer some that are no programs.
+"""Times the built program on large source texts: what it takes to compile three of them, and to answer some that are no
+programs.
 
     python3 -m bench.texts [--program PATH] [--count]
 
@@ -23,25 +24,36 @@ MEMORY = re.compile(r"malloc|calloc|realloc|free|_int_|memcpy|memmove|memset|all
 
 def methods():
     """1,015 methods of seven loops and branches each, all called by `main`."""
-    part = "    for (i{0} in 1..10) {{ if (x <= y * {0} + 3) {{ x = x + i{0} * 2; }} else {{ y = y - (x - {0}); }} s = x + y; }}\n"
+    part = (
+        "    for (i{0} in 1..10) {{ "
+        "if (x <= y * {0} + 3) {{ x = x + i{0} * 2; }} else {{ y = y - (x - {0}); }} s = x + y; }}\n"
+    )
     body = "".join(part.format(number) for number in range(7))
     head = "def method_{0}(first: Long, second: Long) {{\n    var x = first;\n    var y = second;\n"
     parts = [head.format(number) + body + "    Console.OUT.println(x * y);\n}\n" for number in range(1_015)]
-    return "shared s = 0;\n" + "".join(parts) + "def main() { " + "".join(f"method_{number}(1, 2); " for number in range(1_015)) + "}\n"
+    return (
+        "shared s = 0;\n"
+        + "".join(parts)
+        + "def main() { "
+        + "".join(f"method_{number}(1, 2); " for number in range(1_015))
+        + "}\n"
+    )
 
 
 def expressions():
     """7,000 expressions of 55 parentheses in one another."""
     one = "    x = " + "(" * 55 + "x + 1" + " * 2)" * 5 + ")" * 50 + ";\n"
-    return "".join(f"def m{number}() {{\n    var x = {number};\n{one * 70}}}\n" for number in range(100)) + "def main() { " + "".join(
-        f"m{number}(); " for number in range(100)
-    ) + "}\n"
+    parts = "".join(f"def m{number}() {{\n    var x = {number};\n{one * 70}}}\n" for number in range(100))
+    return parts + "def main() { " + "".join(f"m{number}(); " for number in range(100)) + "}\n"
 
 
 def calls():
     """1,022 methods that call each other: each the next 94, where there are so many."""
     return "".join(
-        f"def m{number}() {{ " + "".join(f"m{other}();" for other in range(number + 1, min(number + 95, 1_022))) + " }\n" for number in range(1_022)
+        f"def m{number}() {{ "
+        + "".join(f"m{other}();" for other in range(number + 1, min(number + 95, 1_022)))
+        + " }\n"
+        for number in range(1_022)
     ) + "def main() { m0(); }\n"
 
 

@@ -1,10 +1,11 @@
 #!/usr/bin/env python3
-"""Times the built program by worker threads beside the order `first`: activities with long loops of their own, and many that advance together.
+"""Times the built program by worker threads beside the order `first`: activities with long loops of their own, and many
+that advance together.
 
     python3 -m bench.workers [--program PATH] [--rounds N]
 
-Prints for each module the seconds that passed, the least of three runs: in
-the order `first`, and by 1, 2 and 4 workers.
+Prints for each module the seconds that passed, the least of three runs: in the order `first`, and by 1, 2 and 4
+workers.
 """
 import argparse
 import subprocess
@@ -18,7 +19,15 @@ from tests import harness
 def in_step_with_sums(activities, phases):
     """Activities on one clock, each of which adds eight times between two advances."""
     main = [["make", 0], ["for", 1, 1, activities, 3], ["spawn", 1, [0]], ["next", 1], ["drop", 0], ["ret"]]
-    body = [["lit", 2, 0], ["for", 1, 1, phases, 11], *[["add", 2, 2, 1]] * 8, ["advance"], ["next", 1], ["drop", 0], ["ret"]]
+    body = [
+        ["lit", 2, 0],
+        ["for", 1, 1, phases, 11],
+        *[["add", 2, 2, 1]] * 8,
+        ["advance"],
+        ["next", 1],
+        ["drop", 0],
+        ["ret"],
+    ]
     return module([unit("main", 2, main), unit("body", 3, body, "c")])
 
 

@@ -16,7 +16,8 @@ from typing import Any, BinaryIO
 
 TOP = pathlib.Path(__file__).resolve().parents[1]
 BUILT = TOP / "crates/x10clock/out/x10clock"
-# How many seconds a call may take: of the program, and of the reference (tests/reference/told.py), which walks in Python.
+# How many seconds a call may take: of the program, and of the reference (tests/reference/told.py), which walks in
+# Python.
 SECONDS, SECONDS_OF_REFERENCE = 60, 1_200
 # How a call ends that doesn't in time.
 LATE = -1_000
@@ -63,7 +64,8 @@ class Ended:
 
 
 def call(words: Iterable[object], given: bytes | BinaryIO = b"", seconds: int = 0, **how: Any) -> Ended:
-    """Calls a program with these words, and waits for its end, but no longer than so many seconds, or than is usual of it.
+    """Calls a program with these words, and waits for its end, but no longer than so many seconds, or than is usual of
+    it.
 
     It is given these bytes or this file as standard input; `how` is for subprocess.run.
     """
@@ -78,10 +80,19 @@ def call(words: Iterable[object], given: bytes | BinaryIO = b"", seconds: int = 
     return Ended(ran.returncode, ran.stdout or b"", ran.stderr or b"")
 
 
+def beside(program: pathlib.Path, crate: str) -> pathlib.Path:
+    """The program of another crate: of the checkout that this one stands in, or else of this checkout."""
+    inside = pathlib.Path(crate) / "out" / crate
+    there = program.parent.parent.parent / inside
+    return there if there.exists() else TOP / "crates" / inside
+
+
 def build(path: pathlib.Path) -> None:
     """Builds a crate's program, where this is its path and it isn't there yet."""
     crate = path.parent.parent
     if path.exists() or crate.parent != TOP / "crates":
         return
     with (TOP / "crates/x10clock/stdin").open("rb") as stdin:
-        subprocess.run(["rt", "run", "--", "run", "--module", "-"], cwd=crate, stdin=stdin, stdout=subprocess.DEVNULL, check=True)
+        subprocess.run(
+            ["rt", "run", "--", "run", "--module", "-"], cwd=crate, stdin=stdin, stdout=subprocess.DEVNULL, check=True
+        )

@@ -1,5 +1,6 @@
-# What the scripts of the shell share, each of which reads it at the top of the repository: `program`, the program that is asked, which is what
-# `--program PATH` names before all other words, else what X10CLOCK names, else the built one; and `work`, a folder that goes away at the end.
+# What the scripts of the shell share, each of which reads it at the top of the repository: `program`, the program that
+# is asked, which is what `--program PATH` names before all other words, else what X10CLOCK names, else the built one;
+# and `work`, a folder that goes away at the end.
 program=${X10CLOCK:-crates/x10clock/out/x10clock}
 if [ "${1:-}" = --program ]; then
     program=$2

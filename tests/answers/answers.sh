@@ -1,18 +1,21 @@
 #!/bin/sh
-# Asks the built program what it says of the modules in `tests/answers/programs/*.rows`, of those that `tests/answers/programs/made.sh` makes, of
-# the source texts in `tests/answers/programs/sources*.rows`, and of those that `tests/answers/programs/made-sources.sh` makes, and compares,
-# line for line. Where files of rows are named, it asks about these alone.
+# Asks the built program what it says of the modules in `tests/answers/programs/*.rows`, of those that
+# `tests/answers/programs/made.sh` makes, of the source texts in `tests/answers/programs/sources*.rows`, and of those
+# that `tests/answers/programs/made-sources.sh` makes, and compares, line for line. Where files of rows are named, it
+# asks about these alone.
 #
-# A row is a line with a module's text and, right below it, the line that `x10clock check` answers to it: on standard output with status 0
-# where it begins with `accepted`, else on standard error with status 1, and then `x10clock run` answers the same. Below an accepted module
-# there may be lines of what a run prints, with a comma where a line ends: `run: ` without an order and in the order `first`, `last: ` and
-# `round: ` in these orders, and `every: ` in each of them. A line `args: ` with numbers gives `--arg` for each of them to the
-# calls below it, up to the next such line or the next row. `not run: ` has the line that `run`, `replay` and `chart` answer with status 1,
-# whatever their log holds. In the text, `\n`, `\t`, `\\` and `\0OOO` (a byte in octal) stand for themselves as with printf's %b, and `\c`
+# A row is a line with a module's text and, right below it, the line that `x10clock check` answers to it: on standard
+# output with status 0 where it begins with `accepted`, else on standard error with status 1, and then `x10clock run`
+# answers the same. Below an accepted module there may be lines of what a run prints, with a comma where a line ends:
+# `run: ` without an order and in the order `first`, `last: ` and `round: ` in these orders, and `every: ` in each of
+# them. A line `args: ` with numbers gives `--arg` for each of them to the calls below it, up to the next such line or
+# the next row. `not run: ` has the line that `run`, `replay` and `chart` answer with status 1, whatever their log
+# holds. In the text, `\n`, `\t`, `\\` and `\0OOO` (a byte in octal) stand for themselves as with printf's %b, and `\c`
 # alone for an empty text. Lines that begin with `#`, and empty ones, are between rows.
 #
-# In a file whose name begins with `sources` the texts are programs in the language, not modules. `x10clock compile` answers the same as
-# `check` where that is a fault of the text (F1 to F15); below a row there may be `compile: ` and the module that it is compiled to.
+# In a file whose name begins with `sources` the texts are programs in the language, not modules. `x10clock compile`
+# answers the same as `check` where that is a fault of the text (F1 to F15); below a row there may be `compile: ` and
+# the module that it is compiled to.
 set -eu
 cd "$(dirname "$0")/../.."
 . tests/harness.sh
@@ -22,8 +25,8 @@ fail() {
     exit 1
 }
 
-# answers STATUS WORDS..: the program ends with this status on these words, with the text on standard input, and says what is wanted, on
-# standard output where the status is 0, else on standard error, and nothing else.
+# answers STATUS WORDS..: the program ends with this status on these words, with the text on standard input, and says
+# what is wanted, on standard output where the status is 0, else on standard error, and nothing else.
 answers() {
     wanted=$1
     shift
@@ -38,7 +41,8 @@ answers() {
     fi
 }
 
-# row TEXT ANSWER: the program answers so to the program with this text, which is the one that is asked about from now on.
+# row TEXT ANSWER: the program answers so to the program with this text, which is the one that is asked about from now
+# on.
 row() {
     given=
     printf '%b' "$1" > "$work/text"
@@ -68,7 +72,8 @@ prints() {
     runs=$((runs + 1))
 }
 
-# refuses LINE: an accepted program isn't run, nor played again, with what its main is given. No log is read, so it may be any text.
+# refuses LINE: an accepted program isn't run, nor played again, with what its main is given. No log is read, so it may
+# be any text.
 refuses() {
     printf '%s\n' "$1" > "$work/wanted"
     printf 'no log\n' > "$work/log"

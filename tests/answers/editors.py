@@ -1,8 +1,9 @@
 #!/usr/bin/env python3
-"""Holds the syntax files for editors (`editors/`) against the lexer's words and signs: each reserved word and each sign of
-`crates/xk_lexer/src/scan.rt` is coloured whole, by one rule, in both; and no word is coloured as reserved that isn't. A name that only
-begins with a reserved word isn't; a comment is one whatever stands in it. Then it says so of each example: what is left uncoloured are
-names and blanks. `editors.py` from anywhere; status 1 where something is otherwise."""
+"""Holds the syntax files for editors (`editors/`) against the lexer's words and signs: each reserved word and each sign
+of `crates/xk_lexer/src/scan.rt` is coloured whole, by one rule, in both; and no word is coloured as reserved that
+isn't. A name that only begins with a reserved word isn't; a comment is one whatever stands in it. Then it says so of
+each example: what is left uncoloured are names and blanks. `editors.py` from anywhere; status 1 where something is
+otherwise."""
 
 import json
 import re
@@ -28,7 +29,8 @@ def lexer() -> tuple[set[str], set[str]]:
 
 
 class Rules:
-    """The rules of one file, in the order in which they are tried: name, pattern; and the words that it colours as reserved."""
+    """The rules of one file, in the order in which they are tried: name, pattern; and the words that it colours as
+    reserved."""
 
     def __init__(self, name: str) -> None:
         self.name = name

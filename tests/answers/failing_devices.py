@@ -1,8 +1,9 @@
 #!/usr/bin/env python3
-"""The built program between devices that fail it: of each call every read and every write fails in its turn, of the program, of a log, a list or
-what somebody answers, of standard output, of standard error, and of the log that is written. Where devices move single bytes they fail, too: of
-long texts at some of them, and at the last. It has to end with status 5 and its line, and to leave a beginning of what it answers otherwise:
-nothing where it couldn't read, and no log before all of the result. Where devices move single bytes and none fails, it answers as ever.
+"""The built program between devices that fail it: of each call every read and every write fails in its turn, of the
+program, of a log, a list or what somebody answers, of standard output, of standard error, and of the log that is
+written. Where devices move single bytes they fail, too: of long texts at some of them, and at the last. It has to end
+with status 5 and its line, and to leave a beginning of what it answers otherwise: nothing where it couldn't read, and
+no log before all of the result. Where devices move single bytes and none fails, it answers as ever.
 
     python3 -m tests.answers.failing_devices [--program PATH]
 
@@ -45,8 +46,9 @@ ASKED = b"def main() { async { Console.OUT.println(2); } Console.OUT.println(1);
 
 @dataclass(frozen=True)
 class Call:
-    """Words, in which PROGRAM, SECOND and LOG stand for files; what the program and the second file hold, or, where somebody is asked, what standard
-    input answers; the status where no device fails; and what is told where one does."""
+    """Words, in which PROGRAM, SECOND and LOG stand for files; what the program and the second file hold, or, where
+    somebody is asked, what standard input answers; the status where no device fails; and what is told where one
+    does."""
 
     words: str
     program: bytes
@@ -77,10 +79,18 @@ class Failure:
 
 CALLS = [
     *(Call(f"{command} -", IN_STEP) for command in (
-        "check", "explain", "explain --json", "compile", "listing", "run", "run --log LOG", "run --order last --log LOG", "run --workers 1 --log LOG",
-        "run --order random --runs 4", "races", "outcomes", "outcomes --sets", "outcomes --log LOG", "outcomes --pick 2 --log LOG")),
-    *(Call(f"{command} --module -", MODULE) for command in ("check", "explain", "listing", "run --log LOG", "outcomes --log LOG")),
-    *(Call(f"{command} - SECOND", IN_STEP, LOG) for command in ("replay", "chart", "events", "lanes", "lanes --svg", "page", "where", "races")),
+        "check", "explain", "explain --json", "compile", "listing", "run", "run --log LOG",
+        "run --order last --log LOG", "run --workers 1 --log LOG",
+        "run --order random --runs 4", "races", "outcomes", "outcomes --sets", "outcomes --log LOG",
+        "outcomes --pick 2 --log LOG")),
+    *(
+        Call(f"{command} --module -", MODULE)
+        for command in ("check", "explain", "listing", "run --log LOG", "outcomes --log LOG")
+    ),
+    *(
+        Call(f"{command} - SECOND", IN_STEP, LOG)
+        for command in ("replay", "chart", "events", "lanes", "lanes --svg", "page", "where", "races")
+    ),
     *(Call(f"{command} --module - SECOND", MODULE, LOG) for command in ("replay", "chart")),
     Call("outcomes --limit 1 --pick 2 --log LOG -", IN_STEP, status=6),
     Call("outcomes --expect SECOND -", IN_STEP, OUTCOMES),
@@ -124,8 +134,14 @@ class Place:
         return Told(ended.status, *texts), (self.folder / "mark").exists()
 
     def environment(self, failure: Failure) -> dict[str, str]:
-        asked = {"DEVICE": str(self.folder / failure.device), "DEVICE_CALL": str(failure.call), "DEVICE_FAILURE": failure.how,
-                 "DEVICE_MARK": str(self.folder / "mark"), "DEVICE_PACE": "1" if failure.paced else "", "DEVICE_SILENT": "1" if failure.silent else ""}
+        asked = {
+            "DEVICE": str(self.folder / failure.device),
+            "DEVICE_CALL": str(failure.call),
+            "DEVICE_FAILURE": failure.how,
+            "DEVICE_MARK": str(self.folder / "mark"),
+            "DEVICE_PACE": "1" if failure.paced else "",
+            "DEVICE_SILENT": "1" if failure.silent else "",
+        }
         return {**os.environ, "LD_PRELOAD": self.preloaded, **{name: value for name, value in asked.items() if value}}
 
 
@@ -154,7 +170,8 @@ def is_right(call: Call, failure: Failure, told: Told, whole: Told) -> bool:
 
 
 def numbers(length: int, paced: bool) -> Iterator[int]:
-    """Which calls of a device fail in their turn: each, or of single bytes some up to the last one that there can be, which reads no more."""
+    """Which calls of a device fail in their turn: each, or of single bytes some up to the last one that there can be,
+    which reads no more."""
     if not paced or length < BYTES:
         return itertools.count(1)
     return iter(sorted({*range(1, BYTES // 2), *range(BYTES // 2, length, 2 * length // BYTES), length, length + 1}))
@@ -164,7 +181,9 @@ def failures(call: Call, whole: Told) -> Iterator[tuple[Failure, int]]:
     """Each way in which a device of the call can fail, with the length of what the device holds."""
     held = {"program": call.program, "second": call.second, "out": whole.out, "err": whole.err, "log": whole.log}
     for device, text in held.items():
-        for how, paced in itertools.product(("error",) if device in ("program", "second") else ("error", "none"), (False, True)):
+        for how, paced in itertools.product(
+            ("error",) if device in ("program", "second") else ("error", "none"), (False, True)
+        ):
             yield Failure(device, how=how, paced=paced), len(text)
         if device != "err" and not call.asks:
             yield Failure(device, silent=True), len(text)
@@ -196,7 +215,9 @@ def main() -> int:
     with tempfile.TemporaryDirectory() as folder:
         folder = os.path.realpath(folder)
         preloaded = f"{folder}/fail_devices.so"
-        subprocess.run(["gcc", "-shared", "-fPIC", "-O2", "-o", preloaded, TOP / "tests/answers/fail_devices.c"], check=True)
+        subprocess.run(
+            ["gcc", "-shared", "-fPIC", "-O2", "-o", preloaded, TOP / "tests/answers/fail_devices.c"], check=True
+        )
         with multiprocessing.Pool(len(os.sched_getaffinity(0))) as pool:
             told = pool.starmap(tried, [(call, program, preloaded, folder) for call in CALLS], chunksize=1)
     wrong = [line for _, lines in told for line in lines]
@@ -205,7 +226,8 @@ def main() -> int:
     if wrong or silent:
         print(f"failing devices: {len(wrong)} wrong; no device failed in {silent}", file=sys.stderr)
         return 1
-    print(f"failing devices: {len(CALLS)} calls, {sum(failed for failed, _ in told)} reads and writes that failed, all answered as they must be")
+    total = sum(failed for failed, _ in told)
+    print(f"failing devices: {len(CALLS)} calls, {total} reads and writes that failed, all answered as they must be")
     return 0
 
 

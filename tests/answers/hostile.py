@@ -1,10 +1,11 @@
 #!/usr/bin/env python3
-"""The built program on files, pipes and devices that fail it, on closed streams, and under limits of the system: each call has to be answered with
-its status, within its time, and nothing of the user's may be lost.
+"""The built program on files, pipes and devices that fail it, on closed streams, and under limits of the system: each
+call has to be answered with its status, within its time, and nothing of the user's may be lost.
 
     python3 -m tests.answers.hostile [--program PATH]
 
-crates/x10clock/out/x10clock where nothing else is said. Needs Linux; what a limit for another user than root shows is left out where the caller isn't root.
+crates/x10clock/out/x10clock where nothing else is said. Needs Linux; what a limit for another user than root shows is
+left out where the caller isn't root.
 """
 
 from __future__ import annotations
@@ -36,6 +37,12 @@ TOO_LONG = """/dev/zero: F4 TooLong: the text has more than 1048576 bytes
    = usual repair: write a shorter one: a method is written once, however often it is called
 """
 OVER_FILE = "x10clock: --log would write over FILE\n"
+MANY = """def main() {
+    val c = Clock.make();
+    for (i in 1..9000) async clocked(c) { Clock.advanceAll(); }
+    Clock.advanceAll();
+}
+"""
 LONG = "def main() { for (i in 1..900000000) ; Console.OUT.println(1); }"
 # The least stack, in KB, in which texts as deep as they may be are answered.
 LEAST_STACK = 192
@@ -59,7 +66,8 @@ class Tried:
     wrong: list[str] = field(default_factory=list)
 
     def shell(self, script: str, *words: object, given: bytes = b"", limits: Callable[[], None] | None = None) -> Ended:
-        """Runs a line of the shell in which `x` is the program; a status below 0 is a signal's death, or none in time."""
+        """Runs a line of the shell in which `x` is the program; a status below 0 is a signal's death, or none in
+        time."""
         self.calls += 1
         line = ["sh", "-c", f'x="{self.program}"; {script}', "sh", *map(str, words)]
         return Ended(*harness.call(line, given, cwd=self.folder, preexec_fn=limits).texts())
@@ -87,7 +95,9 @@ def full_devices(tried: Tried) -> None:
     tried.answers("exec $x listing in-step.x10 > /dev/full", 5, err=DEVICE)
     tried.answers("exec $x outcomes in-step.x10 > /dev/full", 5, err=DEVICE)
     tried.answers("exec $x outcomes --log /dev/full in-step.x10", 5, OUTCOMES, DEVICE)
-    tried.answers("$x outcomes in-step.x10 > list; exec $x outcomes --expect list in-step.x10 > /dev/full", 5, err=DEVICE)
+    tried.answers(
+        "$x outcomes in-step.x10 > list; exec $x outcomes --expect list in-step.x10 > /dev/full", 5, err=DEVICE
+    )
     tried.answers("exec $x events in-step.x10 log > /dev/full", 5, err=DEVICE)
     for command in ("lanes", "lanes --svg", "page", "where", "races"):
         tried.answers(f"exec $x {command} in-step.x10 log > /dev/full", 5, err=DEVICE)
@@ -127,7 +137,13 @@ def over_file(tried: Tried) -> None:
     os.symlink("kept.x10", tried.folder / "link")
     tried.file("kept.x10", text)
     os.link(tried.folder / "kept.x10", tried.folder / "hard")
-    for path, file in [("kept.x10", "kept.x10"), ("./kept.x10", "kept.x10"), ("link", "kept.x10"), ("kept.x10", "link"), ("hard", "kept.x10")]:
+    for path, file in [
+        ("kept.x10", "kept.x10"),
+        ("./kept.x10", "kept.x10"),
+        ("link", "kept.x10"),
+        ("kept.x10", "link"),
+        ("hard", "kept.x10"),
+    ]:
         tried.answers(f"exec $x run --log {path} {file}", 2, err=OVER_FILE)
         tried.answers(f"exec $x outcomes --log {path} {file}", 2, err=OVER_FILE)
     for path in ("kept.x10", "/dev/stdin", "/dev/fd/0", "hard"):
@@ -142,8 +158,10 @@ def over_file(tried: Tried) -> None:
 
 
 def strange_files(tried: Tried) -> None:
-    for command in ("check", "explain", "explain --json", "listing", "compile", "run", "outcomes", "outcomes --sets", "races",
-                    "run --order random --runs 2", "check --module"):
+    for command in (
+        "check", "explain", "explain --json", "listing", "compile", "run", "outcomes", "outcomes --sets", "races",
+        "run --order random --runs 2", "check --module",
+    ):  # fmt: skip
         tried.answers(f"exec $x {command} .", 5, err=DEVICE)
         tried.answers(f"exec $x {command} no-such-file", 5, err=DEVICE)
     tried.answers("exec $x check /dev/null", 1, err="x10clock: F9 NoMain at 0\n")
@@ -163,7 +181,8 @@ def strange_files(tried: Tried) -> None:
 
 
 def asked(tried: Tried) -> None:
-    """Answers that can't be read, that end early, or have no end; and a question stands there before its answer is read."""
+    """Answers that can't be read, that end early, or have no end; and a question stands there before its answer is
+    read."""
     first, run = "act 0 at 2:9\nwho steps?\n", "run --order ask in-step.x10"
     for given in ("<&-", "< ."):
         tried.answers(f"exec $x {run} {given}", 5, err=first + DEVICE)
@@ -174,32 +193,52 @@ def asked(tried: Tried) -> None:
     tried.answers(f"exec $x {run} --log no-folder/log", 5, err=DEVICE)
     tried.answers(f"exec $x {run} < /dev/null", 6, "stopped steps 0\n", first)
     tried.answers(f"head -c 30000000 /dev/zero | $x {run}", 6, "stopped steps 0\n", first)
-    tried.answers(f"{{ head -c 30000000 /dev/zero; echo; }} | $x {run}", 6, "stopped steps 0\n", first + "none of these: who steps?\n")
+    tried.answers(
+        f"{{ head -c 30000000 /dev/zero; echo; }} | $x {run}",
+        6,
+        "stopped steps 0\n",
+        first + "none of these: who steps?\n",
+    )
     tried.answers("exec $x run --order ask .", 5, err=DEVICE)
     for path in ("in-step.x10", "answers", "/dev/stdin"):
         tried.file("answers", "0\n")
-        tried.answers(f"exec $x {run} --log {path} < answers", 2, err="x10clock: --log would write over FILE or standard input\n")
+        tried.answers(
+            f"exec $x {run} --log {path} < answers", 2, err="x10clock: --log would write over FILE or standard input\n"
+        )
         tried.wants(f"the answers beside {path}", (tried.folder / "answers").read_text(), "0\n")
     tried.calls += 1
     words = [tried.program, *run.split(), "--log", "played"]
-    with subprocess.Popen(words, stdin=subprocess.PIPE, stdout=subprocess.PIPE, stderr=subprocess.PIPE, cwd=tried.folder, text=True) as person:
+    with subprocess.Popen(
+        words, stdin=subprocess.PIPE, stdout=subprocess.PIPE, stderr=subprocess.PIPE, cwd=tried.folder, text=True
+    ) as person:
         told = [person.stderr.readline() for _ in range(2)]
         person.stdin.write("0\n")
         person.stdin.flush()
         told += [person.stderr.readline() for _ in range(2)]
         out, _ = person.communicate(timeout=harness.SECONDS)
-        tried.wants("what a person is asked", ("".join(told), out, person.returncode), (first + "act 0 at 3:5\nwho steps?\n", "stopped steps 1\n", 6))
+        tried.wants(
+            "what a person is asked",
+            ("".join(told), out, person.returncode),
+            (first + "act 0 at 3:5\nwho steps?\n", "stopped steps 1\n", 6),
+        )
     tried.wants("the log of what was played", (tried.folder / "played").read_text(), "x10log 1\n0 1\nend 1\n")
 
 
 def strange_lists(tried: Tried) -> None:
-    """Lists of outcomes that are none, that come in pieces, or that have no end: what is behind the most that is read isn't looked at."""
+    """Lists of outcomes that are none, that come in pieces, or that have no end: what is behind the most that is read
+    isn't looked at."""
     tried.file("outcomes", OUTCOMES)
     last = OUTCOMES.splitlines(keepends=True)[-1]
     tried.answers("exec $x outcomes --expect outcomes in-step.x10", 0, last)
     tried.answers("exec $x outcomes --expect outcomes - < in-step.x10", 0, last)
-    tried.answers("{ head -c 30 outcomes; sleep 0.1; tail -c +31 outcomes; } | $x outcomes --expect /dev/stdin in-step.x10", 0, last)
-    tried.answers("head -n 1 outcomes | $x outcomes --expect /dev/stdin in-step.x10", 6, OUTCOMES.splitlines(keepends=True)[1])
+    tried.answers(
+        "{ head -c 30 outcomes; sleep 0.1; tail -c +31 outcomes; } | $x outcomes --expect /dev/stdin in-step.x10",
+        0,
+        last,
+    )
+    tried.answers(
+        "head -n 1 outcomes | $x outcomes --expect /dev/stdin in-step.x10", 6, OUTCOMES.splitlines(keepends=True)[1]
+    )
     tried.answers("exec $x outcomes --expect . in-step.x10", 5, err=DEVICE)
     tried.answers("exec $x outcomes --expect no-such-file in-step.x10", 5, err=DEVICE)
     tried.answers("exec $x outcomes --expect /dev/null in-step.x10", 6, OUTCOMES.splitlines(keepends=True)[0])
@@ -270,9 +309,14 @@ def small_files(tried: Tried) -> None:
 
 def little_memory(tried: Tried) -> None:
     """An answer, or none for want of memory; no more than that."""
-    many = tried.file("many.x10", "def main() { val c = Clock.make(); for (i in 1..9000) async clocked(c) { Clock.advanceAll(); } Clock.advanceAll(); }")
-    words = [f"check {many}", f"listing {many}", f"explain --json {many}", f"run {many}", f"run --log log {many}", f"run --workers 8 {many}", f"run --workers 64 {many}", f"outcomes {many}", "outcomes --expect /dev/zero in-step.x10", "replay in-step.x10 kept.log",
-             "events in-step.x10 kept.log", "lanes in-step.x10 kept.log", "page in-step.x10 kept.log", "--help"]
+    many = tried.file("many.x10", MANY)
+    words = [
+        *(f"{command} {many}" for command in ("check", "listing", "explain --json")),
+        *(f"{run} {many}" for run in ("run", "run --log log", "run --workers 8", "run --workers 64", "outcomes")),
+        "outcomes --expect /dev/zero in-step.x10",
+        *(f"{command} in-step.x10 kept.log" for command in ("replay", "events", "lanes", "page")),
+        "--help",
+    ]
     whole = {word: tried.shell(f"exec $x {word}") for word in words}
     for word, size in ((word, size) for word in words for size in LIMITS_OF_MEMORY):
         ran = tried.shell(f"exec $x {word}", limits=limited(resource.RLIMIT_AS, size << 20))
@@ -286,7 +330,8 @@ def few_files(tried: Tried) -> None:
 
 
 def few_threads(tried: Tried) -> None:
-    """Where no thread can be started, the calling one does it all. Root has no such limit. Two may print in either order."""
+    """Where no thread can be started, the calling one does it all. Root has no such limit. Two may print in either
+    order."""
     nobody = "exec setpriv --reuid 65534 --clear-groups" if os.getuid() == 0 else "exec"
     for most in (1, 2, 4):
         ran = tried.shell(f"{nobody} $x run --workers 8 in-step.x10", limits=limited(resource.RLIMIT_NPROC, most))
@@ -301,7 +346,13 @@ def small_stack(tried: Tried) -> None:
     hidden = "def main() { " + "clocked finish clocked async " * 31 + "; }"
     sums = "def main() { Console.OUT.println(" + "(" * 20 + "1" + " + 2)" * 20 + "); }"
     brackets = "[" * 127 + "]" * 127
-    for name, text in {"blocks.x10": blocks, "branches.x10": branches, "hidden.x10": hidden, "sums.x10": sums, "brackets.json": brackets}.items():
+    for name, text in {
+        "blocks.x10": blocks,
+        "branches.x10": branches,
+        "hidden.x10": hidden,
+        "sums.x10": sums,
+        "brackets.json": brackets,
+    }.items():
         form = "--module " if name.endswith("json") else ""
         tried.file(name, text)
         whole = tried.shell(f"exec $x check {form}{name}")
@@ -316,7 +367,9 @@ def killed(tried: Tried) -> None:
     for sign in (signal.SIGINT, signal.SIGTERM, signal.SIGHUP, signal.SIGKILL):
         tried.calls += 1
         tried.file("log", "something that was there before")
-        ran = subprocess.Popen([tried.program, "run", "--log", "log", "long.x10"], cwd=tried.folder, stdout=subprocess.PIPE)
+        ran = subprocess.Popen(
+            [tried.program, "run", "--log", "log", "long.x10"], cwd=tried.folder, stdout=subprocess.PIPE
+        )
         time.sleep(0.2)
         ran.send_signal(sign)
         tried.wants(f"{sign.name}", (ran.communicate()[0], ran.returncode), (b"", -sign))
@@ -324,7 +377,18 @@ def killed(tried: Tried) -> None:
 
 
 def all_of_them() -> Iterator[Callable[[Tried], None]]:
-    yield from (full_devices, streams, over_file, strange_files, asked, strange_lists, pipes, endless, growing, small_files)
+    yield from (
+        full_devices,
+        streams,
+        over_file,
+        strange_files,
+        asked,
+        strange_lists,
+        pipes,
+        endless,
+        growing,
+        small_files,
+    )
     yield from (little_memory, few_files, few_threads, small_stack, killed)
 
 

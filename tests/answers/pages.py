@@ -1,17 +1,20 @@
 #!/usr/bin/env python3
-"""Plays the pages: asks the built program what the fenced blocks of the documents say of it, and compares, line for line.
+"""Plays the pages: asks the built program what the fenced blocks of the documents say of it, and compares, line for
+line.
 
-A block that begins with a question has below it the program that the question is about, which is handed in as standard input:
+A block that begins with a question has below it the program that the question is about, which is handed in as standard
+input:
 
     check: accepted steps 12 activities 2 clocks 1
     run --order last: 2,1,ended steps 12
     def main() { .. }
 
-A question is a command with its words, a colon, and the answer: on standard error with status 1 where it begins with `x10clock: `, else on
-standard output with status 0; of `run`, a comma stands where a line ends. With `--module` the program is a module. A block that begins with
-`$ ` has calls, each with all that it says below it; `x10clock` in a call is the built program. The calls of a page are made one after another
-in a folder of the page's own, which has a copy of `examples` and what calls before have left. All other blocks are for the eye. With `--write`
-the answers are written anew. docs/REFUSALS.md has to have an answer with each rule.
+A question is a command with its words, a colon, and the answer: on standard error with status 1 where it begins with
+`x10clock: `, else on standard output with status 0; of `run`, a comma stands where a line ends. With `--module` the
+program is a module. A block that begins with `$ ` has calls, each with all that it says below it; `x10clock` in a call
+is the built program. The calls of a page are made one after another in a folder of the page's own, which has a copy of
+`examples` and what calls before have left. All other blocks are for the eye. With `--write` the answers are written
+anew. docs/REFUSALS.md has to have an answer with each rule.
 
     python3 -m tests.answers.pages [--write] [--program PATH] [PAGE ..]
 """
@@ -100,7 +103,8 @@ def play(page: pathlib.Path, folder: str, played: Played) -> str:
     text = page.read_text()
 
     def block(found: re.Match[str]) -> str:
-        where = f"{page.relative_to(TOP) if page.is_relative_to(TOP) else page}, line {text.count(chr(10), 0, found.start()) + 1}"
+        name = page.relative_to(TOP) if page.is_relative_to(TOP) else page
+        where = f"{name}, line {text.count(chr(10), 0, found.start()) + 1}"
         inside = found[1]
         if QUESTION.match(inside):
             inside = asked(where, inside, played)

@@ -1,13 +1,15 @@
 #!/usr/bin/env python3
-"""Refuses each growth of memory in turn, the first, the second and so on, until a run ends without a refusal: in `xk_tests_memory`, which makes
-library calls again that were refused memory and handed back what they were given, and in `x10clock` itself on small programs, modules and source texts, and on words that are no
-job, which has to answer as it does with ample memory, or with status 4, an empty standard output, nothing in the log that it was to write, and
-its line.
+"""Refuses each growth of memory in turn, the first, the second and so on, until a run ends without a refusal: in
+`xk_tests_memory`, which makes library calls again that were refused memory and handed back what they were given, and in
+`x10clock` itself on small programs, modules and source texts, and on words that are no job, which has to answer as it
+does with ample memory, or with status 4, an empty standard output, nothing in the log that it was to write, and its
+line.
 
     python3 -m tests.answers.refused_growths [--counts] [--program PATH] [--exhaust PATH]
 
-crates/x10clock/out/x10clock and crates/xk_tests_memory/out/xk_tests_memory where nothing else is said. The calls are tried on all processors at once, each call's growths one after another. With `--counts` it tells how many each call has, and how
-long they took.
+crates/x10clock/out/x10clock and crates/xk_tests_memory/out/xk_tests_memory where nothing else is said. The calls are
+tried on all processors at once, each call's growths one after another. With `--counts` it tells how many each call has,
+and how long they took.
 """
 
 from __future__ import annotations
@@ -28,17 +30,20 @@ from tests.harness import TOP
 
 ROWS = TOP / "tests/answers/rows"
 LOGS = TOP / "tests/answers/logs"
-# Of a checkout, the folder of its crates has this program too.
-EXHAUST = "xk_tests_memory/out/xk_tests_memory"
+EXHAUST = "xk_tests_memory"
 
-# Source texts that have a module: of no statement; of all sorts of statements; of bodies that take numbers; of methods that call each other in a
-# chain; of a main that takes numbers, by which its loops end.
+# Source texts that have a module: of no statement; of all sorts of statements; of bodies that take numbers; of methods
+# that call each other in a chain; of a main that takes numbers, by which its loops end.
 COMPILED = (
     "def main() { }",
-    "def main() { val c = Clock.make(); var x: Long = -(1 + 2) * 3; if (x < 4) x = 5; else { c.resume(); } async clocked(c) { Clock.advanceAll(); } c.drop(); }",
-    "def main() { val a = 1; val b = 2; async { Console.OUT.println(b); async { val d = a + b; Console.OUT.println(d); } } }",
-    "def h(n: Long) { Console.OUT.println(n); } def g(c: Clock, n: Long) { h(n * 2); h(n); } def main() { val c = Clock.make(); g(c, 7); for (i in 2..1) h(i); }",
-    "def main(n: Long, k: Long) { var t = n; for (i in 1..Math.min(t * k, 9)) { for (j in 0..Math.min(i, 3)) t = t - j; async { Console.OUT.println(i); } } Console.OUT.println(t); }",
+    "def main() { val c = Clock.make(); var x: Long = -(1 + 2) * 3; if (x < 4) x = 5; else { c.resume(); } "
+    "async clocked(c) { Clock.advanceAll(); } c.drop(); }",
+    "def main() { val a = 1; val b = 2; "
+    "async { Console.OUT.println(b); async { val d = a + b; Console.OUT.println(d); } } }",
+    "def h(n: Long) { Console.OUT.println(n); } def g(c: Clock, n: Long) { h(n * 2); h(n); } "
+    "def main() { val c = Clock.make(); g(c, 7); for (i in 2..1) h(i); }",
+    "def main(n: Long, k: Long) { var t = n; for (i in 1..Math.min(t * k, 9)) { "
+    "for (j in 0..Math.min(i, 3)) t = t - j; async { Console.OUT.println(i); } } Console.OUT.println(t); }",
 )
 
 # Source texts that break a rule: on tokens, on syntax, on names, on `main`, on recursion, on tables.
@@ -50,13 +55,15 @@ FAULTY = (
     "def main(c: Clock) { }",
     "def main() { for (i in 1..Math.min(i, 3)) { } }",
     "def f() { g(); } def g() { async { f(); } } def main() { f(); }",
-    f"def main() {{ val a = 0; f({', '.join(['a'] * 65)}); }} def f({', '.join(f'n{i}: Long' for i in range(65))}) {{ }}",
+    f"def main() {{ val a = 0; f({', '.join(['a'] * 65)}); }} "
+    f"def f({', '.join(f'n{i}: Long' for i in range(65))}) {{ }}",
 )
 
 # No modules: of no version, with an instruction that its version lacks, and no text.
 UNREAD = (
     '{"version":3,"shared":[],"units":[]}',
-    '{"version":1,"shared":[],"units":[{"kind":"main","params":"","slots":2,"code":[["lit",1,2],["forto",0,1,1,3,2],["next",1],["ret"]]}]}',
+    '{"version":1,"shared":[],"units":[{"kind":"main","params":"","slots":2,'
+    '"code":[["lit",1,2],["forto",0,1,1,3,2],["next",1],["ret"]]}]}',
     "",
 )
 
@@ -83,8 +90,8 @@ class Answer:
 
 @dataclass(frozen=True)
 class Call:
-    """A call of a program with its words and standard input, and what it answers with ample memory. One that asks may have told some of it before it
-    says that memory is out."""
+    """A call of a program with its words and standard input, and what it answers with ample memory. One that asks may
+    have told some of it before it says that memory is out."""
 
     name: str
     words: list[str]
@@ -200,7 +207,9 @@ class Calls:
         """The same of one whose texts have to begin with these lines; an empty one stands for an empty text."""
         told = self.ask(name, words)
         firsts = [text.decode("utf-8").split("\n")[0] for text in (told.out, told.err)]
-        if (told.status, firsts) != (status, [out, err]) or any(text and not line for text, line in zip((told.out, told.err), firsts)):
+        if (told.status, firsts) != (status, [out, err]) or any(
+            text and not line for text, line in zip((told.out, told.err), firsts)
+        ):
             raise Wrong(f"{name}: {told}")
         return told
 
@@ -223,7 +232,9 @@ def each_row(calls: Calls) -> None:
         text = row.read_bytes()
         out, err = (row.with_suffix(end).read_bytes() for end in (".stdout", ".stderr"))
         calls.ask(f"{row.name}, explained", ["explain", *given(row)[:row.suffix == ".json"], "-"], text)
-        calls.ask(f"{row.name}, explained as JSON", ["explain", "--json", *given(row)[:row.suffix == ".json"], "-"], text)
+        calls.ask(
+            f"{row.name}, explained as JSON", ["explain", "--json", *given(row)[:row.suffix == ".json"], "-"], text
+        )
         calls.ask(f"{row.name}, listed", ["listing", *given(row)[:row.suffix == ".json"], "-"], text)
         calls.ask(f"{row.name}, checked", ["check", *given(row)[:row.suffix == ".json"], "-"], text)
         calls.need(row.name, ["run", *given(row), "-"], text, 1 if err else 0, out, err)
@@ -232,7 +243,9 @@ def each_row(calls: Calls) -> None:
             if printed.exists():
                 words = ["run", *given(row), "--order", order, "-"]
                 calls.need(f"{row.name}, order {order}", words, text, 0, printed.read_bytes(), b"")
-                logged = calls.need(f"{row.name}, order {order}, with a log", [*words, "--log", LOG], text, 0, printed.read_bytes(), b"")
+                logged = calls.need(
+                    f"{row.name}, order {order}, with a log", [*words, "--log", LOG], text, 0, printed.read_bytes(), b""
+                )
                 if not logged.log:
                     raise Wrong(f"{row.name}, order {order}: no log")
         if row.suffix == ".x10":
@@ -294,29 +307,51 @@ def each_mismatch(calls: Calls, folder: str) -> None:
 
 
 def each_search(calls: Calls) -> None:
-    """All that small programs can print, with a log of one outcome; some of it, where a limit is met; and runs by chance."""
+    """All that small programs can print, with a log of one outcome; some of it, where a limit is met; and runs by
+    chance."""
     for name, limit, status in (("in-step.x10", "100", 0), ("ring.json", "3", 6), ("as-many.x10", "5", 6)):
         row = ROWS / name
-        found = calls.ask(f"{name}, outcomes", ["outcomes", *given(row), "--limit", limit, "--log", LOG, "-"], row.read_bytes())
+        found = calls.ask(
+            f"{name}, outcomes", ["outcomes", *given(row), "--limit", limit, "--log", LOG, "-"], row.read_bytes()
+        )
         if found.status != status or not found.out or status == 0 and not found.log:
             raise Wrong(f"{name}, outcomes: {found}")
-        calls.ask(f"{name}, by chance", ["run", *given(row), "--order", "random", "--seed", "5", "--log", LOG, "-"], row.read_bytes())
+        calls.ask(
+            f"{name}, by chance",
+            ["run", *given(row), "--order", "random", "--seed", "5", "--log", LOG, "-"],
+            row.read_bytes(),
+        )
         calls.ask(f"{name}, a tally", ["run", *given(row), "--order", "random", "--runs", "3", "-"], row.read_bytes())
         calls.ask(f"{name}, races", ["races", *given(row), "-"], row.read_bytes())
-        calls.ask(f"{name}, outcomes without order", ["outcomes", *given(row), "--sets", "--limit", limit, "-"], row.read_bytes())
+        calls.ask(
+            f"{name}, outcomes without order",
+            ["outcomes", *given(row), "--sets", "--limit", limit, "-"],
+            row.read_bytes(),
+        )
 
 
 def each_list(calls: Calls, folder: str) -> None:
-    """Outcomes that are held against a list which has them all, against one that hasn't, and against one that is none."""
+    """Outcomes that are held against a list which has them all, against one that hasn't, and against one that is
+    none."""
     row = ROWS / "in-step.x10"
     for name, lines, status, out, err in (
-            ("all", "outcome 2 prints 1 2\noutcome 1 prints 2 1\noutcomes 2 complete\n", 0, b"outcomes 2 complete\n", b""),
+            (
+                "all",
+                "outcome 2 prints 1 2\noutcome 1 prints 2 1\noutcomes 2 complete\n",
+                0,
+                b"outcomes 2 complete\n",
+                b"",
+            ),
             ("some", "outcome 1 prints 1 2\n", 6, b"outcome 2 prints 2 1\n", b""),
             ("none", "outcome 1 prints 1 2\n1 2\n", 3, b"", b"x10clock: L6 NoOutcome line 2\n")):
         kept = pathlib.Path(folder) / f"{name}.list"
         kept.write_text(lines)
         calls.need(f"a list of {name}", ["outcomes", "--expect", str(kept), "-"], row.read_bytes(), status, out, err)
-        calls.ask(f"a list of {name}, without order", ["outcomes", "--sets", "--limit", "4", "--expect", str(kept), "-"], row.read_bytes())
+        calls.ask(
+            f"a list of {name}, without order",
+            ["outcomes", "--sets", "--limit", "4", "--expect", str(kept), "-"],
+            row.read_bytes(),
+        )
 
 
 def each_game(calls: Calls) -> None:
@@ -325,7 +360,11 @@ def each_game(calls: Calls) -> None:
         row = ROWS / name
         words = ["run", "--order", "ask", *given(row), str(row)]
         whole = b"".join(b"%d\n" % act for act in [0, 1, 2, 3] * 60)
-        for what, answers, status in (("to its end", whole, 0), ("to no end", b"0\nnobody\n0\n", 6), ("without an answer", b"", 6)):
+        for what, answers, status in (
+            ("to its end", whole, 0),
+            ("to no end", b"0\nnobody\n0\n", 6),
+            ("without an answer", b"", 6),
+        ):
             played = calls.ask(f"{name}, by hand {what}", words, answers, asks=True)
             logged = calls.ask(f"{name}, by hand {what}, with a log", [*words, "--log", LOG], answers, asks=True)
             if (played.status, logged.status) != (status, status) or not played.err or not logged.log:
@@ -350,8 +389,16 @@ def each_mistake(calls: Calls) -> None:
     for name, words, err in (
             ("no words", [], "error: 'x10clock' requires a subcommand but one was not provided"),
             ("walk", ["walk"], "error: unrecognized subcommand 'walk'"),
-            ("an unknown order", ["run", "--module", "--order", "least", "-"], "error: invalid value 'least' for '--order <ORDER>'"),
-            ("an order for check", ["check", "--module", "--order", "first", "-"], "error: unexpected argument '--order' found"),
+            (
+                "an unknown order",
+                ["run", "--module", "--order", "least", "-"],
+                "error: invalid value 'least' for '--order <ORDER>'",
+            ),
+            (
+                "an order for check",
+                ["check", "--module", "--order", "first", "-"],
+                "error: unexpected argument '--order' found",
+            ),
             ("no workers", ["run", "--module", "--workers", "0", "-"],
              "error: invalid value '0' for '--workers <N>': 0 is not in 1..=64"),
             ("an argument that is no number", ["run", "--arg", "x", "-"],
@@ -360,9 +407,21 @@ def each_mistake(calls: Calls) -> None:
             ("JSON for a listing", ["listing", "--json", "-"], "error: unexpected argument '--json' found"),
             ("workers beside an order", ["run", "--module", "--workers", "2", "--order", "first", "-"],
              "x10clock: --workers and --order exclude each other"),
-            ("a seed without chance", ["run", "--module", "--seed", "2", "-"], "x10clock: --seed goes with --order random"),
-            ("a tally without chance", ["run", "--runs", "2", "-"], "x10clock: --runs goes with --order random, and not with --log"),
-            ("a list beside a log", ["outcomes", "--expect", "list", "--log", LOG, "-"], "x10clock: --expect goes without --log and --pick"),
+            (
+                "a seed without chance",
+                ["run", "--module", "--seed", "2", "-"],
+                "x10clock: --seed goes with --order random",
+            ),
+            (
+                "a tally without chance",
+                ["run", "--runs", "2", "-"],
+                "x10clock: --runs goes with --order random, and not with --log",
+            ),
+            (
+                "a list beside a log",
+                ["outcomes", "--expect", "list", "--log", LOG, "-"],
+                "x10clock: --expect goes without --log and --pick",
+            ),
             ("no outcomes", ["outcomes", "--limit", "0", "-"],
              "error: invalid value '0' for '--limit <LIMIT>': 0 is not in 1..18446744073709551615")):
         calls.begins(name, words, 2, "", err)
@@ -412,7 +471,7 @@ def main() -> int:
     harness.add_option(parser)
     parser.add_argument("--exhaust", type=harness.resolved)
     options = parser.parse_args()
-    options.exhaust = options.exhaust or options.program.parents[2] / EXHAUST
+    options.exhaust = options.exhaust or harness.beside(options.program, EXHAUST)
     for path in (options.exhaust, options.program):
         harness.build(path)
     with tempfile.TemporaryDirectory() as folder:

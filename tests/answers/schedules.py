@@ -1,13 +1,14 @@
 #!/usr/bin/env python3
-"""Schedules of small modules: whether the second telling of the rules (tests/reference/telling.py, telling_log.py) says of them what the rows of
-tests/answers/schedules.rows want, and whether the program says the same of their logs.
+"""Schedules of small modules: whether the second telling of the rules (tests/reference/telling.py, telling_log.py) says
+of them what the rows of tests/answers/schedules.rows want, and whether the program says the same of their logs.
 
     python3 -m tests.answers.schedules [--program PATH]
 
-The telling knows no phases and no numbers of steps: they are counted here. Where all schedules of a module are known, the program has to tell of
-all that they print by `outcomes`, and replays and charts the log of each, or, where there are more than 100, of 60 that are spread evenly among them;
-of one in five it tells the events and draws the lanes, too. The rows of tests/answers/texts.rows are of programs as texts, which are carried out by
-tests/reference/meaning.py and by their modules.
+The telling knows no phases and no numbers of steps: they are counted here. Where all schedules of a module are known,
+the program has to tell of all that they print by `outcomes`, and replays and charts the log of each, or, where there
+are more than 100, of 60 that are spread evenly among them; of one in five it tells the events and draws the lanes, too.
+The rows of tests/answers/texts.rows are of programs as texts, which are carried out by tests/reference/meaning.py and
+by their modules.
 """
 from __future__ import annotations
 
@@ -103,7 +104,8 @@ def log_of(schedule: list[int]) -> bytes:
 
 
 def ask_able(asked: Asked, program: Program, text: Text, schedule: list[int], known: str) -> None:
-    """Whether those can step behind a schedule, or where it is halted, of whom a row says so: by the log with a step of each."""
+    """Whether those can step behind a schedule, or where it is halted, of whom a row says so: by the log with a step of
+    each."""
     at, since, able = KNOWN.fullmatch(known).groups()
     done = schedule if at is None else schedule[: int(at)]
     for who in range(len(since.split())):
@@ -118,7 +120,8 @@ def ask_able(asked: Asked, program: Program, text: Text, schedule: list[int], kn
 
 @dataclass
 class Every:
-    """All schedules of a module that come to the end, in the order of the numbers that they have, and the world in which they begin."""
+    """All schedules of a module that come to the end, in the order of the numbers that they have, and the world in
+    which they begin."""
 
     module: telling.Module
     start: World
@@ -126,7 +129,9 @@ class Every:
 
     def steps(self, world: World) -> list[tuple[int, telling.Step]]:
         """The steps that can be taken, and who takes them."""
-        return [(who, taken) for who in range(len(world.activities)) if (taken := telling.step(self.module, world, who))]
+        return [
+            (who, taken) for who in range(len(world.activities)) if (taken := telling.step(self.module, world, who))
+        ]
 
     def printed(self, world: World) -> Counter[str]:
         """What the schedules from here print, and how many of them do."""
@@ -176,7 +181,11 @@ def ask_every(asked: Asked, program: Program, text: Text, row: str) -> None:
     for at in range(count):
         given = log_of(every.schedule(at * total // count))
         for command in ("replay", "chart") if at % TOLD else telling_runs.COMMANDS:
-            asked.said(f"{text}\n    {command} {given!r}", Told().answer(text, given, command), program.answer(text, given, command))
+            asked.said(
+                f"{text}\n    {command} {given!r}",
+                Told().answer(text, given, command),
+                program.answer(text, given, command),
+            )
 
 
 # The rows.
@@ -241,7 +250,9 @@ def ask_texts(asked: Asked) -> None:
 
 
 def words() -> argparse.Namespace:
-    parser = argparse.ArgumentParser(description="Compares what is known of schedules with a second telling, and asks the program.")
+    parser = argparse.ArgumentParser(
+        description="Compares what is known of schedules with a second telling, and asks the program."
+    )
     harness.add_option(parser)
     return parser.parse_args()
 

@@ -1,12 +1,13 @@
 #!/bin/sh
-# Plays transcripts of the built program again, and compares them line for line: what `examples/*.txt` tell of the programs beside them, and
-# what `tests/answers/words.txt` tells of the command line, `tests/answers/explained/explain.txt` of what is refused, `tests/answers/logs.txt` of logs, and `tests/answers/workers.txt` of runs by workers
-# that print the same whoever comes first.
+# Plays transcripts of the built program again, and compares them line for line: what `examples/*.txt` tell of the
+# programs beside them, and what `tests/answers/words.txt` tells of the command line,
+# `tests/answers/explained/explain.txt` of what is refused, `tests/answers/logs.txt` of logs, and
+# `tests/answers/workers.txt` of runs by workers that print the same whoever comes first.
 #
-# A transcript has, for each call, a line `$ x10clock WORDS`, as a shell takes it, then what goes to standard output, then what goes to
-# standard error, each line of which begins with `! `, and, where it isn't 0, the status. Standard input is empty. The calls of a transcript
-# are made one after another in a copy of its folder, where they may leave files. With `--write` the transcripts are written anew. Where files
-# are named, only these are played.
+# A transcript has, for each call, a line `$ x10clock WORDS`, as a shell takes it, then what goes to standard output,
+# then what goes to standard error, each line of which begins with `! `, and, where it isn't 0, the status. Standard
+# input is empty. The calls of a transcript are made one after another in a copy of its folder, where they may leave
+# files. With `--write` the transcripts are written anew. Where files are named, only these are played.
 set -eu
 cd "$(dirname "$0")/../.."
 . tests/harness.sh
@@ -35,7 +36,8 @@ if [ "${1:-}" = --write ]; then
     write=yes
     shift
 fi
-[ $# -gt 0 ] || set -- tests/answers/words.txt tests/answers/logs.txt tests/answers/workers.txt tests/answers/explained/explain.txt examples/*.txt
+[ $# -gt 0 ] || set -- tests/answers/words.txt tests/answers/logs.txt tests/answers/workers.txt \
+    tests/answers/explained/explain.txt examples/*.txt
 count=0
 for file; do
     played "$file" > "$work/played"

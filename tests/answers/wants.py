@@ -1,10 +1,12 @@
 #!/usr/bin/env python3
-"""Whether the program gets along with the memory that docs/RELIABILITY.md says it can want at most, on the worst programs that are known.
+"""Whether the program gets along with the memory that docs/RELIABILITY.md says it can want at most, on the worst
+programs that are known.
 
     python3 -m tests.answers.wants [--program PATH] [--least]
 
-crates/x10clock/out/x10clock where nothing else is said. Each call has an address space of no more than what the formula says of it, and has to be answered
-as with ample memory. With `--least` the least address space in which it is answered so is told beside it, found by halving.
+crates/x10clock/out/x10clock where nothing else is said. Each call has an address space of no more than what the formula
+says of it, and has to be answered as with ample memory. With `--least` the least address space in which it is answered
+so is told beside it, found by halving.
 """
 
 from __future__ import annotations
@@ -57,7 +59,8 @@ def to_verify(module: telling.Module) -> int:
 
 
 def to_run(found: telling.Accepted) -> int:
-    """A clock has two numbers and a place in the list of one that is registered on it: who makes it, or who is given it at a start."""
+    """A clock has two numbers and a place in the list of one that is registered on it: who makes it, or who is given it
+    at a start."""
     given = max(unit.params.count("c") for unit in found.module.units)
     activity = 210 + 9 * found.bounds.stack + 16 * given
     return found.bounds.activities * activity + 64 * found.bounds.clocks
@@ -82,7 +85,8 @@ def to_events(steps: int) -> int:
 
 
 def to_lanes(steps: int) -> int:
-    """Twice the text, of which a row has some 28 bytes here, and the lists of the steps that others see and of those that are drawn."""
+    """Twice the text, of which a row has some 28 bytes here, and the lists of the steps that others see and of those
+    that are drawn."""
     return (2 * 28 + 128) * steps
 
 
@@ -126,7 +130,8 @@ def texts() -> Iterator[tuple[str, str]]:
 
 
 def refused_texts() -> Iterator[tuple[str, str]]:
-    """Texts that are as long as they may be, with a walk to tell of a fault of their last method, or a fault of theirs at their end."""
+    """Texts that are as long as they may be, with a walk to tell of a fault of their last method, or a fault of theirs
+    at their end."""
     wrong = "def main(){val c=Clock.make();c.drop();c.resume();}"
     for piece in (";", "x=1;", "f();", "{}", "if(1<2);", "Clock.advanceAll();", "finish;"):
         methods = "def f(){}" + "".join(f"def m{i}(){{var x=0;{piece * (980 // len(piece))}}}" for i in range(1_000))
@@ -160,7 +165,11 @@ def runs() -> Iterator[tuple[str, list[str], str]]:
     yield "clocks in deep stacks", ["--order", "last"], chain_of_clocks(62) + "def main(){for(i in 1..26)async m0();}"
     yield "activities on many clocks", [], f"def main(){{{makes}for(i in 1..20000)async clocked({clocks});}}"
     yield "activities", [], "def main(){for(i in 1..99999)async;}"
-    yield "activities on a clock", [], "def main(){val c=Clock.make();for(i in 1..99999)async clocked(c)Clock.advanceAll();Clock.advanceAll();}"
+    yield (
+        "activities on a clock",
+        [],
+        "def main(){val c=Clock.make();for(i in 1..99999)async clocked(c)Clock.advanceAll();Clock.advanceAll();}",
+    )
     yield "clocks", [], "def main(){for(i in 1..100000){val c=Clock.make();c.drop();}}"
     yield "clocks at once", [], "def main(){for(i in 1..50000)async{val c=Clock.make();Clock.advanceAll();}}"
     yield "workers", ["--workers", "4"], "def main(){for(i in 1..99999)async;}"
@@ -191,7 +200,9 @@ class Calls:
             if name in ("statements of one sign", "clocks at all places"):
                 yield Call(f"listing, {name}", ["listing", self.file(text)], to_read(text.encode()) + verify)
             if name == "clocks at all places":
-                yield Call(f"explain --json, {name}", ["explain", "--json", self.file(text)], to_read(text.encode()) + verify)
+                yield Call(
+                    f"explain --json, {name}", ["explain", "--json", self.file(text)], to_read(text.encode()) + verify
+                )
 
     def of_refused_texts(self) -> Iterator[Call]:
         for name, text in refused_texts():
@@ -203,7 +214,11 @@ class Calls:
         for name, value in modules():
             text = value if isinstance(value, str) else json.dumps(value, separators=(",", ":"))
             verify = 0 if isinstance(value, str) else to_verify(telling.read_module(text.encode()))
-            yield Call(f"check --module, {name}", ["check", "--module", self.file(text)], to_read_module(text.encode()) + verify)
+            yield Call(
+                f"check --module, {name}",
+                ["check", "--module", self.file(text)],
+                to_read_module(text.encode()) + verify,
+            )
 
     def of_runs(self) -> Iterator[Call]:
         for name, words, text in runs():
@@ -224,13 +239,27 @@ class Calls:
         yield Call("run, 1,050,000 numbers", ["run", self.file(text)], small + to_print(1_050_000))
         text = "def main(){for(i in 1..300000)Console.OUT.println(i);}"
         small = to_read(text.encode()) + to_run(judged(text))
-        yield Call("run --log, 300,000 prints", ["run", "--log", log, self.file(text)], small + to_log(600_002) + to_print(300_000))
-        yield Call("events, 300,000 prints", ["events", self.file(text), log], small + to_log(600_002) + to_events(300_001))
-        yield Call("lanes, 300,000 prints", ["lanes", self.file(text), log], small + to_log(600_002) + to_lanes(300_001))
-        text = "def main(){" + "".join(f"val c{k}=Clock.make();" for k in range(60)) + "for(i in 1..15000)Clock.advanceAll();}"
+        yield Call(
+            "run --log, 300,000 prints",
+            ["run", "--log", log, self.file(text)],
+            small + to_log(600_002) + to_print(300_000),
+        )
+        yield Call(
+            "events, 300,000 prints", ["events", self.file(text), log], small + to_log(600_002) + to_events(300_001)
+        )
+        yield Call(
+            "lanes, 300,000 prints", ["lanes", self.file(text), log], small + to_log(600_002) + to_lanes(300_001)
+        )
+        text = (
+            "def main(){"
+            + "".join(f"val c{k}=Clock.make();" for k in range(60))
+            + "for(i in 1..15000)Clock.advanceAll();}"
+        )
         small = to_read(text.encode()) + to_run(judged(text))
         yield Call("run --log, 900,000 advances", ["run", "--log", log, self.file(text)], small + to_log(45_062))
-        yield Call("chart, 900,000 advances", ["chart", self.file(text), log], small + to_log(45_062) + to_chart(900_000))
+        yield Call(
+            "chart, 900,000 advances", ["chart", self.file(text), log], small + to_log(45_062) + to_chart(900_000)
+        )
 
 
     def of_lists(self) -> Iterator[Call]:
@@ -240,7 +269,11 @@ class Calls:
             listed = "outcome 1 prints 7\n" + line * (34_000_000 // len(line))
             path.write_text(listed)
             small = to_read(text.encode()) + to_run(judged(text))
-            yield Call(f"outcomes --expect, {name} lines", ["outcomes", "--expect", path, self.file(text)], small + to_list(listed))
+            yield Call(
+                f"outcomes --expect, {name} lines",
+                ["outcomes", "--expect", path, self.file(text)],
+                small + to_list(listed),
+            )
 
 
 def ask(program: pathlib.Path, call: Call, most: int | None) -> Ended:
@@ -265,7 +298,14 @@ def main() -> int:
     program, wrong, count = given.program, [], 0
     with tempfile.TemporaryDirectory() as folder:
         calls = Calls(pathlib.Path(folder))
-        for kind in (calls.of_texts, calls.of_refused_texts, calls.of_modules, calls.of_runs, calls.of_logs, calls.of_lists):
+        for kind in (
+            calls.of_texts,
+            calls.of_refused_texts,
+            calls.of_modules,
+            calls.of_runs,
+            calls.of_logs,
+            calls.of_lists,
+        ):
             for call in kind():
                 count += 1
                 whole = ask(program, call, None)
@@ -274,7 +314,8 @@ def main() -> int:
                 if given.least:
                     needed = least(program, call, whole)
                     ask(program, call, None)
-                    print(f"{needed / MEGABYTE:8.1f} of {call.most / MEGABYTE:8.1f} MB, {needed / call.most:5.2f}: {call.name}", flush=True)
+                    part = f"{needed / MEGABYTE:8.1f} of {call.most / MEGABYTE:8.1f} MB, {needed / call.most:5.2f}"
+                    print(f"{part}: {call.name}", flush=True)
                 elif (limited := ask(program, call, call.most)) != whole:
                     wrong.append(f"{call.name} in {call.most / MEGABYTE:.1f} MB: {limited.status} {limited.err!r}")
     print(*wrong, sep="\n", end="\n" if wrong else "", file=sys.stderr)

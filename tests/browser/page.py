@@ -3,10 +3,10 @@
 
     python3 -m tests.browser.page [--program PATH] [--shots FOLDER]
 
-At each moment of some runs: what the page says was done with `events`, how things stand, and which lines are marked, with `where` behind the
-log cut to so many steps, the printed numbers and the framed box with the events up to there. Then the keys and the buttons, and whether all
-fits into a wide window and a phone's. Into the folder go screenshots of these, in light and dark. Where no browser is found it says so, and
-ends with status 0.
+At each moment of some runs: what the page says was done with `events`, how things stand, and which lines are marked,
+with `where` behind the log cut to so many steps, the printed numbers and the framed box with the events up to there.
+Then the keys and the buttons, and whether all fits into a wide window and a phone's. Into the folder go screenshots of
+these, in light and dark. Where no browser is found it says so, and ends with status 0.
 """
 
 from __future__ import annotations
@@ -54,7 +54,8 @@ SHOWN = """(() => {
     event: document.getElementById("event").textContent,
     standings: [...lines("#activities"), ...lines("#clocks"), ...lines("#shared")],
     printed: document.getElementById("printed").textContent.split(" ").filter(word => word),
-    badges: rows.flatMap((row, i) => [...row.querySelectorAll(".badge")].map(badge => [i + 1, badge.textContent, badge.classList.contains("waits")])),
+    badges: rows.flatMap((row, i) => [...row.querySelectorAll(".badge")].map(
+      badge => [i + 1, badge.textContent, badge.classList.contains("waits")])),
     boxes: [...box].map(title => title.textContent),
     place: Number(document.getElementById("slider").value),
     most: Number(document.getElementById("slider").max),
@@ -68,7 +69,15 @@ class Browser:
     """A headless browser, which is told what to do through two pipes."""
 
     def __init__(self, program: str, folder: str) -> None:
-        words = [program, "--headless", "--no-sandbox", "--disable-gpu", "--remote-debugging-pipe", f"--user-data-dir={folder}", "about:blank"]
+        words = [
+            program,
+            "--headless",
+            "--no-sandbox",
+            "--disable-gpu",
+            "--remote-debugging-pipe",
+            f"--user-data-dir={folder}",
+            "about:blank",
+        ]
         there, self.said = os.pipe()
         heard, here = os.pipe()
 
@@ -77,7 +86,9 @@ class Browser:
             os.dup2(kept[0], 3)
             os.dup2(kept[1], 4)
 
-        self.process = subprocess.Popen(words, preexec_fn=joined, pass_fds=(3, 4), stdout=subprocess.DEVNULL, stderr=subprocess.DEVNULL)
+        self.process = subprocess.Popen(
+            words, preexec_fn=joined, pass_fds=(3, 4), stdout=subprocess.DEVNULL, stderr=subprocess.DEVNULL
+        )
         os.close(there)
         os.close(here)
         self.hears, self.numbers, self.session = os.fdopen(heard, "rb"), itertools.count(1), None
@@ -205,7 +216,11 @@ def compare(shown: dict[str, Any], run: Run, events: dict[int, str], steps: int)
     same(f"standings {steps}", shown["standings"], standings[1:])
     same(f"event {steps}", shown["event"], events.get(steps, "before the first step"))
     same(f"printed {steps}", shown["printed"], [found[1] for found in prints if found])
-    same(f"box {steps}", [title.split(" at ")[0] for title in shown["boxes"]], [re.split(" at | unit ", events[steps])[0]] if steps else [])
+    same(
+        f"box {steps}",
+        [title.split(" at ")[0] for title in shown["boxes"]],
+        [re.split(" at | unit ", events[steps])[0]] if steps else [],
+    )
     same(f"badges {steps}", sorted(shown["badges"]), [] if run.is_module else wanted_badges(standings))
     same(f"source {steps}", shown["source"], "" if run.is_module else run.file.read_bytes().decode().removesuffix("\n"))
 
@@ -226,7 +241,14 @@ def try_moments(browser: Browser, run: Run, page: pathlib.Path) -> int:
 
 def try_moves(browser: Browser, last: int) -> None:
     """The keys, wherever one is on the page, and the buttons, and no further than there are moments."""
-    moves = [("Home", 0), ("ArrowLeft", 0), ("ArrowRight", 1), ("End", last), ("ArrowRight", last), ("ArrowLeft", last - 1)]
+    moves = [
+        ("Home", 0),
+        ("ArrowLeft", 0),
+        ("ArrowRight", 1),
+        ("End", last),
+        ("ArrowRight", last),
+        ("ArrowLeft", last - 1),
+    ]
     for before in ("document.activeElement.blur()", "document.getElementById('slider').focus()"):
         browser.value(before)
         for key, place in moves:
@@ -238,7 +260,8 @@ def try_moves(browser: Browser, last: int) -> None:
 
 
 def try_looks(browser: Browser, page: pathlib.Path, steps: int, shots: pathlib.Path | None) -> None:
-    """Whether nothing is wider than the window, behind so many steps; screenshots go into the folder, if there is one."""
+    """Whether nothing is wider than the window, behind so many steps; screenshots go into the folder, if there is
+    one."""
     for scheme, (size, (wide, high)) in itertools.product(("light", "dark"), SIZES.items()):
         browser.look(scheme, wide, high)
         browser.open(page, f"#{steps}")
@@ -247,7 +270,9 @@ def try_looks(browser: Browser, page: pathlib.Path, steps: int, shots: pathlib.P
             browser.shoot(shots / f"{page.stem}-{size}-{scheme}.png")
 
 
-def made(program: pathlib.Path, name: str, order: str, part: tuple[int, ...], folder: pathlib.Path) -> tuple[Run, pathlib.Path]:
+def made(
+    program: pathlib.Path, name: str, order: str, part: tuple[int, ...], folder: pathlib.Path
+) -> tuple[Run, pathlib.Path]:
     """A run of a program, and its page."""
     file = TOP / "examples" / name
     if not file.exists():

@@ -1,11 +1,12 @@
 #!/usr/bin/env python3
-"""Plays the examples by answers that nobody wrote: whether `run --order ask` asks, prints and logs what the second telling does.
+"""Plays the examples by answers that nobody wrote: whether `run --order ask` asks, prints and logs what the second
+telling does.
 
     python3 -m tests.generated.asked [GAMES] [SEED] [--program PATH]
 
-3 games of each example, seed 1 and crates/x10clock/out/x10clock where nothing else is said. Most answers name an activity of a small number; some are no
-numbers, have blanks and zeros, or no line feed behind them, and some games end early. An example of more than 2,000 steps, or whose main takes numbers, is
-left out.
+3 games of each example, seed 1 and crates/x10clock/out/x10clock where nothing else is said. Most answers name an
+activity of a small number; some are no numbers, have blanks and zeros, or no line feed behind them, and some games end
+early. An example of more than 2,000 steps, or whose main takes numbers, is left out.
 """
 
 from __future__ import annotations
@@ -32,7 +33,11 @@ def answers(rng: random.Random, most: int) -> bytes:
     lines = []
     for _ in range(rng.choice([5, 40, 4_000])):
         number = b"%d" % rng.randint(0, most)
-        strange = rng.choice(STRANGE) if rng.random() < 0.5 else rng.choice([b" ", b"\t", b""]) + b"0" * rng.randrange(3) + number + rng.choice([b" ", b"\r", b""])
+        strange = (
+            rng.choice(STRANGE)
+            if rng.random() < 0.5
+            else rng.choice([b" ", b"\t", b""]) + b"0" * rng.randrange(3) + number + rng.choice([b" ", b"\r", b""])
+        )
         lines.append(strange if rng.random() < 0.1 else number)
     return b"\n".join(lines) + rng.choice([b"\n", b""])
 

@@ -1,7 +1,8 @@
-"""Modules that nobody wrote, as JSON values and as texts: whole programs that are mostly accepted, programs with one rule broken, short
-codes without order, programs at the limits, and values and bytes that were changed at some place.
+"""Modules that nobody wrote, as JSON values and as texts: whole programs that are mostly accepted, programs with one
+rule broken, short codes without order, programs at the limits, and values and bytes that were changed at some place.
 
-A generator knows of each slot the kinds that it may have, so that it can keep to the rules; how often it doesn't look is left to chance.
+A generator knows of each slot the kinds that it may have, so that it can keep to the rules; how often it doesn't look
+is left to chance.
 """
 
 from __future__ import annotations
@@ -21,8 +22,8 @@ BEHIND = ("next", "endfinish")
 CLOSERS = {"for": "next", "forto": "next", "finish": "endfinish"}
 # Which operands of an instruction are slots, and which of them it reads as numbers.
 SLOTS = {
-    "lit": (1,), "copy": (1, 2), "add": (1, 2, 3), "sub": (1, 2, 3), "mul": (1, 2, 3), "unless": (2, 3), "for": (1,), "forto": (1, 3), "make": (1,),
-    "resume": (1,), "drop": (1,), "print": (1,), "get": (1,), "put": (2,), "addto": (2,),
+    "lit": (1,), "copy": (1, 2), "add": (1, 2, 3), "sub": (1, 2, 3), "mul": (1, 2, 3), "unless": (2, 3), "for": (1,),
+    "forto": (1, 3), "make": (1,), "resume": (1,), "drop": (1,), "print": (1,), "get": (1,), "put": (2,), "addto": (2,),
 }  # fmt: skip
 OPERATORS = ("eq", "ne", "lt", "le", "gt", "ge")
 EDGES = (-(2**63), -(2**63) + 1, 2**63 - 1, 2**63 - 2, 2**32, -1, 0, 1)
@@ -73,12 +74,17 @@ class Knobs:
 
 
 class UnitWriter:
-    """Writes the code of one unit. For each slot it keeps the kinds that the slot may have: unset, number, live, resumed, out, by their first letters."""
+    """Writes the code of one unit. For each slot it keeps the kinds that the slot may have: unset, number, live,
+    resumed, out, by their first letters."""
 
-    def __init__(self, rng: random.Random, knobs: Knobs, kind: str, params: str, slots: int, later: list[Signature]) -> None:
+    def __init__(
+        self, rng: random.Random, knobs: Knobs, kind: str, params: str, slots: int, later: list[Signature]
+    ) -> None:
         self.rng, self.knobs, self.kind, self.params, self.slots, self.later = rng, knobs, kind, params, slots, later
         self.code: Code = []
-        self.state = [frozenset("lr" if letter == "c" else "n") for letter in params] + [frozenset("u")] * (slots - len(params))
+        self.state = [frozenset("lr" if letter == "c" else "n") for letter in params] + [frozenset("u")] * (
+            slots - len(params)
+        )
         self.homes = {slot: -1 for slot, letter in enumerate(params) if letter == "c"}
         self.block = -1
         # The slots that loops around this place count with, or take their limits from.
@@ -123,7 +129,17 @@ class UnitWriter:
                 self.statement(depth)
 
     def statement(self, depth: int) -> None:
-        ways = [self.arithmetic, self.make, self.make, self.resume, self.advance, self.advance, self.drop, self.show, self.share]
+        ways = [
+            self.arithmetic,
+            self.make,
+            self.make,
+            self.resume,
+            self.advance,
+            self.advance,
+            self.drop,
+            self.show,
+            self.share,
+        ]
         ways += [self.start] * 5
         if depth < 3:
             ways += [lambda: self.loop(depth), lambda: self.branch(depth), lambda: self.finish(depth)] * 2
@@ -172,7 +188,9 @@ class UnitWriter:
         return True
 
     def make(self) -> bool:
-        fits = [slot for slot in self.free() if slot >= len(self.params) and self.homes.get(slot, self.block) == self.block]
+        fits = [
+            slot for slot in self.free() if slot >= len(self.params) and self.homes.get(slot, self.block) == self.block
+        ]
         if not fits:
             return False
         slot = self.rng.choice(fits)
@@ -246,11 +264,15 @@ class UnitWriter:
         self.steps += self.times * callee.steps
         self.activities += self.times * (callee.activities + (callee.kind == "body"))
         if callee.kind == "method":
-            self.state = [HELD if "r" in kinds and kinds <= HELD or slot in lent else kinds for slot, kinds in enumerate(self.state)]
+            self.state = [
+                HELD if "r" in kinds and kinds <= HELD or slot in lent else kinds
+                for slot, kinds in enumerate(self.state)
+            ]
         return True
 
     def loop(self, depth: int) -> bool:
-        """A loop whose body is written anew, with more kinds at its beginning, as long as it ends with kinds that it didn't begin with."""
+        """A loop whose body is written anew, with more kinds at its beginning, as long as it ends with kinds that it
+        didn't begin with."""
         free = self.free()
         turns = self.rng.choice([1, 1, 2, 2, 3])
         if not free or self.times * turns > 12:
@@ -262,7 +284,9 @@ class UnitWriter:
         entry = list(self.state)
         entry[slot] = frozenset("n")
         opener = ["for", slot, low, low + turns - 1] if limit is None else ["forto", slot, low, limit, low + turns - 1]
-        begin, homes, count, spent = len(self.code), dict(self.homes), self.rng.randint(0, 3), (self.steps, self.activities)
+        begin, homes, count, spent = (
+            len(self.code), dict(self.homes), self.rng.randint(0, 3), (self.steps, self.activities)
+        )
         for attempt in range(5):
             del self.code[begin:]
             self.state, self.homes, (self.steps, self.activities) = list(entry), dict(homes), spent
@@ -275,7 +299,8 @@ class UnitWriter:
         return True
 
     def limit(self, slot: int, low: int, high: int) -> int | None:
-        """A slot with a number that a loop goes no further than, mostly about where it begins or ends; none where no other slot is there."""
+        """A slot with a number that a loop goes no further than, mostly about where it begins or ends; none where no
+        other slot is there."""
         numbers = [one for one in self.numbers() if one != slot]
         free = [one for one in self.free() if one != slot]
         if numbers and (not free or self.rng.random() < 0.6):
@@ -348,7 +373,9 @@ def version_of(rng: random.Random, units: list[dict]) -> int:
 
 
 def params_of(rng: random.Random, most: int) -> str:
-    return "".join(rng.choice("ccn") for _ in range(rng.choice([0, 1, 1, 1, 2, 2, 3]) if most >= 3 else rng.randint(0, most)))
+    return "".join(
+        rng.choice("ccn") for _ in range(rng.choice([0, 1, 1, 1, 2, 2, 3]) if most >= 3 else rng.randint(0, most))
+    )
 
 
 def program(rng: random.Random) -> dict:
@@ -371,7 +398,9 @@ def program(rng: random.Random) -> dict:
         # Each unit has its share of the steps and activities.
         part = 1 if number == 0 else 2 + number
         own = copy.copy(knobs)
-        own.steps, own.activities = max(4, knobs.steps // part), knobs.activities if number == 0 else knobs.activities // 2
+        own.steps, own.activities = (
+            max(4, knobs.steps // part), knobs.activities if number == 0 else knobs.activities // 2
+        )
         if number == 0:
             own.statements += 3
         writer = UnitWriter(rng, own, kind, params, slots, list(later))
@@ -405,7 +434,9 @@ def soup(rng: random.Random) -> dict:
                 code.append(["jump", rng.randint(place + 1, length)])
             elif way == 11 and number + 1 < len(plan):
                 callee = rng.randrange(number + 1, len(plan))
-                code.append(["spawn" if plan[callee][0] == "body" else "call", callee, [slot() for _ in plan[callee][1]]])
+                code.append(
+                    ["spawn" if plan[callee][0] == "body" else "call", callee, [slot() for _ in plan[callee][1]]]
+                )
             elif way == 12:
                 code.append(["copy", slot(), slot()])
             else:
@@ -419,7 +450,9 @@ def soup(rng: random.Random) -> dict:
             wrap(rng, code, rng.choice(["for", "forto", "finish"]), slots)
         return {"kind": kind, "params": params, "slots": slots, "code": code}
 
-    plan = [("main", main_params(rng, 2))] + [(rng.choice(["body", "method"]), params_of(rng, 2)) for _ in range(rng.randrange(3))]
+    plan = [("main", main_params(rng, 2))] + [
+        (rng.choice(["body", "method"]), params_of(rng, 2)) for _ in range(rng.randrange(3))
+    ]
     units = [unit(number, *form) for number, form in enumerate(plan)]
     return {"version": version_of(rng, units), "shared": [], "units": units}
 
@@ -454,7 +487,11 @@ def wrap(rng: random.Random, code: Code, opener: str, slots: int) -> None:
     begin = rng.randrange(len(code))
     end = rng.randrange(begin, len(code))
     slot = lambda: rng.randrange(max(1, slots))
-    heads = {"for": [slot(), 1, rng.choice([1, 2, 3])], "forto": [slot(), 1, slot(), rng.choice([1, 2, 3])], "finish": []}
+    heads = {
+        "for": [slot(), 1, rng.choice([1, 2, 3])],
+        "forto": [slot(), 1, slot(), rng.choice([1, 2, 3])],
+        "finish": [],
+    }
     closer = [CLOSERS[opener], begin]
     insert(rng, code, end, closer)
     insert(rng, code, begin, [opener, *heads[opener], 0])
@@ -482,7 +519,11 @@ def break_target(rng: random.Random, module: dict) -> None:
     found = some_place(rng, module["units"], *PLACES)
     if found:
         code, place = module["units"][found[0]]["code"], found[1]
-        choices = [place, place + 1, 65535] if code[place][0] in BEHIND else [place, max(0, place - 1), 0, len(code), len(code) + 1, 65535]
+        choices = (
+            [place, place + 1, 65535]
+            if code[place][0] in BEHIND
+            else [place, max(0, place - 1), 0, len(code), len(code) + 1, 65535]
+        )
         code[place][PLACES[code[place][0]]] = rng.choice(choices)
 
 
@@ -498,7 +539,11 @@ def break_block(rng: random.Random, module: dict) -> None:
         return
     code, place = units[found[0]]["code"], found[1]
     if way == 1:
-        code[place][PLACES[code[place][0]]] = rng.randrange(0, place) if place and code[place][0] in BEHIND else rng.randint(place + 1, max(place + 1, len(code) - 1))
+        code[place][PLACES[code[place][0]]] = (
+            rng.randrange(0, place)
+            if place and code[place][0] in BEHIND
+            else rng.randint(place + 1, max(place + 1, len(code) - 1))
+        )
     elif way == 2:
         code[place] = ["advance"]
     else:
@@ -524,7 +569,9 @@ def break_unit(rng: random.Random, module: dict) -> None:
         rng.choice(units)["kind"] = rng.choice(["main", "body", "method"])
     elif way == 1:
         unit = rng.choice(units)
-        unit["params"] = unit["params"][1:] if unit["params"] and rng.random() < 0.5 else unit["params"] + rng.choice("nc")
+        unit["params"] = (
+            unit["params"][1:] if unit["params"] and rng.random() < 0.5 else unit["params"] + rng.choice("nc")
+        )
         unit["slots"] = max(unit["slots"], len(unit["params"]))
     else:
         found = some_place(rng, units, "call", "spawn")
@@ -551,7 +598,12 @@ def break_cell(rng: random.Random, module: dict) -> None:
         number = rng.randrange(len(module["units"]))
         unit = module["units"][number]
         if unit["slots"]:
-            insert(rng, unit["code"], rng.randrange(len(unit["code"])), ["get", rng.randrange(unit["slots"]), len(module["shared"])])
+            insert(
+                rng,
+                unit["code"],
+                rng.randrange(len(unit["code"])),
+                ["get", rng.randrange(unit["slots"]), len(module["shared"])],
+            )
 
 
 def break_loop(rng: random.Random, module: dict) -> None:
@@ -568,7 +620,16 @@ def break_loop(rng: random.Random, module: dict) -> None:
         head[rng.choice([1, 3])] = rng.choice(slots)
     else:
         slot = rng.choice(slots)
-        instr = rng.choice([["lit", slot, 1], ["copy", slot, slot], ["make", slot], ["add", slot, slot, slot], ["for", slot, 1, 1], ["get", slot, 0]])
+        instr = rng.choice(
+            [
+                ["lit", slot, 1],
+                ["copy", slot, slot],
+                ["make", slot],
+                ["add", slot, slot, slot],
+                ["for", slot, 1, 1],
+                ["get", slot, 0],
+            ]
+        )
         if instr[0] == "for":
             insert(rng, code, place + 1, ["next", place + 1])
             insert(rng, code, place + 1, [*instr, place + 2])
@@ -608,11 +669,14 @@ def break_home(rng: random.Random, module: dict) -> None:
 
 
 def fitting(rng: random.Random, module: dict, clocks: int) -> tuple[int, list] | None:
-    """A unit, and an instruction that hands on one of its clocks there, for each of the callee's clocks the same one."""
+    """A unit, and an instruction that hands on one of its clocks there, for each of the callee's clocks the same
+    one."""
     units = module["units"]
     fits = []
     for number, unit in enumerate(units):
-        slots = [instr[1] for instr in unit["code"] if instr[0] == "make"] + [slot for slot, letter in enumerate(unit["params"]) if letter == "c"]
+        slots = [instr[1] for instr in unit["code"] if instr[0] == "make"] + [
+            slot for slot, letter in enumerate(unit["params"]) if letter == "c"
+        ]
         callees = [callee for callee in range(number + 1, len(units)) if units[callee]["params"].count("c") >= clocks]
         fits += [(number, slot, callee) for slot in slots for callee in callees]
     if not fits:
@@ -646,7 +710,9 @@ def break_registers(rng: random.Random, module: dict) -> None:
 
 def break_same_clock(rng: random.Random, module: dict) -> None:
     units = module["units"]
-    places = [(number, place) for number, place in instrs(units, "call", "spawn") if len(units[number]["code"][place][2]) > 1]
+    places = [
+        (number, place) for number, place in instrs(units, "call", "spawn") if len(units[number]["code"][place][2]) > 1
+    ]
     if places and rng.random() < 0.5:
         number, place = rng.choice(places)
         slots = units[number]["code"][place][2]
@@ -671,7 +737,12 @@ def break_use(rng: random.Random, module: dict) -> None:
     elif way == 1 and at + 1 < len(code) and not {code[at][0], code[at + 1][0]} & {*PLACES, "ret"}:
         code[at], code[at + 1] = code[at + 1], code[at]
     else:
-        insert(rng, code, at, rng.choice([["drop", slot], ["resume", slot], ["print", slot], ["copy", slot, slot], ["drop", slot]]))
+        insert(
+            rng,
+            code,
+            at,
+            rng.choice([["drop", slot], ["resume", slot], ["print", slot], ["copy", slot, slot], ["drop", slot]]),
+        )
 
 
 def break_held(rng: random.Random, module: dict) -> None:
@@ -691,18 +762,25 @@ def break_leak(rng: random.Random, module: dict) -> None:
     """A clock that is written over."""
     unit = rng.choice(module["units"])
     makes = [place for place, instr in enumerate(unit["code"]) if instr[0] == "make"]
-    clocks = [unit["code"][place][1] for place in makes] + [slot for slot, letter in enumerate(unit["params"]) if letter == "c"]
+    clocks = [unit["code"][place][1] for place in makes] + [
+        slot for slot, letter in enumerate(unit["params"]) if letter == "c"
+    ]
     if clocks:
         slot = rng.choice(clocks)
-        at = rng.randint(makes[0] + 1 if makes else 0, len(unit["code"]) - 1) if not makes or makes[0] + 1 < len(unit["code"]) else 0
+        at = (
+            rng.randint(makes[0] + 1 if makes else 0, len(unit["code"]) - 1)
+            if not makes or makes[0] + 1 < len(unit["code"])
+            else 0
+        )
         insert(rng, unit["code"], at, rng.choice([["lit", slot, 1], ["make", slot], ["copy", slot, 0]]))
     elif unit["slots"] > len(unit["params"]):
         unit["code"].insert(0, ["make", unit["slots"] - 1])
 
 
 BREAKERS: list[Breaker] = [
-    break_target, break_block, break_slot, break_unit, break_unit, break_cell, break_loop, break_end, break_home, break_home, break_registers,
-    break_registers, break_registers, break_same_clock, break_same_clock, break_same_clock, break_same_clock, break_use, break_held, break_leak,
+    break_target, break_block, break_slot, break_unit, break_unit, break_cell, break_loop, break_end, break_home,
+    break_home, break_registers, break_registers, break_registers, break_same_clock, break_same_clock, break_same_clock,
+    break_same_clock, break_use, break_held, break_leak,
 ]  # fmt: skip
 
 
@@ -726,7 +804,11 @@ def unit_form(kind: str, params: str, slots: int, code: Code) -> dict:
 
 def module_form(*units: dict, shared: tuple[int, ...] = ()) -> dict:
     has_limit = any(instr[0] == "forto" for unit in units for instr in unit["code"])
-    return {"version": 2 if has_limit or units and units[0]["params"] else 1, "shared": list(shared), "units": list(units)}
+    return {
+        "version": 2 if has_limit or units and units[0]["params"] else 1,
+        "shared": list(shared),
+        "units": list(units),
+    }
 
 
 def first_number(rng: random.Random, turns: int) -> int:
@@ -737,7 +819,8 @@ def first_number(rng: random.Random, turns: int) -> int:
 
 
 def nest(rng: random.Random, turns: list[int], body: Code, limited: bool = False) -> Code:
-    """Loops in one another, each with a slot of its own, around a body without places; some go no further than slot 0 says, where that is said."""
+    """Loops in one another, each with a slot of its own, around a body without places; some go no further than slot 0
+    says, where that is said."""
     count, code = len(turns), []
     for level, many in enumerate(turns):
         low = first_number(rng, many)
@@ -785,7 +868,9 @@ def many_steps(rng: random.Random) -> dict:
     kind = rng.choice(["body", "method"])
     word = "spawn" if kind == "body" else "call"
     height = rng.choice([3, 9, 27, 28, 29, 200])
-    tower = [unit_form(kind, "", 0, [[word, number + 1, []]] * 2 + [["ret"]]) for number in range(1, height)] + [unit_form(kind, "", 0, [["ret"]])]
+    tower = [unit_form(kind, "", 0, [[word, number + 1, []]] * 2 + [["ret"]]) for number in range(1, height)] + [
+        unit_form(kind, "", 0, [["ret"]])
+    ]
     return module_form(unit_form("main", "", 0, [[word, 1, []]] * 2 + [["ret"]]), *tower)
 
 
@@ -793,7 +878,9 @@ def many_activities(rng: random.Random) -> dict:
     product = 100_000 + rng.choice([-2, -1, 0, 1, 2])
     turns = rng.choice([[99_999], [100_000], [3, 33_333], [9, 11_111], [271, 369], [41, 2439], factors(rng, product)])
     below = rng.choice([0, 0, 0, 1, 2])
-    bodies = [unit_form("body", "", 0, [["spawn", 2 + number, []] for number in range(below)] + [["ret"]])] + [unit_form("body", "", 0, [["ret"]]) for _ in range(below)]
+    bodies = [unit_form("body", "", 0, [["spawn", 2 + number, []] for number in range(below)] + [["ret"]])] + [
+        unit_form("body", "", 0, [["ret"]]) for _ in range(below)
+    ]
     if below:
         turns = factors(rng, max(1, 99_999 // (1 + below)))
     return module_form(nesting(rng, turns, [["spawn", 1, []]]), *bodies)
@@ -803,7 +890,9 @@ def many_clocks(rng: random.Random) -> dict:
     turns = rng.choice([[100_000], [100_001], [1000, 100], [1000, 101], [11, 9091], [317, 316], factors(rng, 100_000)])
     if rng.random() < 0.5:
         return module_form(nesting(rng, turns, [["make", 5], ["drop", 5]]))
-    return module_form(nesting(rng, turns, [["call", 1, []]]), unit_form("method", "", 1, [["make", 0], ["drop", 0], ["ret"]]))
+    return module_form(
+        nesting(rng, turns, [["call", 1, []]]), unit_form("method", "", 1, [["make", 0], ["drop", 0], ["ret"]])
+    )
 
 
 def high_stack(rng: random.Random) -> dict:
@@ -828,22 +917,37 @@ def large(rng: random.Random) -> dict:
     way = rng.randrange(6)
     more = rng.choice([-1, 0, 0, 1, 1])
     if way == 0:
-        return module_form(unit_form("main", "", 0, [["ret"]]), *[unit_form(rng.choice(["body", "method"]), "", 0, [["ret"]])] * (1023 + more))
+        return module_form(
+            unit_form("main", "", 0, [["ret"]]),
+            *[unit_form(rng.choice(["body", "method"]), "", 0, [["ret"]])] * (1023 + more),
+        )
     if way == 1:
         return module_form(unit_form("main", "", 64 + more, [["lit", 63 + rng.choice([0, more]), 1], ["ret"]]))
     if way == 2:
         return module_form(unit_form("main", "", 1, [["lit", 0, 1]] * (4095 + more) + [["ret"]]))
     if way == 3:
-        return module_form(unit_form("main", "", 1, [["get", 0, 255 + rng.choice([0, more])], ["ret"]]), shared=(1,) * (256 + more))
+        return module_form(
+            unit_form("main", "", 1, [["get", 0, 255 + rng.choice([0, more])], ["ret"]]), shared=(1,) * (256 + more)
+        )
     if way == 4:
         count = 64 + more
-        return module_form(unit_form("main", "", 1, [["lit", 0, 1], ["spawn", 1, [0] * count], ["ret"]]), unit_form("body", "n" * min(64, count), 64, [["ret"]]))
+        return module_form(
+            unit_form("main", "", 1, [["lit", 0, 1], ["spawn", 1, [0] * count], ["ret"]]),
+            unit_form("body", "n" * min(64, count), 64, [["ret"]]),
+        )
     slots = rng.choice([0, 1, 2, 64])
-    return module_form(unit_form("main", "", 0, [["ret"]]), unit_form("body", "c" * max(0, slots + more), slots, [["ret"]])) if rng.random() < 0.8 else module_form()
+    return (
+        module_form(
+            unit_form("main", "", 0, [["ret"]]), unit_form("body", "c" * max(0, slots + more), slots, [["ret"]])
+        )
+        if rng.random() < 0.8
+        else module_form()
+    )
 
 
 def long_code(rng: random.Random) -> dict:
-    """Many instructions with branches, or many loops or finishes in one another, and perhaps a slot that is used as what it isn't at the end."""
+    """Many instructions with branches, or many loops or finishes in one another, and perhaps a slot that is used as
+    what it isn't at the end."""
     way = rng.randrange(4)
     slots = 2
     if way == 0:
@@ -855,13 +959,25 @@ def long_code(rng: random.Random) -> dict:
         code = heads + [["next", depth - 1 - level] for level in range(depth)]
     elif way == 1:
         depth = rng.choice([10, 100, 500])
-        code = [["finish", 2 * depth - 1 - level] for level in range(depth)] + [["endfinish", depth - 1 - level] for level in range(depth)]
+        code = [["finish", 2 * depth - 1 - level] for level in range(depth)] + [
+            ["endfinish", depth - 1 - level] for level in range(depth)
+        ]
     else:
         code = [["lit", 0, 1], ["make", 1]]
         for _ in range(rng.choice([20, 100, 400, 1500])):
             place = len(code)
             far = rng.choice([1, 2, 2, 3, 5])
-            code.append(rng.choice([["unless", rng.choice(OPERATORS), 0, 0, place + far], ["resume", 1], ["advance"], ["lit", 0, 1], ["jump", place + far]]))
+            code.append(
+                rng.choice(
+                    [
+                        ["unless", rng.choice(OPERATORS), 0, 0, place + far],
+                        ["resume", 1],
+                        ["advance"],
+                        ["lit", 0, 1],
+                        ["jump", place + far],
+                    ]
+                )
+            )
         code += [["advance"]] * 6
     end = rng.choice([[], [], [["print", 1]], [["drop", 1]], [["drop", 1], ["drop", 1]], [["lit", 1, 0]]])
     return module_form(unit_form("main", rng.choice(["", "n"]) if way == 0 else "", slots, code + end + [["ret"]]))
@@ -869,22 +985,79 @@ def long_code(rng: random.Random) -> dict:
 
 # Changes of a value, and of its text.
 
-NUMBERS = [0, 1, 2, 63, 64, 65, 4095, 4096, 65534, 65535, 65536, -1, 2**31, 2**63 - 1, 2**63, -(2**63), -(2**63) - 1, 2**64 - 1, 2**64]
+NUMBERS = [
+    0,
+    1,
+    2,
+    63,
+    64,
+    65,
+    4095,
+    4096,
+    65534,
+    65535,
+    65536,
+    -1,
+    2**31,
+    2**63 - 1,
+    2**63,
+    -(2**63),
+    -(2**63) - 1,
+    2**64 - 1,
+    2**64,
+]
 ODD = [
-    *map(Raw, "1.0 1e0 -0 0.0 -0.0 1E5 0e0 0e999 1e400 -1e400 1e-400 1e308 01 -01 +1 .5 1. 1e 1e+ 0x10 NaN Infinity -Infinity - true false null nul TRUE".split()),
-    *map(Raw, [r'"\ud800"', r'"\udc00"', r'"\ud83d\ude00"', r'"\ud83dx"', r'"\u00e9"', r'"\x"', r'"\u12"', '"\x01"', '"\x7f"', '"\xe9"', '""', '"']),
-    *map(Raw, ["[]", "{}", "[1,]", "[,]", '{"a":1,}', '{"a"}', '{"a":}', "[[", "]", "1 2", "/**/1", "'a'", "9" * 30, "9" * 400, "1" + "0" * 309 + "e-300"]),
+    *map(Raw, "1.0 1e0 -0 0.0 -0.0 1E5 0e0 0e999 1e400 -1e400 1e-400 1e308 01 -01 +1 .5 1. 1e 1e+ 0x10".split()),
+    *map(Raw, "NaN Infinity -Infinity - true false null nul TRUE".split()),
+    *map(
+        Raw,
+        [
+            r'"\ud800"',
+            r'"\udc00"',
+            r'"\ud83d\ude00"',
+            r'"\ud83dx"',
+            r'"\u00e9"',
+            r'"\x"',
+            r'"\u12"',
+            '"\x01"',
+            '"\x7f"',
+            '"\xe9"',
+            '""',
+            '"',
+        ],
+    ),
+    *map(
+        Raw,
+        [
+            "[]",
+            "{}",
+            "[1,]",
+            "[,]",
+            '{"a":1,}',
+            '{"a"}',
+            '{"a":}',
+            "[[",
+            "]",
+            "1 2",
+            "/**/1",
+            "'a'",
+            "9" * 30,
+            "9" * 400,
+            "1" + "0" * 309 + "e-300",
+        ],
+    ),
 ]
 WORDS = [
-    *"lit copy add sub mul get put addto unless jump for next finish endfinish print make resume drop advance spawn ret call Make forto".split(),
+    *"lit copy add sub mul get put addto unless jump for next finish endfinish".split(),
+    *"print make resume drop advance spawn ret call Make forto".split(),
     *OPERATORS, "main", "body", "method", "", "c", "n", "cc", "cn", "ncn", "x",
 ]  # fmt: skip
 # Words that can stand for one another where the rest of the value still fits.
 KIN = [
     group.split()
     for group in (
-        "add sub mul", "copy get put addto", "print make resume drop jump next finish endfinish", "advance ret", "call spawn", "eq ne lt le gt ge",
-        "main body method", "c n", "cc cn",
+        "add sub mul", "copy get put addto", "print make resume drop jump next finish endfinish", "advance ret",
+        "call spawn", "eq ne lt le gt ge", "main body method", "c n", "cc cn",
     )
 ]  # fmt: skip
 
@@ -934,7 +1107,28 @@ def changed_value(rng: random.Random, value: Value) -> Value:
     return value
 
 
-SPOILS = [b"0", b"9", b"-", b".", b"e", b",", b"[", b"]", b"{", b"}", b'"', b"\\", b" ", b"\t", b"\r", b"\x0b", b"\xff", b"\x00", b"\xc3\xa9", b"\xef\xbb\xbf"]
+SPOILS = [
+    b"0",
+    b"9",
+    b"-",
+    b".",
+    b"e",
+    b",",
+    b"[",
+    b"]",
+    b"{",
+    b"}",
+    b'"',
+    b"\\",
+    b" ",
+    b"\t",
+    b"\r",
+    b"\x0b",
+    b"\xff",
+    b"\x00",
+    b"\xc3\xa9",
+    b"\xef\xbb\xbf",
+]
 
 
 def changed_bytes(rng: random.Random, text: bytes, spoils: list[bytes] = SPOILS) -> bytes:
@@ -969,7 +1163,8 @@ class Style:
 
 
 def written(rng: random.Random, value: Value, style: Style) -> str:
-    """The text of a value: with white space, keys in another order, escaped letters, or keys that come twice, as the style has it."""
+    """The text of a value: with white space, keys in another order, escaped letters, or keys that come twice, as the
+    style has it."""
     gap = (lambda: rng.choice(["", "", " ", "\n", "\t", "\r\n  "])) if style.space else lambda: ""
     if isinstance(value, Raw):
         return gap() + value.text + gap()
@@ -980,12 +1175,21 @@ def written(rng: random.Random, value: Value, style: Style) -> str:
             members.insert(0, (key, rng.choice([0, "n", [], Raw("{}"), Raw("1.5"), value[key]])))
         if style.shuffle:
             rng.shuffle(members)
-        inside = ",".join(f"{gap()}{written(rng, key, style)}{gap()}:{written(rng, child, style)}" for key, child in members)
+        inside = ",".join(
+            f"{gap()}{written(rng, key, style)}{gap()}:{written(rng, child, style)}" for key, child in members
+        )
         return f"{gap()}{{{inside}{gap()}}}{gap()}"
     if isinstance(value, (list, tuple)):
         return f"{gap()}[{','.join(written(rng, child, style) for child in value) or gap()}]{gap()}"
     if isinstance(value, str) and style.escape:
-        return '"' + "".join(f"\\u{ord(sign):04{rng.choice('xX')}}" if rng.random() < 0.3 else json.dumps(sign)[1:-1] for sign in value) + '"'
+        return (
+            '"'
+            + "".join(
+                f"\\u{ord(sign):04{rng.choice('xX')}}" if rng.random() < 0.3 else json.dumps(sign)[1:-1]
+                for sign in value
+            )
+            + '"'
+        )
     return gap() + json.dumps(value) + gap()
 
 
@@ -1009,7 +1213,25 @@ def case(rng: random.Random, seeds: list[bytes]) -> bytes:
     if way < 0.73:
         return text_of(rng, soup(rng))
     if way < 0.755:
-        return text_of(rng, rng.choice([many_steps, many_steps, many_activities, many_activities, many_activities, many_clocks, many_clocks, high_stack, large, large, large, long_code])(rng))
+        return text_of(
+            rng,
+            rng.choice(
+                [
+                    many_steps,
+                    many_steps,
+                    many_activities,
+                    many_activities,
+                    many_activities,
+                    many_clocks,
+                    many_clocks,
+                    high_stack,
+                    large,
+                    large,
+                    large,
+                    long_code,
+                ]
+            )(rng),
+        )
     seed = rng.choice(seeds) if rng.random() < 0.5 else text_of(rng, program(rng))
     try:
         value = json.loads(seed)

@@ -1,8 +1,8 @@
-"""Source texts that nobody wrote: whole programs that are mostly accepted, programs in which a name or a token is wrong, programs at the
-limits, tokens without order, and texts that were changed byte by byte.
+"""Source texts that nobody wrote: whole programs that are mostly accepted, programs in which a name or a token is
+wrong, programs at the limits, tokens without order, and texts that were changed byte by byte.
 
-A generator knows which names are visible, and of each clock in which ways the activity may stand on it, so that it can keep to the rules;
-how often it doesn't look is left to chance.
+A generator knows which names are visible, and of each clock in which ways the activity may stand on it, so that it can
+keep to the rules; how often it doesn't look is left to chance.
 """
 
 from __future__ import annotations
@@ -17,11 +17,24 @@ from tests.generated.generated import EDGES
 
 Tokens = list[str]
 
-NAMES = "a b c d e f g h i j k n s t x y z _ x1 y2 clock make resume drop OUT println advanceAll main Long2 Math min".split()
+NAMES = """a b c d e f g h i j k n s t x y z _ x1 y2
+    clock make resume drop OUT println advanceAll main Long2 Math min""".split()
 COMPARISONS = ("==", "!=", "<", "<=", ">", ">=")
 RESERVED = "shared def val var if else for in async clocked finish atomic Clock Long Console".split()
 SIGNS = "( ) { } , ; : = + - * . .. == != < <= > >=".split()
-LITERALS = ["0", "1", "2", "3", "7", "00", "007", "9223372036854775807", "9223372036854775808", "9223372036854775809", "1" * 40]
+LITERALS = [
+    "0",
+    "1",
+    "2",
+    "3",
+    "7",
+    "00",
+    "007",
+    "9223372036854775807",
+    "9223372036854775808",
+    "9223372036854775809",
+    "1" * 40,
+]
 HELD = frozenset("lr")
 
 
@@ -46,8 +59,8 @@ class Known:
 
 @dataclass(eq=False)
 class Unit:
-    """The unit that is being written: for each clock that it sees, the ways in which the activity may stand on it (live, resumed, out); and
-    whether a `clocked async` may stand here."""
+    """The unit that is being written: for each clock that it sees, the ways in which the activity may stand on it
+    (live, resumed, out); and whether a `clocked async` may stand here."""
 
     kind: str
     clocks: dict[Known, frozenset[str]] = field(default_factory=dict)
@@ -75,7 +88,8 @@ class Writer:
         self.most_activities = rng.choice([1, 2, 3, 3, 4, 4, 5, 20])
         self.length = rng.choice([2, 3, 5, 8])
         self.slip = rng.choice([0, 0, 0, 0, 0.02, 0.08])
-        # How often a name isn't looked at, how often not in which way the activity stands on a clock, and how often a clock isn't dropped.
+        # How often a name isn't looked at, how often not in which way the activity stands on a clock, and how often a
+        # clock isn't dropped.
         self.risk = rng.choice([0, 0, 0, 0, 0.1, 0.4])
         self.forget = rng.choice([0, 0, 0, 0.05, 0.3])
         self.visible: list[Known] = []
@@ -176,16 +190,24 @@ class Writer:
         return self.any_name() if self.slips() else known.name
 
     def numbers(self) -> list[Known]:
-        seen = lambda known: known.kind in ("fixed", "val") or known.kind == "var" and (known.unit is self.unit or self.slips())
+        seen = (
+            lambda known: known.kind in ("fixed", "val")
+            or known.kind == "var"
+            and (known.unit is self.unit or self.slips())
+        )
         return [known for known in self.visible if seen(known)]
 
     def of_kind(self, kind: str) -> list[Known]:
-        return [known for known in self.visible if known.kind == kind and (known.unit in (None, self.unit) or self.slips())]
+        return [
+            known for known in self.visible if known.kind == kind and (known.unit in (None, self.unit) or self.slips())
+        ]
 
     def held(self) -> list[Known]:
         """The clocks that the activity is registered on, whatever way it came."""
         seen = [known for known, ways in self.unit.clocks.items() if ways <= HELD or self.risks()]
-        return seen + [known for known in self.visible if known.kind == "clock" and known not in self.unit.clocks and self.slips()]
+        return seen + [
+            known for known in self.visible if known.kind == "clock" and known not in self.unit.clocks and self.slips()
+        ]
 
     # Expressions.
 
@@ -248,7 +270,11 @@ class Writer:
         ways += [self.assign] * 8 if self.limiting else []
         ways += [] if alone else [self.make] * 3
         if self.depth < 5:
-            ways += [self.start] * (10 if self.unit.has_hidden else 5) + [self.loop, self.branch, self.finish] * 2 + [self.nested]
+            ways += (
+                [self.start] * (10 if self.unit.has_hidden else 5)
+                + [self.loop, self.branch, self.finish] * 2
+                + [self.nested]
+            )
         return ways
 
     def statement(self, alone: bool = False) -> None:
@@ -288,7 +314,12 @@ class Writer:
             return False
         limiting = [known for known in self.limiting if known in variables]
         right = [self.name_of(self.rng.choice(shared))] if shared and self.rng.random() < 0.3 else self.expr()
-        self.emit(self.name_of(self.rng.choice(limiting if limiting and self.rng.random() < 0.8 else variables)), "=", *right, ";")
+        self.emit(
+            self.name_of(self.rng.choice(limiting if limiting and self.rng.random() < 0.8 else variables)),
+            "=",
+            *right,
+            ";",
+        )
         self.spend(1)
         return True
 
@@ -301,7 +332,15 @@ class Writer:
             self.emit(name, "=", *self.expr(), ";")
         else:
             term = self.expr(2)
-            self.emit("atomic", name, "=", self.chance(name, [self.any_name()]), "+", *(term if len(term) < 3 else ["(", *term, ")"]), ";")
+            self.emit(
+                "atomic",
+                name,
+                "=",
+                self.chance(name, [self.any_name()]),
+                "+",
+                *(term if len(term) < 3 else ["(", *term, ")"]),
+                ";",
+            )
         self.spend(1)
         return True
 
@@ -312,7 +351,9 @@ class Writer:
 
     def advance(self) -> bool:
         self.emit("Clock", ".", "advanceAll", "(", ")", ";")
-        self.unit.clocks = {known: frozenset("l" if way == "r" else way for way in ways) for known, ways in self.unit.clocks.items()}
+        self.unit.clocks = {
+            known: frozenset("l" if way == "r" else way for way in ways) for known, ways in self.unit.clocks.items()
+        }
         self.spend(2)
         return True
 
@@ -360,7 +401,11 @@ class Writer:
         if self.activities + self.times > self.places:
             return False
         at_home, is_hidden = self.at_home(), self.slips() or self.unit.has_hidden and self.rng.random() < 0.6
-        clocks = self.rng.sample(at_home, self.rng.randint(1, len(at_home))) if at_home and not is_hidden and self.rng.random() < 0.85 else []
+        clocks = (
+            self.rng.sample(at_home, self.rng.randint(1, len(at_home)))
+            if at_home and not is_hidden and self.rng.random() < 0.85
+            else []
+        )
         self.emit(*["clocked", "async"] if is_hidden else ["async"])
         if clocks:
             names = [[self.name_of(known)] for known in clocks]
@@ -382,7 +427,8 @@ class Writer:
         return True
 
     def loop(self) -> bool:
-        """A loop whose body is written anew, with more ways to stand on a clock at its beginning, as long as it ends with other ways."""
+        """A loop whose body is written anew, with more ways to stand on a clock at its beginning, as long as it ends
+        with other ways."""
         turns = self.rng.choice([0, 1, 1, 2, 2, 3])
         if self.times * max(1, turns) > 12:
             return False
@@ -409,7 +455,8 @@ class Writer:
         return True
 
     def bound(self, low: int, high: int) -> Tokens:
-        """How far a loop goes: to a number, or no further than an expression either, mostly one about where the loop begins or ends."""
+        """How far a loop goes: to a number, or no further than an expression either, mostly one about where the loop
+        begins or ends."""
         if self.rng.random() < 0.5:
             return self.written(high)
         self.spend(1)
@@ -499,7 +546,11 @@ def statements(tokens: Tokens) -> list[tuple[int, int]]:
 
 def starts(tokens: Tokens) -> list[int]:
     """Where statements begin."""
-    return [at for at in range(1, len(tokens)) if tokens[at - 1] in (";", "{", "}") and tokens[at] not in ("}", "def", "else", "shared")]
+    return [
+        at
+        for at in range(1, len(tokens))
+        if tokens[at - 1] in (";", "{", "}") and tokens[at] not in ("}", "def", "else", "shared")
+    ]
 
 
 def restated(rng: random.Random, tokens: Tokens) -> Tokens:
@@ -512,12 +563,20 @@ def restated(rng: random.Random, tokens: Tokens) -> Tokens:
         to = rng.choice(rng.choice(places))
         piece = tokens[begin:end]
         way = rng.randrange(6)
-        clocks = [tokens[at - 2] for at, token in enumerate(tokens) if token == "Clock" and at > 1 and tokens[at - 1] in (":", "=")]
+        clocks = [
+            tokens[at - 2]
+            for at, token in enumerate(tokens)
+            if token == "Clock" and at > 1 and tokens[at - 1] in (":", "=")
+        ]
         if way == 0:
             tokens = tokens[:begin] + tokens[end:]
         elif way == 5 and clocks:
             at = rng.choice(starts(tokens))
-            tokens = tokens[:at] + [rng.choice(clocks), ".", rng.choice(["drop", "drop", "resume"]), "(", ")", ";"] + tokens[at:]
+            tokens = (
+                tokens[:at]
+                + [rng.choice(clocks), ".", rng.choice(["drop", "drop", "resume"]), "(", ")", ";"]
+                + tokens[at:]
+            )
         elif way == 1:
             tokens = tokens[:to] + piece + tokens[to:]
         elif way == 2 and not begin < to < end:
@@ -528,18 +587,39 @@ def restated(rng: random.Random, tokens: Tokens) -> Tokens:
             begin = rng.choice(starts(tokens))
             name = rng.choice([token for token in tokens if is_name(token)])
             least = [f"for ( i9 in 1 .. Math . min ( {name} , {high} ) )" for high in (0, 2, 2)]
-            clocked = ["clocked finish", "clocked finish", "clocked async", "async clocked finish", "clocked finish clocked async"]
-            forms = ["async", "async", "finish", "finish", "if ( 1 < 2 )", "for ( i9 in 1 .. 2 )", "for ( i9 in 1 .. 0 )", *clocked, *least]
+            clocked = [
+                "clocked finish",
+                "clocked finish",
+                "clocked async",
+                "async clocked finish",
+                "clocked finish clocked async",
+            ]
+            forms = [
+                "async",
+                "async",
+                "finish",
+                "finish",
+                "if ( 1 < 2 )",
+                "for ( i9 in 1 .. 2 )",
+                "for ( i9 in 1 .. 0 )",
+                *clocked,
+                *least,
+            ]
             tokens = tokens[:begin] + rng.choice(forms).split() + tokens[begin:]
     return tokens
 
 
 def clocked_otherwise(rng: random.Random, tokens: Tokens) -> Tokens:
-    """A `finish` or an `async` with a `clocked` in front of it, or without the one that stands there; or one where it can't stand."""
+    """A `finish` or an `async` with a `clocked` in front of it, or without the one that stands there; or one where it
+    can't stand."""
     words = [at for at, token in enumerate(tokens) if token in ("finish", "async")]
     if not words or rng.random() < 0.15:
         at = rng.choice(starts(tokens) or [len(tokens)])
-        return tokens[:at] + rng.choice(["clocked", "async clocked", "async clocked async", "clocked ( )", "finish clocked"]).split() + tokens[at:]
+        return (
+            tokens[:at]
+            + rng.choice(["clocked", "async clocked", "async clocked async", "clocked ( )", "finish clocked"]).split()
+            + tokens[at:]
+        )
     at = rng.choice(words)
     return tokens[: at - 1] + tokens[at:] if tokens[at - 1] == "clocked" else tokens[:at] + ["clocked"] + tokens[at:]
 
@@ -554,19 +634,27 @@ def recursive(rng: random.Random, tokens: Tokens) -> Tokens:
     letters = []
     for token in tokens[head : tokens.index("{", head)]:
         letters += [token] if token in ("Clock", "Long") else []
-    clocks = [tokens[at - 2] for at, token in enumerate(tokens) if token == "Clock" and at > 1 and tokens[at - 1] in (":", "=")]
+    clocks = [
+        tokens[at - 2]
+        for at, token in enumerate(tokens)
+        if token == "Clock" and at > 1 and tokens[at - 1] in (":", "=")
+    ]
     arguments = [rng.choice(clocks) if letter == "Clock" and clocks else "1" for letter in letters]
     if rng.random() < 0.1:
         arguments = arguments[1:] if arguments and rng.random() < 0.5 else [*arguments, "1"]
     at = rng.choice(rng.choice(places))
-    return tokens[:at] + [tokens[head + 1], "(", *listed([[argument] for argument in arguments]), ")", ";"] + tokens[at:]
+    return (
+        tokens[:at] + [tokens[head + 1], "(", *listed([[argument] for argument in arguments]), ")", ";"] + tokens[at:]
+    )
 
 
 def some_token(rng: random.Random, tokens: Tokens) -> str:
     way = rng.random()
     if way < 0.5 and tokens:
         return rng.choice(tokens)
-    return rng.choice(rng.choice([RESERVED, SIGNS, LITERALS, NAMES, ["#", "!", "&", "\u00e9", "/*", "//", "/**/", "'"]]))
+    return rng.choice(
+        rng.choice([RESERVED, SIGNS, LITERALS, NAMES, ["#", "!", "&", "\u00e9", "/*", "//", "/**/", "'"]])
+    )
 
 
 def jumbled(rng: random.Random, tokens: Tokens) -> Tokens:
@@ -630,7 +718,16 @@ def deep(rng: random.Random) -> Tokens:
     has_hidden, only = False, rng.choice([[], [], [], [], ["clocked finish"], ["clocked finish", "clocked async"]])
     for number in range(statements):
         loops = [f"for ( i{number} in 1 .. {bound} )" for bound in ("1", "Math . min ( 1 , 1 )")]
-        forms = only or ["{", "finish", "async", "if ( 1 < 2 )", *loops, "if ( 1 == 2 ) ; else", "clocked finish", "clocked async"]
+        forms = only or [
+            "{",
+            "finish",
+            "async",
+            "if ( 1 < 2 )",
+            *loops,
+            "if ( 1 == 2 ) ; else",
+            "clocked finish",
+            "clocked async",
+        ]
         form = rng.choice([form for form in forms if form != "clocked async" or has_hidden])
         opened += form.split()
         closed += ["}"] if form == "{" else []
@@ -641,12 +738,17 @@ def deep(rng: random.Random) -> Tokens:
     signs = [rng.choice("(-") for _ in range(levels - statements - 1)]
     inner = "x" if "-" in signs[-1:] and rng.random() < 0.5 else "1"
     expr = [*signs, inner, *(")" for sign in signs if sign == "(")]
-    last = "for ( j in 1 .. Math . min (".split() + [*expr, *", 1 ) ) ;".split()] if rng.random() < 0.3 else [*PRINT, "(", *expr, ")", ";"]
+    last = (
+        "for ( j in 1 .. Math . min (".split() + [*expr, *", 1 ) ) ;".split()]
+        if rng.random() < 0.3
+        else [*PRINT, "(", *expr, ")", ";"]
+    )
     return main_of(*declared, *opened, *last, *closed)
 
 
 def long_expr(rng: random.Random) -> Tokens:
-    """About as many operators as there may be, with parentheses here and there, in each place where an expression may stand."""
+    """About as many operators as there may be, with parentheses here and there, in each place where an expression may
+    stand."""
     expr: Tokens = ["1"]
     for _ in range(near(rng, 64)):
         way = rng.random()
@@ -665,13 +767,20 @@ def long_expr(rng: random.Random) -> Tokens:
     if way == 1:
         return main_of(*ONE, "if", "(", *expr, rng.choice(COMPARISONS), *expr, ")", ";")
     if way == 2:
-        return [*"shared s = 0 ;".split(), *main_of(*ONE, *"atomic s = s + x".split(), *["*", "x"] * near(rng, 64), ";")]
+        return [
+            *"shared s = 0 ;".split(),
+            *main_of(*ONE, *"atomic s = s + x".split(), *["*", "x"] * near(rng, 64), ";"),
+        ]
     return main_of(*ONE, *PRINT, "(", *expr, ")", ";")
 
 
 def many_bodies(rng: random.Random) -> Tokens:
     clocked = rng.choice([[], ["clocked"]])
-    bodies = [token for _ in range(near(rng, 1023)) for token in rng.choice([[*clocked, "async", ";"], [*clocked, "async", "{", "}"]])]
+    bodies = [
+        token
+        for _ in range(near(rng, 1023))
+        for token in rng.choice([[*clocked, "async", ";"], [*clocked, "async", "{", "}"]])
+    ]
     return main_of("clocked", "finish", "{", *bodies, "}") if clocked else main_of(*bodies)
 
 
@@ -688,9 +797,14 @@ def many_methods(rng: random.Random) -> Tokens:
 def many_slots(rng: random.Random) -> Tokens:
     count = near(rng, 64) - rng.choice([0, 0, 1, 2])
     declared = [token for number in range(count) for token in f"val x{number} = 1 ;".split()]
-    loops = [f"for ( i in 1 .. Math . min ( {limit} ) ) ;".split() for limit in ("1 , 2", "x0 + 1 , 2", "1 + 2 * 3 , 1", "1 , 0")]
+    loops = [
+        f"for ( i in 1 .. Math . min ( {limit} ) ) ;".split()
+        for limit in ("1 , 2", "x0 + 1 , 2", "1 + 2 * 3 , 1", "1 , 0")
+    ]
     clocked = [f"clocked finish {body}".split() for body in (";", "clocked finish ;", "clocked async val y = 1 ;")]
-    return main_of(*declared, *rng.choice([[], [*PRINT, "(", "1", ")", ";"], "if ( 1 < 2 ) ;".split(), *loops, *clocked]))
+    return main_of(
+        *declared, *rng.choice([[], [*PRINT, "(", "1", ")", ";"], "if ( 1 < 2 ) ;".split(), *loops, *clocked])
+    )
 
 
 def many_instructions(rng: random.Random) -> Tokens:
@@ -711,15 +825,41 @@ def many_arguments(rng: random.Random) -> Tokens:
 
 
 def many_steps(rng: random.Random) -> Tokens:
-    low, high = rng.choice([("1", "999999998"), ("1", "999999999"), ("1", "999999997"), ("- 9223372036854775808", "9223372036854775807"), ("5", "4")])
+    low, high = rng.choice(
+        [
+            ("1", "999999998"),
+            ("1", "999999999"),
+            ("1", "999999997"),
+            ("- 9223372036854775808", "9223372036854775807"),
+            ("5", "4"),
+        ]
+    )
     if rng.random() < 0.5:
         return main_of(*f"for ( i in {low} .. {high} ) ;".split())
-    return ["def", "main", "(", "n", ":", "Long", ")", "{", *f"for ( i in {low} .. Math . min ( n , {high} ) ) ;".split(), "}"]
+    return [
+        "def",
+        "main",
+        "(",
+        "n",
+        ":",
+        "Long",
+        ")",
+        "{",
+        *f"for ( i in {low} .. Math . min ( n , {high} ) ) ;".split(),
+        "}",
+    ]
 
 
 def many_activities(rng: random.Random) -> Tokens:
     turns = rng.choice([99_998, 99_999, 100_000, 100_001])
-    body = rng.choice(["async ;", "{ val c = Clock . make ( ) ; c . drop ( ) ; }", "clocked finish ;", "clocked finish clocked async ;"])
+    body = rng.choice(
+        [
+            "async ;",
+            "{ val c = Clock . make ( ) ; c . drop ( ) ; }",
+            "clocked finish ;",
+            "clocked finish clocked async ;",
+        ]
+    )
     bound = rng.choice([f"{turns}", f"Math . min ( 3 , {turns} )"])
     return main_of(*f"for ( i in 1 .. {bound} ) {body}".split())
 
@@ -733,8 +873,9 @@ def long_chain(rng: random.Random) -> Tokens:
 
 
 LIMITS = [
-    deep, deep, deep, deep, deep, deep, long_expr, long_expr, long_expr, long_expr, long_expr, long_expr,
-    many_bodies, many_methods, many_slots, many_slots, many_instructions, many_shared, many_arguments, many_steps, many_activities, long_chain,
+    deep, deep, deep, deep, deep, deep, long_expr, long_expr, long_expr, long_expr, long_expr, long_expr, many_bodies,
+    many_methods, many_slots, many_slots, many_instructions, many_shared, many_arguments, many_steps, many_activities,
+    long_chain,
 ]  # fmt: skip
 
 
@@ -750,7 +891,13 @@ def laid_out(rng: random.Random, tokens: Tokens) -> str:
     for before, token in zip(["", *tokens], tokens):
         needs = before and (before[-1].isalnum() or before[-1] == "_") and (token[0].isalnum() or token[0] == "_")
         if style == "plain":
-            gap = "\n" if before in (";", "{", "}") else "" if token in ";,()." or before in (".", "(") and not needs else " "
+            gap = (
+                "\n"
+                if before in (";", "{", "}")
+                else ""
+                if token in ";,()." or before in (".", "(") and not needs
+                else " "
+            )
         elif style == "tight":
             gap = ""
         else:
@@ -763,7 +910,17 @@ def text_of(rng: random.Random, tokens: Tokens) -> bytes:
     return laid_out(rng, tokens).encode()
 
 
-SPOILS = [bytes([sign]) for sign in b"09-./*=<>!(){},;:+# \t\r\x0b\x00\xff"] + [b"/*", b"*/", b"//", b"..", b"==", b"\xc3\xa9", b"\xe2\x82", b"\xef\xbb\xbf", b"\n"]
+SPOILS = [bytes([sign]) for sign in b"09-./*=<>!(){},;:+# \t\r\x0b\x00\xff"] + [
+    b"/*",
+    b"*/",
+    b"//",
+    b"..",
+    b"==",
+    b"\xc3\xa9",
+    b"\xe2\x82",
+    b"\xef\xbb\xbf",
+    b"\n",
+]
 
 
 def very_long(rng: random.Random) -> bytes:

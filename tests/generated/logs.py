@@ -1,14 +1,17 @@
 #!/usr/bin/env python3
-"""Logs and what is told of them: whether a second telling (tests/reference/telling_log.py, telling_runs.py) says what the rows of
-tests/answers/logs.rows want, and, with `--program`, whether the program says the same of these rows, and of logs that nobody wrote.
+"""Logs and what is told of them: whether a second telling (tests/reference/telling_log.py, telling_runs.py) says what
+the rows of tests/answers/logs.rows want, and, with `--program`, whether the program says the same of these rows, and of
+logs that nobody wrote.
 
     python3 -m tests.generated.logs [CASES] [SEED] [--program PATH | --alone] [--jobs N] [--tally]
 
-2,000 cases, seed 1 and 2 jobs where nothing else is said. A case is a program, as a source text or a module, and the log of a run by an order
-or by chance, which may be changed: an entry, a line, or a byte. Five cases in a row have the same program, which is run with `--log` in some
-order; the program is asked of each log for what telling_runs.py names (`COMMANDS`). The telling is held against itself, too: what is written is read
-back, no beginning of a text is a text, and entries that are joined give the same run. The rows are asked of the program twice: as they are, and of
-the modules that their programs are compiled to; and so are runs with about as many activities as have lanes. `--tally` tells how often the program gave each answer.
+2,000 cases, seed 1 and 2 jobs where nothing else is said. A case is a program, as a source text or a module, and the
+log of a run by an order or by chance, which may be changed: an entry, a line, or a byte. Five cases in a row have the
+same program, which is run with `--log` in some order; the program is asked of each log for what telling_runs.py names
+(`COMMANDS`). The telling is held against itself, too: what is written is read back, no beginning of a text is a text,
+and entries that are joined give the same run. The rows are asked of the program twice: as they are, and of the modules
+that their programs are compiled to; and so are runs with about as many activities as have lanes. `--tally` tells how
+often the program gave each answer.
 """
 
 from __future__ import annotations
@@ -48,7 +51,10 @@ ORDERS: dict[str | None, Way] = {None: Order.FIRST, "last": Order.LAST, "round":
 # The numbers that a program is given in the rows behind this one.
 GIVEN = "args:"
 # So many activities beside main have no lanes, or one each.
-WIDE = b"def main(n: Long) { val c = Clock.make(); for (i in 1..Math.min(n, 66)) async clocked(c) Clock.advanceAll(); Clock.advanceAll(); }"
+WIDE = (
+    b"def main(n: Long) { val c = Clock.make(); "
+    b"for (i in 1..Math.min(n, 66)) async clocked(c) Clock.advanceAll(); Clock.advanceAll(); }"
+)
 WIDTHS = (63, 64, 66)
 
 
@@ -228,7 +234,11 @@ def by_chance(rng: random.Random, module: telling.Module, arguments: Arguments) 
     while not played.world.has_ended:
         everybody = range(len(played.world.activities))
         before = log[-1:] if rng.random() < stay else []
-        who = next(who for who in [*(entry.activity for entry in before), *rng.sample(everybody, len(everybody))] if played.step(who))
+        who = next(
+            who
+            for who in [*(entry.activity for entry in before), *rng.sample(everybody, len(everybody))]
+            if played.step(who)
+        )
         log.append(Entry(who, 1))
     return log
 
@@ -251,7 +261,10 @@ def changed_entries(rng: random.Random, log: Log) -> Log:
     """An entry dropped, doubled, put in, of more steps or another one; two in another order; or the rest gone."""
     log, at = list(log), rng.randrange(len(log))
     entry = log[at]
-    other = Entry(rng.choice([entry.activity, rng.randrange(4), rng.choice(EDGES)]), rng.choice([1, entry.steps + 1, rng.choice(EDGES)]))
+    other = Entry(
+        rng.choice([entry.activity, rng.randrange(4), rng.choice(EDGES)]),
+        rng.choice([1, entry.steps + 1, rng.choice(EDGES)]),
+    )
     match rng.randrange(7):
         case 0:
             del log[at]
@@ -260,7 +273,9 @@ def changed_entries(rng: random.Random, log: Log) -> Log:
         case 2:
             log.insert(at, other)
         case 3:
-            log[at] = Entry(entry.activity, entry.steps + rng.choice([1, 1, 2, 100, telling_log.GREATEST - entry.steps]))
+            log[at] = Entry(
+                entry.activity, entry.steps + rng.choice([1, 1, 2, 100, telling_log.GREATEST - entry.steps])
+            )
         case 4:
             log[at] = other
         case 5:
@@ -280,7 +295,9 @@ def changed_lines(rng: random.Random, text: bytes) -> bytes:
         case 1:
             lines.insert(at, rng.choice(lines))
         case 2:
-            lines[at] = rng.choice([b"\n", b" \n", b"end 0\n", b"0 1", b"x10log 1\n", b"end\n", b"0 1\r\n", b"1" * 21 + b"\n", b"1" * 22])
+            lines[at] = rng.choice(
+                [b"\n", b" \n", b"end 0\n", b"0 1", b"x10log 1\n", b"end\n", b"0 1\r\n", b"1" * 21 + b"\n", b"1" * 22]
+            )
         case 3:
             lines[at] = lines[at].replace(b" ", rng.choice([b"  ", b"\t", b" 0", b" +", b" -", b""]), 1)
         case 4:
@@ -293,7 +310,9 @@ def changed_lines(rng: random.Random, text: bytes) -> bytes:
 def changed_byte(rng: random.Random, text: bytes) -> bytes:
     """Another byte in one place: mostly one that logs have."""
     at = rng.randrange(len(text))
-    return text[:at] + bytes([rng.choice(b"0123456789 \n") if rng.random() < 0.8 else rng.randrange(256)]) + text[at + 1 :]
+    return (
+        text[:at] + bytes([rng.choice(b"0123456789 \n") if rng.random() < 0.8 else rng.randrange(256)]) + text[at + 1 :]
+    )
 
 
 SPOILS = [bytes([sign]) for sign in b"0123456789 endx\n\r\t+-.\x00\xff"] + [b"end ", b"00", b"\n\n"]
@@ -327,7 +346,9 @@ def differences(rng: random.Random, program: Program | None, cases: int) -> Iter
     for _ in range(cases):
         # Now and then with other numbers than those of the run, or another count of them.
         other = text.given(*generated.arguments(rng, judged.module.wants + rng.choice([0, 0, 0, 1])))
-        yield from log_differences(other if rng.random() < 0.1 else text, log_of_case(rng, judged.module, text.arguments), program)
+        yield from log_differences(
+            other if rng.random() < 0.1 else text, log_of_case(rng, judged.module, text.arguments), program
+        )
 
 
 def log_differences(text: Text, given: bytes, program: Program | None) -> Iterator[str]:
@@ -360,7 +381,8 @@ def against_itself(rng: random.Random, text: Text, written: bytes, way: Way) -> 
 
 
 def where_against_itself(rng: random.Random, text: Text, log: Log) -> Iterator[str]:
-    """Of the beginning of a log each step can be taken; joined entries lead to the same place; and behind all of it nobody can step."""
+    """Of the beginning of a log each step can be taken; joined entries lead to the same place; and behind all of it
+    nobody can step."""
     begun = log[: rng.randrange(len(log))]
     status, told, _ = answer = Told().answer(text, telling_log.text_of(begun), telling_runs.WHERE)
     if status or not told.startswith(f"steps {sum(entry.steps for entry in begun)}\n"):
@@ -394,7 +416,9 @@ class Job:
             found = [
                 (first, what)
                 for first in firsts
-                for what in differences(random.Random(f"{self.seed} {first}"), program, min(LOGS_OF_A_PROGRAM, cases.stop - first))
+                for what in differences(
+                    random.Random(f"{self.seed} {first}"), program, min(LOGS_OF_A_PROGRAM, cases.stop - first)
+                )
             ]
             return program.answers if program else collections.Counter(), found
 
@@ -410,7 +434,11 @@ def words() -> argparse.Namespace:
 
 
 def asked_of(who: Told | Program) -> tuple[int, list[str]]:
-    found = [row_differences(who), edge_differences(who), *([wide_differences(who)] if isinstance(who, Program) else [])]
+    found = [
+        row_differences(who),
+        edge_differences(who),
+        *([wide_differences(who)] if isinstance(who, Program) else []),
+    ]
     return sum(count for count, _ in found), [what for _, differing in found for what in differing]
 
 

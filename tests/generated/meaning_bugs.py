@@ -1,6 +1,6 @@
 #!/usr/bin/env python3
-"""Looks whether tests/reference/meaning.py would notice a wrong compiler: each of these coders, put in the place of the right one, has to be
-told otherwise.
+"""Looks whether tests/reference/meaning.py would notice a wrong compiler: each of these coders, put in the place of the
+right one, has to be told otherwise.
 
     python3 -m tests.generated.meaning_bugs [CASES]
 
@@ -221,8 +221,9 @@ class Swaps(Coder):
 
 
 WRONG = [
-    LeavesPrintsOut, ReadsTwice, MistakesClocks, PutsElsewhere, JumpsShort, Overlaps, CapturesOthers, TurnsLess, AddsInTwoSteps, ClosesEarly, Swaps,
-    TakesLimitsAnew, LimitsByItself, LimitsByNames, ForgetsLimits, ForgetsDrops, DropsAtOnce, MakesEarly, DropsLate, HandsOnOuterClocks,
+    LeavesPrintsOut, ReadsTwice, MistakesClocks, PutsElsewhere, JumpsShort, Overlaps, CapturesOthers, TurnsLess,
+    AddsInTwoSteps, ClosesEarly, Swaps, TakesLimitsAnew, LimitsByItself, LimitsByNames, ForgetsLimits, ForgetsDrops,
+    DropsAtOnce, MakesEarly, DropsLate, HandsOnOuterClocks,
 ]  # fmt: skip
 
 

@@ -1,22 +1,25 @@
 #!/usr/bin/env python3
-"""Feeds the built program modules that nobody wrote, and compares each answer with a second telling of it (tests/reference/telling.py).
+"""Feeds the built program modules that nobody wrote, and compares each answer with a second telling of it
+(tests/reference/telling.py).
 
-The modules are those of tests/answers/rows and whole programs that are made up here, as they are, with a rule broken, or changed operand by
-operand and byte by byte (tests/generated/generated.py). `check` and `run`, the latter in each order, also by chance, and with numbers by chance where
-main takes some, and `explain`, have to answer what the telling answers, byte for byte, and so have `explain --json` and `listing` of one text in ten,
-and `events`, `lanes` and `page` of a run of one accepted program in five; where there are several walks to what is refused, another shortest one is taken
-too, and counted. Of an accepted module with few worlds the telling goes through all schedules, and looks whether the promises hold; of one such
-module in ten `outcomes` has to tell what these schedules print.
-With `--source` the texts are programs in the language (tests/generated/generated_source.py) and those of tests/answers/programs/sources*.rows
-and of examples, and `compile` is compared too, with what tests/reference/telling_source.py makes of them. Some runs of the module are compared
-with what the text means (tests/reference/meaning.py).
-Needs the built program and python3. The gate runs it with 2,000 cases.
+The modules are those of tests/answers/rows and whole programs that are made up here, as they are, with a rule broken,
+or changed operand by operand and byte by byte (tests/generated/generated.py). `check` and `run`, the latter in each
+order, also by chance, and with numbers by chance where main takes some, and `explain`, have to answer what the telling
+answers, byte for byte, and so have `explain --json` and `listing` of one text in ten, and `events`, `lanes` and `page`
+of a run of one accepted program in five; where there are several walks to what is refused, another shortest one is
+taken too, and counted. Of an accepted module with few worlds the telling goes through all schedules, and looks whether
+the promises hold; of one such module in ten `outcomes` has to tell what these schedules print. With `--source` the
+texts are programs in the language (tests/generated/generated_source.py) and those of
+tests/answers/programs/sources*.rows and of examples, and `compile` is compared too, with what
+tests/reference/telling_source.py makes of them. Some runs of the module are compared with what the text means
+(tests/reference/meaning.py). Needs the built program and python3. The gate runs it with 2,000 cases.
 
-    python3 -m tests.generated.mutations [CASES] [SEED] [--source [--changed]] [--jobs N] [--program PATH] [--worlds N] [--tally] [--only CASE]
+    python3 -m tests.generated.mutations [CASES] [SEED] [--source [--changed]] [--jobs N] [--program PATH]
+                                         [--worlds N] [--tally] [--only CASE]
 
-20,000 cases, seed 1, 2 jobs, crates/x10clock/out/x10clock and 1,000 worlds where nothing else is said. With `--changed` all texts but the first
-ones are changed byte by byte. `--tally` tells how often the program gave each answer; `--only` prints one case alone. It fails where something
-differs, and where of 1,000 cases or more something wasn't asked at all.
+20,000 cases, seed 1, 2 jobs, crates/x10clock/out/x10clock and 1,000 worlds where nothing else is said. With `--changed`
+all texts but the first ones are changed byte by byte. `--tally` tells how often the program gave each answer; `--only`
+prints one case alone. It fails where something differs, and where of 1,000 cases or more something wasn't asked at all.
 """
 
 from __future__ import annotations
@@ -53,20 +56,28 @@ from tests.reference import (
 from tests.reference.telling import Accepted, Arguments, ByChance, Order, Refused, Way
 from tests.reference.telling_outcomes import Asked
 
-# Runs of more steps than this are not made at all; those of more steps, or of more steps times activities and clocks, than these are
-# looked at for their form alone; and schedules are followed where there are no more activities than this.
+# Runs of more steps than this are not made at all; those of more steps, or of more steps times activities and clocks,
+# than these are looked at for their form alone; and schedules are followed where there are no more activities than
+# this.
 LONGEST_RUN, LONGEST_COMPARED, MOST_WORK, MOST_ACTIVITIES = 2_000_000, 20_000, 2_000_000, 64
 # Runs that may be longer, by loops with a limit, are compared where they aren't longer than this.
 SHORT = 500
-# One text in so many is listed, and explained as JSON; of one accepted text in so many a run's events and lanes are told; and of one in so many its
-# outcomes, no more than so many worlds being kept.
+# One text in so many is listed, and explained as JSON; of one accepted text in so many a run's events and lanes are
+# told; and of one in so many its outcomes, no more than so many worlds being kept.
 LISTED, DRAWN, FOUND_OUT, LIMIT = 10, 5, 10, 2_000
 # Lanes are drawn of no more steps times activities than this.
 MOST_DRAWN = 100_000
 # What has to be counted in so many cases.
 MANY = 1_000
-ASKED = ["accepted modules explained as JSON", "modules listed", "modules taken through all schedules", "programs whose outcomes are told",
-         "refusals explained as JSON", "runs compared", "runs drawn"]  # fmt: skip
+ASKED = [
+    "accepted modules explained as JSON",
+    "modules listed",
+    "modules taken through all schedules",
+    "programs whose outcomes are told",
+    "refusals explained as JSON",
+    "runs compared",
+    "runs drawn",
+]
 # So many runs of each text are compared with what it means.
 RUNS_MEANT = 3
 CHUNK = 100
@@ -75,21 +86,57 @@ SHOWN = 5
 ENDED = re.compile(r"((?:-?\d+\n)*)ended steps (\d+)\n")
 WALK = re.compile(r"x10clock: (?P<refused>.* walk )(?P<places>\d+(?: \d+)*)\n")
 
-# Modules with shared numbers, each of which is accepted: their numbers, and their units with kind, parameters, slots and code.
+# Modules with shared numbers, each of which is accepted: their numbers, and their units with kind, parameters, slots
+# and code.
 SHARING = [
     (
         [0],
-        ("main", "", 2, [["finish", 4], ["for", 0, 1, 3, 3], ["spawn", 1, [0]], ["next", 1], ["endfinish", 0], ["get", 1, 0], ["print", 1], ["ret"]]),
+        (
+            "main",
+            "",
+            2,
+            [
+                ["finish", 4],
+                ["for", 0, 1, 3, 3],
+                ["spawn", 1, [0]],
+                ["next", 1],
+                ["endfinish", 0],
+                ["get", 1, 0],
+                ["print", 1],
+                ["ret"],
+            ],
+        ),
         ("body", "n", 1, [["addto", 0, 0], ["ret"]]),
     ),
     (
         [0],
-        ("main", "", 1, [["finish", 3], ["spawn", 1, []], ["spawn", 1, []], ["endfinish", 0], ["get", 0, 0], ["print", 0], ["ret"]]),
+        (
+            "main",
+            "",
+            1,
+            [["finish", 3], ["spawn", 1, []], ["spawn", 1, []], ["endfinish", 0], ["get", 0, 0], ["print", 0], ["ret"]],
+        ),
         ("body", "", 2, [["get", 0, 0], ["lit", 1, 1], ["add", 0, 0, 1], ["put", 0, 0], ["ret"]]),
     ),
     (
         [2**63 - 1, -5, 0],
-        ("main", "", 3, [["make", 0], ["spawn", 1, [0]], ["get", 1, 0], ["put", 2, 1], ["advance"], ["call", 2, [1]], ["advance"], ["get", 2, 1], ["print", 2], ["ret"]]),
+        (
+            "main",
+            "",
+            3,
+            [
+                ["make", 0],
+                ["spawn", 1, [0]],
+                ["get", 1, 0],
+                ["put", 2, 1],
+                ["advance"],
+                ["call", 2, [1]],
+                ["advance"],
+                ["get", 2, 1],
+                ["print", 2],
+                ["ret"],
+            ],
+        ),
         ("body", "c", 2, [["advance"], ["get", 1, 2], ["addto", 0, 1], ["print", 1], ["advance"], ["ret"]]),
         ("method", "n", 1, [["addto", 1, 0], ["ret"]]),
     ),
@@ -106,26 +153,38 @@ def row_text(row: str) -> bytes:
     """What a row's text stands for, with its escapes."""
     if row == "\\c":
         return b""
-    byte = lambda found: bytes([int(found[1], 8)]) if found[1] else {b"n": b"\n", b"t": b"\t", b"r": b"\r", b"\\": b"\\"}[found[2]]
+    byte = (
+        lambda found: bytes([int(found[1], 8)])
+        if found[1]
+        else {b"n": b"\n", b"t": b"\t", b"r": b"\r", b"\\": b"\\"}[found[2]]
+    )
     return re.sub(rb"\\(?:0([0-7]{3})|([ntr\\]))", byte, row.encode())
 
 
 def row_texts(path: pathlib.Path) -> list[bytes]:
     """The texts of a file of rows: each stands above the line that `check` answers, and that above what runs print."""
-    rows = [line for line in path.read_text().split("\n") if line and not re.match("#|(run|last|round|every|not run|compile): |args:", line)]
+    rows = [
+        line
+        for line in path.read_text().split("\n")
+        if line and not re.match("#|(run|last|round|every|not run|compile): |args:", line)
+    ]
     return [row_text(row) for row in rows[::2]]
 
 
 def source_texts() -> list[bytes]:
     """The texts of the rows of sources, and of the examples."""
-    found = [text for path in sorted((TOP / "tests/answers/programs").glob("sources*.rows")) for text in row_texts(path)]
+    found = [
+        text for path in sorted((TOP / "tests/answers/programs").glob("sources*.rows")) for text in row_texts(path)
+    ]
     return found + [path.read_bytes() for path in sorted((TOP / "examples").glob("*.x10"))]
 
 
 def seed_texts(source: bool) -> list[bytes]:
     if source:
         return source_texts()
-    return [path.read_bytes() for path in sorted((TOP / "tests/answers/rows").glob("*.json"))] + [sharing(*form) for form in SHARING]
+    return [path.read_bytes() for path in sorted((TOP / "tests/answers/rows").glob("*.json"))] + [
+        sharing(*form) for form in SHARING
+    ]
 
 
 @dataclass(frozen=True)
@@ -170,7 +229,8 @@ def ways(text: bytes, judged: Accepted) -> list[tuple[Way, Arguments]]:
 
 
 def is_short(text: bytes, judged: Accepted) -> bool:
-    """Whether the runs of a program are compared: by its bounds, or as it goes where loops may end sooner than they could."""
+    """Whether the runs of a program are compared: by its bounds, or as it goes where loops may end sooner than they
+    could."""
     bounds = judged.bounds
     if bounds.steps <= LONGEST_COMPARED:
         return bounds.steps * (bounds.activities + bounds.clocks) <= MOST_WORK
@@ -279,7 +339,8 @@ class Comparer:
         return outcome
 
     def explains(self, text: bytes, judged: Refused, checked: Answer, outcome: Outcome) -> None:
-        """`explain` has to give the line of `check`, and beside it what the telling says of that, where the line is the telling's."""
+        """`explain` has to give the line of `check`, and beside it what the telling says of that, where the line is the
+        telling's."""
         kinds = [kind.name.lower() for kind in judged.by_kind.kinds] if judged.by_kind else []
         said = ("-", text, judged.line, kinds, not self.source)
         is_told = checked == refused(judged.line)
@@ -287,7 +348,9 @@ class Comparer:
         self.explained(text, [], checked, telling_explain.explained(*said) if is_told else None, outcome)
         if is_sampled(text, LISTED):
             outcome.counts["refusals explained as JSON"] += 1
-            self.explained(text, ["--json"], checked, telling_explain_json.explained(*said) if is_told else None, outcome)
+            self.explained(
+                text, ["--json"], checked, telling_explain_json.explained(*said) if is_told else None, outcome
+            )
 
     def explains_accepted(self, text: bytes, checked: Answer, outcome: Outcome) -> None:
         """`explain` has to give the line of `check`, and what its numbers come from."""
@@ -345,7 +408,8 @@ class Comparer:
             self.draws(text, judged, outcome)
 
     def draws(self, text: bytes, judged: Accepted, outcome: Outcome) -> None:
-        """`events`, `lanes`, its picture, `page`, `races` and `where` tell of a run by its log, unless it is a large one."""
+        """`events`, `lanes`, its picture, `page`, `races` and `where` tell of a run by its log, unless it is a large
+        one."""
         way, given = random.Random(text).choice(ways(text, judged))
         log = telling_log.log_of(judged.module, way, given)
         if len(log) * judged.bounds.activities > MOST_DRAWN:
@@ -355,7 +419,11 @@ class Comparer:
         with tempfile.NamedTemporaryFile() as file:
             pathlib.Path(file.name).write_bytes(telling_log.text_of(log))
             for command, *flags in (["events"], ["lanes"], ["lanes", "--svg"], ["page"], ["races"], ["where"]):
-                told = Answer(*telling_runs.answer(command, judged, text, not self.source, telling_log.text_of(log), given, is_picture=bool(flags)))
+                told = Answer(
+                    *telling_runs.answer(
+                        command, judged, text, not self.source, telling_log.text_of(log), given, is_picture=bool(flags)
+                    )
+                )
                 answer = self.ask(text, command, *flags, *words_of(given), log=file.name)
                 if answer != told:
                     outcome.differ(f"{' '.join([command, *flags])}, run {' '.join(way.words())}", told, answer)
@@ -364,7 +432,16 @@ class Comparer:
         """`outcomes` tells what the telling finds, and the log of one of them."""
         given, asked = ways(text, judged)[0][1], Asked(LIMIT, random.Random(text).choice([1, 1, 1, 2]))
         with tempfile.NamedTemporaryFile() as file:
-            question = ["outcomes", "--limit", str(LIMIT), "--pick", str(asked.pick), "--log", file.name, *words_of(given)]
+            question = [
+                "outcomes",
+                "--limit",
+                str(LIMIT),
+                "--pick",
+                str(asked.pick),
+                "--log",
+                file.name,
+                *words_of(given),
+            ]
             answer = self.ask(text, *question)
             told = telling_outcomes.Answer(answer.status, answer.out, pathlib.Path(file.name).read_bytes())
         outcome.counts[f"programs whose outcomes are told{'' if answer.status == 0 else ', not whole'}"] += 1
@@ -373,7 +450,9 @@ class Comparer:
         if wrong or answer.err:
             outcome.differ(" ".join(question), wrong, answer)
 
-    def compare_run(self, question: str, judged: Accepted, how: tuple[Way, Arguments], answer: Answer, outcome: Outcome) -> None:
+    def compare_run(
+        self, question: str, judged: Accepted, how: tuple[Way, Arguments], answer: Answer, outcome: Outcome
+    ) -> None:
         outcome.counts["runs compared"] += 1
         outcome.counts["of them with numbers given"] += 1 if how[1] else 0
         try:
@@ -532,7 +611,9 @@ def main() -> int:
     summary = Summary()
     chunks = [range(start, min(start + CHUNK, given.cases)) for start in range(0, given.cases, CHUNK)]
     with concurrent.futures.ProcessPoolExecutor(given.jobs) as pool:
-        for part in concurrent.futures.as_completed([pool.submit(compared, comparer, maker, chunk) for chunk in chunks]):
+        for part in concurrent.futures.as_completed(
+            [pool.submit(compared, comparer, maker, chunk) for chunk in chunks]
+        ):
             summary.join(part.result())
     for label in sorted(summary.labels, key=in_order):
         print(f"{summary.labels[label]:8} {label}")
@@ -541,7 +622,13 @@ def main() -> int:
     if given.tally:
         tally.show(summary.answers)
     for case, text, differences in sorted(summary.differing)[:SHOWN]:
-        print(f"case {case}: {text!r}", *differences, f"smaller: {shrunk(comparer, text)!r}", sep="\n    ", file=sys.stderr)
+        print(
+            f"case {case}: {text!r}",
+            *differences,
+            f"smaller: {shrunk(comparer, text)!r}",
+            sep="\n    ",
+            file=sys.stderr,
+        )
     unasked = [name for name in ASKED if summary.cases >= MANY and not summary.counts[name]]
     print(*[f"none: {name}" for name in unasked], sep="\n", end="\n" if unasked else "", file=sys.stderr)
     print(f"{summary.cases} cases, {len(summary.differing)} with a difference")

@@ -1,14 +1,16 @@
 #!/usr/bin/env python3
-"""Changes each operand, each name and each field of some modules to each value that might be taken for it, and looks what the program says.
+"""Changes each operand, each name and each field of some modules to each value that might be taken for it, and looks
+what the program says.
 
     python3 -m tests.generated.operands [--jobs N] [--program PATH]
 
-2 jobs and crates/x10clock/out/x10clock where nothing else is said. The modules are what some texts of tests/answers/rows are compiled to. A
-number becomes 0 and one more; where it may have no sign also the greatest of 16 bits, one beyond it, and -1; where it may also both ends of 64
-bits and one beyond each. A name becomes each other name, a comparison each other one, a letter of `params` the other, and each instruction is
-left out, and doubled. Each of these modules is refused as the second telling says (tests/reference/telling.py), or runs in the three orders and by
-chance as it says, within its bound; its logs are played again and say the same. Besides, each beginning of a module's text, and brackets within
-brackets, are no JSON.
+2 jobs and crates/x10clock/out/x10clock where nothing else is said. The modules are what some texts of
+tests/answers/rows are compiled to. A number becomes 0 and one more; where it may have no sign also the greatest of 16
+bits, one beyond it, and -1; where it may also both ends of 64 bits and one beyond each. A name becomes each other name,
+a comparison each other one, a letter of `params` the other, and each instruction is left out, and doubled. Each of
+these modules is refused as the second telling says (tests/reference/telling.py), or runs in the three orders and by
+chance as it says, within its bound; its logs are played again and say the same. Besides, each beginning of a module's
+text, and brackets within brackets, are no JSON.
 """
 
 from __future__ import annotations
@@ -37,7 +39,10 @@ TEXTS = [
     (TOP / "tests/answers/rows/shared-sum.x10").read_bytes(),
     (TOP / "tests/answers/rows/as-many.x10").read_bytes(),
 ]
-ROW = b'{"version":1,"shared":[],"units":[{"kind":"main","params":"","slots":3,"code":[["lit",0,2],["lit",1,3],["add",0,0,1],["make",2],["advance"],["print",0],["ret"]]}]}'
+ROW = (
+    b'{"version":1,"shared":[],"units":[{"kind":"main","params":"","slots":3,'
+    b'"code":[["lit",0,2],["lit",1,3],["add",0,0,1],["make",2],["advance"],["print",0],["ret"]]}]}'
+)
 WAYS: list[Way] = [*Order, ByChance(7)]
 UNSIGNED = (0, 65_535, 65_536, -1)
 SIGNED = (0, -(2**63), -(2**63) - 1, 2**63 - 1, 2**63)
@@ -149,7 +154,9 @@ def without_json(path: pathlib.Path) -> tuple[int, list[str]]:
     """How many texts that are no JSON there are, and of which the program says something else."""
     comparer, wanted = Comparer(path, 0, False), refused("M1 NotJson")
     asked = no_json()
-    return len(asked), [f"{text[:200]!r}: {answer}" for text in asked if (answer := comparer.ask(text, "check")) != wanted]
+    return len(asked), [
+        f"{text[:200]!r}: {answer}" for text in asked if (answer := comparer.ask(text, "check")) != wanted
+    ]
 
 
 def main() -> int:

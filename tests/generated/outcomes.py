@@ -1,15 +1,17 @@
 #!/usr/bin/env python3
-"""Small programs that nobody wrote: whether `outcomes` tells all that they print, and nothing else, as a walk through all schedules finds it
-(tests/reference/telling_outcomes.py), each outcome with a log that prints it.
+"""Small programs that nobody wrote: whether `outcomes` tells all that they print, and nothing else, as a walk through
+all schedules finds it (tests/reference/telling_outcomes.py), each outcome with a log that prints it.
 
-    python3 -m tests.generated.outcomes [CASES] [SEED] [--sets] [--program PATH] [--jobs N] [--worlds N] [--tally] [--only CASE]
+    python3 -m tests.generated.outcomes [CASES] [SEED] [--sets] [--program PATH] [--jobs N] [--worlds N] [--tally]
+                                        [--only CASE]
 
-300 cases, seed 1, 2 jobs, crates/x10clock/out/x10clock and 3,000 worlds at most where nothing else is said. A program has 2 to 4 activities that
-print, and mostly shared numbers, clocks and finishes; some are asked about as their modules, some take numbers. The program is asked with no limit,
-for the log of each outcome, or of 8 that are spread evenly, for that of one which there isn't, and with a limit; with `--sets` the same where the
-order of numbers doesn't count. Each log is played again by the program, and by the telling. All outcomes are held against lists, too: against what
-the program told, in another order, against that without one line or with another, and with a limit. `--tally` tells how often each answer was given;
-`--only` prints one program alone.
+300 cases, seed 1, 2 jobs, crates/x10clock/out/x10clock and 3,000 worlds at most where nothing else is said. A program
+has 2 to 4 activities that print, and mostly shared numbers, clocks and finishes; some are asked about as their modules,
+some take numbers. The program is asked with no limit, for the log of each outcome, or of 8 that are spread evenly, for
+that of one which there isn't, and with a limit; with `--sets` the same where the order of numbers doesn't count. Each
+log is played again by the program, and by the telling. All outcomes are held against lists, too: against what the
+program told, in another order, against that without one line or with another, and with a limit. `--tally` tells how
+often each answer was given; `--only` prints one program alone.
 """
 
 from __future__ import annotations
@@ -36,7 +38,9 @@ CHUNK = 10
 SHOWN = 5
 ORDERS = ("first", "last", "round")
 # What `races` says at its end.
-THIS_RUN, THESE_NUMBERS, THIS_ORDER = "of this run alone", "every schedule prints these numbers", "every schedule prints these numbers in this order"
+THIS_RUN, THESE_NUMBERS, THIS_ORDER = (
+    "of this run alone", "every schedule prints these numbers", "every schedule prints these numbers in this order"
+)
 # Logs of so many outcomes of a program are looked at.
 LOGS = 8
 ACTIVITIES = range(2, 5)
@@ -63,7 +67,9 @@ class SmallWriter(Writer):
         return [self.rng.choice(numbers).name] if numbers else [str(self.rng.randrange(10))]
 
     def ways(self, alone: bool) -> list[Callable[[], bool]]:
-        ways: list[Callable[[], bool]] = [self.show] * 4 + [self.share] * 3 + [self.advance, self.call, self.resume, self.drop, self.branch]
+        ways: list[Callable[[], bool]] = (
+            [self.show] * 4 + [self.share] * 3 + [self.advance, self.call, self.resume, self.drop, self.branch]
+        )
         ways += [] if alone else [self.number] * 3 + [self.make] * 2
         return ways + ([self.start] * 6 + [self.finish, self.loop] if self.depth < 4 else [])
 
@@ -78,11 +84,16 @@ class Case:
 
 
 def case(rng: random.Random, worlds: int) -> Case:
-    """A program with several activities that is accepted, and has no more than so many worlds, counted once for each list that is printed by then."""
+    """A program with several activities that is accepted, and has no more than so many worlds, counted once for each
+    list that is printed by then."""
     while True:
         text = Text(generated_source.text_of(rng, SmallWriter(rng).program()))
         judged = text.judged()
-        if not isinstance(judged, Accepted) or judged.bounds.activities not in ACTIVITIES or judged.bounds.steps > MOST_STEPS:
+        if (
+            not isinstance(judged, Accepted)
+            or judged.bounds.activities not in ACTIVITIES
+            or judged.bounds.steps > MOST_STEPS
+        ):
             continue
         if not any(instr.name == "print" for unit in judged.module.units for instr in unit.code):
             continue
@@ -110,12 +121,20 @@ class Asker:
         file, log = self.program.folder / "text", self.program.folder / "made"
         file.write_bytes(self.case.text.data)
         log.write_bytes(b"something that was there before")
-        options = [*(["--sets"] if self.sets else []), *(["--limit", limit] if limit else []), *(["--pick", pick, "--log", log] if pick else [])]
+        options = [
+            *(["--sets"] if self.sets else []),
+            *(["--limit", limit] if limit else []),
+            *(["--pick", pick, "--log", log] if pick else []),
+        ]
         status, out, err = self.program.call("outcomes", *self.case.text.words(), *options, file)
         self.counts["answers that are whole" if status == telling_outcomes.WHOLE else "answers that aren't whole"] += 1
         question = f"outcomes {' '.join(map(str, options))}"
-        given, asked = Answer(status, out, log.read_bytes() if pick else b""), Asked(limit or telling_outcomes.USUAL_LIMIT, pick, self.sets)
-        wrong = [*telling_outcomes.faults(self.case.walk, self.case.judged.module, self.case.text.arguments, asked, given)]
+        given, asked = Answer(status, out, log.read_bytes() if pick else b""), Asked(
+            limit or telling_outcomes.USUAL_LIMIT, pick, self.sets
+        )
+        wrong = [
+            *telling_outcomes.faults(self.case.walk, self.case.judged.module, self.case.text.arguments, asked, given)
+        ]
         wrong += [f"on standard error: {err}"] if err else []
         wrong += self.replayed(out, pick, asked, given.log) if pick else []
         yield from (f"{question}: {what}" for what in wrong)
@@ -142,11 +161,19 @@ class Asker:
         try:
             told = telling_outcomes.expected(listed.read_bytes())
         except telling_outcomes.Stray as fault:
-            wrong = [] if (status, out, err) == (telling_outcomes.NO_LIST, "", f"x10clock: {fault}\n") else [f"the list is none: {fault}"]
+            wrong = (
+                []
+                if (status, out, err) == (telling_outcomes.NO_LIST, "", f"x10clock: {fault}\n")
+                else [f"the list is none: {fault}"]
+            )
         else:
             asked = Asked(limit or telling_outcomes.USUAL_LIMIT, None, self.sets)
-            wrong = [*telling_outcomes.held_faults(self.case.walk, asked, told, Answer(status, out))] + ([f"on standard error: {err}"] if err else [])
-        yield from (f"outcomes {' '.join(map(str, options))} of {lines}: {what}: {(status, out, err)}" for what in wrong)
+            wrong = [*telling_outcomes.held_faults(self.case.walk, asked, told, Answer(status, out))] + (
+                [f"on standard error: {err}"] if err else []
+            )
+        yield from (
+            f"outcomes {' '.join(map(str, options))} of {lines}: {what}: {(status, out, err)}" for what in wrong
+        )
 
     def raced(self, order: str) -> Iterator[str]:
         """What is wrong with what the races of the run in this order say of all runs."""
@@ -166,7 +193,8 @@ class Asker:
             yield f"races of the run in the order {order}, which prints {numbers}: {(status, out, err)}"
 
     def lists(self, rng: random.Random) -> Iterator[str]:
-        """What is wrong with answers where outcomes are held against what the program told, and against what it didn't."""
+        """What is wrong with answers where outcomes are held against what the program told, and against what it
+        didn't."""
         file = self.program.folder / "text"
         file.write_bytes(self.case.text.data)
         _, out, _ = self.program.call("outcomes", *self.case.text.words(), *(["--sets"] if self.sets else []), file)
@@ -176,17 +204,30 @@ class Asker:
         yield from self.held(lines, rng.choice([1, 2, 3, 10]))
         missing, place = rng.randrange(len(lines)), rng.randrange(len(lines) + 1)
         yield from self.held(lines[:missing] + lines[missing + 1 :], None)
-        other = rng.choice(["outcome 1 prints 987654321\n", "outcome 0 prints -1 -1 -1 -1 -1 -1\n", "\n", "outcomes\n", "outcome 5 prints \n", " outcome 5 prints 1\n"])
+        other = rng.choice(
+            [
+                "outcome 1 prints 987654321\n",
+                "outcome 0 prints -1 -1 -1 -1 -1 -1\n",
+                "\n",
+                "outcomes\n",
+                "outcome 5 prints \n",
+                " outcome 5 prints 1\n",
+            ]
+        )
         yield from self.held([*lines[:place], other, *lines[place:]], None)
 
     def differences(self, rng: random.Random) -> Iterator[str]:
         count = len(Asked(sets=self.sets).outcomes(self.case.walk))
         yield from self.asked(None, None)
-        spread = range(1, count + 1) if count <= LOGS else [1 + place * (count - 1) // (LOGS - 1) for place in range(LOGS)]
+        spread = (
+            range(1, count + 1) if count <= LOGS else [1 + place * (count - 1) // (LOGS - 1) for place in range(LOGS)]
+        )
         for pick in spread:
             yield from self.asked(None, pick)
         yield from self.asked(None, rng.choice([count + 1, 2 * count + 1, 2**64 - 1]))
-        limit = rng.choice([1, 2, 3, 10, max(1, count - 1), count, count + 1, telling_outcomes.SPARE * self.case.walk.entries + 1])
+        limit = rng.choice(
+            [1, 2, 3, 10, max(1, count - 1), count, count + 1, telling_outcomes.SPARE * self.case.walk.entries + 1]
+        )
         yield from self.asked(limit, rng.choice([None, 1, 2, count]))
         yield from self.lists(rng)
         for order in ORDERS:
@@ -238,7 +279,9 @@ class Cases:
 
 
 def words() -> argparse.Namespace:
-    parser = argparse.ArgumentParser(description="Compares what x10clock says that small programs can print with a walk through all their schedules.")
+    parser = argparse.ArgumentParser(
+        description="Compares what x10clock says that small programs can print with a walk through all their schedules."
+    )
     parser.add_argument("cases", nargs="?", type=int, default=300)
     parser.add_argument("seed", nargs="?", type=int, default=1)
     parser.add_argument("--sets", action="store_true")
@@ -267,7 +310,9 @@ def main() -> int:
         tally.show(total.answers)
     print(*total.differing[:SHOWN], sep="\n", end="\n" if total.differing else "", file=sys.stderr)
     print(f"outcomes: {total.counts['programs']} programs, {len(total.differing)} with a difference")
-    return 1 if total.differing or total.counts["programs"] != given.cases or not total.counts["logs played again"] else 0
+    return (
+        1 if total.differing or total.counts["programs"] != given.cases or not total.counts["logs played again"] else 0
+    )
 
 
 if __name__ == "__main__":

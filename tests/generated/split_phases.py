@@ -1,12 +1,12 @@
 #!/usr/bin/env python3
-"""Programs of split phases that nobody wrote: whether `races` tells what the second telling does, and says by one run of a program what it says by
-each other one.
+"""Programs of split phases that nobody wrote: whether `races` tells what the second telling does, and says by one run
+of a program what it says by each other one.
 
     python3 -m tests.generated.split_phases [PROGRAMS] [SEED] [--program PATH]
 
-200 programs, seed 1 and crates/x10clock/out/x10clock where nothing else is said. Activities resume clocks, leave them, or end behind that, between
-writes and reads of two shared numbers: what comes before what hangs on phases alone. A run without a race speaks for all runs, so no other one has
-a race; and what is in order in one run is so in each.
+200 programs, seed 1 and crates/x10clock/out/x10clock where nothing else is said. Activities resume clocks, leave them,
+or end behind that, between writes and reads of two shared numbers: what comes before what hangs on phases alone. A run
+without a race speaks for all runs, so no other one has a race; and what is in order in one run is so in each.
 """
 
 from __future__ import annotations
@@ -100,7 +100,9 @@ def told(program: pathlib.Path, data: bytes, judged: Accepted, folder: pathlib.P
 
 
 def main() -> int:
-    parser = argparse.ArgumentParser(description="Holds what `races` says by one run of a program against what it says by others.")
+    parser = argparse.ArgumentParser(
+        description="Holds what `races` says by one run of a program against what it says by others."
+    )
     parser.add_argument("programs", type=int, nargs="?", default=200)
     parser.add_argument("seed", type=int, nargs="?", default=1)
     harness.add_option(parser)
@@ -116,7 +118,8 @@ def main() -> int:
             found += [f"program {number}: {data.decode()}{what}" for what in differing]
     for what in found[:SHOWN]:
         print(what)
-    print(f"split_phases.py: {given.programs} programs, of which {free} have no race, {len(ORDERS)} runs of each, {len(found)} otherwise than they should be")
+    programs = f"{given.programs} programs, of which {free} have no race, {len(ORDERS)} runs of each"
+    print(f"split_phases.py: {programs}, {len(found)} otherwise than they should be")
     return 1 if found or not 0 < free < given.programs else 0
 
 

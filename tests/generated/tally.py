@@ -11,7 +11,8 @@ MISTAKE = re.compile(r"error: (?:'x10clock' )?([^':]+)")
 
 
 def label(status: int, err: str) -> str:
-    """The answer by its status and by what is told on standard error, without what is told of this text or these words alone."""
+    """The answer by its status and by what is told on standard error, without what is told of this text or these words
+    alone."""
     found = FAULT.match(err) or MISTAKE.match(err)
     return f"{status} {found[1].strip() if found else err or 'done'}"
 

@@ -1,16 +1,19 @@
 #!/usr/bin/env python3
-"""Command lines that nobody wrote: whether the built program says of them what a second telling says (tests/reference/telling_words.py).
+"""Command lines that nobody wrote: whether the built program says of them what a second telling says
+(tests/reference/telling_words.py).
 
     python3 -m tests.generated.words [CASES] [SEED] [--program PATH] [--jobs N] [--tally] [--only CASE]
 
-2,000 cases, seed 1, 2 jobs and crates/x10clock/out/x10clock where nothing else is said. The words are the program's own commands and options, such as it doesn't know, numbers at
-the ends of what may be given, and names of small files, of which some are texts, modules or logs, one is a folder, and some aren't there; mostly they make a call that could be meant,
-with a word left out, doubled, put in or replaced. Each call is made in a folder of its own, and told in another: the status, standard output, the first
-line of standard error and what is in the folder then have to be the same. What a run by workers prints is compared in any order, and its log is
-played again; outcomes, which the program tells in an order of its own, have to be right (tests/reference/telling_outcomes.py), and so has their log,
-and what is said of them where they are held against a list.
-`--tally` tells how often each answer was given; `--only` prints the words of one case. It fails where something is answered otherwise, and where of
-500 calls or more none told outcomes, events, lanes or a page.
+2,000 cases, seed 1, 2 jobs and crates/x10clock/out/x10clock where nothing else is said. The words are the program's own
+commands and options, such as it doesn't know, numbers at the ends of what may be given, and names of small files, of
+which some are texts, modules or logs, one is a folder, and some aren't there; mostly they make a call that could be
+meant, with a word left out, doubled, put in or replaced. Each call is made in a folder of its own, and told in another:
+the status, standard output, the first line of standard error and what is in the folder then have to be the same. What a
+run by workers prints is compared in any order, and its log is played again; outcomes, which the program tells in an
+order of its own, have to be right (tests/reference/telling_outcomes.py), and so has their log, and what is said of them
+where they are held against a list. `--tally` tells how often each answer was given; `--only` prints the words of one
+case. It fails where something is answered otherwise, and where of 500 calls or more none told outcomes, events, lanes
+or a page.
 """
 
 from __future__ import annotations
@@ -64,11 +67,18 @@ FOLDER, LINK = "folder", "link"
 # Words.
 
 NAMES = [*FILES, FOLDER, LINK, "-", "no-such-file", "folder/made", "made", "", "."]
-NUMBERS = ["0", "1", "2", "3", "64", "65", "-1", "+2", "007", "9223372036854775807", "9223372036854775808", "-9223372036854775808", "-9223372036854775809",
-           "18446744073709551615", "18446744073709551616", "+18446744073709551615", "99999999999999999999x", "x", "", "-", "+", "1.5", " 1", "٣", "1e3"]  # fmt: skip
+NUMBERS = [
+    "0", "1", "2", "3", "64", "65", "-1", "+2", "007", "9223372036854775807", "9223372036854775808",
+    "-9223372036854775808", "-9223372036854775809", "18446744073709551615", "18446744073709551616",
+    "+18446744073709551615", "99999999999999999999x", "x", "", "-", "+", "1.5", " 1", "٣", "1e3",
+]  # fmt: skip
 ORDERS = ["first", "last", "round", "random", "ask", "least", "First", "", "firs", "-", "first "]
-STRANGE = ["--", "-h", "--help", "help", "-", "", "-x", "-5", "-hx", "--module=x", "--help=x", "--modul", "--Module", "--orders", "--=", "---", "--version", "-V", "walk",
-           "chek", "run", "check", "--no-module", "--log", "--order", "--workers", "--arg", "--seed", "--runs", "--limit", "--pick", "--sets", "--expect", "--from", "--to", "--svg", "outcome", "\udcff", "--log=\udcfe", "ü", "--ü", "a b", "=", "@step.x10"]  # fmt: skip
+STRANGE = [
+    "--", "-h", "--help", "help", "-", "", "-x", "-5", "-hx", "--module=x", "--help=x", "--modul", "--Module",
+    "--orders", "--=", "---", "--version", "-V", "walk", "chek", "run", "check", "--no-module", "--log", "--order",
+    "--workers", "--arg", "--seed", "--runs", "--limit", "--pick", "--sets", "--expect", "--from", "--to", "--svg",
+    "outcome", "\udcff", "--log=\udcfe", "ü", "--ü", "a b", "=", "@step.x10",
+]  # fmt: skip
 
 
 # For some commands options that are a number each.
@@ -100,13 +110,17 @@ def options(rng: random.Random, command: str, text: str) -> Iterator[list[str]]:
     # Outcomes that are held against a list have no log.
     is_held = command == "outcomes" and rng.random() < 0.35
     for name in COUNTED.get(command, ()):
-        yield from [option(rng, name, small(rng))] if rng.random() < (0.05 if is_held and name == "pick" else 0.4) else []
+        yield from (
+            [option(rng, name, small(rng))] if rng.random() < (0.05 if is_held and name == "pick" else 0.4) else []
+        )
     if command == "lanes" and rng.random() < 0.3:
         yield ["--svg"]
     if command == "outcomes" and rng.random() < 0.3:
         yield ["--sets"]
     if is_held:
-        yield option(rng, "expect", f"{text[:4]}.list" if rng.random() < 0.5 else rng.choice(["part.list", "stray.list", *NAMES]))
+        yield option(
+            rng, "expect", f"{text[:4]}.list" if rng.random() < 0.5 else rng.choice(["part.list", "stray.list", *NAMES])
+        )
     if command == "run" and rng.random() < 0.3:
         yield option(rng, "workers", small(rng))
     if command in ("run", "outcomes") and rng.random() < (0.05 if is_held else 0.4):
@@ -209,7 +223,11 @@ class Caller:
         """What the program answers, and what is wrong with it."""
         (right, left), (got, there) = self.told(words, given), self.called(words, given)
         job = job_of(words)
-        if job and job.command == "outcomes" and {right.status, got.status} <= {telling_outcomes.WHOLE, telling_outcomes.NOT_WHOLE}:
+        if (
+            job
+            and job.command == "outcomes"
+            and {right.status, got.status} <= {telling_outcomes.WHOLE, telling_outcomes.NOT_WHOLE}
+        ):
             return got, "; ".join(outcome_faults(job, given, got, left, there)) or None
         if got.status == 0 and job and "workers" in job.values:
             played = replayed(job, given, left, there)
@@ -256,7 +274,9 @@ def contents_of(path: str) -> bytes:
 
 def are_others_same(job: Job, left: Folder, there: Folder) -> bool:
     """Whether all files but that of the log are the same."""
-    kept = [{name: text for name, text in files.items() if name not in (log_path(job), LINK)} for files in (left, there)]
+    kept = [
+        {name: text for name, text in files.items() if name not in (log_path(job), LINK)} for files in (left, there)
+    ]
     return kept[0] == kept[1]
 
 
@@ -276,14 +296,19 @@ def replayed(job: Job, given: str, left: Folder, there: Folder) -> Told | None:
 
 
 def outcome_faults(job: Job, given: str, got: Told, left: Folder, there: Folder) -> Iterator[str]:
-    """What is wrong with outcomes that are told, and with their log, if there was to be one; all other files are as they are told to be."""
+    """What is wrong with outcomes that are told, and with their log, if there was to be one; all other files are as
+    they are told to be."""
     if got.err or not are_others_same(job, left, there):
         yield f"other files differ, or something is on standard error: {got}"
     module, numbers = telling_words.judge(job, program_of(job, given)).module, tuple(job.numbers)
     log = there.get(log_path(job), b"no log") if "log" in job.values else b""
-    walk, asked, answer = telling_outcomes.walked(module, numbers), telling_words.asked_outcomes(job), Answer(got.status, got.out, log)
+    walk, asked, answer = (
+        telling_outcomes.walked(module, numbers), telling_words.asked_outcomes(job), Answer(got.status, got.out, log)
+    )
     if "expect" in job.values:
-        faults = telling_outcomes.held_faults(walk, asked, telling_outcomes.expected(contents_of(job.values["expect"])), answer)
+        faults = telling_outcomes.held_faults(
+            walk, asked, telling_outcomes.expected(contents_of(job.values["expect"])), answer
+        )
     else:
         faults = telling_outcomes.faults(walk, module, numbers, asked, answer)
     yield from (f"{fault}: {got}" for fault in faults)

@@ -12,23 +12,25 @@ Bugs stand in tests/prover/bugs/CRATE.bugs, each as
     old: a text that stands once in that file
     new: what stands there instead
 
-with further pairs of `old:` and `new:` where one isn't enough, and a further `file:` before those of another file. A line `passes: reason` says that
-no contract refuses it, and why that is right. Contracts are all that callers see, so bugs in different functions are planted together and tried by
-one `rt check`: each function says for itself whether it is refused; one that calls a function which is refused waits for another check, if it must.
-What becomes of a bug:
+with further pairs of `old:` and `new:` where one isn't enough, and a further `file:` before those of another file. A
+line `passes: reason` says that no contract refuses it, and why that is right. Contracts are all that callers see, so
+bugs in different functions are planted together and tried by one `rt check`: each function says for itself whether it
+is refused; one that calls a function which is refused waits for another check, if it must. What becomes of a bug:
 
     refused             a goal of its function isn't proved
     refused at answer   the answer that a proof file has for a goal of its function proves it no more
-    only names          the proof file cites names that are gone, and nothing else is said: that shows nothing, since a right body of
-                        another form would be met so too; take another bug, which leaves calls and names as they are
+    only names          the proof file cites names that are gone, and nothing else is said: that shows nothing, since a
+                        right body of another form would be met so too; take another bug, which leaves calls and names
+                        as they are
     no program          it doesn't compile
     passes              it is proved
     not tried           a function that its own one calls, or another of its cycle, is refused in each check
 
-`--applies` asks no prover: it says which bugs, of one crate or of all, name a file that isn't there or a text that doesn't stand once in it.
+`--applies` asks no prover: it says which bugs, of one crate or of all, name a file that isn't there or a text that
+doesn't stand once in it.
 
-It changes the files of the crate while it runs and puts them back: run it on a copy of the repository. The status is 0 where each bug is
-refused by its own function, or passes as said.
+It changes the files of the crate while it runs and puts them back: run it on a copy of the repository. The status is 0
+where each bug is refused by its own function, or passes as said.
 """
 import argparse
 import os
@@ -86,20 +88,27 @@ def read_bugs(path):
 
 
 def function_end(lines, first, indent):
-    """The number of the last line of the function whose head begins in line `first`; lines are counted from 1. A method of a trait may have
-    no body: it ends where its head does."""
+    """The number of the last line of the function whose head begins in line `first`; lines are counted from 1. A method
+    of a trait may have no body: it ends where its head does."""
     in_head = True
     for number in range(first, len(lines) + 1):
         line = lines[number - 1]
         is_signature = number == first or line.startswith(indent + ")")
-        if line in (indent + "}", indent + "{}") or is_signature and line.endswith(("}", ";")) or in_head and line.endswith("};"):
+        if (
+            line in (indent + "}", indent + "{}")
+            or is_signature
+            and line.endswith(("}", ";"))
+            or in_head
+            and line.endswith("};")
+        ):
             return number
         in_head = in_head and line != indent + "{" and not (is_signature and line.endswith("{"))
     return len(lines)
 
 
 def owner_of(head):
-    """What the functions of an impl or a trait stand under in the names of the prover: the type, with the trait that it implements."""
+    """What the functions of an impl or a trait stand under in the names of the prover: the type, with the trait that it
+    implements."""
     words = [re.sub(r"[<:].*", "", word) for word in head.split(" for ")]
     return "".join(reversed(words))
 
@@ -189,7 +198,13 @@ class Crate:
         try:
             self.write(texts)
             with subprocess.Popen(
-                call, cwd=self.path, stdout=subprocess.PIPE, stderr=subprocess.STDOUT, text=True, errors="replace", start_new_session=True
+                call,
+                cwd=self.path,
+                stdout=subprocess.PIPE,
+                stderr=subprocess.STDOUT,
+                text=True,
+                errors="replace",
+                start_new_session=True,
             ) as running:
                 try:
                     return running.communicate()[0]
@@ -231,11 +246,13 @@ class Said:
             self.program.append(text)
 
     def own_goals(self):
-        """The open goals, but for those that stay open because a name is gone: all where that is an invariant's; else those that an answer
-        may have been for, which is lost with the name of its goal."""
+        """The open goals, but for those that stay open because a name is gone: all where that is an invariant's; else
+        those that an answer may have been for, which is lost with the name of its goal."""
         if self.lost_invariant:
             return []
-        lost = {m[1].split("-")[0] for name in self.names if (m := re.search(r"has no `([\w-]+)` that can be named", name))}
+        lost = {
+            m[1].split("-")[0] for name in self.names if (m := re.search(r"has no `([\w-]+)` that can be named", name))
+        }
         stems = [(m[1].split("-")[0] if (m := re.search(r"\(`([\w-]+)`\)", goal)) else "", goal) for goal in self.goals]
         return [goal for stem, goal in stems if stem not in lost]
 
@@ -256,7 +273,8 @@ class Said:
 
 
 def said(crate, bug, lines):
-    """What is said of places in the bug's functions, or in the proofs that belong to them; of any, where it changes no function."""
+    """What is said of places in the bug's functions, or in the proofs that belong to them; of any, where it changes no
+    function."""
     found = Said()
     for file, first, last, owner, name in crate.places(bug):
         stem = os.path.basename(file)[:-3]
@@ -286,7 +304,8 @@ def told(crate, bug, lines):
 
 
 def try_all(crate, bugs, keep):
-    """What becomes of each bug, by its name. One that another keeps from being tried is tried again, three times at most."""
+    """What becomes of each bug, by its name. One that another keeps from being tried is tried again, three times at
+    most."""
     answers, number, left = {}, 0, bugs
     for _ in range(3):
         later = []

@@ -4,15 +4,16 @@
     tests/prover/costs.py CRATE [ROWS]
     tests/prover/costs.py --edits CRATE [ROWS]
 
-The crate is checked by one job, over libraries that `rt check` has built or builds first. A check writes a file for each part of a function's
-proof: `Lts` is what the borrow checker makes of its body, `Proof` its goals, `Tie` how a cycle ends. How long a part took is the time since the
-file before it. Printed are seconds by the clock, of functions and then of parts, the dearest first, 20 of each where nothing else is said. It
-takes away the crate's `out/`: run it on a copy of the repository. `rt check` begins with what a check in another copy on this machine kept, if
-there is one: then only what had to be proved anew is counted.
+The crate is checked by one job, over libraries that `rt check` has built or builds first. A check writes a file for
+each part of a function's proof: `Lts` is what the borrow checker makes of its body, `Proof` its goals, `Tie` how a
+cycle ends. How long a part took is the time since the file before it. Printed are seconds by the clock, of functions
+and then of parts, the dearest first, 20 of each where nothing else is said. It takes away the crate's `out/`: run it on
+a copy of the repository. `rt check` begins with what a check in another copy on this machine kept, if there is one:
+then only what had to be proved anew is counted.
 
-Where a function is refused, a check leaves out whatever calls it. With `--edits` it checks nothing and tells, by what an earlier check left in
-`out/`, how many seconds each edit and bug of the crate lets a check leave out. Who calls whom it takes from names alone, so it is too much
-where several functions have one name.
+Where a function is refused, a check leaves out whatever calls it. With `--edits` it checks nothing and tells, by what
+an earlier check left in `out/`, how many seconds each edit and bug of the crate lets a check leave out. Who calls whom
+it takes from names alone, so it is too much where several functions have one name.
 """
 import collections
 import pathlib
@@ -29,7 +30,9 @@ TOP = pathlib.Path(__file__).resolve().parents[2]
 
 def parts(crate: pathlib.Path, began: float = 0) -> list[tuple[float, str]]:
     """The seconds that each part took which was made since then, with its name."""
-    files = sorted((made, file.stem) for file in crate.glob("out/incremental/*/*.oantt") if (made := file.stat().st_mtime) >= began)
+    files = sorted(
+        (made, file.stem) for file in crate.glob("out/incremental/*/*.oantt") if (made := file.stat().st_mtime) >= began
+    )
     return [(now - before, name) for (before, _), (now, name) in zip(files, files[1:])]
 
 
@@ -45,7 +48,8 @@ def show(title: str, costs: list[tuple[float, str]], rows: int) -> None:
 
 
 def functions_of(crate: pathlib.Path) -> dict[str, tuple[str, str, str]]:
-    """By its name as the prover has it, in small letters: the file, the plain name and the text of each function. Those of a cycle count as one."""
+    """By its name as the prover has it, in small letters: the file, the plain name and the text of each function. Those
+    of a cycle count as one."""
     found = {}
     for file in sorted((crate / "src").rglob("*.rt")):
         text, inside = file.read_text(encoding="utf-8"), str(file.relative_to(crate))
@@ -53,7 +57,11 @@ def functions_of(crate: pathlib.Path) -> dict[str, tuple[str, str, str]]:
         for first, last, owner, name in bugs.functions(text):
             head = "\n".join(lines[max(first - 6, 0) : first]).rpartition("\n\n")[2]
             cycle = re.search(r"cycle\((\w+)\)", head)
-            words = [*([] if module in ("lib", "main") else [module]), *([owner] if owner and not cycle else []), f"+{cycle[1]}" if cycle else name]
+            words = [
+                *([] if module in ("lib", "main") else [module]),
+                *([owner] if owner and not cycle else []),
+                f"+{cycle[1]}" if cycle else name,
+            ]
             key = ".".join(words).lower()
             _, names, known = found.get(key, ("", "", ""))
             found[key] = inside, f"{names} {name}".strip(), known + "\n".join(lines[first - 1 : last])
@@ -108,7 +116,9 @@ def show_edits(crate: pathlib.Path, rows: int) -> None:
     callers, told, sources = callers_of(found), [], bugs.Crate(str(TOP), crate.name)
     for kind, bug in edits_of(crate):
         changed = {(file, name) for file, _, _, _, name in sources.places(bug)}
-        keys = [key for key, (file, names, _) in found.items() if any((file, name) in changed for name in names.split())]
+        keys = [
+            key for key, (file, names, _) in found.items() if any((file, name) in changed for name in names.split())
+        ]
         above = set().union(*(callers[key] for key in keys))
         told.append((sum(seconds[key] for key in above), f"{kind:4}  {bug.name}"))
     show(f"left out, of {sum(seconds.values()):.0f} s", told, rows)

@@ -1,11 +1,12 @@
 #!/usr/bin/env python3
-"""Tells what each crate costs in a run of `rt ci`: seconds of one processor, of its proof, of its tests and of its edits.
+"""Tells what each crate costs in a run of `rt ci`: seconds of one processor, of its proof, of its tests and of its
+edits.
 
     tests/prover/gate_times.py [SECONDS]
 
-Begin it right behind `rt ci`, with no other `rt` on the machine: it looks once a second, or as often as is said, which checks are running, and
-tells them all when no `rt ci` is left, the dearest crate first. The last second or so of each check is missed. What is tried of a crate over work
-that was kept, as its edits but for the first, counts as edits too.
+Begin it right behind `rt ci`, with no other `rt` on the machine: it looks once a second, or as often as is said, which
+checks are running, and tells them all when no `rt ci` is left, the dearest crate first. The last second or so of each
+check is missed. What is tried of a crate over work that was kept, as its edits but for the first, counts as edits too.
 """
 import collections
 import os
@@ -49,7 +50,9 @@ def look(checks: dict[tuple[str, str], Check]) -> bool:
     for process in pathlib.Path("/proc").glob("[0-9]*"):
         try:
             words = words_of(process)
-            is_running = is_running or (words[1:2] != [] and pathlib.Path(words[1]).name == "rt" and words[2:3] == ["ci"])
+            is_running = is_running or (
+                words[1:2] != [] and pathlib.Path(words[1]).name == "rt" and words[2:3] == ["ci"]
+            )
             if pathlib.Path(words[0]).name == "rattle" and "--crate-name" in words:
                 begun, seconds = seconds_of(process)
                 key = process.name, begun
@@ -69,7 +72,10 @@ def show(checks: list[Check]) -> None:
     print(f"{'crate':20}{'proof':>8}{'tests':>8}{'edits':>8}")
     for crate, kinds in sorted(crates.items(), key=lambda it: -sum(it[1].values())):
         print(f"{crate:20}" + "".join(f"{kinds[kind]:8.0f}" for kind in ("proof", "tests", "edits")))
-    print(f"{'in all':20}" + "".join(f"{sum(kinds[kind] for kinds in crates.values()):8.0f}" for kind in ("proof", "tests", "edits")))
+    print(
+        f"{'in all':20}"
+        + "".join(f"{sum(kinds[kind] for kinds in crates.values()):8.0f}" for kind in ("proof", "tests", "edits"))
+    )
 
 
 def main() -> int:

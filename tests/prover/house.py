@@ -1,12 +1,14 @@
 #!/usr/bin/env python3
-"""Counts what keeps a house from being read: functions that are long or only hand on, lemmas that stand twice or that nobody cites, lines over
-the limits. It reads texts alone, by their layout; nothing is proved or built.
+"""Counts what keeps a house from being read: functions that are long or only hand on, lemmas that stand twice or that
+nobody cites, lines over the limits. It reads texts alone, by their layout; nothing is proved or built.
 
     house.py [TOP]              the table of counts
     house.py --list WORD [TOP]  the places that one row of it counts; WORD is the row's first column
+    house.py --ratchet [TOP]    whether no row has more than MOST allows
 
-A script reads layout and names, no meaning: a row is a place to look at, not a fault. The status is 1 only where a crate has more than a
-hundred functions."""
+A script reads layout and names, no meaning: a row is a place to look at, not a fault. The status of the table is 1 only
+where a crate has more than a hundred functions. A row of MOST may fall and not rise: whoever lowers a count lowers its
+number here."""
 
 import argparse
 import collections
@@ -19,6 +21,23 @@ from typing import Iterator
 MOST_FUNCTIONS = 100
 LONG_FUNCTION = 40
 CLAUSE, CODE, DOC, FILE = 100, 140, 120, 800
+# The most that each of these rows may count.
+MOST = {
+    "full": 0,
+    "long": 16,
+    "bodies": 3,
+    "forwarders": 72,
+    "uncommented": 17,
+    "prover": 0,
+    "uncited": 0,
+    "twice": 27,
+    "pub": 76,
+    "clauses": 0,
+    "code": 269,
+    "proofs": 6829,
+    "docs": 92,
+    "files": 4,
+}
 TESTS = {"xk_tests", "xk_tests_memory"}
 FN = re.compile(r"^(\s*)((?:pub(?:\([^)]*\))? )?(?:const )?)fn (\w+)")
 NAME = re.compile(r"[^\s(){}\[\];,.λ]+")
@@ -258,10 +277,16 @@ def rows_of_code(top: Path) -> Rows:
     full = [(c, n) for c, n in collections.Counter(f.crate() for f in fns).items() if n > MOST_FUNCTIONS]
     return {
         "functions": ("functions", [f.place() for f in fns]),
-        "full": (f"crates of more than {MOST_FUNCTIONS} functions", [Place(top / "crates" / c, 0, str(n)) for c, n in full]),
+        "full": (
+            f"crates of more than {MOST_FUNCTIONS} functions",
+            [Place(top / "crates" / c, 0, str(n)) for c, n in full],
+        ),
         "long": (f"functions over {LONG_FUNCTION} lines with their contract",
                  [f.place(str(f.length())) for f in fns if f.length() > LONG_FUNCTION]),
-        "bodies": (f"bodies over {LONG_FUNCTION} lines", [f.place(str(len(f.body))) for f in fns if len(f.body) > LONG_FUNCTION]),
+        "bodies": (
+            f"bodies over {LONG_FUNCTION} lines",
+            [f.place(str(len(f.body))) for f in fns if len(f.body) > LONG_FUNCTION],
+        ),
         "forwarders": ("functions that only hand on", [f.place() for f in own if hands_on(f)]),
         "uncommented": ("functions without a comment", [f.place() for f in own if not f.has_comment]),
         "prover": ("lines for the prover without a comment", list(for_the_prover(top))),
@@ -277,9 +302,15 @@ def rows_of_proofs(top: Path) -> Rows:
     named = [x for x in lemmas if x.file.name not in ("Answers.antt", "Invariants.antt")]
     return {
         "lemmas": ("lemmas and definitions", [x.place() for x in found]),
-        "uncited": ("lemmas that nobody cites", [x.place() for x in named if not cited.inside(x) and not cited.outside(x)]),
+        "uncited": (
+            "lemmas that nobody cites",
+            [x.place() for x in named if not cited.inside(x) and not cited.outside(x)],
+        ),
         "twice": ("statements of lemmas that stand again", [x.place() for x in twice(found)]),
-        "pub": ("`pub` and cited in their own file alone", [x.place() for x in named if x.is_pub and cited.inside(x) and not cited.outside(x)]),
+        "pub": (
+            "`pub` and cited in their own file alone",
+            [x.place() for x in named if x.is_pub and cited.inside(x) and not cited.outside(x)],
+        ),
     }
 
 
@@ -300,9 +331,24 @@ def rows_of_lines(top: Path) -> Rows:
     }
 
 
+def ratchet(table: Rows) -> int:
+    """Tells which rows count more than they may, and which count less, so that their numbers can be lowered."""
+    over = 0
+    for word, most in MOST.items():
+        what, places = table[word]
+        if len(places) > most:
+            over += 1
+            print(f"{what}: {len(places)}, and no more than {most} may be: house.py --list {word} names them")
+        elif len(places) < most:
+            print(f"{what}: {len(places)}; lower {word} of MOST from {most}")
+    print(f"house: {len(MOST)} rows, {over} that count more than they may")
+    return 1 if over else 0
+
+
 def main() -> int:
     parser = argparse.ArgumentParser(description=__doc__, formatter_class=argparse.RawDescriptionHelpFormatter)
     parser.add_argument("--list", metavar="WORD")
+    parser.add_argument("--ratchet", action="store_true")
     parser.add_argument("top", nargs="?", default=str(Path(__file__).resolve().parents[2]))
     options = parser.parse_args()
     top = Path(options.top).resolve()
@@ -313,6 +359,8 @@ def main() -> int:
         for place in table[options.list][1]:
             print(place.told(top))
         return 0
+    if options.ratchet:
+        return ratchet(table)
     for word, (what, places) in table.items():
         print(f"{word:12} {len(places):6}  {what}")
     return 1 if table["full"][1] else 0

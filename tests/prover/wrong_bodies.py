@@ -3,18 +3,19 @@
 
     tests/prover/wrong_bodies.py [TOP]
 
-A row of a table in the section "What the gate refuses" says in its second cell, as `CRATE: NAME`, which edit makes the body wrong,
-crates/CRATE/must-fail/NAME.edit, or which `#[test]` function of the crate sees it; or as `PATH: TEXT` which line of a file of rows does. A third
-cell, as `CALL`, `CLAUSE`, says what refuses the edit: a function of that crate, and a clause of its contract. It is a failure
+A row of a table in the section "What the gate refuses" says in its second cell, as `CRATE: NAME`, which edit makes the
+body wrong, crates/CRATE/must-fail/NAME.edit, or which `#[test]` function of the crate sees it; or as `PATH: TEXT` which
+line of a file of rows does. A third cell, as `CALL`, `CLAUSE`, says what refuses the edit: a function of that crate,
+and a clause of its contract. It is a failure
 
     if an edit is in no row, or in two;
     if a row names an edit, a test, a line, a call or a clause that isn't there;
     if what an edit takes away doesn't stand just once in its file;
-    if an edit changes anything but the body of a function. In a crate without code, where no function has anything in its body, it may change a
-    clause or a definition.
+    if an edit changes anything but the body of a function. In a crate without code, where no function has anything in
+    its body, it may change a clause or a definition.
 
-It reads texts alone: that the prover refuses each edit is for `rt ci` to see. It prints the failures, or how many edits and tests there are; the
-status is 1 where there is a failure.
+It reads texts alone: that the prover refuses each edit is for `rt ci` to see. It prints the failures, or how many edits
+and tests there are; the status is 1 where there is a failure.
 """
 import collections
 import dataclasses
@@ -61,7 +62,11 @@ def head_and_body(lines: list[str], first: int, last: int) -> tuple[str, range]:
     """The head of a function with its contract, and the lines of its body. Lines are counted from 1."""
     indent = re.match(r"\s*", lines[first - 1])[0]
     opening = first
-    while opening < last and lines[opening - 1] != indent + "{" and not (opening == first and lines[opening - 1].endswith("{")):
+    while (
+        opening < last
+        and lines[opening - 1] != indent + "{"
+        and not (opening == first and lines[opening - 1].endswith("{"))
+    ):
         opening += 1
     return "\n".join(lines[first - 1 : opening]), range(opening + 1, last)
 

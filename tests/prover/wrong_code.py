@@ -3,11 +3,12 @@
 
     tests/prover/wrong_code.py [BUG ..]
 
-They stand in tests/prover/bugs/xk_law_compiler.bugs, in the form that tests/prover/bugs.py tells; each changes the definition of the code of
-statements (crates/xk_emit/specs) or of what a text means (crates/xk_source_semantics/specs), which the law is about. The functions of `xk_emit` would be
-refused first, by the contract that names the definition; so in a copy of the crates below that one is left with its definitions and what the
-law's proof cites of its lemmas, and `xk_law_compiler`, which has the law, is checked over it and `xk_source_semantics`, both without their examples: as it is,
-where it has to be proved, and with each change, where it must not be.
+They stand in tests/prover/bugs/xk_law_compiler.bugs, in the form that tests/prover/bugs.py tells; each changes the
+definition of the code of statements (crates/xk_emit/specs) or of what a text means (crates/xk_source_semantics/specs),
+which the law is about. The functions of `xk_emit` would be refused first, by the contract that names the definition; so
+in a copy of the crates below that one is left with its definitions and what the law's proof cites of its lemmas, and
+`xk_law_compiler`, which has the law, is checked over it and `xk_source_semantics`, both without their examples: as it
+is, where it has to be proved, and with each change, where it must not be.
 """
 import os
 import re
@@ -33,7 +34,9 @@ def with_definitions_alone(folder):
         os.remove(os.path.join(folder, "src", file))
     with open(os.path.join(folder, "src", "lib.rt"), "w", encoding="utf-8") as f:
         f.write("//! The code of source trees.\n#![tactic(auto)]\n")
-    specs = [file[:-5] for file in sorted(os.listdir(os.path.join(folder, "specs"))) if file[:-5] not in ["Lib", *OF_ANSWERS]]
+    specs = [
+        file[:-5] for file in sorted(os.listdir(os.path.join(folder, "specs"))) if file[:-5] not in ["Lib", *OF_ANSWERS]
+    ]
     for name in OF_ANSWERS:
         os.remove(os.path.join(folder, "specs", f"{name}.antt"))
     proofs = os.path.join(folder, "proofs")
@@ -72,16 +75,27 @@ def copied(folder):
 
 
 def says(folder):
-    """What the check of xk_law_compiler comes to: proved, refused, or a word on what went wrong before; and a line that says so."""
+    """What the check of xk_law_compiler comes to: proved, refused, or a word on what went wrong before; and a line that
+    says so."""
     call = ["rt", "check", "--jobs", "1"]
     ran = subprocess.run(
-        call, cwd=os.path.join(folder, "crates", "xk_law_compiler"), stdout=subprocess.PIPE, stderr=subprocess.STDOUT, text=True, errors="replace", check=False
+        call,
+        cwd=os.path.join(folder, "crates", "xk_law_compiler"),
+        stdout=subprocess.PIPE,
+        stderr=subprocess.STDOUT,
+        text=True,
+        errors="replace",
+        check=False,
     )
     lines = ran.stdout.splitlines()
     if ran.returncode == 0 and any(line.startswith("logic=proved functions=2 ") for line in lines[-8:]):
         return "proved", ""
     # that a tree has one module is not the law
-    refused = [line for line in lines if re.match(r"(\./)?proofs/(?!CompiledOnce|OrderUniqueness|SettingLookup)\S+: error", line)]
+    refused = [
+        line
+        for line in lines
+        if re.match(r"(\./)?proofs/(?!CompiledOnce|OrderUniqueness|SettingLookup)\S+: error", line)
+    ]
     if refused and any(line.startswith("fn xk_law_compiler::laws::means_its_source: not proved") for line in lines):
         return "refused", refused[0]
     return "not tried", lines[-1] if lines else ""

@@ -1,19 +1,20 @@
 #!/usr/bin/env python3
 """What a source text means, without its code; and whether a compiled program does that.
 
-A program is carried out on its tree here: a step does one statement with its expressions, or ends a turn of a loop, a finish, a call or an
-activity. It shares no world with tests/reference/telling.py: a clock keeps a phase and where each activity stands, a finish keeps how many it
-still waits for. Then the module is run by a schedule by chance, and whenever a step of it is seen, the same activity of the program goes on up
-to its next step that is seen: these two have to be the same event, and leave the same phases, standings and shared numbers, with all
-activities ended in both or in neither. As often the program goes first and the module follows. Both get the same numbers, by chance, where
-`main` takes some.
+A program is carried out on its tree here: a step does one statement with its expressions, or ends a turn of a loop, a
+finish, a call or an activity. It shares no world with tests/reference/telling.py: a clock keeps a phase and where each
+activity stands, a finish keeps how many it still waits for. Then the module is run by a schedule by chance, and
+whenever a step of it is seen, the same activity of the program goes on up to its next step that is seen: these two have
+to be the same event, and leave the same phases, standings and shared numbers, with all activities ended in both or in
+neither. As often the program goes first and the module follows. Both get the same numbers, by chance, where `main`
+takes some.
 
     python3 -m tests.reference.meaning [CASES] [SEED] [--runs N] [--jobs N] [--program PATH | --alone] [--only CASE]
     python3 -m tests.reference.meaning --file FILE [--runs N] [--program PATH | --alone]
 
-2,000 programs that nobody wrote, seed 1, 3 runs of each and 2 jobs where nothing else is said. The module is the one that
-tests/reference/telling_source.py makes of the text, or with `--program` the one that this program prints for `compile`. `--only` prints one text
-alone.
+2,000 programs that nobody wrote, seed 1, 3 runs of each and 2 jobs where nothing else is said. The module is the one
+that tests/reference/telling_source.py makes of the text, or with `--program` the one that this program prints for
+`compile`. `--only` prints one text alone.
 """
 
 from __future__ import annotations
@@ -51,7 +52,8 @@ class World(Protocol):
         """How many activities there are."""
 
     def take(self, who: int) -> str | None:
-        """The activity's next step is taken: what others see of it, nothing where it is local; None where it can't step. Raises Wrong."""
+        """The activity's next step is taken: what others see of it, nothing where it is local; None where it can't
+        step. Raises Wrong."""
 
     def shown(self) -> Shown:
         """What all activities share."""
@@ -81,8 +83,8 @@ Todo = source.Stmt | Turn | Rest
 
 @dataclass
 class Doing:
-    """A call in progress: what is left to do, the next one last, and what names stand for; and of each finish that it has open, and of the
-    method or `async` around them, the clock that a `clocked async` is started on there."""
+    """A call in progress: what is left to do, the next one last, and what names stand for; and of each finish that it
+    has open, and of the method or `async` around them, the clock that a `clocked async` is started on there."""
 
     names: dict[str, Value]
     hidden: list[ClockName | None]
@@ -106,7 +108,8 @@ def unfolded(stmt: source.Stmt | Rest) -> Iterator[source.Stmt | Rest]:
 
 @dataclass(eq=False)
 class Finish:
-    """A finish, the one around it, and how many activities that were started in it, directly or by others, haven't ended."""
+    """A finish, the one around it, and how many activities that were started in it, directly or by others, haven't
+    ended."""
 
     around: Finish | None
     left: int = 0
@@ -120,7 +123,8 @@ class Finish:
 
 @dataclass(eq=False)
 class Activity:
-    """The calls in progress, the last one called at the end; the finish that it was started in; and those that it has open."""
+    """The calls in progress, the last one called at the end; the finish that it was started in; and those that it has
+    open."""
 
     calls: list[Doing]
     within: Finish
@@ -160,7 +164,9 @@ class Program:
         self.clocks: list[Clock] = []
         self.activities: list[Activity] = []
         main = self.methods["main"]
-        given: dict[str, Value] = {param.name.text: number for param, number in zip(main.params, arguments, strict=True)}
+        given: dict[str, Value] = {
+            param.name.text: number for param, number in zip(main.params, arguments, strict=True)
+        }
         self.begin(Activity([Doing(given, [None])], Finish(None)), main.body)
 
     def begin(self, activity: Activity, body: source.Stmt) -> None:
@@ -173,7 +179,9 @@ class Program:
 
     def shown(self) -> Shown:
         everybody = range(len(self.activities))
-        clocks = tuple((clock.phase, tuple(clock.standings.get(who, Standing.APART) for who in everybody)) for clock in self.clocks)
+        clocks = tuple(
+            (clock.phase, tuple(clock.standings.get(who, Standing.APART) for who in everybody)) for clock in self.clocks
+        )
         return clocks, tuple(self.shared), all(activity.status is Status.ENDED for activity in self.activities)
 
     # Names and numbers.
@@ -196,7 +204,9 @@ class Program:
 
     def clock(self, who: int, name: source.Expr) -> ClockName:
         """A clock that the activity is registered on."""
-        return self.registered(who, self.activities[who].calls[-1].names.get(name.text) if isinstance(name, source.Name) else None)
+        return self.registered(
+            who, self.activities[who].calls[-1].names.get(name.text) if isinstance(name, source.Name) else None
+        )
 
     def registered(self, who: int, value: Value | None) -> ClockName:
         if not isinstance(value, ClockName):
@@ -232,7 +242,8 @@ class Program:
         return "Passed"
 
     def over(self, who: int, me: Activity) -> str:
-        """Nothing is left: back to who called, or the activity ends, is registered nowhere any more, and no finish waits for it."""
+        """Nothing is left: back to who called, or the activity ends, is registered nowhere any more, and no finish
+        waits for it."""
         if len(me.calls) > 1:
             me.calls.pop()
             return ""
@@ -342,7 +353,8 @@ class Program:
         return ""
 
     def start(self, who: int, me: Activity, given: list[ClockName], hidden: ClockName | None, body: source.Stmt) -> str:
-        """The new activity knows what its starter knows, and stands on the clocks that it gets where its starter stands."""
+        """The new activity knows what its starter knows, and stands on the clocks that it gets where its starter
+        stands."""
         for clock in [self.clocks[name.number] for name in given]:
             clock.standings[len(self.activities)] = clock.standings[who]
         self.begin(Activity([Doing(dict(me.calls[-1].names), [hidden])], me.innermost), body)
@@ -352,7 +364,9 @@ class Program:
         names = me.calls[-1].names
         given: dict[str, Value] = {}
         for argument, param in zip(arguments, method.params, strict=True):
-            given[param.name.text] = self.clock(who, argument) if param.type == "Clock" else self.number(names, argument)
+            given[param.name.text] = (
+                self.clock(who, argument) if param.type == "Clock" else self.number(names, argument)
+            )
         me.calls.append(Doing(given, [None]))
         me.calls[-1].next_comes(method.body)
         return ""
@@ -373,7 +387,10 @@ class Machine:
 
     def shown(self) -> Shown:
         everybody = range(len(self.world.activities))
-        clocks = tuple((phase, tuple(map(clock.standing, everybody))) for phase, clock in zip(self.phases, self.world.clocks, strict=True))
+        clocks = tuple(
+            (phase, tuple(map(clock.standing, everybody)))
+            for phase, clock in zip(self.phases, self.world.clocks, strict=True)
+        )
         return clocks, self.world.shared, self.world.has_ended
 
     def take(self, who: int) -> str | None:
@@ -410,7 +427,9 @@ class Pair:
         self.seen: list[str] = []
 
     def differ(self, what: str) -> Differs:
-        return Differs(f"{what}; {type(self.leader).__name__} first, by the schedule {' '.join(map(str, self.schedule))}")
+        return Differs(
+            f"{what}; {type(self.leader).__name__} first, by the schedule {' '.join(map(str, self.schedule))}"
+        )
 
     def step(self, who: int) -> bool:
         """The activity takes a step, if it can; raises Wrong where it goes wrong in both."""
@@ -444,7 +463,9 @@ class Pair:
         if told != event:
             raise self.differ(f"activity {who}: {event}, and not {told}")
         if self.leader.shown() != self.follower.shown():
-            raise self.differ(f"behind {event} of activity {who}: {self.leader.shown()}, and not {self.follower.shown()}")
+            raise self.differ(
+                f"behind {event} of activity {who}: {self.leader.shown()}, and not {self.follower.shown()}"
+            )
 
     def halts(self) -> None:
         """Where nobody can step in the one, nobody can in the other, once nothing local is left."""

@@ -1,14 +1,15 @@
 #!/usr/bin/env python3
 """A second telling, in Python, of all that x10clock answers for a module.
 
-It shares nothing with the program: the module is read here by a reader of its own, the rules are told as sets of places that break
-them, and the machine keeps for each clock the sets of activities that are registered, that have resumed, and that may go on, and for
-each open finish the set of activities that it waits for. Beside the answers it walks through all schedules of a small module and looks
-whether the promises hold: no wrong step, no longer schedule than was verified, and all have ended where nobody can step.
+It shares nothing with the program: the module is read here by a reader of its own, the rules are told as sets of places
+that break them, and the machine keeps for each clock the sets of activities that are registered, that have resumed, and
+that may go on, and for each open finish the set of activities that it waits for. Beside the answers it walks through
+all schedules of a small module and looks whether the promises hold: no wrong step, no longer schedule than was
+verified, and all have ended where nobody can step.
 
     python3 -m tests.reference.telling check FILE                           what the program prints
     python3 -m tests.reference.telling run FILE [ORDER [SEED]] [--arg=N]..  ORDER is first, last, round or random
-    python3 -m tests.reference.telling walk FILE [WORLDS] [--arg=N]..       all schedules, through so many worlds at most
+    python3 -m tests.reference.telling walk FILE [WORLDS] [--arg=N]..       all schedules, through WORLDS at most
 """
 
 from __future__ import annotations
@@ -67,7 +68,8 @@ def unescaped(found: re.Match[str]) -> str:
 
 
 def number(text: str, tail: str) -> int | float:
-    """A number as written: a whole one within 64 bits (signed or unsigned) is an int, each other one a float, and `-0` is one too."""
+    """A number as written: a whole one within 64 bits (signed or unsigned) is an int, each other one a float, and `-0`
+    is one too."""
     if not tail and text != "-0" and len(text) <= 20 and LEAST <= int(text) < 2**64:
         return int(text)
     value = float(text)
@@ -265,7 +267,8 @@ class Pair(NamedTuple):
 
 
 class Head(NamedTuple):
-    """How a loop begins: the slot that counts, the first and the last number, and the slot whose number it goes no further than, if there is one."""
+    """How a loop begins: the slot that counts, the first and the last number, and the slot whose number it goes no
+    further than, if there is one."""
 
     slot: int
     low: int
@@ -332,7 +335,8 @@ class Unit:
 
     @cached_property
     def homes(self) -> dict[int, int]:
-        """The block in which each slot that takes a clock is at home: that of its first `make`; of a clock parameter the whole unit."""
+        """The block in which each slot that takes a clock is at home: that of its first `make`; of a clock parameter
+        the whole unit."""
         homes = {slot: WHOLE_UNIT for slot in range(len(self.params)) if self.is_clock_param(slot)}
         for place, instr in enumerate(self.code):
             for slot in instr.of(Role.MAKE):
@@ -489,7 +493,8 @@ def breaks_slot(_: Module, unit: Unit) -> Iterator[int]:
 
 
 def breaks_unit(module: Module) -> Breaches:
-    """Main is unit 0, alone, and takes no clock; who is called or started is there, is of the right kind, and gets what it takes."""
+    """Main is unit 0, alone, and takes no clock; who is called or started is there, is of the right kind, and gets what
+    it takes."""
     wanted = {"call": UnitKind.METHOD, "spawn": UnitKind.BODY}
     for number, unit in enumerate(module.units):
         if (unit.kind is UnitKind.MAIN) != (number == 0) or (number == 0 and "c" in unit.params):
@@ -536,7 +541,9 @@ def breaks_end(_: Module, unit: Unit) -> Iterator[int]:
 def breaks_home(_: Module, unit: Unit) -> Iterator[int]:
     """A slot takes clocks in one block, a parameter in none; a lent clock isn't dropped."""
     for place, instr in enumerate(unit.code):
-        makes_elsewhere = any(slot < len(unit.params) or unit.homes[slot] != unit.blocks[place] for slot in instr.of(Role.MAKE))
+        makes_elsewhere = any(
+            slot < len(unit.params) or unit.homes[slot] != unit.blocks[place] for slot in instr.of(Role.MAKE)
+        )
         drops_lent = unit.kind is UnitKind.METHOD and any(unit.is_clock_param(slot) for slot in instr.of(Role.LEAVE))
         if makes_elsewhere or drops_lent:
             yield place
@@ -660,7 +667,8 @@ class Effect:
 
 
 class SlotWalks:
-    """The walks of one slot of one unit: from one instruction with a kind before it to the next one, and where they are refused."""
+    """The walks of one slot of one unit: from one instruction with a kind before it to the next one, and where they are
+    refused."""
 
     def __init__(self, unit: Unit, effects: list[Effect], slot: int) -> None:
         self.unit, self.effects, self.slot = unit, effects, slot
@@ -802,7 +810,8 @@ def turns(unit: Unit) -> list[int]:
 
 
 def bounds(module: Module) -> Bounds:
-    """The sums of a module that no rule on places refuses: units start and call greater ones alone, so they are told from the last one up."""
+    """The sums of a module that no rule on places refuses: units start and call greater ones alone, so they are told
+    from the last one up."""
     steps, started, clocks, stacks, made = ({} for _ in range(5))
     for number in reversed(range(len(module.units))):
         unit = module.units[number]
@@ -816,8 +825,14 @@ def bounds(module: Module) -> Bounds:
             if instr.name == "call":
                 called.append(below)
         stacks[number] = unit.slots + max((stacks[below] for below in called), default=0)
-        made[number] = len({instr.operands for instr in unit.code if instr.name == "make"}) + max((made[below] for below in called), default=0)
-    kept = max(unit.params.count("c") + made[number] for number, unit in enumerate(module.units) if unit.kind is not UnitKind.METHOD)
+        made[number] = len({instr.operands for instr in unit.code if instr.name == "make"}) + max(
+            (made[below] for below in called), default=0
+        )
+    kept = max(
+        unit.params.count("c") + made[number]
+        for number, unit in enumerate(module.units)
+        if unit.kind is not UnitKind.METHOD
+    )
     return Bounds(steps[0], started[0] + 1, clocks[0], max(stacks.values()), min(kept, clocks[0]))
 
 
@@ -894,7 +909,8 @@ class Status(enum.IntEnum):
 
 
 class Activity(NamedTuple):
-    """The units in progress, the last one called at the end; and for each finish that is open, the innermost last, whom it waits for."""
+    """The units in progress, the last one called at the end; and for each finish that is open, the innermost last, whom
+    it waits for."""
 
     status: Status
     frames: tuple[Frame, ...]
@@ -914,7 +930,8 @@ class Standing(enum.Enum):
 
 
 class Clock(NamedTuple):
-    """Who is registered; who of them has resumed in this phase; and who had resumed in the last one, and hasn't gone on since.
+    """Who is registered; who of them has resumed in this phase; and who had resumed in the last one, and hasn't gone on
+    since.
 
     Phases aren't counted, since no step looks at their number.
     """
@@ -968,7 +985,8 @@ class World(NamedTuple):
 
 
 class Step(NamedTuple):
-    """A step that was taken: what others see of it (nothing where it is local), what it printed, and the clocks that advanced with it."""
+    """A step that was taken: what others see of it (nothing where it is local), what it printed, and the clocks that
+    advanced with it."""
 
     world: World
     event: str
@@ -1137,7 +1155,8 @@ class Turn:
         self.go_on()
 
     def advance(self) -> bool | None:
-        """Resumes all clocks of the activity; then, in a step of its own, goes on where none of them keeps it waiting."""
+        """Resumes all clocks of the activity; then, in a step of its own, goes on where none of them keeps it
+        waiting."""
         if self.me.status is Status.RUNNING:
             self.clocks = [clock.with_resumed(self.who) for clock in self.clocks]
             self.me = self.me._replace(status=Status.ARRIVED)
@@ -1180,7 +1199,8 @@ class Turn:
         self.me = self.me._replace(frames=self.me.frames + (frame,))
 
     def spawn(self, number: int, arguments: tuple[int, ...]) -> None:
-        """Starts an activity: each finish that the starter has open, and each that waits for the starter, waits for it too."""
+        """Starts an activity: each finish that the starter has open, and each that waits for the starter, waits for it
+        too."""
         frame = self.entered(number, arguments, UnitKind.BODY)
         child = len(self.activities)
         for value in frame.slots:
@@ -1188,7 +1208,10 @@ class Turn:
                 self.clocks[value.number] = self.clocks[value.number].joined(child, self.who)
         for owner, activity in enumerate(self.activities):
             if activity.finishes:
-                waits = tuple(awaited | {child} if owner == self.who or self.who in awaited else awaited for awaited in activity.finishes)
+                waits = tuple(
+                    awaited | {child} if owner == self.who or self.who in awaited else awaited
+                    for awaited in activity.finishes
+                )
                 self.activities[owner] = activity._replace(finishes=waits)
         self.activities.append(Activity(Status.RUNNING, (frame,)))
         self.go_on()
@@ -1236,7 +1259,9 @@ class Turn:
         return SEEN.get(name, "")
 
 
-CARRY_OUT: dict[str, Callable[..., bool | None]] = {name: getattr(Turn, "for_" if name == "for" else name) for name in ROLES}
+CARRY_OUT: dict[str, Callable[..., bool | None]] = {
+    name: getattr(Turn, "for_" if name == "for" else name) for name in ROLES
+}
 SEEN = {
     "make": "Made",
     "resume": "Resumed",
@@ -1260,14 +1285,17 @@ def step(module: Module, world: World, who: int) -> Step | None:
         return None
     clocks = tuple(clock.advanced() for clock in turn.clocks)
     advanced = tuple(number for number, clock in enumerate(clocks) if clock is not turn.clocks[number])
-    return Step(World(tuple(turn.activities), clocks, tuple(turn.shared)), turn.event(instr.name), turn.printed, advanced)
+    return Step(
+        World(tuple(turn.activities), clocks, tuple(turn.shared)), turn.event(instr.name), turn.printed, advanced
+    )
 
 
 # Runs.
 
 
 class Order(enum.Enum):
-    """Who takes each step: the least number that can, the greatest, or the next above the one before, and the least where there is none."""
+    """Who takes each step: the least number that can, the greatest, or the next above the one before, and the least
+    where there is none."""
 
     FIRST = "first"
     LAST = "last"
@@ -1280,7 +1308,8 @@ class Order(enum.Enum):
 
 @dataclass(frozen=True)
 class ByChance:
-    """By four chances in five whoever took the step before, if it can take one more, and else any of those who can: drawn from a seed."""
+    """By four chances in five whoever took the step before, if it can take one more, and else any of those who can:
+    drawn from a seed."""
 
     NAME = "random"
 
@@ -1368,7 +1397,12 @@ class Broken(Exception):
     """A promise that doesn't hold; the message says which, and the schedule that shows it."""
 
 
-KIND_OF = {Standing.APART: Kind.OUT, Standing.OPEN: Kind.LIVE, Standing.SIGNALLED: Kind.RESUMED, Standing.AHEAD: Kind.RESUMED}
+KIND_OF = {
+    Standing.APART: Kind.OUT,
+    Standing.OPEN: Kind.LIVE,
+    Standing.SIGNALLED: Kind.RESUMED,
+    Standing.AHEAD: Kind.RESUMED,
+}
 
 
 def kind_in(world: World, who: int, value: Value) -> Kind:
@@ -1381,7 +1415,8 @@ def kind_in(world: World, who: int, value: Value) -> Kind:
 
 
 class Schedules:
-    """A walk through all schedules of an accepted module that is given these numbers. Worlds that are alike are looked at once."""
+    """A walk through all schedules of an accepted module that is given these numbers. Worlds that are alike are looked
+    at once."""
 
     def __init__(self, accepted: Accepted, worlds: int, arguments: Arguments = ()) -> None:
         self.module, self.kinds, self.bounds, self.worlds = accepted.module, accepted.kinds, accepted.bounds, worlds
@@ -1396,7 +1431,9 @@ class Schedules:
     def look(self, world: World) -> None:
         """Looks at one world: its sizes, and the kinds of what the slots hold."""
         stack = max(sum(len(frame.slots) for frame in activity.frames) for activity in world.activities)
-        registrations = max(sum(who in clock.registered for clock in world.clocks) for who in range(len(world.activities)))
+        registrations = max(
+            sum(who in clock.registered for clock in world.clocks) for who in range(len(world.activities))
+        )
         sizes = (len(world.activities), len(world.clocks), stack, registrations)
         bounds = (self.bounds.activities, self.bounds.clocks, self.bounds.stack, self.bounds.registrations)
         if any(size > bound for size, bound in zip(sizes, bounds)):

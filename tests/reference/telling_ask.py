@@ -40,7 +40,9 @@ def named(line: bytes) -> int | None:
 
 def able(played: Played) -> list[int]:
     """Who can step, rising."""
-    return [who for who in range(len(played.world.activities)) if telling.step(played.module, played.world, who) is not None]
+    return [
+        who for who in range(len(played.world.activities)) if telling.step(played.module, played.world, who) is not None
+    ]
 
 
 def question(program: Program, played: Played) -> str:
@@ -51,7 +53,9 @@ def question(program: Program, played: Played) -> str:
     for who in able(played):
         frame = played.world.activities[who].frames[-1]
         position = program.position(frame)
-        lines.append(f"act {who} " + (f"at {position}" if position else f"unit {frame.unit} place {frame.place}") + "\n")
+        lines.append(
+            f"act {who} " + (f"at {position}" if position else f"unit {frame.unit} place {frame.place}") + "\n"
+        )
     return "".join(lines) + PROMPT
 
 
@@ -80,7 +84,9 @@ def game(program: Program, judged: Accepted | Refused, data: bytes, arguments: A
     log = telling_log.text_of([Entry(taken.who, 1) for taken in played.taken])
     if played.world.has_ended:
         return Game(0, played.output(), told, log)
-    return Game(EARLY, "".join(f"{number}\n" for number in played.printed) + f"stopped steps {played.steps}\n", told, log)
+    return Game(
+        EARLY, "".join(f"{number}\n" for number in played.printed) + f"stopped steps {played.steps}\n", told, log
+    )
 
 
 def main(words: list[str]) -> int:

@@ -1,4 +1,5 @@
-"""A second telling of what is told beside a fault of names: where else the name that stands there is declared. By tokens, without a tree."""
+"""A second telling of what is told beside a fault of names: where else the name that stands there is declared. By
+tokens, without a tree."""
 
 from __future__ import annotations
 
@@ -51,6 +52,10 @@ def notes(text: bytes, rule: str, at: int) -> list[tuple[int | None, str]]:
     if rule not in ON_NAMES:
         return []
     name = WORD.match(text, at)[0].decode()
-    found = [(token.at, f"`{name}` is declared here, as {role}") for token, role in declarations(text) if token.text == name and token.at != at]
+    found = [
+        (token.at, f"`{name}` is declared here, as {role}")
+        for token, role in declarations(text)
+        if token.text == name and token.at != at
+    ]
     further = [(None, f"further declarations of `{name}`: {len(found) - MOST}")] if len(found) > MOST else []
     return found[:MOST] + further

@@ -8,7 +8,8 @@ from tests.reference import telling_explain, telling_origins
 from tests.reference.telling import Frame
 from tests.reference.telling_log import Played, Taken
 
-# What others see of a step, by its name in tests/reference/telling.py; of a print, and of what gets a number, it has one behind it.
+# What others see of a step, by its name in tests/reference/telling.py; of a print, and of what gets a number, it has
+# one behind it.
 WORDS = {
     "Made": "make",
     "Got": "read",
@@ -36,7 +37,9 @@ class Program:
         """The line and column that a frame's next instruction comes from; a module alone has none."""
         if self.is_module:
             return None
-        return telling_explain.place_title(self.data, telling_origins.origins(self.data)[frame.unit].offsets[frame.place])
+        return telling_explain.place_title(
+            self.data, telling_origins.origins(self.data)[frame.unit].offsets[frame.place]
+        )
 
 
 def frame_before(taken: Taken) -> Frame:

@@ -1,11 +1,13 @@
-"""A second telling of what could stand where a token can't: each token is tried there, and the text read up to it. It has no table of the grammar."""
+"""A second telling of what could stand where a token can't: each token is tried there, and the text read up to it. It
+has no table of the grammar."""
 
 from __future__ import annotations
 
 from tests.reference.telling_source import Fault, parse
 
 # Each token that is told alone, in the order of docs/EXPLAIN.md, and how it is told.
-ALONE = "; , ) } ( { = : . .. + - * == != < <= > >= shared def else in async finish Clock Long Math min make resume drop advanceAll OUT println".split()
+ALONE = """; , ) } ( { = : . .. + - * == != < <= > >= shared def else in async finish Clock Long
+    Math min make resume drop advanceAll OUT println""".split()
 END = "the end of the text"
 # A name that no place of the grammar wants by its letters.
 ANY = "anything"
@@ -42,7 +44,10 @@ def notes(text: bytes, rule: str, at: int) -> list[tuple[None, str]]:
     if rule != "F2":
         return []
     front = text[:at]
-    group, within = next(((said, within) for said, known, within in GROUPS if all(can_stand(front, token) for token in known)), (None, set()))
+    group, within = next(
+        ((said, within) for said, known, within in GROUPS if all(can_stand(front, token) for token in known)),
+        (None, set()),
+    )
     told = [group] if group else []
     told += [f"`{token}`" for token in ALONE if token not in within and can_stand(front, token)]
     told += [END] if can_end(front) else []

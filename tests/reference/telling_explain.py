@@ -1,4 +1,5 @@
-"""A second telling of what `explain` says on standard output, in Python, from docs/EXPLAIN.md: its rules in words, its tables and its notes."""
+"""A second telling of what `explain` says on standard output, in Python, from docs/EXPLAIN.md: its rules in words, its
+tables and its notes."""
 
 from __future__ import annotations
 
@@ -15,7 +16,9 @@ HABIT = re.compile(r"\| (?P<rule>F\d+) \| (?P<where>at|behind|before|line) \| (?
 KIND = re.compile(r"\| (?P<kind>unset|number|live|resumed|out) \| (?P<holds>.*) \|")
 FRONT = re.compile(r"(?P<title>(?P<rule>F\d+) \w+) at (?P<at>\d+)")
 TEXT = re.compile(r"(?P<title>(?P<rule>M\d+) \w+)")
-PLACE = re.compile(r"(?P<title>(?P<rule>V\d+) \w+) (?P<place>unit \d+ at \d+)(?: slot (?P<slot>\d+) (?P<kind>\w+) walk (?P<walk>.*))?")
+PLACE = re.compile(
+    r"(?P<title>(?P<rule>V\d+) \w+) (?P<place>unit \d+ at \d+)(?: slot (?P<slot>\d+) (?P<kind>\w+) walk (?P<walk>.*))?"
+)
 BOUND = re.compile(r"(?P<title>(?P<rule>V\d+) \w+) over (?P<limit>\d+)")
 # So many signs are shown on either side of a place, at most, and of a line of a walk.
 WINDOW, TOLD = 80, 60
@@ -40,7 +43,11 @@ def tables() -> tuple[dict[str, tuple[str, str]], dict[str, str]]:
 def habits() -> list[tuple[str, str, str, str]]:
     """Rule, where, what stands there, and the repair, row by row."""
     found = (HABIT.fullmatch(line) for line in PAGE.read_text().splitlines())
-    return [(row["rule"], row["where"], *(row[cell].replace("\\|", "|") for cell in ("what", "repair"))) for row in found if row]
+    return [
+        (row["rule"], row["where"], *(row[cell].replace("\\|", "|") for cell in ("what", "repair")))
+        for row in found
+        if row
+    ]
 
 
 def signs(line: bytes) -> list[bytes]:
@@ -156,7 +163,9 @@ def notes_on(data: bytes, said: str, is_module: bool) -> list[Note]:
 
 def note_lines(data: bytes, notes: list[Note]) -> str:
     """A line for each note."""
-    return "".join(f"   = {words}\n" if at is None else f"   = {place_title(data, at)}: {words}\n" for at, words in notes)
+    return "".join(
+        f"   = {words}\n" if at is None else f"   = {place_title(data, at)}: {words}\n" for at, words in notes
+    )
 
 
 def front(file: str, text: bytes, found: re.Match[str], notes: str) -> str:
@@ -186,7 +195,8 @@ def place_title(text: bytes, at: int) -> str:
 
 
 def stops(text: bytes, offsets: list[int], places: list[int], kinds: list[str]) -> str:
-    """The stops of a walk, statement by statement; a walk goes back where a turn of a loop begins. In between and up to its end it goes on in the text."""
+    """The stops of a walk, statement by statement; a walk goes back where a turn of a loop begins. In between and up to
+    its end it goes on in the text."""
     said, told, last = "", -1, len(places) - 1
     for number, (place, kind) in enumerate(zip(places, kinds, strict=True)):
         at, holds = offsets[place], tables()[1][kind]
@@ -204,11 +214,14 @@ def in_source(file: str, text: bytes, found: re.Match[str], kinds: list[str], no
     title = f"in {unit.name}" if unit.name else f"in the `async` at {place_title(text, unit.at)}"
     at = unit.offsets[place]
     word = WORD.match(text, at)
-    said = f"{file}:{place_title(text, at)}: {found['title']}, {title}: {tables()[0][rule][0]}\n" + excerpt(text, at, max(1, len(word[0])))
+    said = f"{file}:{place_title(text, at)}: {found['title']}, {title}: {tables()[0][rule][0]}\n" + excerpt(
+        text, at, max(1, len(word[0]))
+    )
     if found["walk"]:
         slot = int(found["slot"])
         name = f"`{unit.slots[slot]}`" if slot in unit.slots else f"slot {slot}"
-        said += f"   = {name} may hold here: {tables()[1][found['kind']]}\n   = a way to it, and what {name} holds before each statement:\n"
+        said += f"   = {name} may hold here: {tables()[1][found['kind']]}\n"
+        said += f"   = a way to it, and what {name} holds before each statement:\n"
         said += stops(text, unit.offsets, list(map(int, found["walk"].split())), kinds) + WAYS
     return said + notes + repair(rule)
 
@@ -224,10 +237,13 @@ def explained(file: str, text: bytes, line: str, kinds: list[str], is_module: bo
     if found := PLACE.fullmatch(said):
         rule = found["rule"]
         head = f"{file}: {found['title']}, {found['place']}: {tables()[0][rule][0]}\n"
-        return head + (walk(found["slot"], kinds, found["walk"].split()) if found["walk"] else "") + notes + repair(rule)
+        return (
+            head + (walk(found["slot"], kinds, found["walk"].split()) if found["walk"] else "") + notes + repair(rule)
+        )
     if found := BOUND.fullmatch(said):
         rule = found["rule"]
-        return f"{file}: {found['title']}: {tables()[0][rule][0]}\n   = at most {found['limit']} are allowed\n{notes}{repair(rule)}"
+        head = f"{file}: {found['title']}: {tables()[0][rule][0]}\n"
+        return f"{head}   = at most {found['limit']} are allowed\n{notes}{repair(rule)}"
     if found := TEXT.fullmatch(said):
         return f"{file}: {found['title']}: {tables()[0][found['rule']][0]}\n{repair(found['rule'])}"
     return ""

@@ -1,4 +1,5 @@
-"""A second telling of what `explain --json` says on standard output, in Python: from docs/EXPLAIN.md, "As JSON" and its tables, and the line of `check`."""
+"""A second telling of what `explain --json` says on standard output, in Python: from docs/EXPLAIN.md, "As JSON" and its
+tables, and the line of `check`."""
 
 from __future__ import annotations
 
@@ -47,7 +48,11 @@ def refused(file: str, title: str) -> Members:
 
 def front(file: str, text: bytes, found: re.Match[str]) -> Members:
     said, at = refused(file, found["title"]), min(int(found["at"]), len(text))
-    return said if found["rule"] in WITHOUT_PLACE else said | place(text, at) | {"repair": repair_at(found["rule"], text, at)}
+    return (
+        said
+        if found["rule"] in WITHOUT_PLACE
+        else said | place(text, at) | {"repair": repair_at(found["rule"], text, at)}
+    )
 
 
 def by_place(file: str, text: bytes | None, found: re.Match[str], kinds: list[str]) -> Members:
@@ -60,7 +65,9 @@ def by_place(file: str, text: bytes | None, found: re.Match[str], kinds: list[st
     if found["walk"]:
         slot, kind = int(found["slot"]), found["kind"]
         stops = zip(map(int, found["walk"].split()), kinds, strict=True)
-        walk = [{"place": stop, "kind": held} | (place(text, unit.offsets[stop]) if unit else {}) for stop, held in stops]
+        walk = [
+            {"place": stop, "kind": held} | (place(text, unit.offsets[stop]) if unit else {}) for stop, held in stops
+        ]
         said |= {"slot": slot, "kind": kind, "holds": tables()[1][kind], "walk": walk}
         said |= {"slot_name": unit.slots.get(slot)} if unit else {}
     return said
@@ -85,4 +92,8 @@ def accepted(file: str, text: bytes, line: str, is_module: bool) -> str:
     """What is said of a program of which `check` says this line."""
     found = ACCEPTED.fullmatch(line)
     numbers = {key: int(number) for key, number in found.groupdict().items()} if found else {}
-    return line_of({"accepted": True, "file": file} | numbers | notes_of(None if is_module else text, telling_sums.of_accepted(text, is_module)))
+    return line_of(
+        {"accepted": True, "file": file}
+        | numbers
+        | notes_of(None if is_module else text, telling_sums.of_accepted(text, is_module))
+    )

@@ -1,5 +1,5 @@
-"""A second telling, in Python, of what `lanes` draws: a column for each activity, a row for each step of a logged run that others see, and a bar
-for each clock that advances."""
+"""A second telling, in Python, of what `lanes` draws: a column for each activity, a row for each step of a logged run
+that others see, and a bar for each clock that advances."""
 
 from __future__ import annotations
 

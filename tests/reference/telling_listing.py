@@ -13,7 +13,8 @@ from tests.reference import telling, telling_explain, telling_origins
 from tests.reference.telling import Instr, Kind, Kinds, Module, Role, Unit
 from tests.reference.telling_origins import Origins
 
-# How wide a field is at least: an instruction's place, its words, the clocks, and where it comes from. Two blanks stand between fields.
+# How wide a field is at least: an instruction's place, its words, the clocks, and where it comes from. Two blanks stand
+# between fields.
 PLACE, WORDS, CLOCKS, FROM = 4, 17, 24, 7
 OF_CLOCKS = (Kind.LIVE, Kind.RESUMED, Kind.OUT)
 
@@ -25,7 +26,9 @@ def has_shape(module: Module) -> bool:
 
 def words(instr: Instr) -> str:
     operands = zip(telling.ROLES[instr.name], instr.operands, strict=True)
-    listed = [f"({' '.join(map(str, operand))})" if role is Role.ARGUMENTS else str(operand) for role, operand in operands]
+    listed = [
+        f"({' '.join(map(str, operand))})" if role is Role.ARGUMENTS else str(operand) for role, operand in operands
+    ]
     return " ".join([instr.name, *listed])
 
 
@@ -55,7 +58,9 @@ def module_unit(number: int, unit: Unit, kinds: Kinds | None) -> str:
 
 def source_unit(text: bytes, number: int, unit: Unit, origins: Origins, kinds: Kinds | None) -> str:
     name = f"def {origins.name}" if origins.name else "async"
-    slots = "".join(f" {slot}:{origins.slots[slot]}" if slot in origins.slots else f" {slot}" for slot in range(unit.slots))
+    slots = "".join(
+        f" {slot}:{origins.slots[slot]}" if slot in origins.slots else f" {slot}" for slot in range(unit.slots)
+    )
     said = f"unit {number}  {name}  {telling_explain.place_title(text, origins.at)}  slots{slots}\n"
     before = None
     for place, (instr, at) in enumerate(zip(unit.code, origins.offsets, strict=True)):
@@ -74,7 +79,9 @@ def listed(data: bytes, is_module: bool) -> str:
     if origins is None:
         return "\n".join(module_unit(number, unit, kinds) for number, unit in enumerate(module.units))
     units = zip(module.units, origins, strict=True)
-    return "\n".join(source_unit(data, number, unit, comes_from, kinds) for number, (unit, comes_from) in enumerate(units))
+    return "\n".join(
+        source_unit(data, number, unit, comes_from, kinds) for number, (unit, comes_from) in enumerate(units)
+    )
 
 
 def main(arguments: list[str]) -> int:

@@ -1,13 +1,14 @@
 #!/usr/bin/env python3
 """A second telling, in Python, of logs, their replay and their charts.
 
-A log is the schedule of a run, written down: lines of an activity and how many steps it takes one after the other. A text is read as one here
-by patterns, line by line; a replay takes the steps one by one, as tests/reference/telling.py has them; a chart has a line for each clock that
-advances.
+A log is the schedule of a run, written down: lines of an activity and how many steps it takes one after the other. A
+text is read as one here by patterns, line by line; a replay takes the steps one by one, as tests/reference/telling.py
+has them; a chart has a line for each clock that advances.
 
-    python3 -m tests.reference.telling_log FILE [ORDER [SEED]] [--arg=N]..      the log of a run; ORDER is first, last, round or random
+    python3 -m tests.reference.telling_log FILE [ORDER [SEED]] [--arg=N]..      ORDER is first, last, round or random
 
-FILE is a module, or with a name that ends in `.x10` a source text. What is told of logs, tests/reference/telling_runs.py tells.
+FILE is a module, or with a name that ends in `.x10` a source text. What is told of logs,
+tests/reference/telling_runs.py tells.
 """
 
 from __future__ import annotations
@@ -106,7 +107,8 @@ class Advance(NamedTuple):
 
 
 class Taken(NamedTuple):
-    """A step that was taken: its number, whose it was, the world before it, what it came to, and the clocks that advanced with it."""
+    """A step that was taken: its number, whose it was, the world before it, what it came to, and the clocks that
+    advanced with it."""
 
     number: int
     who: int
@@ -117,7 +119,8 @@ class Taken(NamedTuple):
 
 @dataclass
 class Played:
-    """What a run has come to: the world, the steps that it took, what it printed, the phases of clocks, and their advances."""
+    """What a run has come to: the world, the steps that it took, what it printed, the phases of clocks, and their
+    advances."""
 
     module: telling.Module
     world: telling.World
@@ -191,7 +194,8 @@ Teller = Callable[[Played], "str | tuple[str, bool]"]
 
 
 def answer(judged: telling.Accepted | telling.Refused, data: bytes, tell: Teller, arguments: Arguments = ()) -> Answer:
-    """Of a command on a log: the program is judged, and the numbers that are given are counted, before the log is read."""
+    """Of a command on a log: the program is judged, and the numbers that are given are counted, before the log is
+    read."""
     line = telling.refusal("replay", judged, arguments)
     if line:
         return 1, "", f"x10clock: {line}\n"

@@ -1,4 +1,5 @@
-"""A second telling of where the instructions of a compiled text come from in it, and what its slots are called (docs/EXPLAIN.md)."""
+"""A second telling of where the instructions of a compiled text come from in it, and what its slots are called
+(docs/EXPLAIN.md)."""
 
 from __future__ import annotations
 
@@ -58,7 +59,8 @@ class PlacedParser(Parser):
         return made
 
     def close(self, made: Stmt) -> None:
-        """Where a block ends: at its brace. No other statement has an end of its own, nor has the one of nothing but `;`."""
+        """Where a block ends: at its brace. No other statement has an end of its own, nor has the one of nothing but
+        `;`."""
         last = self.tokens[self.next - 1]
         if isinstance(made, Block) and last.text == "}":
             self.ends[id(made)] = last.at
@@ -101,7 +103,11 @@ class PlacedCoder(Coder):
 
 def slot_names(data: bytes, names: Names, unit: UnitForm) -> dict[int, str]:
     """The names of a unit's slots; those that the text has no name for aren't told."""
-    texts = {names.meanings[token.at]: token.text for token in telling_source.tokens_of(data) if token.sort is Sort.NAME and token.at in names.meanings}
+    texts = {
+        names.meanings[token.at]: token.text
+        for token in telling_source.tokens_of(data)
+        if token.sort is Sort.NAME and token.at in names.meanings
+    }
     return {slot: texts[declared] for declared, slot in unit.named.items() if declared in texts}
 
 

@@ -1,9 +1,10 @@
 #!/usr/bin/env python3
 """A second telling, in Python, of all that a program can print, and what may be said of that by `outcomes`.
 
-All schedules are walked, step by step; a world that was met before is known again, and neither phases nor numbers of steps are part of one
-(tests/reference/telling.py). Which order outcomes are told in, which of them where there may be more, and by which runs they are shown, is the
-program's own: so an answer is judged here, and one that may be given is made.
+All schedules are walked, step by step; a world that was met before is known again, and neither phases nor numbers of
+steps are part of one (tests/reference/telling.py). Which order outcomes are told in, which of them where there may be
+more, and by which runs they are shown, is the program's own: so an answer is judged here, and one that may be given is
+made.
 
 Where sets are asked for, lists of the same numbers, each as often, in whatever order, are one, and it is told rising.
 
@@ -29,7 +30,8 @@ from tests.reference.telling_log import Entry, Log
 MOST_WORLDS, MOST_LISTS = 100_000, 100_000
 # The program leaves off at so many worlds or outcomes where nothing is said.
 USUAL_LIMIT = 100_000
-# It keeps apart worlds that are the same here, as by what an activity held that has ended: so many times as many are granted.
+# It keeps apart worlds that are the same here, as by what an activity held that has ended: so many times as many are
+# granted.
 SPARE = 4
 WHOLE, NOT_WHOLE, NO_LIST = 0, 6, 3
 # What is behind these bytes of a list isn't looked at.
@@ -38,7 +40,8 @@ LONGEST_LIST = 100_000_000
 Numbers = tuple[int, ...]
 LINE = re.compile(r"outcome (\d+) prints((?: -?\d+)*)")
 LAST = re.compile(r"outcomes (\d+) (complete|and perhaps more)")
-# A line of a list: what stands behind `prints` has to be what is told of an outcome; lines of the other sort are passed over.
+# A line of a list: what stands behind `prints` has to be what is told of an outcome; lines of the other sort are passed
+# over.
 LISTED, PASSED = re.compile(rb"outcome [0-9]+ prints((?: -?[0-9]+)*)"), re.compile(rb"|outcomes .*", re.DOTALL)
 
 
@@ -113,7 +116,9 @@ class Walk:
         """The log of a run that prints these numbers."""
         world, log = self.start, []
         while self.edges[world]:
-            who, printed, world = next(edge for edge in self.edges[world] if numbers in {edge.printed + rest for rest in self.rest[edge.world]})
+            who, printed, world = next(
+                edge for edge in self.edges[world] if numbers in {edge.printed + rest for rest in self.rest[edge.world]}
+            )
             numbers = numbers[len(printed) :]
             log.append(Entry(who, 1))
         return log
@@ -141,7 +146,8 @@ def walked(module: Module, arguments: Arguments = (), worlds: int = MOST_WORLDS)
 
 
 class Asked(NamedTuple):
-    """What is asked for: how many worlds and outcomes at most, the outcome whose log is written, if one is, and whether the order of numbers counts."""
+    """What is asked for: how many worlds and outcomes at most, the outcome whose log is written, if one is, and whether
+    the order of numbers counts."""
 
     limit: int = USUAL_LIMIT
     pick: int | None = None
@@ -165,7 +171,10 @@ class Answer(NamedTuple):
 
 
 def text_of(lists: list[Numbers], is_complete: bool) -> str:
-    lines = [" ".join(["outcome", str(number), "prints", *map(str, numbers)]) for number, numbers in enumerate(lists, start=1)]
+    lines = [
+        " ".join(["outcome", str(number), "prints", *map(str, numbers)])
+        for number, numbers in enumerate(lists, start=1)
+    ]
     last = f"outcomes {len(lists)} {'complete' if is_complete else 'and perhaps more'}"
     return "".join(f"{line}\n" for line in [*lines, last])
 
@@ -245,12 +254,19 @@ def held_faults(walk: Walk | None, asked: Asked, told: set[bytes], given: Answer
 
 
 def held(walk: Walk, asked: Asked, told: set[bytes]) -> Answer:
-    """What may be said of outcomes that are held against a list: the first in their order as lists that isn't in it, and else the last line."""
+    """What may be said of outcomes that are held against a list: the first in their order as lists that isn't in it,
+    and else the last line."""
     outcomes = asked.outcomes(walk)
     lists = sorted(outcomes)[: asked.limit]
     untold = next((number for number, numbers in enumerate(lists) if not is_told(told, numbers)), None)
-    lines, is_complete = text_of(lists, len(lists) == len(outcomes)).splitlines(keepends=True), len(lists) == len(outcomes)
-    return Answer(NOT_WHOLE, lines[untold]) if untold is not None else Answer(WHOLE if is_complete else NOT_WHOLE, lines[-1])
+    lines, is_complete = text_of(lists, len(lists) == len(outcomes)).splitlines(keepends=True), len(lists) == len(
+        outcomes
+    )
+    return (
+        Answer(NOT_WHOLE, lines[untold])
+        if untold is not None
+        else Answer(WHOLE if is_complete else NOT_WHOLE, lines[-1])
+    )
 
 
 def faults(walk: Walk | None, module: Module, arguments: Arguments, asked: Asked, given: Answer) -> Iterator[str]:
@@ -319,7 +335,11 @@ def main(words: list[str]) -> int:
     except Stray as fault:
         print(f"x10clock: {fault}", file=sys.stderr)
         return NO_LIST
-    told = held(Walk(judged.module, arguments), asked, texts[0]) if texts else answer(Walk(judged.module, arguments), asked)
+    told = (
+        held(Walk(judged.module, arguments), asked, texts[0])
+        if texts
+        else answer(Walk(judged.module, arguments), asked)
+    )
     print(told.out, end="")
     return told.status
 

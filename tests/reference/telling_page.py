@@ -1,5 +1,6 @@
-"""A second telling, in Python, of the page that `page` makes: the source text, the picture, and how things stand behind each step. What stands in each
-page besides, with its script, means nothing to a run: it is taken from where the program has it."""
+"""A second telling, in Python, of the page that `page` makes: the source text, the picture, and how things stand behind
+each step. What stands in each page besides, with its script, means nothing to a run: it is taken from where the program
+has it."""
 
 from __future__ import annotations
 
@@ -16,8 +17,11 @@ from tests.reference.telling_where import Place
 
 FURNITURE = TOP / "crates/xk_show_page/src/furniture.rt"
 TEXT = re.compile(r'^pub(?:\(crate\))? const (\w+): &str = r(#+)"(.*?)"\2;$', re.MULTILINE | re.DOTALL)
-# Which of its texts stand before the source text, between it and the picture, between that and the moments, and behind these.
-HEAD, BEHIND_SOURCE, BEHIND_PICTURE, TAIL = ("TOP", "COLOURS", "PLACES", "MARKS", "BEGINNING"), ("LISTS",), ("BEHIND",), ("READER", "SHOWER", "MOVER")
+# Which of its texts stand before the source text, between it and the picture, between that and the moments, and behind
+# these.
+HEAD, BEHIND_SOURCE, BEHIND_PICTURE, TAIL = (
+    ("TOP", "COLOURS", "PLACES", "MARKS", "BEGINNING"), ("LISTS",), ("BEHIND",), ("READER", "SHOWER", "MOVER")
+)
 
 
 @functools.cache
@@ -37,7 +41,8 @@ def source(program: Program) -> str:
 
 
 def moments(program: Program, played: Played, window: Window) -> Iterator[str]:
-    """How things stand before the first step, and behind each that is asked for and that others see; of another one that it printed, if it did."""
+    """How things stand before the first step, and behind each that is asked for and that others see; of another one
+    that it printed, if it did."""
     behind = Played(played.module, played.taken[0].before)
     yield Place(program, behind, None).text()
     for taken in played.taken:
@@ -51,9 +56,13 @@ def moments(program: Program, played: Played, window: Window) -> Iterator[str]:
 
 
 def drawing(program: Program, played: Played, window: Window = WHOLE) -> tuple[str, bool]:
-    """The page, and whether its picture isn't too large; the line that stands in the picture's place stands in the page's, too."""
+    """The page, and whether its picture isn't too large; the line that stands in the picture's place stands in the
+    page's, too."""
     picture, is_drawn = telling_picture.drawing(program, played, window)
     if not is_drawn:
         return picture, False
     told = "".join(moments(program, played, window))
-    return piece(HEAD) + source(program) + piece(BEHIND_SOURCE) + picture + piece(BEHIND_PICTURE) + told + piece(TAIL), True
+    return (
+        piece(HEAD) + source(program) + piece(BEHIND_SOURCE) + picture + piece(BEHIND_PICTURE) + told + piece(TAIL),
+        True,
+    )

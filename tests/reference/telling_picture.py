@@ -69,7 +69,8 @@ SHAPES = """<defs>
 <rect class='paper' width='100%' height='100%'/>
 """
 
-LEGEND = """<g class='life'><rect x='16' y='14' width='32' height='18' rx='3'/></g><text x='60' y='27'>a step that others see</text>
+LEGEND = """<g class='life'><rect x='16' y='14' width='32' height='18' rx='3'/></g>\
+<text x='60' y='27'>a step that others see</text>
 <use href='#free' x='264' y='11'/><text x='284' y='27'>can take a step</text>
 <use href='#held' x='464' y='11'/><text x='484' y='27'>is held back</text>
 <path class='bar' d='M16 55h32'/><use href='#ring' x='32' y='55'/><text x='60' y='59'>a clock advances</text>
@@ -95,7 +96,9 @@ class Sheet:
 
     def __init__(self, program: Program, played: Played, window: Window) -> None:
         grid = telling_lanes.Grid(program, played, window)
-        self.steps = [taken for taken in played.taken if taken.number in window and (taken.step.event or taken.advances)]
+        self.steps = [
+            taken for taken in played.taken if taken.number in window and (taken.step.event or taken.advances)
+        ]
         self.rows = sum(1 + len(taken.advances) for taken in self.steps)
         self.activities = len(played.world.activities)
         self.lanes = range(min(MOST_LANES, self.activities))
@@ -114,7 +117,10 @@ class Sheet:
         return self.left + self.lane * lane + self.lane // 2
 
     def titles(self) -> str:
-        return "".join(f"<text class='lane' x='{self.middle(lane)}' y='104'>{telling_lanes.title(lane)}</text>\n" for lane in self.lanes)
+        return "".join(
+            f"<text class='lane' x='{self.middle(lane)}' y='104'>{telling_lanes.title(lane)}</text>\n"
+            for lane in self.lanes
+        )
 
     def head(self) -> str:
         return (
@@ -129,8 +135,12 @@ class Sheet:
 class Drawn:
     """A step, the row in which it is drawn, and the phases of clocks behind it."""
 
-    def __init__(self, program: Program, module: telling.Module, sheet: Sheet, taken: Taken, row: int, phases: dict[int, int]) -> None:
-        self.program, self.module, self.sheet, self.taken, self.row, self.phases = program, module, sheet, taken, row, phases
+    def __init__(
+        self, program: Program, module: telling.Module, sheet: Sheet, taken: Taken, row: int, phases: dict[int, int]
+    ) -> None:
+        self.program, self.module, self.sheet, self.taken, self.row, self.phases = (
+            program, module, sheet, taken, row, phases
+        )
 
     def top(self, below: int) -> int:
         return TOP + ROW * (self.row + below)
@@ -139,14 +149,19 @@ class Drawn:
         """How each activity but this one stands behind the step."""
         world, signs = self.taken.step.world, {"|": "free", ":": "held"}
         marks = [(lane, telling_lanes.mark(self.module, world, lane)) for lane in self.sheet.lanes if lane != but]
-        return "".join(f"<use href='#{signs[mark]}' x='{self.sheet.middle(lane)}' y='{top}'/>\n" for lane, mark in marks if mark)
+        return "".join(
+            f"<use href='#{signs[mark]}' x='{self.sheet.middle(lane)}' y='{top}'/>\n" for lane, mark in marks if mark
+        )
 
     def bands(self, top: int) -> str:
         """The phases of the first clocks behind the step."""
         made = len(self.taken.step.world.clocks)
         phases = [(clock, self.phases.get(clock, 0)) for clock in self.sheet.bands if clock < made]
         at = self.sheet.bands_left
-        return "".join(f"<use href='#{'odd' if phase % 2 else 'even'}' x='{at + BAND * clock}' y='{top}'/>\n" for clock, phase in phases)
+        return "".join(
+            f"<use href='#{'odd' if phase % 2 else 'even'}' x='{at + BAND * clock}' y='{top}'/>\n"
+            for clock, phase in phases
+        )
 
     def box(self) -> str:
         """The step itself: its number, its place, and in the lane of who took it what was done."""
@@ -167,7 +182,8 @@ class Drawn:
         if self.taken.step.event != "Spawned":
             return ""
         sheet, child = self.sheet, len(self.taken.before.activities)
-        return f"<path class='start' d='M{sheet.left + sheet.lane * self.taken.who + sheet.lane - 4} {self.top(0) + 12}H{sheet.middle(child)}'/>\n"
+        begin = sheet.left + sheet.lane * self.taken.who + sheet.lane - 4
+        return f"<path class='start' d='M{begin} {self.top(0) + 12}H{sheet.middle(child)}'/>\n"
 
     def bar(self, advance: Advance, below: int) -> str:
         """A bar over the lanes of those who are registered on the clock, and rings there."""
@@ -183,7 +199,12 @@ class Drawn:
             if lane in on:
                 pieces += f"<use href='#ring' x='{sheet.middle(lane)}' y='{top + 12}'/>\n"
         label = f"clock {advance.clock} phase {advance.phase} by {self.taken.who}"
-        return self.lines(top, None) + self.bands(top) + pieces + f"<text x='{sheet.labels}' y='{top + 16}'>{label}</text>\n"
+        return (
+            self.lines(top, None)
+            + self.bands(top)
+            + pieces
+            + f"<text x='{sheet.labels}' y='{top + 16}'>{label}</text>\n"
+        )
 
     def draw(self) -> str:
         row = ""

@@ -1,5 +1,6 @@
-"""A second telling, in Python, of what `races` prints: pairs of accesses of one shared number whose order nothing but the schedule of a logged
-run says, by the rules in words of docs/RACES.md. Each step has the whole set of steps that come before it, as the bits of a number."""
+"""A second telling, in Python, of what `races` prints: pairs of accesses of one shared number whose order nothing but
+the schedule of a logged run says, by the rules in words of docs/RACES.md. Each step has the whole set of steps that
+come before it, as the bits of a number."""
 
 from __future__ import annotations
 
@@ -101,7 +102,9 @@ def found(played: Played, past: dict[int, int]) -> Iterator[tuple[int, Taken, Ta
     """Two accesses of a shared number, neither of which comes before the other, of each two places the first."""
     accesses = [(cell(played, taken), taken) for taken in played.taken if taken.step.event in ACCESSES]
     told = set()
-    for (number, first), (other, second) in sorted(combinations(accesses, 2), key=lambda pair: (pair[1][1].number, pair[0][1].number)):
+    for (number, first), (other, second) in sorted(
+        combinations(accesses, 2), key=lambda pair: (pair[1][1].number, pair[0][1].number)
+    ):
         if number != other or past[second.number] >> first.number & 1:
             continue
         if first.step.event == second.step.event and first.step.event in PEACEFUL:
@@ -129,9 +132,11 @@ def print_words(program: Program, played: Played, past: dict[int, int]) -> str:
 
 def races(program: Program, played: Played) -> str:
     past = pasts(played)
+    def access(taken: Taken) -> str:
+        return f"{step_words(program, taken)} {telling_events.words(taken)}"
+
     lines = [
-        f"race shared {number}: {step_words(program, first)} {telling_events.words(first)}, {step_words(program, second)} {telling_events.words(second)}\n"
-        for number, first, second in found(played, past)
+        f"race shared {number}: {access(first)}, {access(second)}\n" for number, first, second in found(played, past)
     ]
     if lines:
         return "".join(lines) + f"races {len(lines)}\n" + "of this run alone\n"

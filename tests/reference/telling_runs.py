@@ -1,5 +1,6 @@
 #!/usr/bin/env python3
-"""A second telling, in Python, of what is told of a log: `replay`, `chart`, `events`, `lanes`, `page` and `races` of a whole run, and `where` of any.
+"""A second telling, in Python, of what is told of a log: `replay`, `chart`, `events`, `lanes`, `page` and `races` of a
+whole run, and `where` of any.
 
     python3 -m tests.reference.telling_runs events [--module] FILE LOG [--arg=N]..
     python3 -m tests.reference.telling_runs lanes [--module] [--svg] FILE LOG [--arg=N]..
@@ -41,7 +42,13 @@ def races(program: Program, played: Played) -> tuple[str, bool]:
 def teller(command: str, data: bytes, is_module: bool, window: range = WHOLE, is_picture: bool = False) -> Teller:
     """What a command tells of a run of this program, whose bytes are looked at where there is one."""
     if command in ("lanes", "page"):
-        draw = telling_page.drawing if command == "page" else telling_picture.drawing if is_picture else telling_lanes.drawing
+        draw = (
+            telling_page.drawing
+            if command == "page"
+            else telling_picture.drawing
+            if is_picture
+            else telling_lanes.drawing
+        )
         return lambda played: draw(Program(data, is_module), played, window)
     of_program = {"events": telling_events.events, "races": races}
     if command in of_program:
@@ -50,7 +57,14 @@ def teller(command: str, data: bytes, is_module: bool, window: range = WHOLE, is
 
 
 def answer(
-    command: str, judged: Accepted | Refused, data: bytes, is_module: bool, log: bytes, arguments: Arguments = (), window: range = WHOLE, is_picture: bool = False
+    command: str,
+    judged: Accepted | Refused,
+    data: bytes,
+    is_module: bool,
+    log: bytes,
+    arguments: Arguments = (),
+    window: range = WHOLE,
+    is_picture: bool = False,
 ) -> Answer:
     """What a command answers of a log and this program."""
     if command == WHERE:
@@ -64,7 +78,9 @@ def main(words: list[str]) -> int:
     command, *flags, file, log = more
     data, is_module = pathlib.Path(file).read_bytes(), "--module" in flags
     judged = telling.judge(data) if is_module else telling_source.judge(data)
-    status, out, err = answer(command, judged, data, is_module, pathlib.Path(log).read_bytes(), arguments, WHOLE, "--svg" in flags)
+    status, out, err = answer(
+        command, judged, data, is_module, pathlib.Path(log).read_bytes(), arguments, WHOLE, "--svg" in flags
+    )
     sys.stdout.write(out)
     sys.stderr.write(err)
     return status

@@ -1,14 +1,14 @@
 #!/usr/bin/env python3
 """A second telling, in Python, of what x10clock makes of a source text: tokens, trees, names, units and code.
 
-It shares nothing with the program. A text becomes tokens, these a tree, or the first token that can't stand; each name is then looked up
-where it stands, and what it means is kept by its offset; the units that main reaches get their numbers and their code; and what is made
-of the module from there on is told by tests/reference/telling.py.
+It shares nothing with the program. A text becomes tokens, these a tree, or the first token that can't stand; each name
+is then looked up where it stands, and what it means is kept by its offset; the units that main reaches get their
+numbers and their code; and what is made of the module from there on is told by tests/reference/telling.py.
 
     python3 -m tests.reference.telling_source compile FILE            what the program prints
     python3 -m tests.reference.telling_source check FILE
     python3 -m tests.reference.telling_source run FILE [ORDER] [--arg=N]..        ORDER is first, last or round
-    python3 -m tests.reference.telling_source walk FILE [WORLDS] [--arg=N]..      all schedules, through so many worlds at most
+    python3 -m tests.reference.telling_source walk FILE [WORLDS] [--arg=N]..      all schedules, through WORLDS at most
 """
 
 from __future__ import annotations
@@ -246,7 +246,9 @@ class Print:
     value: Expr
 
 
-Stmt = Block | Declaration | Assignment | Addition | Branch | Loop | Async | Finish | Call | OnClock | AdvanceAll | Print
+Stmt = (
+    Block | Declaration | Assignment | Addition | Branch | Loop | Async | Finish | Call | OnClock | AdvanceAll | Print
+)
 
 
 @dataclass(frozen=True)
@@ -280,12 +282,14 @@ STATEMENT_WORDS = frozenset(("val", "var", "atomic", "if", "for", "async", "cloc
 
 
 class Parser:
-    """Takes the tokens one by one. Whatever can't stand where it is met is a fault there and then, so that the first one is told."""
+    """Takes the tokens one by one. Whatever can't stand where it is met is a fault there and then, so that the first
+    one is told."""
 
     def __init__(self, text: bytes) -> None:
         self.tokens = tokens_of(text)
         self.next = 0
-        # How many statements, parentheses and negations are open in the method, and the operators of the expression so far.
+        # How many statements, parentheses and negations are open in the method, and the operators of the expression so
+        # far.
         self.depth = 0
         self.operators = 0
 
@@ -328,7 +332,12 @@ class Parser:
         if self.token.sort is not Sort.DIGITS:
             raise self.misfit()
         text = self.token.text
-        if len(text) > 1 and text[0] == "0" or len(text) > 19 or not telling.LEAST <= sign * int(text) <= telling.GREATEST:
+        if (
+            len(text) > 1
+            and text[0] == "0"
+            or len(text) > 19
+            or not telling.LEAST <= sign * int(text) <= telling.GREATEST
+        ):
             raise Fault(13, self.token.at)
         self.next += 1
         return sign * int(text)
@@ -641,10 +650,12 @@ class Names:
         self.meanings: dict[int, Declared] = {}
         # What the limit of a loop comes to, by the offset of the loop's name.
         self.limits: dict[int, Declared] = {}
-        # The clock of each `clocked finish`, by the offset of its `clocked`; and the one that a `clocked async` here is started on.
+        # The clock of each `clocked finish`, by the offset of its `clocked`; and the one that a `clocked async` here is
+        # started on.
         self.hidden: dict[int, Declared] = {}
         self.hidden_now: Declared | None = None
-        # The body of each `async`, by the offset of its word; the first method of each name; and who calls whom, and where.
+        # The body of each `async`, by the offset of its word; the first method of each name; and who calls whom, and
+        # where.
         self.bodies: dict[int, UnitForm] = {}
         self.methods: dict[str, Method] = {}
         self.units: dict[str, UnitForm] = {}
@@ -1000,7 +1011,9 @@ class Coder:
             case Loop():
                 self.loop(stmt)
             case Finish(body, clocked):
-                self.around(["finish"], body if clocked is None else Between(body, self.names.hidden[clocked]), "endfinish")
+                self.around(
+                    ["finish"], body if clocked is None else Between(body, self.names.hidden[clocked]), "endfinish"
+                )
             case Between(body, clock):
                 self.between(body, self.slots[clock])
             case Async(_, _, at):
@@ -1076,7 +1089,11 @@ class Coder:
     @property
     def is_too_large(self) -> bool:
         arguments = [instr[2] for instr in self.code if instr[0] in ("call", "spawn")]
-        return self.highest > MOST_SLOTS or len(self.code) > MOST_INSTRUCTIONS or any(len(slots) > MOST_ARGUMENTS for slots in arguments)
+        return (
+            self.highest > MOST_SLOTS
+            or len(self.code) > MOST_INSTRUCTIONS
+            or any(len(slots) > MOST_ARGUMENTS for slots in arguments)
+        )
 
 
 def reached_units(names: Names) -> dict[UnitForm, Coder]:
@@ -1092,7 +1109,8 @@ def reached_units(names: Names) -> dict[UnitForm, Coder]:
 
 
 def in_order(names: Names, coders: dict[UnitForm, Coder]) -> list[UnitForm]:
-    """The units by their numbers: next comes the first in the text of those who are mentioned by numbered ones alone."""
+    """The units by their numbers: next comes the first in the text of those who are mentioned by numbered ones
+    alone."""
     waits_for = {unit: 0 for unit in coders}
     for coder in coders.values():
         for unit in set(coder.mentioned):

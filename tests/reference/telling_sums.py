@@ -1,7 +1,8 @@
-"""A second telling of the notes of `explain` on what the verifier says (docs/EXPLAIN.md, "Notes"), from the module and where its instructions come from.
+"""A second telling of the notes of `explain` on what the verifier says (docs/EXPLAIN.md, "Notes"), from the module and
+where its instructions come from.
 
-Beside V8, V9 and V12 stands the other place that the rule speaks of, beside V14 to V17 the sum by its parts, and of a program that is accepted what its
-numbers come from.
+Beside V8, V9 and V12 stands the other place that the rule speaks of, beside V14 to V17 the sum by its parts, and of a
+program that is accepted what its numbers come from.
 """
 
 from __future__ import annotations
@@ -70,11 +71,14 @@ class Speaker:
 
 def elsewhere(unit: Unit, slot: int, place: int, places: Iterable[int]) -> int | None:
     """The first of these places that makes a slot's clock in another block than that of a place."""
-    return next((at for at in places if unit.code[at] == Instr("make", (slot,)) and unit.blocks[at] != unit.blocks[place]), None)
+    return next(
+        (at for at in places if unit.code[at] == Instr("make", (slot,)) and unit.blocks[at] != unit.blocks[place]), None
+    )
 
 
 def beside_home(number: int, unit: Unit, place: int, speaker: Speaker) -> Iterator[Note]:
-    """V8: the clock that is dropped is lent; the slot of one that is made is a parameter's, or takes a clock of another block before."""
+    """V8: the clock that is dropped is lent; the slot of one that is made is a parameter's, or takes a clock of another
+    block before."""
     name, (slot, *_) = unit.code[place].name, unit.code[place].operands
     if name == "drop" or slot < len(unit.params):
         yield speaker.of(number, f"{speaker.slot(number, slot)} comes from outside")
@@ -83,7 +87,8 @@ def beside_home(number: int, unit: Unit, place: int, speaker: Speaker) -> Iterat
 
 
 def beside_registers(module: Module, number: int, place: int, speaker: Speaker) -> Iterator[Note]:
-    """V9: where the first clock comes from that is handed on in another block than its own, and the finish that is open."""
+    """V9: where the first clock comes from that is handed on in another block than its own, and the finish that is
+    open."""
     unit = module.units[number]
     block = unit.blocks[place]
     for slot in module.arguments(unit.code[place], "c"):
@@ -113,7 +118,10 @@ def totals(module: Module, own: Callable[[Instr], int]) -> list[int]:
     for number in reversed(range(len(module.units))):
         unit = module.units[number]
         below = [sum(found[callee] for callee in instr.of(Role.UNIT)) for instr in unit.code]
-        found[number] = sum(times * (own(instr) + more) for times, instr, more in zip(telling.turns(unit), unit.code, below, strict=True))
+        found[number] = sum(
+            times * (own(instr) + more)
+            for times, instr, more in zip(telling.turns(unit), unit.code, below, strict=True)
+        )
     return found
 
 
@@ -122,13 +130,16 @@ def stacks(module: Module) -> list[int]:
     found = [0] * len(module.units)
     for number in reversed(range(len(module.units))):
         unit = module.units[number]
-        found[number] = unit.slots + max((found[instr.callee] for instr in unit.code if instr.name == "call"), default=0)
+        found[number] = unit.slots + max(
+            (found[instr.callee] for instr in unit.code if instr.name == "call"), default=0
+        )
     return found
 
 
 @dataclass(frozen=True)
 class Sum:
-    """What is told of a sum: which instructions, by their names, and loops from how many turns on; and of each unit, in words."""
+    """What is told of a sum: which instructions, by their names, and loops from how many turns on; and of each unit, in
+    words."""
 
     names: tuple[str, ...]
     least_turns: int
@@ -141,13 +152,22 @@ def takes(does: str, one: str, many: str, own: Callable[[Instr], int]) -> Callab
 
 def has(module: Module) -> list[str]:
     found = zip(module.units, stacks(module), strict=True)
-    return [f"has {counted(unit.slots, 'slot', 'slots')}, at most {amount(most)} with those that it calls" for unit, most in found]
+    return [
+        f"has {counted(unit.slots, 'slot', 'slots')}, at most {amount(most)} with those that it calls"
+        for unit, most in found
+    ]
 
 
 SUMS = {
-    "V14": Sum((*LOOPS, "call", "spawn"), 0, takes("takes", "step", "steps", lambda instr: 2 if instr.name == "advance" else 1)),
-    "V15": Sum((*LOOPS, "call", "spawn"), 0, takes("starts", "activity", "activities", lambda instr: instr.name == "spawn")),
-    "V16": Sum((*LOOPS, "call", "spawn", "make"), 0, takes("makes", "clock", "clocks", lambda instr: instr.name == "make")),
+    "V14": Sum(
+        (*LOOPS, "call", "spawn"), 0, takes("takes", "step", "steps", lambda instr: 2 if instr.name == "advance" else 1)
+    ),
+    "V15": Sum(
+        (*LOOPS, "call", "spawn"), 0, takes("starts", "activity", "activities", lambda instr: instr.name == "spawn")
+    ),
+    "V16": Sum(
+        (*LOOPS, "call", "spawn", "make"), 0, takes("makes", "clock", "clocks", lambda instr: instr.name == "make")
+    ),
     "V17": Sum(("call",), 0, has),
 }
 ACCEPTED = Sum((*LOOPS, "spawn", "make"), 2)
@@ -160,7 +180,8 @@ def part(told: Sum, number: int, unit: Unit, place: int, times: int, speaker: Sp
         return None
     if instr.name in LOOPS:
         turns = unit.head(place).turns
-        words = f"this loop has {counted(turns, 'turn', 'turns')} each time, {amount(times * turns)} in one run of {speaker.around(number)}"
+        in_all = f"{amount(times * turns)} in one run of {speaker.around(number)}"
+        words = f"this loop has {counted(turns, 'turn', 'turns')} each time, {in_all}"
         return words if turns >= told.least_turns else None
     if instr.name == "make":
         return f"a clock is made here {speaker.times(number, times)}"

@@ -10,9 +10,16 @@ SEEDS = 2**64
 
 def tally(module: Module, arguments: Arguments, seed: int, runs: int) -> str:
     """What so many runs print, of which the first has this seed."""
-    printed = [(each % SEEDS, tuple(telling.run(module, ByChance(each % SEEDS), arguments).printed)) for each in range(seed, seed + runs)]
+    printed = [
+        (each % SEEDS, tuple(telling.run(module, ByChance(each % SEEDS), arguments).printed))
+        for each in range(seed, seed + runs)
+    ]
     lists = [numbers for _, numbers in printed]
-    lines = [told_share(lists.count(numbers), first, numbers) for place, (first, numbers) in enumerate(printed) if numbers not in lists[:place]]
+    lines = [
+        told_share(lists.count(numbers), first, numbers)
+        for place, (first, numbers) in enumerate(printed)
+        if numbers not in lists[:place]
+    ]
     return "".join(lines) + f"runs {runs} outcomes {len(set(lists))}\n"
 
 

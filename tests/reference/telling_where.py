@@ -1,4 +1,5 @@
-"""A second telling, in Python, of what `where` prints: how things stand behind the steps of a log, as far as they can be taken."""
+"""A second telling, in Python, of what `where` prints: how things stand behind the steps of a log, as far as they can
+be taken."""
 
 from __future__ import annotations
 
@@ -17,7 +18,8 @@ STOPPED = 6
 
 @dataclass(frozen=True)
 class Stop:
-    """The step of a log that can't be taken: the number of its entry, which of the entry's steps it is, and the entry."""
+    """The step of a log that can't be taken: the number of its entry, which of the entry's steps it is, and the
+    entry."""
 
     number: int
     step: int
@@ -61,7 +63,9 @@ class Place:
     def holders(self, clock: int) -> str:
         """Whom a clock waits for: those who are registered and haven't resumed it in this phase."""
         there = self.played.world.clocks[clock]
-        return " held by" + listed([who for who in self.everybody if who in there.registered and who not in there.resumed])
+        return " held by" + listed(
+            [who for who in self.everybody if who in there.registered and who not in there.resumed]
+        )
 
     def line(self, who: int) -> str:
         """Where an activity is, what it does there, and where it stands on its clocks."""

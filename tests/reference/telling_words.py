@@ -1,8 +1,10 @@
-"""A second telling of the command line, in Python: what words ask for, or why they are no job; and what a job on files is answered.
+"""A second telling of the command line, in Python: what words ask for, or why they are no job; and what a job on files
+is answered.
 
-Of clap's texts it tells the first line, and help by its place in tests/answers/words.txt. The words are taken one after another, and the first that is wrong
-is told; what an option is given is looked at when the next argument begins, and what is missing at the end. Files are opened, in this order: FILE, LOG
-or the list of `--expect`, and PATH of `--log`, which is emptied; then FILE is read.
+Of clap's texts it tells the first line, and help by its place in tests/answers/words.txt. The words are taken one after
+another, and the first that is wrong is told; what an option is given is looked at when the next argument begins, and
+what is missing at the end. Files are opened, in this order: FILE, LOG or the list of `--expect`, and PATH of `--log`,
+which is emptied; then FILE is read.
 """
 
 from __future__ import annotations
@@ -32,7 +34,8 @@ from tests.reference.telling_events import Program
 # A number's digits are read one after another, up to the first that makes it too large.
 SIGNED, UNSIGNED = range(-(2**63), 2**63), range(2**64)
 WORKERS, COUNTS = range(1, 65), range(1, 2**64)
-# A run of more steps than this is too long for Python; runs are counted, for a bound says only how long they may become.
+# A run of more steps than this is too long for Python; runs are counted, for a bound says only how long they may
+# become.
 TOO_LONG = 100_000
 # And so many runs are too many.
 MOST_RUNS = 1_000
@@ -77,7 +80,8 @@ class TooLong(Exception):
 
 @dataclass(frozen=True)
 class Option:
-    """An option that takes a value: what it is called where it is told, the numbers or names that it takes, if not any text, and whether it comes again."""
+    """An option that takes a value: what it is called where it is told, the numbers or names that it takes, if not any
+    text, and whether it comes again."""
 
     told: str
     numbers: range | None = None
@@ -157,7 +161,11 @@ def looked_at(option: Option, value: str) -> None:
     """Raises what there is to say of an option's value."""
     told, numbers = option.told, option.numbers
     if option.names and value not in option.names:
-        raise Mistake(f"error: invalid value '{value}' for '{told}'" if value else f"error: a value is required for '{told}' but none was supplied")
+        raise Mistake(
+            f"error: invalid value '{value}' for '{told}'"
+            if value
+            else f"error: a value is required for '{told}' but none was supplied"
+        )
     if numbers is None:
         return
     try:
@@ -318,7 +326,9 @@ def of_all(word: str) -> Exception:
 def help_text(command: str) -> str:
     """The text of help, which stands in tests/answers/words.txt."""
     call = f"$ x10clock {command} --help\n".replace("  ", " ")
-    return re.split(r"^\$ ", (TOP / "tests/answers/words.txt").read_text().partition(call)[2], maxsplit=1, flags=re.MULTILINE)[0]
+    return re.split(
+        r"^\$ ", (TOP / "tests/answers/words.txt").read_text().partition(call)[2], maxsplit=1, flags=re.MULTILINE
+    )[0]
 
 
 # Jobs.
@@ -326,7 +336,8 @@ def help_text(command: str) -> str:
 
 @dataclass(frozen=True)
 class Told:
-    """What a call answers: its status, standard output, and the first line of standard error, or, of a run that is asked for, all of it."""
+    """What a call answers: its status, standard output, and the first line of standard error, or, of a run that is
+    asked for, all of it."""
 
     status: int
     out: str = ""
@@ -417,7 +428,9 @@ def asked(job: Job, data: bytes, judged: Accepted, answers: bytes, log: BinaryIO
 def tallied(job: Job, judged: Accepted) -> Told:
     """How often what is printed in runs by chance."""
     seed, runs, given = int(job.values.get("seed", "0")), int(job.values["runs"]), tuple(job.numbers)
-    if runs > MOST_RUNS or any(is_too_long(judged, telling.ByChance(each % telling_tally.SEEDS), given) for each in range(seed, seed + runs)):
+    if runs > MOST_RUNS or any(
+        is_too_long(judged, telling.ByChance(each % telling_tally.SEEDS), given) for each in range(seed, seed + runs)
+    ):
         raise TooLong
     return Told(0, telling_tally.tally(judged.module, given, seed, runs))
 
@@ -486,7 +499,9 @@ def answered(job: Job, data: bytes, given: BinaryIO, log_in: BinaryIO | None, lo
         return ran(job, judged, log_out) if job.command == "run" else outcomes(job, judged, log_out)
     log = contents(log_in) if "LOG" in job.values else first_log(judged, tuple(job.numbers))
     window = range(int(job.values.get("from", "0")), int(job.values.get("to", str(2**64 - 1))) + 1)
-    status, out, err = telling_runs.answer(job.command, judged, data, "module" in job.flags, log, tuple(job.numbers), window, "svg" in job.flags)
+    status, out, err = telling_runs.answer(
+        job.command, judged, data, "module" in job.flags, log, tuple(job.numbers), window, "svg" in job.flags
+    )
     return Told(status, out, err.removesuffix("\n"))
 
 

@@ -1,5 +1,6 @@
 #!/usr/bin/env python3
-"""Answers as x10clock does, by the second telling: so that scripts, pages and transcripts can be tried without the built program.
+"""Answers as x10clock does, by the second telling: so that scripts, pages and transcripts can be tried without the
+built program.
 
     X10CLOCK=tests/reference/told.py sh tests/answers/answers.sh tests/answers/programs/sources.rows
 

@@ -67,7 +67,8 @@ row "def main() { val x = 1; f($(repeated 64 'x, ')x); } def f($(repeated 64 'aN
 awk 'BEGIN { for (i = 1; i < 1000; i++) printf "def m%d() { m%d(); } ", i, i + 1; print "def m1000() { m1(); } def main() { }" }'
 echo 'x10clock: F10 Recursive at 11'
 
-# Beyond the sizes at which room is made anew, again and again: 600 units that are compiled and written; 5,000 numbers printed.
+# Beyond the sizes at which room is made anew, again and again: 600 units that are compiled and written; 5,000 numbers
+# printed.
 row "def main() { $(repeated 600 'async ; ')}" 'accepted steps 1201 activities 601 clocks 0'
 spawns=$(repeated 600 '["spawn",NUMBER,[]],')
 bodies=$(repeated 600 ',{"code":[["ret"]],"kind":"body","params":"","slots":0}')
@@ -75,7 +76,8 @@ printf 'compile: {"shared":[],"units":[{"code":[%s["ret"]],"kind":"main","params
 row 'def main() { for (i in 1..5000) Console.OUT.println(i); }' 'accepted steps 10002 activities 1 clocks 0'
 echo "every: $(seq -s , 5000),ended steps 10002"
 
-# Finishes one in another, as deep as statements go, and in each turn of a loop; beside each other, one after the other, and open at once.
+# Finishes one in another, as deep as statements go, and in each turn of a loop; beside each other, one after the other,
+# and open at once.
 row "def main() { $(repeated 63 'finish ')Console.OUT.println(1); }" 'accepted steps 129 activities 1 clocks 0'
 echo 'every: 1,ended steps 129'
 row "def main() { $(repeated 500 'finish async ; ')}" 'accepted steps 2001 activities 501 clocks 0'

@@ -23,8 +23,8 @@ alone() {
     printf '{"version":1,"shared":[%s],"units":[{"kind":"main","params":"","slots":1,"code":[%s]}]}\n' "$1" "$2"
 }
 
-# units COUNT KIND SLOTS CODE LAST: the text of a module of so many units of so many slots: main and others of this kind. The last has the
-# code LAST, and each other has CODE, in which NEXT stands for the number of the unit behind it.
+# units COUNT KIND SLOTS CODE LAST: the text of a module of so many units of so many slots: main and others of this
+# kind. The last has the code LAST, and each other has CODE, in which NEXT stands for the number of the unit behind it.
 units() {
     awk -v count="$1" -v kind="$2" -v slots="$3" -v code="$4" -v last="$5" 'BEGIN {
         printf "{\"version\":1,\"shared\":[],\"units\":["
@@ -82,8 +82,8 @@ echo 'run: 2016,ended steps 132096'
 echo 'last: 2016,ended steps 132096'
 echo 'round: 2016,ended steps 132096'
 
-# 1,500 finishes one in another, of main, which starts one activity in the innermost; and a thousand activities, each of which starts the next
-# one in a finish.
+# 1,500 finishes one in another, of main, which starts one activity in the innermost; and a thousand activities, each of
+# which starts the next one in a finish.
 starts=$(awk 'BEGIN { for (k = 0; k < 1500; k++) printf "[\"finish\",%d],", 3000 - k }')
 ends=$(awk 'BEGIN { for (k = 1499; k >= 0; k--) printf "[\"endfinish\",%d],", k }')
 units 2 body 0 "$starts[\"spawn\",NEXT,[]],$ends[\"ret\"]" '["ret"]'
