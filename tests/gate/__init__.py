@@ -1,0 +1,1 @@
+"""The stages of the gate (.ci/run) in which nothing is proved."""

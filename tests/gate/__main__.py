@@ -1,0 +1,69 @@
+"""The scripts of a stage of the gate, side by side.
+
+    python3 -m tests.gate static
+    python3 -m tests.gate ask [--program PATH]
+"""
+
+from __future__ import annotations
+
+import argparse
+import os
+import sys
+
+from tests import harness
+from tests.gate import side_by_side
+
+# What needs no proof and no built program, in less than a minute.
+STATIC = (
+    "python3 -m tests.gate.tree",
+    "python3 -m tests.gate.layout",
+    "python3 tests/prover/house.py --ratchet",
+    "python3 tests/prover/bugs.py --applies",
+    "python3 tests/prover/wrong_bodies.py",
+    "python3 -m tests.gate.links",
+    "python3 -m compileall -q tests bench",
+    "python3 -m tests.gate.python_style",
+    "python3 -m tests.reference.meaning 20 1 --alone",
+)
+# What the built program answers, alone and with growths refused; what the reference says of schedules, of logs, of what
+# texts mean, and of modules and texts that nobody wrote; what the program does where files and the system fail it.
+ASK = (
+    "sh tests/answers/answers.sh",
+    "sh tests/answers/transcripts.sh",
+    "python3 -m tests.answers.pages",
+    "python3 -m tests.answers.editors",
+    "python3 -m tests.answers.refused_growths",
+    "sh tests/answers/workers.sh",
+    "python3 -m tests.answers.schedules",
+    "python3 -m tests.generated.logs 200 1",
+    "python3 -m tests.generated.meaning_bugs",
+    "python3 -m tests.reference.meaning 200 1",
+    "python3 -m tests.generated.mutations 2000 1",
+    "python3 -m tests.generated.mutations 2000 1 --source",
+    "python3 -m tests.generated.words 500 1",
+    "python3 -m tests.generated.outcomes 300 1",
+    "python3 -m tests.generated.asked",
+    "python3 -m tests.generated.split_phases",
+    "python3 -m tests.generated.operands",
+    "python3 -m tests.answers.failing_devices",
+    "python3 -m tests.answers.hostile",
+    "python3 -m tests.answers.wants",
+)
+
+
+def main() -> int:
+    parser = argparse.ArgumentParser(description="Runs the scripts of a stage of the gate side by side.")
+    stages = parser.add_subparsers(dest="stage", required=True)
+    stages.add_parser("static")
+    harness.add_option(stages.add_parser("ask"))
+    given = parser.parse_args()
+    if given.stage == "ask":
+        for path in (given.program, harness.beside(given.program, "xk_tests_memory")):
+            harness.build(path)
+        # Each script takes it from there.
+        os.environ["X10CLOCK"] = str(given.program)
+    return 0 if side_by_side.run_all(ASK if given.stage == "ask" else STATIC) else 1
+
+
+if __name__ == "__main__":
+    sys.exit(main())

@@ -1,0 +1,118 @@
+"""Whether what the pages point to is there.
+
+    python3 -m tests.gate.links [PAGE ..]
+
+Of each page of the repository: each relative link, with the heading that it goes to; and each word in backquotes that
+has a slash and looks like a file or a folder of the repository. Such a path may begin at the top, at the page's folder,
+at `crates/` or within a crate, at `tests/` or within a folder of it. `NAME` is any name, and the file behind it any of
+its kind; `*` is any part of a name. What is built, in a folder `out/`, needn't be there.
+"""
+
+from __future__ import annotations
+
+import pathlib
+import re
+import sys
+from collections.abc import Iterator
+from functools import cache
+
+from tests import harness
+from tests.harness import TOP
+
+FENCE = re.compile(r"^```.*?^```$", re.MULTILINE | re.DOTALL)
+LINK = re.compile(r"\]\(([^()\s]+)\)")
+QUOTED = re.compile(r"`([^`\n]+)`")
+SUFFIXES = "antt bugs c edit h html in json log md pml py rows rt sh svg toml txt vim x10".split()
+PATH = re.compile(r"[\w.*-]+(?:/[\w.*-]+)*/?")
+ANY = "NAME"
+# Where a path may begin, beside the top and the page's folder.
+ROOTS = ("crates", "crates/*", "crates/*/src", "crates/*/specs", "crates/*/proofs", "tests", "tests/*")
+
+
+def pages() -> list[pathlib.Path]:
+    """All pages, but for what is built."""
+    status, out, _ = harness.call(["git", "ls-files", "*.md"], cwd=TOP).texts()
+    listed = [TOP / line for line in out.splitlines()] if status == 0 else TOP.rglob("*.md")
+    return sorted(path for path in listed if path.exists() and "out" not in path.parts)
+
+
+@cache
+def anchors(page: pathlib.Path) -> set[str]:
+    """The names of a page's headings, as links have them."""
+    text = FENCE.sub("", page.read_text(encoding="utf-8"))
+    heads = re.findall(r"^#+ +(.*?) *$", text, re.MULTILINE)
+    return {re.sub(r"[^\w\- ]", "", head.lower()).replace(" ", "-") for head in heads}
+
+
+def is_linked(page: pathlib.Path, target: str) -> bool:
+    """Whether there is what a link goes to."""
+    if re.match(r"[a-z]+:", target):
+        return True
+    name, _, heading = target.partition("#")
+    path = page.parent / name if name else page
+    return path.exists() and (not heading or path.suffix != ".md" or heading in anchors(path))
+
+
+@cache
+def names() -> set[str]:
+    """The names at the top and in crates/."""
+    return {path.name for folder in (TOP, TOP / "crates") for path in folder.iterdir()}
+
+
+def paths(quoted: str) -> Iterator[str]:
+    """The words that look like paths: with a file's suffix or a slash at the end, or with a known name at the start."""
+    for word in quoted.split():
+        path = word.rpartition("=")[2]
+        is_one = path.endswith("/") or path.rpartition(".")[2] in SUFFIXES or path.partition("/")[0] in names()
+        if "/" in path and not path.startswith("./") and PATH.fullmatch(path) and is_one:
+            yield path
+
+
+def pattern_of(path: str) -> str:
+    """A path as a pattern."""
+    parts = path.strip("/").split("/")
+    if any(part.partition(".")[0] == ANY for part in parts):
+        parts[-1] = f"*{pathlib.Path(parts[-1]).suffix}"
+    return "/".join("*" if part == ANY else part for part in parts)
+
+
+@cache
+def is_there(folder: pathlib.Path, path: str) -> bool:
+    """Whether there is such a folder, or file, also where its suffix is left out, within a folder."""
+    pattern = pattern_of(path)
+    return any(next(folder.glob(one), None) for one in (pattern, f"{pattern}.*"))
+
+
+def is_known(page: pathlib.Path, path: str) -> bool:
+    """Whether there is a file or a folder that is meant by a path."""
+    if "out" in path.split("/"):
+        return True
+    if path.startswith(".."):
+        return (page.parent / path).exists()
+    if is_there(TOP, path) or is_there(page.parent, path):
+        return True
+    return any(is_there(TOP, f"{root}/{path}") for root in ROOTS)
+
+
+def looked_at(page: pathlib.Path) -> Iterator[tuple[str, bool]]:
+    """All that a page points to, and whether it is there."""
+    text = page.read_text(encoding="utf-8")
+    plain = FENCE.sub(lambda found: "\n" * found[0].count("\n"), text)
+    for number, line in enumerate(plain.split("\n"), 1):
+        where = f"{page.relative_to(TOP)}:{number}"
+        yield from ((f"{where}: no {target}", is_linked(page, target)) for target in LINK.findall(line))
+        found = (path for quoted in QUOTED.findall(line) for path in paths(quoted))
+        yield from ((f"{where}: no {path}", is_known(page, path)) for path in found)
+
+
+def main() -> int:
+    asked = [harness.resolved(word) for word in sys.argv[1:]] or pages()
+    found = [each for page in asked for each in looked_at(page)]
+    wrong = [what for what, is_right in found if not is_right]
+    print(*wrong, sep="\n", end="\n" if wrong else "")
+    print(f"links: {len(asked)} pages, {len(found)} links and paths, {len(wrong)} that lead nowhere")
+    return 1 if wrong or not found else 0
+
+
+if __name__ == "__main__":
+    sys.exit(main())
