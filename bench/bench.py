@@ -101,7 +101,7 @@ class Timer:
 
 def main():
     parser = argparse.ArgumentParser()
-    harness.add_option(parser)
+    harness.add_program(parser)
     timer = Timer(parser.parse_args().program)
     # The runs first: memory counts from what this process held when a call began, and great modules are great here too.
     timer.runs()

@@ -55,7 +55,7 @@ def row(name, order, program, machines, path, rounds):
 
 def main():
     parser = argparse.ArgumentParser()
-    harness.add_option(parser)
+    harness.add_program(parser)
     parser.add_argument("--only", default="")
     parser.add_argument("--rounds", type=int, default=3)
     parser.add_argument("--builds", type=int, default=9)

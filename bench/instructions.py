@@ -93,7 +93,7 @@ def print_table(head, row, jobs):
 
 def main():
     parser = argparse.ArgumentParser()
-    harness.add_option(parser)
+    harness.add_program(parser)
     parser.add_argument("--only", default="")
     given = parser.parse_args()
     rows = [row for row in ROWS if given.only in row[0]]

@@ -132,7 +132,7 @@ def hostile(program, folder):
 
 def main():
     parser = argparse.ArgumentParser()
-    harness.add_option(parser)
+    harness.add_program(parser)
     program = parser.parse_args().program
     with tempfile.TemporaryDirectory() as name:
         folder = pathlib.Path(name)

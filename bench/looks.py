@@ -121,7 +121,7 @@ class Looker:
 
 def main() -> None:
     parser = argparse.ArgumentParser()
-    harness.add_option(parser)
+    harness.add_program(parser)
     program = parser.parse_args().program
     with tempfile.TemporaryDirectory() as name:
         looker = Looker(program, pathlib.Path(name))

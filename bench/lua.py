@@ -19,7 +19,7 @@ LOOPS = f"local t = 0; for i = 1, {TURNS} do for j = 1, 5000 do t = t + j end en
 
 def main():
     parser = argparse.ArgumentParser()
-    harness.add_option(parser)
+    harness.add_program(parser)
     parser.add_argument("--rounds", type=int, default=3)
     given = parser.parse_args()
     ours, lua = [], []

@@ -60,7 +60,7 @@ def main():
     parser = argparse.ArgumentParser()
     parser.add_argument("cases", nargs="?", type=int, default=400)
     parser.add_argument("seed", nargs="?", type=int, default=1)
-    harness.add_options(parser)
+    harness.add_program_or_none(parser)
     given = parser.parse_args()
     machine, counts = built(), collections.Counter()
     with tempfile.NamedTemporaryFile(suffix=".json") as file:

@@ -98,7 +98,7 @@ def counted(program, path):
 
 def main():
     parser = argparse.ArgumentParser()
-    harness.add_option(parser)
+    harness.add_program(parser)
     parser.add_argument("--count", action="store_true")
     given = parser.parse_args()
     for name, text in TEXTS.items():

@@ -50,7 +50,7 @@ def passed(words, rounds):
 
 def main():
     parser = argparse.ArgumentParser()
-    harness.add_option(parser)
+    harness.add_program(parser)
     parser.add_argument("--rounds", type=int, default=3)
     given = parser.parse_args()
     print("| Program | `first` | 1 worker | 2 | 4 |")

@@ -33,15 +33,15 @@ def resolved(path: str) -> pathlib.Path:
     return pathlib.Path(path).resolve()
 
 
-def add_option(parser: argparse.ArgumentParser) -> None:
+def add_program(parser: argparse.ArgumentParser) -> None:
     """Adds `--program`."""
     what = "the program that is asked (X10CLOCK, or crates/x10clock/out/x10clock)"
     parser.add_argument("--program", type=resolved, default=usual(), metavar="PATH", help=what)
 
 
-def add_options(parser: argparse.ArgumentParser) -> None:
+def add_program_or_none(parser: argparse.ArgumentParser) -> None:
     """Adds `--program`, and `--alone`, with which no program is asked."""
-    add_option(parser)
+    add_program(parser)
     parser.add_argument("--alone", dest="program", action="store_const", const=None, help="the reference alone")
 
 
@@ -64,10 +64,9 @@ class Ended:
 
 
 def call(words: Iterable[object], given: bytes | BinaryIO = b"", seconds: int = 0, **how: Any) -> Ended:
-    """Calls a program with these words, and waits for its end, but no longer than so many seconds, or than is usual of
-    it.
+    """Calls a program with these words, and waits for its end, but no longer than so many seconds, or than it may take.
 
-    It is given these bytes or this file as standard input; `how` is for subprocess.run.
+    These bytes, or this file, are its standard input; `how` is for subprocess.run.
     """
     line = [str(word) for word in words]
     stdin = {"input": given} if isinstance(given, bytes) else {"stdin": given}

@@ -210,7 +210,7 @@ def tried(call: Call, program: str, preloaded: str, folder: str) -> tuple[int, l
 
 def main() -> int:
     parser = argparse.ArgumentParser()
-    harness.add_option(parser)
+    harness.add_program(parser)
     program = str(parser.parse_args().program)
     with tempfile.TemporaryDirectory() as folder:
         folder = os.path.realpath(folder)

@@ -394,7 +394,7 @@ def all_of_them() -> Iterator[Callable[[Tried], None]]:
 
 def main() -> int:
     parser = argparse.ArgumentParser(description="Calls x10clock where files, streams and the system fail it.")
-    harness.add_option(parser)
+    harness.add_program(parser)
     parser.add_argument("--only")
     given = parser.parse_args()
     wrong, calls = [], 0

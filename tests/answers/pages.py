@@ -119,7 +119,7 @@ def main() -> int:
     parser = argparse.ArgumentParser(description="Compares what the pages say of x10clock with what it says.")
     parser.add_argument("pages", nargs="*", type=harness.resolved, metavar="PAGE")
     parser.add_argument("--write", action="store_true")
-    harness.add_option(parser)
+    harness.add_program(parser)
     given = parser.parse_args()
     differing, count = [], 0
     for page in given.pages or PAGES:

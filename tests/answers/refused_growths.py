@@ -468,7 +468,7 @@ def tried(number: int) -> tuple[int, int, float, str]:
 def main() -> int:
     parser = argparse.ArgumentParser()
     parser.add_argument("--counts", action="store_true")
-    harness.add_option(parser)
+    harness.add_program(parser)
     parser.add_argument("--exhaust", type=harness.resolved)
     options = parser.parse_args()
     options.exhaust = options.exhaust or harness.beside(options.program, EXHAUST)

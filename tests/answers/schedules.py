@@ -253,7 +253,7 @@ def words() -> argparse.Namespace:
     parser = argparse.ArgumentParser(
         description="Compares what is known of schedules with a second telling, and asks the program."
     )
-    harness.add_option(parser)
+    harness.add_program(parser)
     return parser.parse_args()
 
 

@@ -292,7 +292,7 @@ def least(program: pathlib.Path, call: Call, whole: Ended) -> int:
 
 def main() -> int:
     parser = argparse.ArgumentParser(description="Tries x10clock in the memory that it can want at most.")
-    harness.add_option(parser)
+    harness.add_program(parser)
     parser.add_argument("--least", action="store_true")
     given = parser.parse_args()
     program, wrong, count = given.program, [], 0

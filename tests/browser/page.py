@@ -287,7 +287,7 @@ def made(
 
 def main() -> int:
     words = argparse.ArgumentParser()
-    harness.add_option(words)
+    harness.add_program(words)
     words.add_argument("--shots", type=pathlib.Path)
     asked = words.parse_args()
     found = next(filter(None, map(shutil.which, BROWSERS)), None)

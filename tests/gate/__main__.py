@@ -55,7 +55,7 @@ def main() -> int:
     parser = argparse.ArgumentParser(description="Runs the scripts of a stage of the gate side by side.")
     stages = parser.add_subparsers(dest="stage", required=True)
     stages.add_parser("static")
-    harness.add_option(stages.add_parser("ask"))
+    harness.add_program(stages.add_parser("ask"))
     given = parser.parse_args()
     if given.stage == "ask":
         for path in (given.program, harness.beside(given.program, "xk_tests_memory")):

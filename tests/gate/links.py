@@ -4,8 +4,8 @@
 
 Of each page of the repository: each relative link, with the heading that it goes to; and each word in backquotes that
 has a slash and looks like a file or a folder of the repository. Such a path may begin at the top, at the page's folder,
-at `crates/` or within a crate, at `tests/` or within a folder of it. `NAME` is any name, and the file behind it any of
-its kind; `*` is any part of a name. What is built, in a folder `out/`, needn't be there.
+at `crates/` or within a crate, at `tests/` or within a folder of it. `NAME` and `CRATE` are any name, and the file
+behind them is any of its kind; `*` is any part of a name. What is built, in a folder `out/`, needn't be there.
 """
 
 from __future__ import annotations
@@ -24,7 +24,7 @@ LINK = re.compile(r"\]\(([^()\s]+)\)")
 QUOTED = re.compile(r"`([^`\n]+)`")
 SUFFIXES = "antt bugs c edit h html in json log md pml py rows rt sh svg toml txt vim x10".split()
 PATH = re.compile(r"[\w.*-]+(?:/[\w.*-]+)*/?")
-ANY = "NAME"
+ANY = ("NAME", "CRATE")
 # Where a path may begin, beside the top and the page's folder.
 ROOTS = ("crates", "crates/*", "crates/*/src", "crates/*/specs", "crates/*/proofs", "tests", "tests/*")
 
@@ -71,9 +71,9 @@ def paths(quoted: str) -> Iterator[str]:
 def pattern_of(path: str) -> str:
     """A path as a pattern."""
     parts = path.strip("/").split("/")
-    if any(part.partition(".")[0] == ANY for part in parts):
+    if any(part.partition(".")[0] in ANY for part in parts):
         parts[-1] = f"*{pathlib.Path(parts[-1]).suffix}"
-    return "/".join("*" if part == ANY else part for part in parts)
+    return "/".join("*" if part in ANY else part for part in parts)
 
 
 @cache

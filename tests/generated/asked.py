@@ -54,7 +54,7 @@ def main() -> int:
     parser = argparse.ArgumentParser(description="Plays the examples by answers that nobody wrote.")
     parser.add_argument("games", type=int, nargs="?", default=3)
     parser.add_argument("seed", type=int, nargs="?", default=1)
-    harness.add_option(parser)
+    harness.add_program(parser)
     given = parser.parse_args()
     rng, count, early, differing = random.Random(given.seed), 0, 0, []
     for file in sorted((TOP / "examples").glob("*.x10")):

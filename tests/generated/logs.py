@@ -428,7 +428,7 @@ def words() -> argparse.Namespace:
     parser.add_argument("cases", nargs="?", type=int, default=2_000)
     parser.add_argument("seed", nargs="?", type=int, default=1)
     parser.add_argument("--jobs", type=int, default=2)
-    harness.add_options(parser)
+    harness.add_program_or_none(parser)
     parser.add_argument("--tally", action="store_true")
     return parser.parse_args()
 

@@ -591,7 +591,7 @@ def words() -> argparse.Namespace:
     parser.add_argument("--source", action="store_true")
     parser.add_argument("--changed", action="store_true")
     parser.add_argument("--jobs", type=int, default=2)
-    harness.add_option(parser)
+    harness.add_program(parser)
     parser.add_argument("--worlds", type=int, default=1_000)
     parser.add_argument("--tally", action="store_true")
     parser.add_argument("--only", type=int)

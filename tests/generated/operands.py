@@ -162,7 +162,7 @@ def without_json(path: pathlib.Path) -> tuple[int, list[str]]:
 def main() -> int:
     parser = argparse.ArgumentParser(description="Compares what x10clock answers of modules with one thing changed.")
     parser.add_argument("--jobs", type=int, default=2)
-    harness.add_option(parser)
+    harness.add_program(parser)
     given = parser.parse_args()
     path, summary = given.program, Summary()
     cases = list(enumerate(texts()))

@@ -285,7 +285,7 @@ def words() -> argparse.Namespace:
     parser.add_argument("cases", nargs="?", type=int, default=300)
     parser.add_argument("seed", nargs="?", type=int, default=1)
     parser.add_argument("--sets", action="store_true")
-    harness.add_option(parser)
+    harness.add_program(parser)
     parser.add_argument("--jobs", type=int, default=2)
     parser.add_argument("--worlds", type=int, default=3_000)
     parser.add_argument("--tally", action="store_true")

@@ -105,7 +105,7 @@ def main() -> int:
     )
     parser.add_argument("programs", type=int, nargs="?", default=200)
     parser.add_argument("seed", type=int, nargs="?", default=1)
-    harness.add_option(parser)
+    harness.add_program(parser)
     given = parser.parse_args()
     found, free = [], 0
     with tempfile.TemporaryDirectory() as folder:

@@ -346,7 +346,7 @@ def main() -> int:
     parser = argparse.ArgumentParser(description="Compares what x10clock says of command lines with a second telling.")
     parser.add_argument("cases", nargs="?", type=int, default=2_000)
     parser.add_argument("seed", nargs="?", type=int, default=1)
-    harness.add_option(parser)
+    harness.add_program(parser)
     parser.add_argument("--jobs", type=int, default=2)
     parser.add_argument("--tally", action="store_true")
     parser.add_argument("--only", type=int)

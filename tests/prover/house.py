@@ -332,16 +332,14 @@ def rows_of_lines(top: Path) -> Rows:
 
 
 def ratchet(table: Rows) -> int:
-    """Tells which rows count more than they may, and which count less, so that their numbers can be lowered."""
-    over = 0
-    for word, most in MOST.items():
-        what, places = table[word]
-        if len(places) > most:
-            over += 1
-            print(f"{what}: {len(places)}, and no more than {most} may be: house.py --list {word} names them")
-        elif len(places) < most:
-            print(f"{what}: {len(places)}; lower {word} of MOST from {most}")
-    print(f"house: {len(MOST)} rows, {over} that count more than they may")
+    """Prints which rows count more than they may, and which count less, so that their numbers can be lowered."""
+    counts = {word: len(table[word][1]) for word in MOST}
+    over = [word for word, most in MOST.items() if counts[word] > most]
+    for word in over:
+        print(f"{table[word][0]}: {counts[word]}, at most {MOST[word]} may be: house.py --list {word} names them")
+    fallen = [f"{word} {counts[word]}" for word, most in MOST.items() if counts[word] < most]
+    lower = f"; lower in MOST: {', '.join(fallen)}" if fallen else ""
+    print(f"house: {len(MOST)} rows, {len(over)} that count more than they may{lower}")
     return 1 if over else 0
 
 

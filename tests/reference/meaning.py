@@ -564,7 +564,7 @@ def words() -> argparse.Namespace:
     parser.add_argument("seed", nargs="?", type=int, default=1)
     parser.add_argument("--runs", type=int, default=3)
     parser.add_argument("--jobs", type=int, default=2)
-    harness.add_options(parser)
+    harness.add_program_or_none(parser)
     parser.add_argument("--file", type=pathlib.Path)
     parser.add_argument("--only", type=int)
     return parser.parse_args()
