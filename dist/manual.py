@@ -1,6 +1,7 @@
 #!/usr/bin/env python3
-"""Writes the man page of the program and its completions for bash, zsh and fish: from what it says of itself (`--version`, `--help` and the help of
-each command), and for the man page from README's section "Commands" too, its table of calls and its statuses.
+"""Writes the man page of the program and its completions for bash, zsh and fish: from what it says of itself
+(`--version`, `--help` and the help of each command), and for the man page from README's section "Commands" too, its
+table of calls and its statuses.
 
     python3 dist/manual.py [--program PATH] [--to FOLDER]
 
@@ -140,11 +141,13 @@ class Readme:
 def readme() -> Readme:
     text = (TOP / "README.md").read_text(encoding="utf-8")
     section = re.search(r"^## Commands\n(.*?)^## ", text, re.MULTILINE | re.DOTALL)
-    calls = re.findall(r"^    (x10clock .*?) {2,}(\S.*)$", section[1], re.MULTILINE) if section else []
-    statuses = re.findall(r"^\| (\d+) \| (.*) \|$", section[1], re.MULTILINE) if section else []
-    below = re.search(r"^FILE .*?(?=\n\n)", section[1], re.MULTILINE | re.DOTALL) if section else None
+    if not section:
+        raise Fault("README has no section Commands")
+    calls = re.findall(r"^    (x10clock .*?) {2,}(\S.*)$", section[1], re.MULTILINE)
+    statuses = re.findall(r"^\| (\d+) \| (.*) \|$", section[1], re.MULTILINE)
+    below = re.search(r"^FILE .*?(?=\n\n)", section[1], re.MULTILINE | re.DOTALL)
     if not calls or not statuses or not below:
-        raise Fault("README's section Commands, its calls, FILE .. below them or its statuses aren't where they were")
+        raise Fault("README's section Commands has no calls, nothing of FILE below them, or no statuses")
     return Readme(calls, below[0].replace("\n", " "), statuses)
 
 
@@ -176,7 +179,8 @@ def man_usage(it: Command) -> str:
 
 def man_command(it: Command) -> str:
     places = [man_item(f"\\fI{place.name}\\fR", place.text) for place in it.places]
-    return f".SS {it.name}\n{man_usage(it)}\n.PP\n{roff(it.text)}\n" + "".join(places + [man_option(option) for option in it.options])
+    items = places + [man_option(option) for option in it.options]
+    return f".SS {it.name}\n{man_usage(it)}\n.PP\n{roff(it.text)}\n" + "".join(items)
 
 
 def man_page(program: Program, readme: Readme) -> str:
@@ -197,7 +201,8 @@ def man_page(program: Program, readme: Readme) -> str:
 # Completions.
 
 BASH = """\
-# Completions of {version} for bash, which dist/manual.py writes. Bash finds them as ~/.local/share/bash-completion/completions/x10clock.
+# Completions of {version} for bash, which dist/manual.py writes. Bash finds them in
+# ~/.local/share/bash-completion/completions, as x10clock.
 _x10clock() {{
     local word=${{COMP_WORDS[COMP_CWORD]}} before=${{COMP_WORDS[COMP_CWORD - 1]}} command='' words='' at
     # `--order=last` is three words here.
@@ -238,7 +243,8 @@ def bash_value(command: Command, it: Option) -> str:
 
 def bash(program: Program) -> str:
     own = [name for option in program.options for name in option.names]
-    commands = [("''", program.names + own)] + [(it.name, program.names if it.name == HELP else it.words) for it in program.commands]
+    commands = [("''", program.names + own)]
+    commands += [(it.name, program.names if it.name == HELP else it.words) for it in program.commands]
     return BASH.format(
         version=program.version,
         values="".join(bash_value(command, it) for command in program.commands for it in command.options if it.value),
@@ -249,7 +255,7 @@ def bash(program: Program) -> str:
 
 ZSH = """\
 #compdef x10clock
-# Completions of {version} for zsh, which dist/manual.py writes. Zsh finds them as _x10clock in a folder of fpath.
+# Completions of {version} for zsh, which dist/manual.py writes. Zsh finds them in a folder of fpath, as _x10clock.
 
 _x10clock() {{
     local curcontext=$curcontext state line
@@ -271,6 +277,13 @@ _x10clock_commands() {{
 }}
 
 _x10clock "$@"
+"""
+
+ZSH_COMMAND = """\
+        {name})
+            _arguments \\
+                {words}
+            ;;
 """
 
 
@@ -306,7 +319,7 @@ def zsh(program: Program) -> str:
     return ZSH.format(
         version=program.version,
         options="".join(f"        {word} \\\n" for word in own),
-        commands="".join(f"        {name})\n            _arguments \\\n                {words}\n            ;;\n" for name, words in calls),
+        commands="".join(ZSH_COMMAND.format(name=name, words=words) for name, words in calls),
         names="".join(f"        {quoted(f'{it.name}:{zsh_text(it.text)}')}\n" for it in program.commands),
     )
 
@@ -332,7 +345,8 @@ def fish_command(program: Program, it: Command) -> str:
 def fish(program: Program) -> str:
     none = "__fish_use_subcommand"
     lines = [
-        f"# Completions of {program.version} for fish, which dist/manual.py writes. Fish finds them as ~/.config/fish/completions/x10clock.fish.\n",
+        f"# Completions of {program.version} for fish, which dist/manual.py writes. Fish finds them in\n",
+        "# ~/.config/fish/completions.\n",
         "complete -c x10clock -f\n",
     ]
     lines += [f"complete -c x10clock -n {none} -a {it.name} -d {fish_text(it.text)}\n" for it in program.commands]

@@ -1,7 +1,9 @@
 #!/bin/sh
-# Makes the release in dist/ anew, from the present sources as `rt ci` proves, builds and tests them: the program, its man page, completions, what editors
-# want, sums and dist/BUILT. Refuses where the tree isn't clean, for what is committed is what is built, and where `rt ci` isn't green. Nothing that `rt ci`
-# leaves says that it was, so this runs it: over kept proofs in the time of its tests. Then `git add dist`, and commit.
+# Makes the release in dist/ anew, from the present sources as `rt ci` proves, builds and tests them: the program, its
+# man page, completions, folders for editors, BUILT and SHA256SUMS. Then `git add dist`, and a commit.
+#
+# Refuses where the tree isn't clean, for what is committed is what is built; and where `rt ci` isn't green. Nothing that
+# `rt ci` leaves says that it was, so this runs it: over kept proofs in about the time of the tests.
 set -eu
 cd "$(dirname "$0")/.."
 git rev-parse --git-dir > /dev/null
@@ -13,8 +15,8 @@ refuse() {
     exit 1
 }
 
+# What isn't as it is committed; but an earlier release in dist/ may be in any state, as it goes.
 changes() {
-    # (an earlier release in dist/ goes)
     git status --porcelain -- . ':(exclude)dist'
     # shellcheck disable=SC2086
     git status --porcelain -- $own
@@ -27,7 +29,10 @@ made=$(mktemp -d)
 trap 'rm -rf "$said" "$made"' EXIT
 rt ci > "$said" 2>&1 || true
 verdict=$(tail -n 1 "$said")
-echo "$verdict" | grep -qx '[1-9][0-9]* passed, 0 failed' || { tail -n 20 "$said" >&2; refuse "rt ci isn't green"; }
+if ! echo "$verdict" | grep -qx '[1-9][0-9]* passed, 0 failed'; then
+    tail -n 20 "$said" >&2
+    refuse "rt ci isn't green"
+fi
 [ "$sources $(changes)" = "$(sh dist/sources.sh) " ] || refuse "the tree changed meanwhile"
 
 version=$($program --version)
@@ -47,7 +52,7 @@ cat > "$made/vscode/package.json" << END
   }
 }
 END
-# The newest version of a symbol of the C library is the oldest library that has them all.
+# The newest version of a symbol that the program takes from the C library is the oldest library that has them all.
 glibc=$(grep -ao 'GLIBC_2\.[0-9]*' "$program" | sort -u -t . -k 2n | tail -n 1)
 cat > "$made/BUILT" << END
 version $version
@@ -68,3 +73,4 @@ for old in dist/*; do
 done
 cp -R "$made/." dist
 cat dist/BUILT
+python3 -m tests.answers.release

@@ -1,6 +1,8 @@
 #!/bin/sh
-# The sum over all that the program is built from, on standard output: the names and the contents, in the order of names, of crates.txt, HANDLES and
-# each file in src/, specs/ and proofs/ of a crate (so of the crates of tests too). Nothing else is in it: no edit, no page, nothing under out/.
+# The sum over all that the program is built from, on standard output: of the names and the contents, in the order of
+# names, of crates.txt, HANDLES and each file in src/, specs/ and proofs/ of a crate (those of tests, too). No edit, no
+# page and nothing under out/ is in it.
 set -eu
 cd "$(dirname "$0")/.."
-find crates.txt HANDLES crates/*/src crates/*/specs crates/*/proofs -type f | LC_ALL=C sort | xargs sha256sum | sha256sum | cut -d ' ' -f 1
+find crates.txt HANDLES crates/*/src crates/*/specs crates/*/proofs -type f | LC_ALL=C sort |
+    xargs sha256sum | sha256sum | cut -d ' ' -f 1

@@ -1,38 +1,51 @@
 #!/usr/bin/env python3
 """Holds the release in `dist/` against the program and its sources.
 
-The man page and the completions that `dist/manual.py` writes say what `--help` says: each command, each of its options, each value of an option that takes
-names, and nothing else. Those in `dist/` say it of the program there. Its files are those of `SHA256SUMS`, and its program runs an example in a folder that
-has nothing else, with nothing on the path but what copies and sums files. Where the sum in `dist/BUILT` is that of the present sources, and its kit is the
-present one, the program there is the built one, byte for byte, and texts and editors' folders are the present ones; else the release is of an older
+The man page and the completions that `dist/manual.py` writes say what `--help` says: each command, each of its options,
+each value of an option that takes names, and nothing else. Those in `dist/` say it of the program there. The files
+there are those of `SHA256SUMS`, and the program runs an example in a folder that has nothing else, with nothing on the
+path but what copies files and sums them up.
+
+Where the sum in `dist/BUILT` is that of the present sources, and its kit is the present one, the program there is the
+built one, byte for byte, and all other files are what `dist/release.sh` makes now. Else the release is of an older
 version, and that is said.
 
-    python3 tests/answers/release.py [--program PATH]
-
-crates/x10clock/out/x10clock where nothing else is said. Status 1 where something is otherwise.
+    python3 -m tests.answers.release [--program PATH]
 """
 
 from __future__ import annotations
 
 import argparse
 import hashlib
+import json
 import pathlib
 import re
 import shutil
-import subprocess
 import sys
 import tempfile
-from collections.abc import Callable
+from collections.abc import Callable, Iterable
 from dataclasses import dataclass, field
+from typing import Any
 
-TOP = pathlib.Path(__file__).resolve().parents[2]
+from tests import harness
+from tests.harness import TOP
+
 DIST = TOP / "dist"
 SCRIPTS = {"release.sh", "manual.py", "sources.sh"}
 EXAMPLE = TOP / "examples/two-in-step.x10"
 PRINTED = "1\n2\n11\n12\nended steps 19\n"
-SECONDS = 60
-# The options that each command has, with the values that each may name; before any command those of "".
+# What becomes of `editors/`.
+EDITORS = {
+    "vim/ftdetect/x10clock.vim": "vim/ftdetect/x10clock.vim",
+    "vim/syntax/x10clock.vim": "vim/syntax/x10clock.vim",
+    "vscode/x10clock.tmLanguage.json": "textmate/x10clock.tmLanguage.json",
+}
+# The options that each command has, with the values that each may name; those before any command are of "".
 Words = dict[str, dict[str, tuple[str, ...]]]
+
+
+class Fault(Exception):
+    """A call failed, or a text has another form."""
 
 
 @dataclass
@@ -44,12 +57,12 @@ class Held:
             self.wrong.append(f"{what}\n    wanted: {wanted}\n    got: {got}")
 
 
-def said(words: list[str | pathlib.Path], **how: object) -> str:
+def said(*words: object, **how: Any) -> str:
     """What a call prints; it has to end well, and say nothing else."""
-    ran = subprocess.run(words, capture_output=True, text=True, timeout=SECONDS, check=False, **how)
-    if ran.returncode or ran.stderr:
-        raise OSError(f"{' '.join(map(str, words))}: status {ran.returncode}: {ran.stderr}")
-    return ran.stdout
+    status, out, err = harness.call(words, **how).texts()
+    if status or err:
+        raise Fault(f"{' '.join(map(str, words))}: status {status}: {err}")
+    return out
 
 
 # The words of the program, and of each text.
@@ -59,22 +72,28 @@ def options_of_help(text: str) -> dict[str, tuple[str, ...]]:
     found: dict[str, tuple[str, ...]] = {}
     for line in text.partition("\nOptions:\n")[2].splitlines():
         names = re.match(r" +((?:-\w, )?--\w+)", line)
-        values = re.search(r"\[possible values: (.*)\]$", line)
-        found |= dict.fromkeys(names[1].split(", ") if names else [line], tuple(values[1].split(", ")) if values else ())
+        listed = re.search(r"\[possible values: (.*)\]$", line)
+        values = tuple(listed[1].split(", ")) if listed else ()
+        found |= dict.fromkeys(names[1].split(", ") if names else [line], values)
     return found
 
 
 def words_of_help(program: pathlib.Path) -> Words:
-    text = said([program, "--help"])
-    names = re.findall(r"^  (\w+) ", text.partition("\nCommands:\n")[2].partition("\n\n")[0], re.MULTILINE)
-    return {"": options_of_help(text)} | {name: {} if name == "help" else options_of_help(said([program, name, "--help"])) for name in names}
+    text = said(program, "--help")
+    listed = text.partition("\nCommands:\n")[2].partition("\n\n")[0]
+    found = {"": options_of_help(text)}
+    for name in re.findall(r"^  (\w+) ", listed, re.MULTILINE):
+        found[name] = {} if name == "help" else options_of_help(said(program, name, "--help"))
+    return found
 
 
 def words_of_man(path: pathlib.Path) -> Words:
     text = path.read_text(encoding="utf-8").replace("\\-", "-")
+    parts = re.search(r"^\.SH OPTIONS\n(.*?)^\.SH COMMANDS\n(.*?)^\.SH ", text, re.MULTILINE | re.DOTALL)
+    if not parts:
+        raise Fault(f"{path}: no options, or no commands")
     found: Words = {}
-    own = re.search(r"^\.SH OPTIONS\n(.*?)^\.SH COMMANDS\n(.*?)^\.SH ", text, re.MULTILINE | re.DOTALL)
-    for part in ["\n" + own[1], *re.split(r"^\.SS ", own[2], flags=re.MULTILINE)[1:]]:
+    for part in ["\n" + parts[1], *re.split(r"^\.SS ", parts[2], flags=re.MULTILINE)[1:]]:
         name, _, rest = part.partition("\n")
         found[name] = {}
         for head, line in re.findall(r"^\.TP\n(.*)\n(.*)$", rest, re.MULTILINE):
@@ -84,35 +103,35 @@ def words_of_man(path: pathlib.Path) -> Words:
     return found
 
 
+# Reads lines, and prints what is offered for the last word of each, which a dot ends.
 ASK = """
 compopt() { COMPREPLY=(a-file); }
 . "$1"
 while read -r -a COMP_WORDS; do
-    COMP_WORDS[${#COMP_WORDS[@]} - 1]=${COMP_WORDS[-1]%.}
     COMP_CWORD=$((${#COMP_WORDS[@]} - 1))
+    COMP_WORDS[COMP_CWORD]=${COMP_WORDS[COMP_CWORD]%.}
     _x10clock
     echo "${COMPREPLY[@]}"
 done
 """
 
 
-def offered_by_bash(path: pathlib.Path, lines: list[str]) -> list[list[str]]:
-    """What bash offers for the last word of each line; the last word is empty where a line ends with a blank."""
+def offered_by_bash(path: pathlib.Path, lines: Iterable[str]) -> list[list[str]]:
+    """What bash offers for the last word of each line; it is empty where the line ends with a blank."""
     asked = "".join(f"{line}.\n" for line in lines)
-    return [answer.split() for answer in said(["bash", "-c", ASK, "ask", path], input=asked).splitlines()]
+    return [answer.split() for answer in said("bash", "-c", ASK, "ask", path, given=asked.encode()).splitlines()]
 
 
 def words_of_bash(path: pathlib.Path) -> Words:
-    names, own, asked = offered_by_bash(path, ["x10clock ", "x10clock -", "x10clock help "])
-    commands = [name for name in names if not name.startswith("-")]
-    if asked != commands:
-        raise OSError(f"{path}: help offers {asked}")
-    options = offered_by_bash(path, [f"x10clock {name} -" for name in commands])
-    pairs = [(name, option) for name, offered in zip(commands, options) for option in offered if option.startswith("-")]
-    values = offered_by_bash(path, [f"x10clock {name} {option} " for name, option in pairs])
-    found: Words = {"": dict.fromkeys(own, ())} | {name: {} for name in commands}
-    for (name, option), offered in zip(pairs, values):
-        found[name][option] = () if offered == ["a-file"] else tuple(offered)
+    offered, own, of_help = offered_by_bash(path, ["x10clock ", "x10clock -", "x10clock help "])
+    names = [word for word in offered if not word.startswith("-")]
+    if of_help != names:
+        raise Fault(f"{path}: help offers {of_help}")
+    options = offered_by_bash(path, [f"x10clock {name} -" for name in names])
+    pairs = [(name, word) for name, words in zip(names, options) for word in words if word.startswith("-")]
+    found: Words = {"": dict.fromkeys(own, ())} | {name: {} for name in names}
+    for (name, option), values in zip(pairs, offered_by_bash(path, [f"x10clock {a} {b} " for a, b in pairs])):
+        found[name][option] = () if values == ["a-file"] else tuple(values)
     return found
 
 
@@ -120,23 +139,30 @@ def words_of_zsh(path: pathlib.Path) -> Words:
     text = path.read_text(encoding="utf-8")
     names = re.findall(r"^        '(\w+):", text, re.MULTILINE)
     parts = dict(re.findall(r"^        (\w+)\)\n(.*?)^            ;;$", text, re.MULTILINE | re.DOTALL))
-    parts[""] = text.partition("_arguments -C")[2].partition("return")[0]
+    if sorted(parts) != sorted(names):
+        raise Fault(f"{path}: commands {names}, and options of {list(parts)}")
     found: Words = {}
-    for name in ["", *names, *parts]:
-        specs = re.findall(r"'(?:\(- \*\)|\*)?(--?\w+)=?\[.*?(?<!\\)\](.*?)'(?= \\$|$)", parts.get(name, ""), re.MULTILINE)
-        found[name] = {option: tuple(rest.partition(":(")[2].removesuffix(")").split()) for option, rest in specs}
+    for name, part in {**parts, "": text.partition("_arguments -C")[2].partition("return")[0]}.items():
+        found[name] = {}
+        specs = re.findall(r"'(?:\(- \*\)|\*)?(--?\w+)=?\[.*?(?<!\\)\](.*?)'(?= \\$|$)", part, re.MULTILINE)
+        for option, rest in specs:
+            found[name][option] = tuple(rest.partition(":(")[2].removesuffix(")").split())
     return found
 
 
 def words_of_fish(path: pathlib.Path) -> Words:
     found: Words = {"": {}}
+    option = re.compile(r"complete -c x10clock -n (\S+|'.*?')(?: -s (\w))? -l (\w+)(?: -x -a '(.*?)')?")
     for line in path.read_text(encoding="utf-8").splitlines():
         if command := re.match(r"complete -c x10clock -n __fish_use_subcommand -a (\w+) ", line):
             found[command[1]] = {}
-        if option := re.match(r"complete -c x10clock -n (\S+|'.*?')(?: -s (\w))? -l (\w+)(?: -x -a '(.*?)')?", line):
-            name = option[1].strip("'").partition(" ")[2]
-            short = {f"-{option[2]}": ()} if option[2] else {}
-            found[name] |= short | {f"--{option[3]}": tuple((option[4] or "").split())}
+        if of_help := re.match(r"complete -c x10clock -n '__fish_seen_subcommand_from help' -a '(.*)'", line):
+            if of_help[1].split() != list(found)[1:]:
+                raise Fault(f"{path}: help offers {of_help[1]}")
+        if spec := option.match(line):
+            name = spec[1].strip("'").partition(" ")[2]
+            found[name] |= {f"-{spec[2]}": ()} if spec[2] else {}
+            found[name][f"--{spec[3]}"] = tuple((spec[4] or "").split())
     return found
 
 
@@ -151,10 +177,11 @@ TEXTS: dict[str, Callable[[pathlib.Path], Words]] = {
 def texts_say(held: Held, folder: pathlib.Path, wanted: Words) -> None:
     """Each text has the words of help, and no other."""
     for name, words_of in TEXTS.items():
-        got = words_of(folder / name)
-        held.wants(f"{folder / name}: commands", sorted(got), sorted(wanted))
+        got, where = words_of(folder / name), folder / name
+        held.wants(f"{where}: commands", sorted(got), sorted(wanted))
         for command in sorted(got.keys() & wanted.keys()):
-            held.wants(f"{folder / name}: {command or 'before a command'}", sorted(got[command].items()), sorted(wanted[command].items()))
+            what = f"{where}: options of {command}" if command else f"{where}: options before a command"
+            held.wants(what, sorted(got[command].items()), sorted(wanted[command].items()))
 
 
 # The release.
@@ -162,12 +189,19 @@ def texts_say(held: Held, folder: pathlib.Path, wanted: Words) -> None:
 
 def sums_are_right(held: Held) -> None:
     """The files of dist/ are those that SHA256SUMS lists, with these sums."""
-    listed = dict(line.split("  ", 1)[::-1] for line in (DIST / "SHA256SUMS").read_text(encoding="utf-8").splitlines())
-    there = {str(path.relative_to(DIST)): path for path in DIST.rglob("*") if path.is_file() and "__pycache__" not in path.parts}
-    there = {name: path for name, path in there.items() if name not in SCRIPTS | {"SHA256SUMS"}}
-    held.wants("the files of SHA256SUMS", sorted(listed), sorted(there))
+    lines = (DIST / "SHA256SUMS").read_text(encoding="utf-8").splitlines()
+    listed = {name: hashed for hashed, _, name in (line.partition("  ") for line in lines)}
+    files = (path for path in DIST.rglob("*") if path.is_file() and "__pycache__" not in path.parts)
+    there = {str(path.relative_to(DIST)): path for path in files}
+    held.wants("the files of SHA256SUMS", sorted(listed), sorted(there.keys() - SCRIPTS - {"SHA256SUMS"}))
     for name in sorted(listed.keys() & there.keys()):
         held.wants(f"dist/{name}: its sum", hashlib.sha256(there[name].read_bytes()).hexdigest(), listed[name])
+
+
+ALONE = """
+cp "$1" x10clock && cp "$2" . && (cd "$3" && sha256sum -c --quiet SHA256SUMS) || exit 1
+exec ./x10clock run two-in-step.x10
+"""
 
 
 def runs_alone(held: Held, program: pathlib.Path) -> None:
@@ -177,67 +211,72 @@ def runs_alone(held: Held, program: pathlib.Path) -> None:
         path.mkdir()
         folder.mkdir()
         for name in ("cp", "sha256sum"):
-            (path / name).symlink_to(shutil.which(name))
-        script = 'cp "$1" x10clock && cp "$2" . && (cd "$3" && sha256sum -c --quiet SHA256SUMS) && exec ./x10clock run two-in-step.x10'
-        ran = said(["/bin/sh", "-c", script, "sh", program, EXAMPLE, DIST], cwd=folder, env={"PATH": str(path)})
-        held.wants(f"{program.name} run two-in-step.x10", ran, PRINTED)
+            (path / name).symlink_to(shutil.which(name) or name)
+        words = ["/bin/sh", "-c", ALONE, "sh", program, EXAMPLE, DIST]
+        ran = harness.call(words, cwd=folder, env={"PATH": str(path)}).texts()
+    held.wants(f"{program.name} run two-in-step.x10", ran, (0, PRINTED, ""))
 
 
-def is_present(held: Held, built: dict[str, str], program: pathlib.Path, ours: pathlib.Path) -> None:
-    """A release of the present sources is what they give."""
-    held.wants("dist/BUILT: version", built["version"], said([program, "--version"]).strip())
-    held.wants(f"{ours.name} is the built program, byte for byte", ours.read_bytes() == program.read_bytes(), True)
+def is_what_sources_give(held: Held, version: str, program: pathlib.Path) -> None:
+    """The release is what dist/release.sh makes now."""
+    package = json.loads((DIST / "vscode/package.json").read_text(encoding="utf-8"))
+    held.wants("dist/vscode/package.json: version", f"x10clock {package['version']}", version)
+    held.wants("dist/BUILT: version", version, said(program, "--version").strip())
+    pairs = {name: TOP / "editors" / source for name, source in EDITORS.items()}
+    if program == harness.BUILT:
+        pairs[name_of(version)] = program
     with tempfile.TemporaryDirectory(prefix="x10clock-release-") as room:
-        said([sys.executable, DIST / "manual.py", "--program", program, "--to", room])
-        for name in TEXTS:
-            held.wants(f"dist/{name} is what dist/manual.py writes", (DIST / name).read_text(), pathlib.Path(room, name).read_text())
-    for name in ("vim/ftdetect/x10clock.vim", "vim/syntax/x10clock.vim"):
-        held.wants(f"dist/{name} is that of editors/", (DIST / name).read_text(), (TOP / "editors" / name).read_text())
-    grammar = "x10clock.tmLanguage.json"
-    held.wants(f"dist/vscode/{grammar}", (DIST / "vscode" / grammar).read_text(), (TOP / "editors/textmate" / grammar).read_text())
+        said(sys.executable, DIST / "manual.py", "--program", program, "--to", room)
+        pairs |= {name: pathlib.Path(room, name) for name in TEXTS}
+        for name, source in pairs.items():
+            is_same = (DIST / name).read_bytes() == source.read_bytes()
+            held.wants(f"dist/{name} is what dist/release.sh makes now", is_same, True)
+
+
+def name_of(version: str) -> str:
+    return f"{version.replace(' ', '-')}-x86_64-linux"
 
 
 def kit() -> str | None:
     """The kit's line, where there is one."""
-    return said(["rt", "version"]).strip() if shutil.which("rt") else None
+    return said("rt", "version").strip() if shutil.which("rt") else None
 
 
 def release(held: Held, program: pathlib.Path) -> str:
     """Holds the release, and gives what to say of it."""
     if not (DIST / "BUILT").is_file():
-        return "none yet"
-    built = dict(line.split(" ", 1) for line in (DIST / "BUILT").read_text(encoding="utf-8").splitlines())
-    ours = DIST / f"{built['version'].replace(' ', '-')}-x86_64-linux"
+        return "there is no release"
+    lines = (DIST / "BUILT").read_text(encoding="utf-8").splitlines()
+    built = {key: value for key, _, value in (line.partition(" ") for line in lines)}
+    ours = DIST / name_of(built["version"])
     sums_are_right(held)
     runs_alone(held, ours)
-    held.wants("dist/BUILT: version of the program there", said([ours, "--version"]).strip(), built["version"])
+    held.wants(f"{ours.name} --version", said(ours, "--version").strip(), built["version"])
     texts_say(held, DIST, words_of_help(ours))
-    if built["sources"] != said(["sh", DIST / "sources.sh"]).strip():
+    if built["sources"] != said("sh", DIST / "sources.sh").strip():
         return f"{ours.name} is of an older version of the sources"
     if kit() not in (None, built["kit"]):
-        return f"{ours.name} is of the present sources and another kit, {built['kit']}"
-    is_present(held, built, program, ours)
-    return f"{ours.name} is what the present sources give"
+        return f"{ours.name} is of these sources, by another kit, {built['kit']}"
+    is_what_sources_give(held, built["version"], program)
+    return f"{ours.name} is of these sources" + (", as is the built program" if program == harness.BUILT else "")
 
 
 def main() -> int:
-    parser = argparse.ArgumentParser(allow_abbrev=False)
-    parser.add_argument("--program", type=pathlib.Path, default=TOP / "crates/x10clock/out/x10clock")
-    program = parser.parse_args().program.resolve()
-    held = Held()
+    parser = argparse.ArgumentParser(description="Holds the release in dist/ against the program and its sources.")
+    harness.add_program(parser)
+    program, held = parser.parse_args().program, Held()
     try:
         words = words_of_help(program)
         with tempfile.TemporaryDirectory(prefix="x10clock-release-") as room:
-            said([sys.executable, DIST / "manual.py", "--program", program, "--to", room])
+            said(sys.executable, DIST / "manual.py", "--program", program, "--to", room)
             texts_say(held, pathlib.Path(room), words)
         told = release(held, program)
-    except (OSError, KeyError, subprocess.TimeoutExpired) as fault:
-        print(f"release: {fault!r}")
+    except (Fault, OSError, KeyError, ValueError) as fault:
+        print(*held.wrong, f"release: {fault!r}", sep="\n")
         return 1
-    for line in held.wrong:
-        print(line)
-    count = sum(len(options) for options in words.values())
-    print(f"release: {len(words) - 1} commands, {count} options, in {len(TEXTS)} texts; {told}; {len(held.wrong)} otherwise")
+    print(*held.wrong, sep="\n", end="\n" if held.wrong else "")
+    count = sum(map(len, words.values()))
+    print(f"release: {len(words) - 1} commands, {count} options; {told}; {len(held.wrong)} otherwise")
     return 1 if held.wrong else 0
 
 
