@@ -21,7 +21,7 @@ STATIC = (
     "python3 tests/prover/bugs.py --applies",
     "python3 tests/prover/wrong_bodies.py",
     "python3 -m tests.gate.links",
-    "python3 -m compileall -q tests bench",
+    "python3 -m compileall -q bench dist tests",
     "python3 -m tests.gate.python_style",
     "python3 -m tests.reference.meaning 20 1 --alone",
 )
@@ -48,6 +48,7 @@ ASK = (
     "python3 -m tests.answers.failing_devices",
     "python3 -m tests.answers.hostile",
     "python3 -m tests.answers.wants",
+    "python3 -m tests.answers.release",
 )
 
 

@@ -17,7 +17,7 @@ from tests.harness import TOP
 
 
 def scripts() -> list[pathlib.Path]:
-    return sorted(path for folder in ("tests", "bench") for path in (TOP / folder).rglob("*.py"))
+    return sorted(path for folder in ("bench", "dist", "tests") for path in (TOP / folder).rglob("*.py"))
 
 
 def imported(tree: ast.Module) -> Iterator[tuple[int, str]]:

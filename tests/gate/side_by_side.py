@@ -5,17 +5,12 @@ from __future__ import annotations
 import concurrent.futures
 import os
 import shlex
-import signal
 import subprocess
-import tempfile
 import time
 from collections.abc import Iterable
 from dataclasses import dataclass
 
 from tests import harness
-
-# How many seconds a script may take.
-SECONDS = 3_600
 
 
 @dataclass(frozen=True)
@@ -37,23 +32,11 @@ class Ran:
 
 
 def run(words: str) -> Ran:
-    """Runs a script at the top of the repository, in a group of its own, which is ended where it takes too long."""
+    """Runs a script at the top of the repository. How long it may take is for its own calls to say."""
     begun = time.monotonic()
-    with tempfile.TemporaryFile() as said:
-        line = shlex.split(words)
-        given = {"stdin": subprocess.DEVNULL, "stdout": said, "stderr": subprocess.STDOUT}
-        with subprocess.Popen(line, cwd=harness.TOP, start_new_session=True, **given) as script:
-            try:
-                status = script.wait(SECONDS)
-            except BaseException as ended:
-                os.killpg(script.pid, signal.SIGKILL)
-                if not isinstance(ended, subprocess.TimeoutExpired):
-                    raise
-                status = harness.LATE
-        said.seek(0)
-        text = said.read().decode("utf-8", "replace")
-    late = f"{harness.LATE_TEXT}\n" if status == harness.LATE else ""
-    return Ran(words, status == 0, text + late, time.monotonic() - begun)
+    pipes = {"stdin": subprocess.DEVNULL, "stdout": subprocess.PIPE, "stderr": subprocess.STDOUT}
+    ran = subprocess.run(shlex.split(words), cwd=harness.TOP, check=False, **pipes)
+    return Ran(words, ran.returncode == 0, ran.stdout.decode("utf-8", "replace"), time.monotonic() - begun)
 
 
 def run_all(scripts: Iterable[str]) -> bool:
