@@ -258,7 +258,8 @@ def release(held: Held, program: pathlib.Path) -> str:
     if kit() not in (None, built["kit"]):
         return f"{ours.name} is of these sources, by another kit, {built['kit']}"
     is_what_sources_give(held, built["version"], program)
-    return f"{ours.name} is of these sources" + (", and compared with the built program" if program == harness.BUILT else "")
+    compared = ", and compared with the built program" if program == harness.BUILT else ""
+    return f"{ours.name} is of these sources{compared}"
 
 
 def main() -> int:
