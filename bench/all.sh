@@ -1,7 +1,9 @@
 #!/bin/sh
-# All figures of docs/PERFORMANCE.md in one run, of the program that X10CLOCK names, or of the built one: sh
-# bench/all.sh Needs rustc, valgrind, lua5.4, spin and gcc, and five minutes in which the machine has nothing else to
-# do.
+# All figures of docs/PERFORMANCE.md in one run, of the program that X10CLOCK names, or of the built one:
+#
+#     sh bench/all.sh
+#
+# Needs rustc, valgrind, lua5.4, spin and gcc, and five minutes in which the machine has nothing else to do.
 set -eu
 cd "$(dirname "$0")/.."
 date -u

@@ -8,11 +8,11 @@ Prints for each module the seconds that passed, the least of three runs: in the 
 workers.
 """
 import argparse
-import subprocess
+import os
 import tempfile
-import time
 
 from bench.modules import counting_beside, module, unit
+from bench.spent import spent
 from tests import harness
 
 
@@ -40,12 +40,11 @@ ROWS = [
 
 def passed(words, rounds):
     """The least seconds that a call took by the clock."""
-    seconds = []
-    for _ in range(rounds):
-        began = time.monotonic()
-        subprocess.run(words, stdout=subprocess.DEVNULL, check=True)
-        seconds.append(time.monotonic() - began)
-    return min(seconds)
+    with open(os.devnull, "wb") as sink:
+        runs = [spent(words, sink) for _ in range(rounds)]
+    if any(run.status for run in runs):
+        raise SystemExit(f"{words}: {runs}")
+    return min(run.passed for run in runs)
 
 
 def main():
