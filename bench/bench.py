@@ -6,17 +6,32 @@ activities in each order; and checks of many great units.
 
 Prints seconds and the most memory that a process took.
 """
-import argparse
-import tempfile
 
-from bench.modules import calling, counting, finishing, gathering, module, starting, starting_in_finish, unit
+from __future__ import annotations
+
+import argparse
+import pathlib
+import tempfile
+from collections.abc import Callable
+
+from bench.modules import (
+    Unit,
+    calling,
+    counting,
+    finishing,
+    gathering,
+    module,
+    starting,
+    starting_in_finish,
+    unit,
+)
 from bench.spent import spent
 from tests import harness
 
 ORDERS = ("first", "last", "round")
 
 
-def great_unit(kind, next_unit):
+def great_unit(kind: str, next_unit: int | None) -> Unit:
     """4,096 instructions over 64 slots: numbers, branches, and loops of one turn, eight of them one in the other."""
     code = [["lit", slot, slot] for slot in range(64)]
     while len(code) < 4096 - 50:
@@ -35,7 +50,7 @@ def great_unit(kind, next_unit):
     return unit(kind, 64, code)
 
 
-def jumping_unit(kind, next_unit):
+def jumping_unit(kind: str, next_unit: int | None) -> Unit:
     """4,096 instructions, nearly all of them jumps inside of loops: each loop has one jump, to its end."""
     code = []
     while len(code) < 4092:
@@ -47,7 +62,7 @@ def jumping_unit(kind, next_unit):
     return unit(kind, 1, code)
 
 
-def adding_unit(kind, next_unit):
+def adding_unit(kind: str, next_unit: int | None) -> Unit:
     """4,096 instructions, nearly all of them additions."""
     code = [["lit", 0, 1]] + [["add", 0, 0, 0]] * 4093
     code.append(["spawn", next_unit, []] if next_unit else ["lit", 0, 1])
@@ -55,7 +70,7 @@ def adding_unit(kind, next_unit):
     return unit(kind, 1, code)
 
 
-def chain(make_unit, count):
+def chain(make_unit: Callable[[str, int | None], Unit], count: int) -> str:
     """Units of which each starts the next."""
     return module([make_unit("main" if i == 0 else "body", i + 1 if i + 1 < count else None) for i in range(count)])
 
@@ -63,10 +78,10 @@ def chain(make_unit, count):
 class Timer:
     """Times calls of a program."""
 
-    def __init__(self, program):
+    def __init__(self, program: pathlib.Path) -> None:
         self.program = program
 
-    def timed(self, name, command, text, words=()):
+    def timed(self, name: str, command: str, text: str, words: tuple[str, ...] = ()) -> float:
         """The seconds that a call takes."""
         with tempfile.NamedTemporaryFile("w", suffix=".json") as file:
             file.write(text)
@@ -76,7 +91,7 @@ class Timer:
         print(f"{name}: {took.passed:.2f} s, {took.megabytes:.0f} MB, status {took.status}: {said}")
         return took.passed
 
-    def runs(self):
+    def runs(self) -> None:
         seconds = self.timed("run of 100,010,002 steps", "run", counting(9999))
         print(f"steps a second: {100_010_002 / seconds:,.0f}")
         seconds = self.timed("run of 24,995,000 calls", "run", calling(4999))
@@ -90,7 +105,7 @@ class Timer:
             self.timed(f"{many}, order {order}", "run", starting(99_999), words)
             self.timed(f"{many}, a finish round them, order {order}", "run", starting_in_finish(99_999), words)
 
-    def checks(self):
+    def checks(self) -> None:
         for count in (50, 100, 200):
             what = f"check of {count} units of 4,096 instructions over 64 slots"
             self.timed(what, "check", chain(great_unit, count))
@@ -99,7 +114,7 @@ class Timer:
         self.timed(f"{what}, additions", "check", chain(adding_unit, 200))
 
 
-def main():
+def main() -> None:
     parser = argparse.ArgumentParser()
     harness.add_program(parser)
     timer = Timer(parser.parse_args().program)

@@ -10,7 +10,11 @@ ratio beside the middle build; the ratios beside the fastest and the slowest; an
 than a twentieth of a second is marked as short: its ratio says little. Memory counts from what the measuring process
 held, some 15 MB.
 """
+
+from __future__ import annotations
+
 import argparse
+import pathlib
 import statistics
 import sys
 import tempfile
@@ -23,13 +27,13 @@ from tests import harness
 SHORT = 0.05
 
 
-def ran(words):
+def ran(words: list[object]) -> tuple[bytes, float, float]:
     """What a call prints, its seconds of processor time, and its most memory in MB."""
     took = spent(words)
     return took.out + took.err, took.seconds, took.megabytes
 
 
-def in_turn(ours, machine, path, order, rounds):
+def in_turn(ours: list[object], machine: str, path: str, order: str, rounds: int) -> tuple:
     """Runs of ours and by hand, in turn: what they print, the least seconds of each, and the least memory of each."""
     runs = [(ran(ours), ran([machine, path, order])) for _ in range(rounds)]
     if runs[0][0][0] != runs[0][1][0]:
@@ -38,7 +42,7 @@ def in_turn(ours, machine, path, order, rounds):
     return runs[0][1][0], seconds, memory
 
 
-def row(name, order, program, machines, path, rounds):
+def row(name: str, order: str, program: pathlib.Path, machines: list[str], path: str, rounds: int) -> None:
     ours = [program, "run", "--order", order, "--module", path]
     printed, seconds, memory = zip(*(in_turn(ours, machine, path, order, rounds) for machine in machines))
     ratios = [own / max(other, 1e-6) for own, other in seconds]
@@ -53,7 +57,7 @@ def row(name, order, program, machines, path, rounds):
     )
 
 
-def main():
+def main() -> None:
     parser = argparse.ArgumentParser()
     harness.add_program(parser)
     parser.add_argument("--only", default="")

@@ -7,17 +7,23 @@ loops with a limit beside those of loops without one, which the machine in bench
 A figure is what twice as much work takes more, so that starting a process and reading the module don't count. It is the
 same on each run, whatever else the machine does; it says nothing of memory that isn't in a cache.
 """
+
+from __future__ import annotations
+
 import argparse
 import concurrent.futures
 import re
 import subprocess
 import tempfile
+from collections.abc import Callable
 
 from bench import modules
 from bench.by_hand import ORDERS, built
 from tests import harness
 
 FIRST = ("first",)
+# Makes the text of a module for so much work.
+Make = Callable[[int], str]
 # What a row counts, its module for so much work, and the orders.
 ROWS = [
     ("20,000 local steps, two loops", lambda k: modules.counting(2 * k), ORDERS),
@@ -48,7 +54,7 @@ LIMITED = [
 ]
 
 
-def collected(words):
+def collected(words: list[object]) -> int:
     """The instructions of one call."""
     call = ["valgrind", "--tool=callgrind", "--callgrind-out-file=/dev/null", *words]
     return int(
@@ -56,7 +62,7 @@ def collected(words):
     )
 
 
-def more(make, words):
+def more(make: Make, words: list[object]) -> int:
     """What twice as much work takes more, of a call of these words with the module's path where they have None."""
     counts = []
     for work in (1, 2):
@@ -67,21 +73,21 @@ def more(make, words):
     return counts[1] - counts[0]
 
 
-def row(job):
+def row(job: tuple) -> str:
     name, make, order, program, machine = job
     ours = more(make, [program, "run", "--order", order, "--module", None])
     plain = more(make, [machine, None, order])
     return f"| {name} | {order} | {ours:,} | {plain:,} | {ours / plain:.2f} |"
 
 
-def limited_row(job):
+def limited_row(job: tuple) -> str:
     name, limited, plain, order, program = job
     words = [program, "run", "--order", order, "--module", None]
     with_limits, without = more(limited, words), more(plain, words)
     return f"| {name} | {order} | {with_limits:,} | {without:,} | {with_limits / without:.2f} |"
 
 
-def print_table(head, row, jobs):
+def print_table(head: str, row: Callable[[tuple], str], jobs: list[tuple]) -> None:
     """A table of rows, in the order of their jobs; nothing where there are none."""
     if not jobs:
         return
@@ -91,7 +97,7 @@ def print_table(head, row, jobs):
             print(line, flush=True)
 
 
-def main():
+def main() -> None:
     parser = argparse.ArgumentParser()
     harness.add_program(parser)
     parser.add_argument("--only", default="")

@@ -7,57 +7,24 @@ a plain copy of the log; and logs that claim much.
 Prints for each call its seconds of processor time, the seconds that passed, the most memory that it took, and its
 status.
 """
+
+from __future__ import annotations
+
 import argparse
 import itertools
-import json
 import os
 import pathlib
 import tempfile
 
+from bench.modules import clocks_in_turn, counting, in_step
 from bench.spent import spent
 from tests import harness
 
-
-def module(units):
-    return json.dumps({"version": 1, "shared": [], "units": units}, separators=(",", ":"))
-
-
-def unit(kind, slots, code, params=""):
-    return {"kind": kind, "params": params, "slots": slots, "code": code}
+# The turns of an inner loop.
+INNER = 1_000
 
 
-def counting(turns):
-    """A loop in a loop: a sum, and the end of a turn; two steps for each turn of the inner one, of which there are a
-    thousand."""
-    code = [
-        ["lit", 2, 0],
-        ["for", 0, 1, turns, 5],
-        ["for", 1, 1, 1000, 4],
-        ["add", 2, 2, 1],
-        ["next", 2],
-        ["next", 1],
-        ["print", 2],
-        ["ret"],
-    ]
-    return module([unit("main", 3, code)])
-
-
-def in_step(activities, phases):
-    """Activities on one clock, and how often each of them advances."""
-    loop = [["for", 1, 1, phases, 2], ["advance"], ["next", 0], ["ret"]]
-    main = [["make", 0], ["for", 1, 2, activities, 3], ["spawn", 1, [0]], ["next", 1]]
-    main += [["for", 2, 1, phases, 6], ["advance"], ["next", 4], ["ret"]]
-    return module([unit("main", 3, main), unit("body", 2, loop, "c")])
-
-
-def many_clocks(count):
-    """A clock in each turn, which advances once, and is dropped."""
-    return module(
-        [unit("main", 2, [["for", 0, 1, count, 4], ["make", 1], ["advance"], ["drop", 1], ["next", 0], ["ret"]])]
-    )
-
-
-def timed(name, words, out=None):
+def timed(name: str, words: list[object], out: str | None = None) -> None:
     """A call, and what it takes; its standard output goes to the file, if one is given."""
     with open(out or os.devnull, "wb") as sink:
         took = spent(words, sink)
@@ -67,11 +34,11 @@ def timed(name, words, out=None):
     )
 
 
-def size(path):
+def size(path: str | pathlib.Path) -> str:
     return f"{pathlib.Path(path).stat().st_size:,} bytes"
 
 
-def whole(program, name, text, folder):
+def whole(program: pathlib.Path, name: str, text: str, folder: pathlib.Path) -> None:
     """A run, the same with a log, its replay and its chart; a copy of the log, and the replay of one in which steps in
     a row are one entry."""
     file, log, chart, joined = (str(folder / part) for part in ("module", "log", "chart", "joined"))
@@ -87,7 +54,7 @@ def whole(program, name, text, folder):
     timed(f"replay, entries joined, {size(joined)}", [program, "replay", "--module", file, joined])
 
 
-def join(log, joined):
+def join(log: str, joined: str) -> None:
     """Writes the log again, with steps in a row as one entry."""
     entries, last, steps = 0, b"", 0
     with open(log, "rb") as read, open(joined, "wb") as write:
@@ -105,13 +72,13 @@ def join(log, joined):
         write.write(b"end %d\n" % entries)
 
 
-def hostile(program, folder):
+def hostile(program: pathlib.Path, folder: pathlib.Path) -> None:
     """Logs of which little is true."""
     file, log = folder / "module", folder / "log"
-    file.write_text(counting(100))
+    file.write_text(counting(100, INNER))
     print("-- logs that claim much, of a program of 200,000 steps")
 
-    def replayed(name, *parts):
+    def replayed(name: str, *parts: tuple[bytes, int]) -> None:
         with log.open("wb") as write:
             for part, times in parts:
                 write.writelines(itertools.repeat(part, times))
@@ -125,22 +92,22 @@ def hostile(program, folder):
     )
     replayed("10,000,000 entries, and no last line", head, (b"0 1\n", many))
     timed("/dev/zero", [program, "replay", "--module", file, "/dev/zero"])
-    file.write_text(counting(499_000))
+    file.write_text(counting(499_000, INNER))
     print("-- of a program of 999,000,000 steps")
     replayed("one entry of 4294967295 steps", head, (b"0 4294967295\nend 1\n", 1))
 
 
-def main():
+def main() -> None:
     parser = argparse.ArgumentParser()
     harness.add_program(parser)
     program = parser.parse_args().program
     with tempfile.TemporaryDirectory() as name:
         folder = pathlib.Path(name)
-        whole(program, "1,000,000 steps of one activity", counting(499), folder)
-        whole(program, "10,000,000 steps of one activity", counting(4_997), folder)
+        whole(program, "1,000,000 steps of one activity", counting(499, INNER), folder)
+        whole(program, "10,000,000 steps of one activity", counting(4_997, INNER), folder)
         whole(program, "100 activities in step, 10,000 phases", in_step(100, 10_000), folder)
         whole(program, "2 activities in step, 1,000,000 phases", in_step(2, 1_000_000), folder)
-        whole(program, "10,000 clocks, one after the other", many_clocks(10_000), folder)
+        whole(program, "10,000 clocks, one after the other", clocks_in_turn(10_000), folder)
         hostile(program, folder)
 
 

@@ -6,6 +6,9 @@ numbers.
 
 Both have to print the same sum. Seconds are of processor time, the least of three runs, which are made in turn.
 """
+
+from __future__ import annotations
+
 import argparse
 import tempfile
 
@@ -17,7 +20,7 @@ TURNS = 9999
 LOOPS = f"local t = 0; for i = 1, {TURNS} do for j = 1, 5000 do t = t + j end end; print(t)"
 
 
-def main():
+def main() -> None:
     parser = argparse.ArgumentParser()
     harness.add_program(parser)
     parser.add_argument("--rounds", type=int, default=3)

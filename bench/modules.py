@@ -1,21 +1,29 @@
 """The modules that the machine written by hand and the program are measured on, each made when it is asked for."""
+
+from __future__ import annotations
+
 import json
+from collections.abc import Iterable
+from typing import Any
+
+# A unit of a module, as JSON has it.
+Unit = dict[str, Any]
 
 
-def module(units, shared=(), version=1):
+def module(units: list[Unit], shared: Iterable[int] = (), version: int = 1) -> str:
     return json.dumps({"version": version, "shared": list(shared), "units": units}, separators=(",", ":"))
 
 
-def unit(kind, slots, code, params=""):
+def unit(kind: str, slots: int, code: list[list], params: str = "") -> Unit:
     return {"kind": kind, "params": params, "slots": slots, "code": code}
 
 
-def counting(turns):
+def counting(turns: int, inner: int = 5_000) -> str:
     """A loop in a loop: a sum, and the end of a turn; two steps for each turn of the inner one."""
     code = [
         ["lit", 2, 0],
         ["for", 0, 1, turns, 5],
-        ["for", 1, 1, 5000, 4],
+        ["for", 1, 1, inner, 4],
         ["add", 2, 2, 1],
         ["next", 2],
         ["next", 1],
@@ -25,7 +33,7 @@ def counting(turns):
     return module([unit("main", 3, code)])
 
 
-def counting_to_limits(turns):
+def counting_to_limits(turns: int) -> str:
     """The same, in which both loops have a limit that is no less than their last number."""
     code = [
         ["lit", 3, turns + 5000],
@@ -38,7 +46,7 @@ def counting_to_limits(turns):
     return module([unit("main", 4, [*code, ["next", 2], ["print", 2], ["ret"]])], version=2)
 
 
-def beginning(turns):
+def beginning(turns: int) -> str:
     """A loop in a loop that takes one turn: its beginning, and with the end of a turn three steps."""
     code = [
         ["for", 0, 1, turns, 5],
@@ -52,7 +60,7 @@ def beginning(turns):
     return module([unit("main", 3, code)])
 
 
-def beginning_with_limits(turns):
+def beginning_with_limits(turns: int) -> str:
     """The same, in which the loop of one turn has a limit."""
     code = [
         ["lit", 3, 1],
@@ -67,7 +75,7 @@ def beginning_with_limits(turns):
     return module([unit("main", 4, code)], version=2)
 
 
-def counting_beside(count, turns):
+def counting_beside(count: int, turns: int) -> str:
     """So many activities, each with such a loop."""
     body = [
         ["lit", 2, 0],
@@ -82,14 +90,14 @@ def counting_beside(count, turns):
     return module([unit("main", 1, main), unit("body", 3, body)])
 
 
-def calling(turns):
+def calling(turns: int) -> str:
     """A loop in a loop that calls a method with a number: the call, a sum, the `ret` and the end of a turn are four
     steps."""
     code = [["for", 0, 1, turns, 4], ["for", 1, 1, 5000, 3], ["call", 1, [1]], ["next", 1], ["next", 0], ["ret"]]
     return module([unit("main", 2, code), unit("method", 2, [["add", 1, 0, 0], ["ret"]], "n")])
 
 
-def finishing(turns):
+def finishing(turns: int) -> str:
     """A loop in a loop that opens a finish and closes it: with the end of a turn three steps."""
     code = [
         ["for", 0, 1, turns, 5],
@@ -103,13 +111,13 @@ def finishing(turns):
     return module([unit("main", 2, code)])
 
 
-def gathering(count):
+def gathering(count: int) -> str:
     """A loop that waits in each turn for an activity that it starts, in a finish of its own."""
     code = [["for", 0, 1, count, 4], ["finish", 3], ["spawn", 1, []], ["endfinish", 1], ["next", 0], ["ret"]]
     return module([unit("main", 1, code), unit("body", 0, [["ret"]])])
 
 
-def starting(count):
+def starting(count: int) -> str:
     """A loop that starts an activity in each turn: `for (i in 1..count) async { }`. Its steps are two for each turn,
     one for each activity, and two."""
     return module(
@@ -117,7 +125,7 @@ def starting(count):
     )
 
 
-def starting_in_finish(count):
+def starting_in_finish(count: int) -> str:
     """The same with a finish round the loop, and a shared number to which each activity adds one."""
     main = [
         ["finish", 4],
@@ -132,7 +140,7 @@ def starting_in_finish(count):
     return module([unit("main", 1, main), unit("body", 1, [["lit", 0, 1], ["addto", 0, 0], ["ret"]])], [0])
 
 
-def in_step(activities, phases):
+def in_step(activities: int, phases: int) -> str:
     """Activities on one clock, main among them, and how often each of them advances."""
     body = [["for", 1, 1, phases, 2], ["advance"], ["next", 0], ["ret"]]
     main = [["make", 0], ["for", 1, 2, activities, 3], ["spawn", 1, [0]], ["next", 1]]
@@ -140,7 +148,7 @@ def in_step(activities, phases):
     return module([unit("main", 3, main), unit("body", 2, body, "c")])
 
 
-def ring(activities, phases):
+def ring(activities: int, phases: int) -> str:
     """A ring: each activity is registered on two clocks, of which each neighbour has one. A method makes a clock,
     starts an activity on the clock before and this one, and calls the next method; the last one closes the ring."""
     body, chain = activities - 1, activities - 3
@@ -155,14 +163,14 @@ def ring(activities, phases):
     return module(units)
 
 
-def clocks_in_turn(count):
+def clocks_in_turn(count: int) -> str:
     """A clock in each turn, which advances once and is dropped."""
     return module(
         [unit("main", 2, [["for", 0, 1, count, 4], ["make", 1], ["advance"], ["drop", 1], ["next", 0], ["ret"]])]
     )
 
 
-def clocks_then_activities(clocks, activities):
+def clocks_then_activities(clocks: int, activities: int) -> str:
     """Clocks that are made and dropped at once, and then activities."""
     code = [
         ["for", 0, 1, clocks, 3],
@@ -177,7 +185,7 @@ def clocks_then_activities(clocks, activities):
     return module([unit("main", 2, code), unit("body", 0, [["ret"]])])
 
 
-def clocks_beside_activities(count, phases):
+def clocks_beside_activities(count: int, phases: int) -> str:
     """Activities, each with a clock of its own that advances."""
     body = [["make", 0], ["for", 1, 1, phases, 3], ["advance"], ["next", 1], ["drop", 0], ["ret"]]
     return module(
@@ -185,7 +193,7 @@ def clocks_beside_activities(count, phases):
     )
 
 
-def waiting(count, phases):
+def waiting(count: int, phases: int) -> str:
     """Activities that wait for main on one clock, while two others advance on another one."""
     slow = [["advance"], ["ret"]]
     fast = [["for", 1, 1, phases, 2], ["advance"], ["next", 0], ["ret"]]

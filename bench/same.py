@@ -8,12 +8,16 @@ byte.
 400 cases and seed 1 where nothing else is said. With `--alone` the second telling of the rules is asked in the place of
 the program (tests/reference/telling.py).
 """
+
+from __future__ import annotations
+
 import argparse
 import collections
 import pathlib
 import random
 import sys
 import tempfile
+from collections.abc import Iterator
 
 from bench.by_hand import ORDERS, TOP, built
 from tests import harness
@@ -24,14 +28,14 @@ from tests.reference import telling
 MOST_STEPS, MOST_WORK = 20_000, 2_000_000
 
 
-def row_texts():
+def row_texts() -> Iterator[bytes]:
     """The texts of the rows of modules."""
     for path in sorted((TOP / "tests/answers/programs").glob("*.rows")):
         if not path.name.startswith("sources"):
             yield from mutations.row_texts(path)
 
 
-def texts(cases, seed):
+def texts(cases: int, seed: int) -> Iterator[bytes]:
     seeds = mutations.seed_texts(False)
     yield from seeds
     yield from row_texts()
@@ -39,24 +43,24 @@ def texts(cases, seed):
         yield generated.case(random.Random(f"{seed} {case}"), seeds)
 
 
-def told(program, judged, path, order):
+def told(program: pathlib.Path | None, judged: telling.Accepted, path: str, order: str) -> str:
     if program is None:
         return telling.run(judged.module, telling.Order(order)).text()
     words = [program, "run", "--order", order, "--module", path]
     return harness.call(words).texts()[1]
 
 
-def is_known(module):
+def is_known(module: telling.Module) -> bool:
     """Whether the plain machine knows all that a module has: no loops with a limit, and no numbers that main is
     given."""
     return not module.wants and not any(instr.name == "forto" for unit in module.units for instr in unit.code)
 
 
-def is_small(bounds):
+def is_small(bounds: telling.Bounds) -> bool:
     return bounds.steps <= MOST_STEPS and bounds.steps * (bounds.activities + bounds.clocks) <= MOST_WORK
 
 
-def main():
+def main() -> int:
     parser = argparse.ArgumentParser()
     parser.add_argument("cases", nargs="?", type=int, default=400)
     parser.add_argument("seed", nargs="?", type=int, default=1)

@@ -8,6 +8,9 @@ Prints for each text its bytes, the least processor time of five calls, which wh
 and how the answer begins. With `--count` it prints the instructions of one call as callgrind counts them (valgrind is
 needed), and how many of these are spent on memory: taking, giving back, copying.
 """
+
+from __future__ import annotations
+
 import argparse
 import os
 import pathlib
@@ -22,7 +25,7 @@ MIB = 1_048_576
 MEMORY = re.compile(r"malloc|calloc|realloc|free|_int_|memcpy|memmove|memset|alloc", re.IGNORECASE)
 
 
-def methods():
+def methods() -> str:
     """1,015 methods of seven loops and branches each, all called by `main`."""
     part = (
         "    for (i{0} in 1..10) {{ "
@@ -40,14 +43,14 @@ def methods():
     )
 
 
-def expressions():
+def expressions() -> str:
     """7,000 expressions of 55 parentheses in one another."""
     one = "    x = " + "(" * 55 + "x + 1" + " * 2)" * 5 + ")" * 50 + ";\n"
     parts = "".join(f"def m{number}() {{\n    var x = {number};\n{one * 70}}}\n" for number in range(100))
     return parts + "def main() { " + "".join(f"m{number}(); " for number in range(100)) + "}\n"
 
 
-def calls():
+def calls() -> str:
     """1,022 methods that call each other: each the next 94, where there are so many."""
     return "".join(
         f"def m{number}() {{ "
@@ -72,13 +75,13 @@ TEXTS = {
 }
 
 
-def called(program, path):
+def called(program: pathlib.Path, path: pathlib.Path) -> tuple[float, bytes]:
     """Processor time, and the answer."""
     took = spent([program, "compile", path])
     return took.seconds, took.out + took.err
 
 
-def counted(program, path):
+def counted(program: pathlib.Path, path: pathlib.Path) -> tuple[int, int]:
     """The instructions of a call, and those spent on memory."""
     with tempfile.TemporaryDirectory() as folder:
         told = os.path.join(folder, "told")
@@ -96,7 +99,7 @@ def counted(program, path):
     return total, memory
 
 
-def main():
+def main() -> None:
     parser = argparse.ArgumentParser()
     harness.add_program(parser)
     parser.add_argument("--count", action="store_true")

@@ -7,6 +7,9 @@ that advance together.
 Prints for each module the seconds that passed, the least of three runs: in the order `first`, and by 1, 2 and 4
 workers.
 """
+
+from __future__ import annotations
+
 import argparse
 import os
 import tempfile
@@ -16,7 +19,7 @@ from bench.spent import spent
 from tests import harness
 
 
-def in_step_with_sums(activities, phases):
+def in_step_with_sums(activities: int, phases: int) -> str:
     """Activities on one clock, each of which adds eight times between two advances."""
     main = [["make", 0], ["for", 1, 1, activities, 3], ["spawn", 1, [0]], ["next", 1], ["drop", 0], ["ret"]]
     body = [
@@ -38,7 +41,7 @@ ROWS = [
 ]
 
 
-def passed(words, rounds):
+def passed(words: list[object], rounds: int) -> float:
     """The least seconds that a call took by the clock."""
     with open(os.devnull, "wb") as sink:
         runs = [spent(words, sink) for _ in range(rounds)]
@@ -47,7 +50,7 @@ def passed(words, rounds):
     return min(run.passed for run in runs)
 
 
-def main():
+def main() -> None:
     parser = argparse.ArgumentParser()
     harness.add_program(parser)
     parser.add_argument("--rounds", type=int, default=3)
