@@ -174,6 +174,12 @@ TEXTS: dict[str, Callable[[pathlib.Path], Words]] = {
 }
 
 
+def write_texts(program: pathlib.Path, folder: str) -> None:
+    """Writes the texts that dist/manual.py makes of a program, which may be the reference, which is slow."""
+    words = (sys.executable, DIST / "manual.py", "--program", program, "--to", folder)
+    said(*words, seconds=harness.SECONDS_OF_REFERENCE)
+
+
 def texts_say(held: Held, folder: pathlib.Path, wanted: Words) -> None:
     """Each text has the words of help, and no other."""
     for name, words_of in TEXTS.items():
@@ -226,7 +232,7 @@ def is_what_sources_give(held: Held, version: str, program: pathlib.Path) -> Non
     if program == harness.BUILT:
         pairs[name_of(version)] = program
     with tempfile.TemporaryDirectory(prefix="x10clock-release-") as room:
-        said(sys.executable, DIST / "manual.py", "--program", program, "--to", room)
+        write_texts(program, room)
         pairs |= {name: pathlib.Path(room, name) for name in TEXTS}
         for name, source in pairs.items():
             is_same = (DIST / name).read_bytes() == source.read_bytes()
@@ -269,7 +275,7 @@ def main() -> int:
     try:
         words = words_of_help(program)
         with tempfile.TemporaryDirectory(prefix="x10clock-release-") as room:
-            said(sys.executable, DIST / "manual.py", "--program", program, "--to", room)
+            write_texts(program, room)
             texts_say(held, pathlib.Path(room), words)
         told = release(held, program)
     except (Fault, OSError, KeyError, ValueError) as fault:
