@@ -1,3 +1,3 @@
 mod WorkerCountLemmas
 mod NumeralLemmas
-mod SubcommandLemmas
+mod CommandLineLemmas

@@ -5,6 +5,7 @@ use Rattle.std.specs.Borrow.{Bor}
 use Rattle.std.specs.Str.{bytes_eq}
 use Rattle.std.specs.Str.Parse.{digits_value, without_leading_plus}
 use Rattle.clap.specs.Words.{App, IsAmong, Kinds, Row, Rule, Text, all_of, fault_of, first_of, new_app, new_rule, subcommand_of, with_rule, with_subcommand}
+use Rattle.clap.specs.declared.builder.arg.Arg.{Arg}
 use Rattle.clap.specs.declared.builder.command.Command.{Command as clap_Command}
 use Rattle.clap.specs.declared.builder.command.Command.TheViews.{out-Command}
 use Rattle.clap.specs.declared.builder.action.ArgAction.TheVariants as action
@@ -24,12 +25,12 @@ use Rattle.xk_cli.specs.declared.job.Order.{Order}
 use Rattle.xk_cli.specs.declared.job.Order.TheVariants as order
 use Rattle.xk_cli.specs.declared.job.Request.{Request}
 use Rattle.xk_cli.specs.declared.job.Request.TheVariants as request
-use Rattle.xk_cli.specs.declared.command_line.Found.{Found}
-use Rattle.xk_cli.specs.declared.command_line.Found.TheVariants as found
+use Rattle.xk_cli.specs.declared.request.Found.{Found}
+use Rattle.xk_cli.specs.declared.request.Found.TheVariants as found
 use Rattle.xk_cli.specs.declared.words_fault.WordsFault.{WordsFault}
 use Rattle.xk_cli.specs.declared.words_fault.WordsFault.TheVariants as fault
 
--- ---- the command line
+-- ---- what commands take
 
 -- an argument without a long name, which has to be there
 abbrev pub place : Text → Rule
@@ -39,9 +40,9 @@ place name = record (new_rule name) { required = true; action = Some action.Set 
 abbrev pub option : Text → Text → Rule
 option name long = record (new_rule name) { long = Some long; action = Some action.Set }
 
--- FILE, which has to be there
-abbrev pub file_place : Rule
-file_place = place (codes "FILE")
+-- an option of a long name that takes a whole number of 64 bits but 0
+abbrev pub count_option : Text → Text → Rule
+count_option name long = record (option name long) { parser = Some (parser.Unsigned 1 most_count) }
 
 -- a flag of a name, which is its long name too
 abbrev pub flag : Text → Rule
@@ -51,25 +52,13 @@ flag name = record (new_rule name) { long = Some name; action = Some action.SetT
 abbrev pub module_flag : Rule
 module_flag = flag (codes "module")
 
--- `--json`
-abbrev pub json_flag : Rule
-json_flag = flag (codes "json")
-
--- a command on FILE
-abbrev pub on_file : Text → App
-on_file name = with_rule (new_app name) file_place
-
--- a command on FILE that may be a module text
-abbrev pub on_either : Text → App
-on_either name = with_rule (on_file name) module_flag
-
--- the command that explains, maybe as a JSON value
-abbrev pub explain_line : App
-explain_line = with_rule (on_either (codes "explain")) json_flag
-
 -- LOG, which has to be there
 abbrev pub log_place : Rule
 log_place = place (codes "LOG")
+
+-- LOG, which needn't be there
+abbrev pub log_choice : Rule
+log_choice = record (new_rule (codes "LOG")) { action = Some action.Set }
 
 -- `--arg N`, once for each number, which is one of 64 bits
 abbrev pub arg_option : Rule
@@ -79,14 +68,6 @@ arg_option = record (new_rule (codes "ARG")) {
   value_names = 1;
   parser = Some (parser.Signed least_number most_number);
 }
-
--- a command on FILE and LOG
-abbrev pub on_log : Text → App
-on_log name = with_rule (on_either name) log_place
-
--- the same, whose main may be given numbers
-abbrev pub on_run : Text → App
-on_run name = with_rule (on_log name) arg_option
 
 -- `--log PATH`
 abbrev pub log_option : Rule
@@ -100,139 +81,95 @@ Names = Bor (List (Bor Text))
 abbrev pub order_option : Names → Rule
 order_option names = record (option (codes "ORDER") (codes "order")) { parser = Some (parser.Names names) }
 
--- the command on FILE whose steps are taken in an order
-abbrev pub by_order : Names → App
-by_order names = with_rule (on_either (codes "run")) (order_option names)
-
 -- `--seed SEED`, which takes a whole number of 64 bits
 abbrev pub seed_option : Rule
 seed_option = record (option (codes "SEED") (codes "seed")) { parser = Some (parser.Unsigned 0 most_count) }
-
--- the same, where the order may be by chance from a seed
-abbrev pub by_chance : Names → App
-by_chance names = with_rule (by_order names) seed_option
 
 -- `--workers N`, which takes a whole number from 1 to 64
 abbrev pub workers_option : Rule
 workers_option = record (option (codes "N") (codes "workers")) { parser = Some (parser.Unsigned 1 most_workers) }
 
--- an option of a long name that takes a whole number of 64 bits but 0
-abbrev pub count_option : Text → Text → Rule
-count_option name long = record (option name long) { parser = Some (parser.Unsigned 1 most_count) }
-
--- `--runs RUNS`
-abbrev pub runs_option : Rule
-runs_option = count_option (codes "RUNS") (codes "runs")
-
--- the same, maybe so many times
-abbrev pub repeated : Names → App
-repeated names = with_rule (by_chance names) runs_option
-
--- the same, whose steps may be taken by workers
-abbrev pub by_workers : Names → App
-by_workers names = with_rule (repeated names) workers_option
-
--- the same, whose log may be written
-abbrev pub with_log : Names → App
-with_log names = with_rule (by_workers names) log_option
-
--- the same, whose main may be given numbers
-abbrev pub run_line : Names → App
-run_line names = with_rule (with_log names) arg_option
-
--- `--limit LIMIT`
-abbrev pub limit_option : Rule
-limit_option = count_option (codes "LIMIT") (codes "limit")
-
--- the command on FILE that tells its outcomes, so many at most
-abbrev pub limited : App
-limited = with_rule (on_either (codes "outcomes")) limit_option
-
--- `--pick K`
-abbrev pub pick_option : Rule
-pick_option = count_option (codes "K") (codes "pick")
-
--- the same, of which one may be picked
-abbrev pub picked : App
-picked = with_rule limited pick_option
-
--- the same, whose log may be written
-abbrev pub with_outcome_log : App
-with_outcome_log = with_rule picked log_option
-
--- `--sets`
-abbrev pub sets_flag : Rule
-sets_flag = flag (codes "sets")
-
--- the same, where the order of numbers may not count
-abbrev pub with_sets : App
-with_sets = with_rule with_outcome_log sets_flag
-
--- `--expect FILE2`
-abbrev pub expect_option : Rule
-expect_option = option (codes "FILE2") (codes "expect")
-
--- the same, which may be held against a list
-abbrev pub with_expected : App
-with_expected = with_rule with_sets expect_option
-
--- the same, whose main may be given numbers
-abbrev pub outcomes_line : App
-outcomes_line = with_rule with_expected arg_option
-
--- LOG, which needn't be there
-abbrev pub log_choice : Rule
-log_choice = record (new_rule (codes "LOG")) { action = Some action.Set }
-
--- the command on FILE, and maybe LOG, that tells races
-abbrev pub maybe_on_log : App
-maybe_on_log = with_rule (on_either (codes "races")) log_choice
-
--- the same, whose main may be given numbers
-abbrev pub races_line : App
-races_line = with_rule maybe_on_log arg_option
-
 -- `--from STEP`
 abbrev pub from_option : Rule
 from_option = record (count_option (codes "FROM") (codes "from")) { value_names = 1 }
-
--- a command that draws the run that LOG has, maybe from a step on
-abbrev pub drawn_from : Text → App
-drawn_from name = with_rule (on_run name) from_option
 
 -- `--to STEP`
 abbrev pub to_option : Rule
 to_option = record (count_option (codes "TO") (codes "to")) { value_names = 1 }
 
--- the same, maybe up to a step
-abbrev pub drawn_within : Text → App
-drawn_within name = with_rule (drawn_from name) to_option
+-- ---- the commands
 
--- `--svg`
-abbrev pub svg_flag : Rule
-svg_flag = flag (codes "svg")
+-- a command that takes these too, in their order
+abbrev pub with_rules : App → List Rule → App
+with_rules a [] = a
+with_rules a (r ∷ rs) = with_rules (with_rule a r) rs
 
--- the command that draws lanes, maybe as a picture
+-- a command on FILE, which has to be there, that takes these too
+abbrev pub on_file : Text → List Rule → App
+on_file name further = with_rules (new_app name) (place (codes "FILE") ∷ further)
+
+-- says whether a program is accepted
+abbrev pub check_line : App
+check_line = on_file (codes "check") (module_flag ∷ [])
+
+-- explains, maybe as a JSON value
+abbrev pub explain_line : App
+explain_line = on_file (codes "explain") (module_flag ∷ flag (codes "json") ∷ [])
+
+-- compiles a source text
+abbrev pub compile_line : App
+compile_line = on_file (codes "compile") []
+
+-- lists instructions
+abbrev pub listing_line : App
+listing_line = on_file (codes "listing") (module_flag ∷ [])
+
+-- runs in an order, maybe by chance from a seed and so many times, or by workers
+abbrev pub run_line : Names → App
+run_line names = on_file (codes "run")
+    (module_flag ∷ order_option names ∷ seed_option ∷ count_option (codes "RUNS") (codes "runs") ∷ workers_option ∷ log_option ∷ arg_option ∷ [])
+
+-- prints outcomes, so many at most, of which one may be picked, or holds them against a list
+abbrev pub outcomes_line : App
+outcomes_line = on_file (codes "outcomes")
+    (module_flag ∷ count_option (codes "LIMIT") (codes "limit") ∷ count_option (codes "K") (codes "pick") ∷ log_option ∷ flag (codes "sets")
+    ∷ option (codes "FILE2") (codes "expect") ∷ arg_option ∷ [])
+
+-- prints races, maybe of the run that a log has
+abbrev pub races_line : App
+races_line = on_file (codes "races") (module_flag ∷ log_choice ∷ arg_option ∷ [])
+
+-- a command of this name on the run that a log has
+abbrev pub on_run : Text → App
+on_run name = on_file name (module_flag ∷ log_place ∷ arg_option ∷ [])
+
+-- draws lanes, maybe from a step on and up to one, maybe as a picture
 abbrev pub lanes_line : App
-lanes_line = with_rule (drawn_within (codes "lanes")) svg_flag
+lanes_line = on_file (codes "lanes") (module_flag ∷ log_place ∷ arg_option ∷ from_option ∷ to_option ∷ flag (codes "svg") ∷ [])
+
+-- makes a page, maybe from a step on and up to one
+abbrev pub page_line : App
+page_line = on_file (codes "page") (module_flag ∷ log_place ∷ arg_option ∷ from_option ∷ to_option ∷ [])
 
 -- the program with a command that has to be there, and a version that it tells
 abbrev pub program : App
 program = record (new_app (codes "x10clock")) { top = record (new_app (codes "x10clock")).top { has_version = true; subcommand_required = true } }
 
--- the program with the commands that need no log
-abbrev pub without_logs : Names → App
-without_logs names =
-    with_subcommand (with_subcommand (with_subcommand (with_subcommand (with_subcommand (with_subcommand
-    (with_subcommand program (on_either (codes "check")).top) explain_line.top) (on_file (codes "compile")).top)
-    (on_either (codes "listing")).top) (run_line names).top) outcomes_line.top) races_line.top
+-- a program with these commands too, in their order
+abbrev pub with_commands : App → List App → App
+with_commands a [] = a
+with_commands a (c ∷ cs) = with_commands (with_subcommand a c.top) cs
 
--- the same, and those on a log
+-- the program with its commands
 abbrev pub command_line : Names → App
-command_line names =
-    with_subcommand (with_subcommand (with_subcommand (with_subcommand (with_subcommand (with_subcommand (without_logs names)
-    (on_run (codes "replay")).top) (on_run (codes "chart")).top) (on_run (codes "events")).top) lanes_line.top)
-    (drawn_within (codes "page")).top) (on_run (codes "where")).top
+command_line names = with_commands program
+    (check_line ∷ explain_line ∷ compile_line ∷ listing_line ∷ run_line names ∷ outcomes_line ∷ races_line
+    ∷ on_run (codes "replay") ∷ on_run (codes "chart") ∷ on_run (codes "events") ∷ lanes_line ∷ page_line ∷ on_run (codes "where") ∷ [])
+
+-- none of the arguments is one of subcommands too
+abbrev pub AreLocal : List Arg → Type 0
+AreLocal [] = ⊤
+AreLocal (a ∷ more) = (a.global ≡ false) × AreLocal more
 
 -- no argument of the command is one of its subcommands too
 abbrev pub HasNoGlobals : clap_Command → Type 0
@@ -326,21 +263,13 @@ abbrev pub asked_value : Request → Asked
 asked_value (request.Job job) = record { task = task_value job.command; form = job.form; file = job.file.now; arguments = job.arguments.items }
 asked_value (request.ByHand run) = record { task = hand_task run.log; form = run.form; file = run.file.now; arguments = run.arguments.items }
 
--- the value of a flag is `true` where it was given
-abbrev pub is_true : Text → Bool
-is_true value = bytes_eq value (codes "true")
-
--- by `--module`
-abbrev pub form_named : Text → Form
-form_named value = if is_true value then form.Module else form.Source
+-- whether the flag of a name was given: its value is `true` then
+abbrev pub is_flagged : Text → List Row → Bool
+is_flagged name given = option_map_or (λ value. bytes_eq value (codes "true")) (first_of name given) false
 
 -- what stands in FILE
 abbrev pub form_in : List Row → Form
-form_in given = option_map_or form_named (first_of (codes "module") given) form.Source
-
--- whether the flag of a name was given
-abbrev pub is_flagged : Text → List Row → Bool
-is_flagged name given = option_map_or is_true (first_of name given) false
+form_in given = if is_flagged (codes "module") given then form.Module else form.Source
 
 -- the whole number that was given under a name
 abbrev pub count_in : Text → List Row → Option ℕ
@@ -361,13 +290,17 @@ order_named name seed =
 abbrev pub order_in : List Row → Option Order
 order_in given = option_and_then (λ name. order_named name (seed_in given)) (first_of (codes "ORDER") given)
 
+-- whether the order of a name was given
+abbrev pub is_order : Text → List Row → Bool
+is_order name given = option_map_or (λ order. bytes_eq order name) (first_of (codes "ORDER") given) false
+
 -- whether the order was given that goes by chance
 abbrev pub is_random : List Row → Bool
-is_random given = option_map_or (λ name. bytes_eq name (codes "random")) (first_of (codes "ORDER") given) false
+is_random given = is_order (codes "random") given
 
 -- whether the order was given that a person is asked for
 abbrev pub is_asked : List Row → Bool
-is_asked given = option_map_or (λ name. bytes_eq name (codes "ask")) (first_of (codes "ORDER") given) false
+is_asked given = is_order (codes "ask") given
 
 -- a seed was given, and no order by chance
 abbrev pub is_seed_alone : List Row → Bool

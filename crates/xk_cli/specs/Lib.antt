@@ -1,4 +1,5 @@
 pub mod WorkerCount
 pub mod Numbers
+pub mod CommandFiles
 pub mod CommandLine
 pub mod Status

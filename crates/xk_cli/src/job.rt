@@ -98,6 +98,78 @@ pub enum Command<'a> {
     },
 }
 
+impl<'a> Command<'a> {
+    ghost use Rattle.xk_cli.specs.CommandFiles.{explanation, read_path, written_path};
+
+    /// The path of the log or the list of outcomes that is read beside FILE, if one is.
+    pub fn read_path(&self) -> Option<&'a str>
+        ensures { option_map (λ path. path.now) result ≡ read_path self.now }
+    {
+        match *self {
+            Command::Replay { log }
+            | Command::Chart { log }
+            | Command::Events { log }
+            | Command::Lanes { log, .. }
+            | Command::Page { log, .. }
+            | Command::Where { log } => Some(log),
+            Command::Expected { list, .. } => Some(list),
+            Command::Races { log } => log,
+            Command::Check
+            | Command::Compile
+            | Command::Explain { .. }
+            | Command::Listing
+            | Command::Run { .. }
+            | Command::Tally { .. }
+            | Command::Outcomes { .. } => None,
+        }
+    }
+
+    /// The path of the log that is written, if one is.
+    pub fn written_path(&self) -> Option<&'a str>
+        ensures { option_map (λ path. path.now) result ≡ written_path self.now }
+    {
+        match *self {
+            Command::Run { log, .. } | Command::Outcomes { log, .. } => log,
+            Command::Check
+            | Command::Compile
+            | Command::Explain { .. }
+            | Command::Listing
+            | Command::Tally { .. }
+            | Command::Replay { .. }
+            | Command::Chart { .. }
+            | Command::Events { .. }
+            | Command::Lanes { .. }
+            | Command::Page { .. }
+            | Command::Where { .. }
+            | Command::Races { .. }
+            | Command::Expected { .. } => None,
+        }
+    }
+
+    /// Of `explain`, whether it is as a JSON value; of any other command none.
+    pub fn explanation(&self) -> Option<bool>
+        ensures { result ≡ explanation self.now }
+    {
+        match *self {
+            Command::Explain { json } => Some(json),
+            Command::Check
+            | Command::Compile
+            | Command::Listing
+            | Command::Run { .. }
+            | Command::Tally { .. }
+            | Command::Replay { .. }
+            | Command::Chart { .. }
+            | Command::Events { .. }
+            | Command::Lanes { .. }
+            | Command::Page { .. }
+            | Command::Where { .. }
+            | Command::Races { .. }
+            | Command::Outcomes { .. }
+            | Command::Expected { .. } => None,
+        }
+    }
+}
+
 /// What stands in FILE.
 #[derive(Clone, Copy, Debug, PartialEq, Eq)]
 pub enum Form {

@@ -1,0 +1,27 @@
+-- Which files a command has beside FILE, and which command explains. This project's own.
+use Rattle.std.specs.Prelude.{Bool, List, ℕ, Option, Some, None, option_map}
+use Rattle.xk_cli.specs.declared.job.Command.{Command}
+use Rattle.xk_cli.specs.declared.job.Command.TheVariants as command
+
+-- the path of the log or the list of outcomes that is read, if one is
+abbrev pub read_path : Command → Option (List ℕ)
+read_path (command.Replay log) = Some log.now
+read_path (command.Chart log) = Some log.now
+read_path (command.Events log) = Some log.now
+read_path (command.Lanes log from to svg) = Some log.now
+read_path (command.Page log from to) = Some log.now
+read_path (command.Where log) = Some log.now
+read_path (command.Races log) = option_map (λ path. path.now) log
+read_path (command.Expected list limit sets) = Some list.now
+read_path _ = None
+
+-- the path of the log that is written, if one is
+abbrev pub written_path : Command → Option (List ℕ)
+written_path (command.Run given log) = option_map (λ path. path.now) log
+written_path (command.Outcomes limit pick log sets) = option_map (λ path. path.now) log
+written_path _ = None
+
+-- of `explain`, whether it is as a JSON value
+abbrev pub explanation : Command → Option Bool
+explanation (command.Explain json) = Some json
+explanation _ = None

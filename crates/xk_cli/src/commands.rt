@@ -1,0 +1,258 @@
+//! The program's command line for `clap`: its commands, each with all that it takes.
+
+ghost use Rattle.std.specs.Prelude.{◌≡◌, IfOk, codes, map};
+ghost use Rattle.clap.specs.Words.{App, app_of, rule_of, with_subcommand};
+ghost use Rattle.xk_cli.specs.CommandLine.{AreLocal, HasNoGlobals, WithOrders, check_line, command_line, compile_line, explain_line, lanes_line, listing_line, on_file, on_run, outcomes_line, page_line, program, races_line, run_line};
+
+use crate::options::{
+    arg_option, count_option, flag, from_option, log_choice, log_option, log_place, module_flag,
+    option, order_option, place, seed_option, to_option, workers_option,
+};
+use clap::Arg;
+use std::alloc::{AllocError, Global};
+
+/// What `--version` prints after the program's name.
+const VERSION: &str = "1.0.0";
+
+/// The program's command line, with its commands in the order in which help lists them.
+pub(crate) fn line<'a>(alloc: Global) -> Result<clap::Command<'a>, AllocError>
+    ensures { IfOk result (λ c. WithOrders (λ names. app_of c ≡ command_line names)) }
+{
+    let line = add(Ok(program(alloc)), check_line(alloc));
+    let line = add(line, explain_line(alloc));
+    let line = add(line, compile_line(alloc));
+    let line = add(line, listing_line(alloc));
+    let line = add(line, run_line(alloc));
+    let line = add(line, outcomes_line(alloc));
+    let line = add(line, races_line(alloc));
+    let line = add(line, replay_line(alloc));
+    let line = add(line, chart_line(alloc));
+    let line = add(line, events_line(alloc));
+    let line = add(line, lanes_line(alloc));
+    let line = add(line, page_line(alloc));
+    add(line, where_line(alloc))
+}
+
+/// The program without its commands, of which one has to be there.
+fn program<'a>(alloc: Global) -> clap::Command<'a>
+    ensures { app_of result ≡ program }
+{
+    clap::Command::new(alloc, "x10clock")
+        .about("Verifies and runs clocked programs.")
+        .version(VERSION)
+        .subcommand_required(true)
+}
+
+/// The line with a further command, where there was memory for both.
+fn add<'a>(
+    line: Result<clap::Command<'a>, AllocError>,
+    command: Result<clap::Command<'a>, AllocError>,
+) -> Result<clap::Command<'a>, AllocError>
+    ensures { (before added : App) → IfOk line.entry (λ l. app_of l ≡ before)
+        → IfOk command.entry (λ c. app_of c ≡ added) → IfOk command.entry HasNoGlobals
+        → IfOk result (λ c. app_of c ≡ with_subcommand before added.top) }
+{
+    line?.subcommand(command?)
+}
+
+/// The command `check`.
+fn check_line<'a>(alloc: Global) -> Result<clap::Command<'a>, AllocError>
+    ensures shape { IfOk result (λ c. app_of c ≡ check_line) }
+    ensures local { IfOk result HasNoGlobals }
+{
+    let about = "Says whether a program is accepted.";
+    let options = [module_flag(alloc)];
+    on_file(alloc, "check", about, Vec::from_array(alloc, options)?)
+}
+
+/// The command `explain`.
+fn explain_line<'a>(alloc: Global) -> Result<clap::Command<'a>, AllocError>
+    ensures shape { IfOk result (λ c. app_of c ≡ explain_line) }
+    ensures local { IfOk result HasNoGlobals }
+{
+    let about = "Says where and why a program is refused.";
+    let options = [
+        module_flag(alloc),
+        flag(alloc, "json", "Says it as a JSON value on one line"),
+    ];
+    on_file(alloc, "explain", about, Vec::from_array(alloc, options)?)
+}
+
+/// The command `compile`.
+fn compile_line<'a>(alloc: Global) -> Result<clap::Command<'a>, AllocError>
+    ensures shape { IfOk result (λ c. app_of c ≡ compile_line) }
+    ensures local { IfOk result HasNoGlobals }
+{
+    let about = "Compiles a program and prints its module.";
+    on_file(alloc, "compile", about, Vec::new(alloc))
+}
+
+/// The command `listing`.
+fn listing_line<'a>(alloc: Global) -> Result<clap::Command<'a>, AllocError>
+    ensures shape { IfOk result (λ c. app_of c ≡ listing_line) }
+    ensures local { IfOk result HasNoGlobals }
+{
+    let about = "Prints the instructions of a program's module, and where they come from.";
+    let options = [module_flag(alloc)];
+    on_file(alloc, "listing", about, Vec::from_array(alloc, options)?)
+}
+
+/// The command `run`.
+fn run_line<'a>(alloc: Global) -> Result<clap::Command<'a>, AllocError>
+    ensures shape { IfOk result (λ c. WithOrders (λ names. app_of c ≡ run_line names)) }
+    ensures local { IfOk result HasNoGlobals }
+{
+    let about = "Runs a program and prints what it prints.";
+    let options = [
+        module_flag(alloc),
+        order_option(alloc),
+        seed_option(alloc),
+        count_option(
+            alloc,
+            "RUNS",
+            "runs",
+            "So many runs where the order is random, each from the next seed: tells how often what was printed",
+        ),
+        workers_option(alloc),
+        log_option(alloc),
+        arg_option(alloc),
+    ];
+    on_file(alloc, "run", about, Vec::from_array(alloc, options)?)
+}
+
+/// The command `outcomes`.
+fn outcomes_line<'a>(alloc: Global) -> Result<clap::Command<'a>, AllocError>
+    ensures shape { IfOk result (λ c. app_of c ≡ outcomes_line) }
+    ensures local { IfOk result HasNoGlobals }
+{
+    let about = "Prints all that a program can print.";
+    let options = [
+        module_flag(alloc),
+        count_option(
+            alloc,
+            "LIMIT",
+            "limit",
+            "The search stops once so many worlds are kept, or so many outcomes are told: 40000 where nothing is said, and fewer where there may be many activities",
+        ),
+        count_option(
+            alloc,
+            "K",
+            "pick",
+            "The outcome whose log is written, counted from 1: the first where nothing is said",
+        ),
+        log_option(alloc),
+        flag(
+            alloc,
+            "sets",
+            "Tells outcomes with the same numbers, in whatever order, as one",
+        ),
+        option(
+            alloc,
+            "FILE2",
+            "expect",
+            "A list of outcomes as this command prints them: tells the first outcome that isn't in it",
+        ),
+        arg_option(alloc),
+    ];
+    on_file(alloc, "outcomes", about, Vec::from_array(alloc, options)?)
+}
+
+/// The command `races`.
+fn races_line<'a>(alloc: Global) -> Result<clap::Command<'a>, AllocError>
+    ensures shape { IfOk result (λ c. app_of c ≡ races_line) }
+    ensures local { IfOk result HasNoGlobals }
+{
+    let about = "Prints which steps of a run race with one another.";
+    let options = [module_flag(alloc), log_choice(alloc), arg_option(alloc)];
+    on_file(alloc, "races", about, Vec::from_array(alloc, options)?)
+}
+
+/// The command `replay`.
+fn replay_line<'a>(alloc: Global) -> Result<clap::Command<'a>, AllocError>
+    ensures shape { IfOk result (λ c. app_of c ≡ on_run (codes "replay")) }
+    ensures local { IfOk result HasNoGlobals }
+{
+    let about = "Runs a program again as a log has it, and prints what it prints.";
+    let options = [module_flag(alloc), log_place(alloc), arg_option(alloc)];
+    on_file(alloc, "replay", about, Vec::from_array(alloc, options)?)
+}
+
+/// The command `chart`.
+fn chart_line<'a>(alloc: Global) -> Result<clap::Command<'a>, AllocError>
+    ensures shape { IfOk result (λ c. app_of c ≡ on_run (codes "chart")) }
+    ensures local { IfOk result HasNoGlobals }
+{
+    let about = "Prints when the clocks advanced in the run that a log has.";
+    let options = [module_flag(alloc), log_place(alloc), arg_option(alloc)];
+    on_file(alloc, "chart", about, Vec::from_array(alloc, options)?)
+}
+
+/// The command `events`.
+fn events_line<'a>(alloc: Global) -> Result<clap::Command<'a>, AllocError>
+    ensures shape { IfOk result (λ c. app_of c ≡ on_run (codes "events")) }
+    ensures local { IfOk result HasNoGlobals }
+{
+    let about = "Prints what others see of each step of the run that a log has.";
+    let options = [module_flag(alloc), log_place(alloc), arg_option(alloc)];
+    on_file(alloc, "events", about, Vec::from_array(alloc, options)?)
+}
+
+/// The command `lanes`.
+fn lanes_line<'a>(alloc: Global) -> Result<clap::Command<'a>, AllocError>
+    ensures shape { IfOk result (λ c. app_of c ≡ lanes_line) }
+    ensures local { IfOk result HasNoGlobals }
+{
+    let about = "Draws the run that a log has, with a lane for each activity.";
+    let options = [
+        module_flag(alloc),
+        log_place(alloc),
+        arg_option(alloc),
+        from_option(alloc),
+        to_option(alloc),
+        flag(alloc, "svg", "Draws it as an SVG picture"),
+    ];
+    on_file(alloc, "lanes", about, Vec::from_array(alloc, options)?)
+}
+
+/// The command `page`.
+fn page_line<'a>(alloc: Global) -> Result<clap::Command<'a>, AllocError>
+    ensures shape { IfOk result (λ c. app_of c ≡ page_line) }
+    ensures local { IfOk result HasNoGlobals }
+{
+    let about = "Makes an HTML page of the run that a log has, to go through it step by step.";
+    let options = [
+        module_flag(alloc),
+        log_place(alloc),
+        arg_option(alloc),
+        from_option(alloc),
+        to_option(alloc),
+    ];
+    on_file(alloc, "page", about, Vec::from_array(alloc, options)?)
+}
+
+/// The command `where`.
+fn where_line<'a>(alloc: Global) -> Result<clap::Command<'a>, AllocError>
+    ensures shape { IfOk result (λ c. app_of c ≡ on_run (codes "where")) }
+    ensures local { IfOk result HasNoGlobals }
+{
+    let about = "Prints where each activity stands behind the steps that a log has.";
+    let options = [module_flag(alloc), log_place(alloc), arg_option(alloc)];
+    on_file(alloc, "where", about, Vec::from_array(alloc, options)?)
+}
+
+/// A command on FILE with further arguments.
+fn on_file<'a>(
+    alloc: Global,
+    name: &'a str,
+    about: &'a str,
+    further: Vec<Arg<'a>>,
+) -> Result<clap::Command<'a>, AllocError>
+    requires { AreLocal further.items }
+    ensures shape { IfOk result
+        (λ c. app_of c ≡ on_file name.entry.now (map rule_of further.entry.items)) }
+    ensures local { IfOk result HasNoGlobals }
+{
+    let file = place(alloc, "FILE", "The program; - is standard input");
+    let command = clap::Command::new(alloc, name).about(about).arg(file)?;
+    command.args(further)
+}

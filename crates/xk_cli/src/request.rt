@@ -1,0 +1,293 @@
+//! What the words ask for: from what `clap` finds in them to a request, or to why they are none.
+
+ghost use Rattle.std.specs.Prelude.{◌≡◌, [], false, Some, None, IfOk, OnOk, IfErr, option_map};
+ghost use Rattle.clap.specs.Words.{found_of, kind_of, rows_of, subcommand_rows_of};
+ghost use Rattle.xk_cli.specs.CommandLine.{FitsKind, IsRefused, WithOrders, are_runs_misplaced, asked_by, asked_in, asked_of, asked_value, command_by, command_by_log, command_on, crowds_by, crowds_in, excludes_by, excludes_in, faults_in, found_task, is_both, is_list_misplaced, is_seed_alone, job_of, misplaces_by, misplaces_in, outcomes_by, outcomes_in, run_asked, run_by, run_in, strays_by, strays_in, task_by, task_value, texts};
+
+use crate::commands::line;
+use crate::given::{
+    are_runs_misplaced, arguments_in, count_in, drive_in, form_in, given_in, is_both, is_flagged,
+    is_list_misplaced, is_order, is_seed_alone, seed_in,
+};
+use crate::job::{Command, Form, HandRun, Job, Request};
+use crate::words_fault::WordsFault;
+use clap::ArgMatches;
+use clap::error::ErrorKind;
+use std::alloc::{AllocError, Global};
+
+/// What is to be done with a file.
+#[derive(Clone, Copy)]
+enum Found<'a> {
+    /// What the program does by itself.
+    Command(Command<'a>),
+    /// A run whose order a person is asked for, and where its log goes, if anywhere: a file's path.
+    ByHand(Option<&'a str>),
+}
+
+/// What the words ask for; the first word is the program's name. Where they ask for help or aren't understood, the fault has `clap`'s text.
+pub fn read_job<'a>(alloc: Global, words: &'a [&'a str]) -> Result<Request<'a>, WordsFault>
+    ensures job { IfOk result (λ asked. WithOrders (λ names.
+        job_of names (texts words.entry.now) ≡ Some (asked_value asked))) }
+    ensures understood { OnOk result (WithOrders (λ names.
+        faults_in names (texts words.entry.now) ≡ [])) }
+    ensures refused { IfErr result (λ fault. WithOrders (λ names. IsRefused
+        (faults_in names (texts words.entry.now)) (job_of names (texts words.entry.now))
+        (excludes_in names (texts words.entry.now)) (strays_in names (texts words.entry.now))
+        (misplaces_in names (texts words.entry.now))
+        (crowds_in names (texts words.entry.now)) fault)) }
+{
+    let command_line = line(alloc)?;
+    match command_line.try_get_matches_from(words) {
+        Ok(matches) => asked(alloc, &matches),
+        Err(error) => Err(words_fault(alloc, &error)),
+    }
+}
+
+/// What is asked for in what `clap` found, or why that is no job.
+fn asked<'a>(alloc: Global, matches: &ArgMatches<'a>) -> Result<Request<'a>, WordsFault>
+    ensures job { IfOk result
+        (λ asked. asked_in (subcommand_rows_of matches.now) ≡ Some (asked_value asked)) }
+    ensures refused { IfErr result (IsRefused [] (asked_in (subcommand_rows_of matches.now))
+        (excludes_by (subcommand_rows_of matches.now))
+        (strays_by (subcommand_rows_of matches.now))
+        (misplaces_by (subcommand_rows_of matches.now))
+        (crowds_by (subcommand_rows_of matches.now))) }
+{
+    match matches.subcommand() {
+        Some((name, given)) => asked_by(alloc, name, given),
+        None => Err(not_a_job(alloc)),
+    }
+}
+
+/// What a command's name and what was given with it ask for, or why that is no job.
+fn asked_by<'a>(
+    alloc: Global,
+    name: &str,
+    given: &ArgMatches<'a>,
+) -> Result<Request<'a>, WordsFault>
+    ensures job { IfOk result
+        (λ asked. asked_by name.now (rows_of (found_of given.now)) ≡ Some (asked_value asked)) }
+    ensures refused { IfErr result
+        (IsRefused [] (asked_by name.now (rows_of (found_of given.now)))
+        (is_both (rows_of (found_of given.now)))
+        (is_seed_alone (rows_of (found_of given.now)))
+        (are_runs_misplaced (rows_of (found_of given.now)))
+        (is_list_misplaced (rows_of (found_of given.now)))) }
+{
+    match request_by(alloc, name, given)? {
+        Some(request) => Ok(request),
+        None => Err(no_job(alloc, given)),
+    }
+}
+
+/// What a command's name and what was given with it ask for.
+fn request_by<'a>(
+    alloc: Global,
+    name: &str,
+    given: &ArgMatches<'a>,
+) -> Result<Option<Request<'a>>, AllocError>
+    ensures { IfOk result
+        (λ asked. option_map asked_value asked ≡ asked_by name.now (rows_of (found_of given.now))) }
+{
+    let Some(task) = task_by(name, given) else {
+        return Ok(None);
+    };
+    match given_in(given, "FILE") {
+        Some(file) => request_of(alloc, task, file, given),
+        None => Ok(None),
+    }
+}
+
+/// This task on this file, with what else was given to it.
+fn request_of<'a>(
+    alloc: Global,
+    task: Found<'a>,
+    file: &'a str,
+    given: &ArgMatches<'a>,
+) -> Result<Option<Request<'a>>, AllocError>
+    ensures { IfOk result (λ asked. option_map asked_value asked
+        ≡ asked_of (found_task task.entry) file.entry.now (rows_of (found_of given.now))) }
+{
+    match arguments_in(alloc, given)? {
+        Some(arguments) => Ok(Some(request_with(task, form_in(given), file, arguments))),
+        None => Ok(None),
+    }
+}
+
+/// This task on this file, with what stands there and the numbers that main is given.
+fn request_with<'a>(task: Found<'a>, form: Form, file: &'a str, arguments: Vec<i64>) -> Request<'a>
+    ensures { asked_value result ≡ record {
+      task = found_task task.entry;
+      form = form;
+      file = file.entry.now;
+      arguments = arguments.items;
+    } }
+{
+    match task {
+        Found::Command(command) => Request::Job(Job {
+            command,
+            form,
+            file,
+            arguments,
+        }),
+        Found::ByHand(log) => Request::ByHand(HandRun {
+            form,
+            file,
+            arguments,
+            log,
+        }),
+    }
+}
+
+/// What the command of this name does, with what else was given to it.
+fn task_by<'a>(name: &str, given: &ArgMatches<'a>) -> Option<Found<'a>>
+    ensures { option_map found_task result ≡ task_by name.now (rows_of (found_of given.now)) }
+{
+    match name {
+        "run" => run_by(given),
+        _ => Some(Found::Command(command_by(name, given)?)),
+    }
+}
+
+/// The command `run` with what was given to it. None where both an order and workers were, or a seed or a number of runs that has no place there.
+fn run_by<'a>(given: &ArgMatches<'a>) -> Option<Found<'a>>
+    ensures { option_map found_task result ≡ run_by (rows_of (found_of given.now)) }
+{
+    if is_both(given) || is_seed_alone(given) || are_runs_misplaced(given) {
+        return None;
+    }
+    if is_order(given, "ask") {
+        return Some(Found::ByHand(given_in(given, "PATH")));
+    }
+    Some(Found::Command(run_in(given)))
+}
+
+/// The command `run` where no person is asked for the order: one run, or so many as were asked for.
+fn run_in<'a>(given: &ArgMatches<'a>) -> Command<'a>
+    ensures { task_value result ≡ run_in (rows_of (found_of given.now)) }
+{
+    match count_in(given, "RUNS") {
+        Some(runs) => Command::Tally {
+            seed: seed_in(given),
+            runs,
+        },
+        None => Command::Run {
+            drive: drive_in(given),
+            log: given_in(given, "PATH"),
+        },
+    }
+}
+
+/// The command of this name, which isn't `run`, with what else was given to it.
+fn command_by<'a>(name: &str, given: &ArgMatches<'a>) -> Option<Command<'a>>
+    ensures { option_map task_value result ≡ command_by name.now (rows_of (found_of given.now)) }
+{
+    match name {
+        "check" => Some(Command::Check),
+        "compile" => Some(Command::Compile),
+        "explain" => Some(Command::Explain {
+            json: is_flagged(given, "json"),
+        }),
+        "listing" => Some(Command::Listing),
+        "outcomes" => outcomes_by(given),
+        "races" => Some(Command::Races {
+            log: given_in(given, "LOG"),
+        }),
+        _ => command_by_log(name, given),
+    }
+}
+
+/// The command of this name that wants a log, with what else was given to it.
+fn command_by_log<'a>(name: &str, given: &ArgMatches<'a>) -> Option<Command<'a>>
+    ensures { option_map task_value result
+        ≡ command_by_log name.now (rows_of (found_of given.now)) }
+{
+    let log = given_in(given, "LOG")?;
+    match name {
+        "replay" => Some(Command::Replay { log }),
+        "chart" => Some(Command::Chart { log }),
+        "events" => Some(Command::Events { log }),
+        "lanes" => Some(Command::Lanes {
+            log,
+            from: count_in(given, "FROM"),
+            to: count_in(given, "TO"),
+            svg: is_flagged(given, "svg"),
+        }),
+        "page" => Some(Command::Page {
+            log,
+            from: count_in(given, "FROM"),
+            to: count_in(given, "TO"),
+        }),
+        "where" => Some(Command::Where { log }),
+        _ => None,
+    }
+}
+
+/// The command `outcomes` with what was given to it: outcomes are held against a list, or told. None where a list was given, and an outcome to pick or
+/// a log's path.
+fn outcomes_by<'a>(given: &ArgMatches<'a>) -> Option<Command<'a>>
+    ensures { option_map task_value result ≡ outcomes_by (rows_of (found_of given.now)) }
+{
+    if is_list_misplaced(given) {
+        return None;
+    }
+    match given_in(given, "FILE2") {
+        Some(list) => Some(Command::Expected {
+            list,
+            limit: count_in(given, "LIMIT"),
+            sets: is_flagged(given, "sets"),
+        }),
+        None => Some(Command::Outcomes {
+            limit: count_in(given, "LIMIT"),
+            pick: count_in(given, "K"),
+            log: given_in(given, "PATH"),
+            sets: is_flagged(given, "sets"),
+        }),
+    }
+}
+
+/// Why a command with what was given to it is no job: an order stands beside workers, or a seed, a number of runs or a list has no place there.
+fn no_job(alloc: Global, given: &ArgMatches<'_>) -> WordsFault
+    ensures { IsRefused [] None (is_both (rows_of (found_of given.now)))
+        (is_seed_alone (rows_of (found_of given.now)))
+        (are_runs_misplaced (rows_of (found_of given.now)))
+        (is_list_misplaced (rows_of (found_of given.now))) result }
+{
+    if is_both(given) {
+        return WordsFault::OrderAndWorkers;
+    }
+    if is_seed_alone(given) {
+        return WordsFault::SeedAlone;
+    }
+    if are_runs_misplaced(given) {
+        return WordsFault::MisplacedRuns;
+    }
+    if is_list_misplaced(given) {
+        return WordsFault::MisplacedList;
+    }
+    not_a_job(alloc)
+}
+
+/// The fault where `clap` took the words, nothing in them excludes anything else, and they name no job. It doesn't come to that.
+fn not_a_job(alloc: Global) -> WordsFault
+    ensures { IsRefused [] None false false false false result }
+{
+    match String::from_str(alloc, "error: no command on a file was given\n") {
+        Ok(text) => WordsFault::NotUnderstood(text),
+        Err(_) => WordsFault::OutOfMemory,
+    }
+}
+
+/// `clap`'s answer where it doesn't take the words.
+fn words_fault(alloc: Global, error: &clap::Error) -> WordsFault
+    ensures { FitsKind (kind_of error.now) result }
+{
+    if error.kind() == ErrorKind::OutOfMemory {
+        return WordsFault::OutOfMemory;
+    }
+    match error.to_string(alloc) {
+        Ok(text) if error.use_stderr() => WordsFault::NotUnderstood(text),
+        Ok(text) => WordsFault::Help(text),
+        Err(_) => WordsFault::OutOfMemory,
+    }
+}
