@@ -1,4 +1,4 @@
-//! Small programs as module text, and logs.
+//! Small programs, as source text and as module text, and logs.
 
 /// A sum of two numbers, and a phase of a clock on which main is alone.
 const SUM_AND_PHASE: &str =
@@ -100,5 +100,30 @@ pub fn logs() -> [(&'static str, &'static [i64], &'static str, bool); 9] {
         (PAIR, &[], "x10log 1\n0 3\n1 1\n", false),
         (PAIR, &[], "x10log 1\n0 3\n0 1\nend 2\n", false),
         (PAIR, &[], "x10log 1\n0 3\nend 1\n", false),
+    ]
+}
+
+/// Source texts, and whether they have a module. The others break a rule on tokens, on syntax, on names, on recursion, on tables.
+pub fn texts() -> [(&'static str, bool); 7] {
+    [
+        (
+            "def main() { val c = Clock.make(); var x: Long = -(1 + 2) * 3; if (x < 4) x = 5; else { c.resume(); } async clocked(c) { Clock.advanceAll(); } c.drop(); }",
+            true,
+        ),
+        (
+            "def h(n: Long) { Console.OUT.println(n); } def main(k: Long) { for (i in 1..Math.min(k, 9)) { h(i * 2); finish async { Console.OUT.println(i); } } }",
+            true,
+        ),
+        ("def main() { # }", false),
+        ("def main() { val x = ; }", false),
+        (
+            "def main() { val x = 1; async { val y = x; z = y; } }",
+            false,
+        ),
+        (
+            "def f() { g(); } def g() { async { f(); } } def main() { f(); }",
+            false,
+        ),
+        ("def main() { for (i in 1..Math.min(i, 3)) { } }", false),
     ]
 }

@@ -1,4 +1,4 @@
-//! Logs are read and played again; each call tried again where memory was refused.
+//! Logs are read, played again and charted; each call tried again where memory was refused.
 
 ghost use Rattle.xk_types.specs.World.{AreArguments};
 
@@ -6,7 +6,7 @@ use crate::modules::{Wrong, accepted, fits, holds};
 use std::alloc::Global;
 use xk_bounds::Verified;
 use xk_log::{Log, LogFault, read_log};
-use xk_replay::{ReplayFault, replay};
+use xk_replay::{ReplayFault, chart, replay};
 use xk_scheduler::Ended;
 use xk_types::Counted;
 
@@ -33,10 +33,25 @@ fn replayed<'m>(
     }
 }
 
-/// A log was of a whole run, or was refused for not being one.
-fn is_right(answer: &Result<Ended<'_>, (Log, ReplayFault)>, is_whole: bool) -> Result<(), Wrong> {
+/// A run is charted, at the second try where memory was refused.
+fn is_charted(alloc: Global, ended: &Ended<'_>) -> bool {
+    chart(alloc, ended).is_ok() || chart(alloc, ended).is_ok()
+}
+
+/// A log was of a whole run, which is charted, or was refused for not being one.
+fn is_right(
+    alloc: Global,
+    answer: &Result<Ended<'_>, (Log, ReplayFault)>,
+    is_whole: bool,
+) -> Result<(), Wrong> {
     match answer {
-        Ok(_) => holds(is_whole, "a log is played again that isn't of a whole run"),
+        Ok(ended) => {
+            holds(is_whole, "a log is played again that isn't of a whole run")?;
+            holds(
+                is_charted(alloc, ended),
+                "a run isn't charted at the second try",
+            )
+        }
         Err((_, fault)) => holds(
             !is_whole && *fault != ReplayFault::OutOfMemory,
             "a log isn't played again at the second try",
@@ -54,7 +69,7 @@ fn is_replayed(
 ) -> Result<(), Wrong> {
     fits(verified, arguments)?;
     let answer = replayed(alloc, verified, arguments, log);
-    is_right(&answer, is_whole)
+    is_right(alloc, &answer, is_whole)
 }
 
 /// A text is the log of a whole run of a module with these arguments, or is refused for not being one.

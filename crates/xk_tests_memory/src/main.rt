@@ -1,6 +1,6 @@
-//! Makes each public call that hands back what it was given, or goes on, where it was refused memory, over small programs, and prints one line:
-//! made again, such a call has to succeed. What the calls answer, and what they leave as it was, their contracts say. That the other calls are
-//! refused memory only where there is none, `x10clock` shows.
+//! Makes public calls over small programs, each again where it was refused memory, and prints one line: made again, a call has to succeed.
+//! These are the calls that hand back what they were given, or go on, and those from a text to the text of its module. What they answer, and
+//! what they leave as it was, their contracts say. That the other calls are refused memory only where there is none, `x10clock` shows.
 //! Run it with growths refused, one at a time: `tests/answers/refused_growths.py` does.
 #![tactic(auto)]
 
@@ -9,6 +9,7 @@ mod logs;
 mod modules;
 mod runs;
 mod shared_run;
+mod texts;
 
 use modules::Wrong;
 use std::alloc::Global;
@@ -40,6 +41,13 @@ fn on_modules(alloc: Global) -> Result<(), Wrong> {
     Ok(())
 }
 
+fn on_texts(alloc: Global) -> Result<(), Wrong> {
+    for (text, has_module) in fixtures::texts() {
+        texts::is_compiled(alloc, text, has_module)?;
+    }
+    Ok(())
+}
+
 fn on_logs(alloc: Global) -> Result<(), Wrong> {
     for (program, arguments, log, is_whole) in fixtures::logs() {
         logs::is_answered(alloc, program, arguments, log, is_whole)?;
@@ -48,6 +56,7 @@ fn on_logs(alloc: Global) -> Result<(), Wrong> {
 }
 
 fn every_call(alloc: Global) -> Result<(), Wrong> {
+    on_texts(alloc)?;
     on_modules(alloc)?;
     on_logs(alloc)?;
     modules::on_tape(alloc)
