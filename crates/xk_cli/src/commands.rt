@@ -2,7 +2,9 @@
 
 ghost use Rattle.std.specs.Prelude.{◌≡◌, IfOk, codes, map};
 ghost use Rattle.clap.specs.Words.{App, app_of, rule_of, with_subcommand};
-ghost use Rattle.xk_cli.specs.CommandLine.{AreLocal, HasNoGlobals, WithOrders, check_line, command_line, compile_line, explain_line, lanes_line, listing_line, on_file, on_run, outcomes_line, page_line, program, races_line, run_line};
+ghost use Rattle.xk_cli.specs.CommandLine.{AreLocal, HasNoGlobals, WithOrders, check_line, command_line, compile_line};
+ghost use Rattle.xk_cli.specs.CommandLine.{explain_line, lanes_line, listing_line, on_file, on_run, outcomes_line};
+ghost use Rattle.xk_cli.specs.CommandLine.{page_line, program, races_line, run_line};
 
 use crate::options::{
     arg_option, count_option, flag, from_option, log_choice, log_option, log_place, module_flag,

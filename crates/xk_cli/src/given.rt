@@ -2,7 +2,9 @@
 
 ghost use Rattle.std.specs.Prelude.{◌≡◌, IfOk, option_map};
 ghost use Rattle.clap.specs.Words.{first_of, found_of, rows_of};
-ghost use Rattle.xk_cli.specs.CommandLine.{are_runs_misplaced, arguments_in, count_in, drive_in, form_in, is_both, is_flagged, is_list_misplaced, is_order, is_seed_alone, order_in, order_named, seed_in, way_value, workers_in, workers_named};
+ghost use Rattle.xk_cli.specs.CommandLine.{are_runs_misplaced, arguments_in, count_in, drive_in, form_in, is_both};
+ghost use Rattle.xk_cli.specs.CommandLine.{is_flagged, is_list_misplaced, is_order, is_seed_alone, order_in};
+ghost use Rattle.xk_cli.specs.CommandLine.{order_named, seed_in, way_value, workers_in, workers_named};
 
 use crate::job::{Drive, Form, Order, Workers};
 use crate::numbers::{count_named, numbers_named};

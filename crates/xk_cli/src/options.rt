@@ -2,7 +2,9 @@
 
 ghost use Rattle.std.specs.Prelude.{◌≡◌, false};
 ghost use Rattle.clap.specs.Words.{rule_of};
-ghost use Rattle.xk_cli.specs.CommandLine.{WithOrders, arg_option, count_option, flag, from_option, log_choice, log_option, log_place, module_flag, option, order_option, place, seed_option, to_option, workers_option};
+ghost use Rattle.xk_cli.specs.CommandLine.{WithOrders, arg_option, count_option, flag, from_option, log_choice};
+ghost use Rattle.xk_cli.specs.CommandLine.{log_option, log_place, module_flag, option, order_option, place};
+ghost use Rattle.xk_cli.specs.CommandLine.{seed_option, to_option, workers_option};
 
 use crate::job::MOST_WORKERS;
 use clap::builder::ValueParser;

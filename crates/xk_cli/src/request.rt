@@ -2,7 +2,12 @@
 
 ghost use Rattle.std.specs.Prelude.{◌≡◌, [], false, Some, None, IfOk, OnOk, IfErr, option_map};
 ghost use Rattle.clap.specs.Words.{found_of, kind_of, rows_of, subcommand_rows_of};
-ghost use Rattle.xk_cli.specs.CommandLine.{FitsKind, IsRefused, WithOrders, are_runs_misplaced, asked_by, asked_in, asked_of, asked_value, command_by, command_by_log, command_on, crowds_by, crowds_in, excludes_by, excludes_in, faults_in, found_task, is_both, is_list_misplaced, is_seed_alone, job_of, misplaces_by, misplaces_in, outcomes_by, outcomes_in, run_asked, run_by, run_in, strays_by, strays_in, task_by, task_value, texts};
+ghost use Rattle.xk_cli.specs.CommandLine.{FitsKind, IsRefused, WithOrders, are_runs_misplaced, asked_by, asked_in};
+ghost use Rattle.xk_cli.specs.CommandLine.{asked_of, asked_value, command_by, command_by_log, command_on, crowds_by};
+ghost use Rattle.xk_cli.specs.CommandLine.{crowds_in, excludes_by, excludes_in, faults_in, found_task, is_both};
+ghost use Rattle.xk_cli.specs.CommandLine.{is_list_misplaced, is_seed_alone, job_of, misplaces_by, misplaces_in};
+ghost use Rattle.xk_cli.specs.CommandLine.{outcomes_by, outcomes_in, run_asked, run_by, run_in, strays_by, strays_in};
+ghost use Rattle.xk_cli.specs.CommandLine.{task_by, task_value, texts};
 
 use crate::commands::line;
 use crate::given::{
@@ -24,7 +29,8 @@ enum Found<'a> {
     ByHand(Option<&'a str>),
 }
 
-/// What the words ask for; the first word is the program's name. Where they ask for help or aren't understood, the fault has `clap`'s text.
+/// What the words ask for; the first word is the program's name. Where they ask for help or aren't understood, the
+/// fault has `clap`'s text.
 pub fn read_job<'a>(alloc: Global, words: &'a [&'a str]) -> Result<Request<'a>, WordsFault>
     ensures job { IfOk result (λ asked. WithOrders (λ names.
         job_of names (texts words.entry.now) ≡ Some (asked_value asked))) }
@@ -149,7 +155,8 @@ fn task_by<'a>(name: &str, given: &ArgMatches<'a>) -> Option<Found<'a>>
     }
 }
 
-/// The command `run` with what was given to it. None where both an order and workers were, or a seed or a number of runs that has no place there.
+/// The command `run` with what was given to it. None where both an order and workers were, or a seed or a number of
+/// runs that has no place there.
 fn run_by<'a>(given: &ArgMatches<'a>) -> Option<Found<'a>>
     ensures { option_map found_task result ≡ run_by (rows_of (found_of given.now)) }
 {
@@ -223,8 +230,8 @@ fn command_by_log<'a>(name: &str, given: &ArgMatches<'a>) -> Option<Command<'a>>
     }
 }
 
-/// The command `outcomes` with what was given to it: outcomes are held against a list, or told. None where a list was given, and an outcome to pick or
-/// a log's path.
+/// The command `outcomes` with what was given to it: outcomes are held against a list, or printed. None where a list
+/// was given, and an outcome to pick or a log's path.
 fn outcomes_by<'a>(given: &ArgMatches<'a>) -> Option<Command<'a>>
     ensures { option_map task_value result ≡ outcomes_by (rows_of (found_of given.now)) }
 {
@@ -246,7 +253,8 @@ fn outcomes_by<'a>(given: &ArgMatches<'a>) -> Option<Command<'a>>
     }
 }
 
-/// Why a command with what was given to it is no job: an order stands beside workers, or a seed, a number of runs or a list has no place there.
+/// Why a command with what was given to it is no job: an order stands beside workers, or a seed, a number of runs or a
+/// list has no place there.
 fn no_job(alloc: Global, given: &ArgMatches<'_>) -> WordsFault
     ensures { IsRefused [] None (is_both (rows_of (found_of given.now)))
         (is_seed_alone (rows_of (found_of given.now)))

@@ -56,6 +56,7 @@ impl From<AllocError> for WordsFault {
 
     ghost from_gives = { λ _ fault. fault ≡ OutOfMemory };
 
+    /// Want of memory, wherever it was met.
     fn from(_error: AllocError) -> WordsFault {
         WordsFault::OutOfMemory
     }
