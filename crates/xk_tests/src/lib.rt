@@ -9,4 +9,6 @@ mod fault_messages;
 #[cfg(test)]
 mod programs;
 #[cfg(test)]
+mod serving;
+#[cfg(test)]
 mod workers;
