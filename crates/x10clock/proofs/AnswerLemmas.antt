@@ -6,10 +6,10 @@ use Rattle.xk_cli.specs.declared.job.Form.{Form}
 use Rattle.xk_cli.specs.declared.job.Request.{Request}
 use Rattle.xk_cli.specs.declared.job.Request.TheVariants as request
 use Rattle.xk_serve.specs.Answer.{Task, reads_more, task_of}
-use Rattle.xk_serve.specs.Bytes.{kept}
+use Rattle.xk_program.specs.Bytes.{kept}
 use Rattle.xk_serve.specs.Devices.{IfKnown, read_of}
 use Rattle.xk_serve.proofs.ReplyLemmas.{of_known}
-use Rattle.xk_serve.proofs.TaskLemmas.{of_each}
+use Rattle.xk_answers.proofs.LogLemmas.{of_each}
 use Rattle.xk_serve_ask.specs.AskedRun.{IsHandReply}
 use Rattle.xk_serve_ask.proofs.AskedRunLemmas.{unread_ends}
 use Rattle.x10clock.specs.Requests.{AnswersHand, AnswersTask, EndsIn, IsAnswered}

@@ -8,7 +8,7 @@ use Rattle.xk_cli.specs.declared.job.HandRun.{HandRun}
 use Rattle.xk_cli.specs.declared.job.Request.{Request}
 use Rattle.xk_cli.specs.declared.job.Request.TheVariants as request
 use Rattle.xk_serve.specs.Answer.{Task, reads_more, task_of}
-use Rattle.xk_serve.specs.Bytes.{kept}
+use Rattle.xk_program.specs.Bytes.{kept}
 use Rattle.xk_serve.specs.Devices.{Answered, ErrBegins, IfKnown, OutBegins}
 use Rattle.xk_serve_ask.specs.AskedRun.{BeginsAsking, EndsAsking, IsHandReply, OutBeginsRun}
 

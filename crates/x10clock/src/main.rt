@@ -6,10 +6,10 @@ ghost use Rattle.std.specs.Io.KnownBytes.{Appends};
 ghost use Rattle.xk_types.specs.Device.{Rose};
 ghost use Rattle.xk_cli.specs.CommandLine.{asked_value, texts};
 ghost use Rattle.xk_cli.specs.Status.{status_device, status_memory, status_program, status_words};
-ghost use Rattle.xk_serve.specs.Lines.{device_line};
+ghost use Rattle.xk_program.specs.Lines.{device_line};
 ghost use Rattle.xk_messages.specs.Lines.{memory_line};
 ghost use Rattle.xk_serve.specs.Devices.{Reports, Tells, TellsWords};
-ghost use Rattle.xk_serve.specs.declared.fault.Fault.TheVariants as fault;
+ghost use Rattle.xk_program.specs.declared.fault.Fault.TheVariants as fault;
 ghost use Rattle.x10clock.specs.CommandLine.{AreTold, AskForHand, IsWantOfMemory, no_text_line};
 ghost use Rattle.x10clock.specs.Requests.{EndsIn, IsByHand, IsLastLine, ErrIsBegun, IsAnswered, OutIsBegun, ReadsNoMore, WritesLog, input_line, log_path, over_line};
 
@@ -24,7 +24,8 @@ use std::sync::Wait;
 use std::thread::Threads;
 use std::{env, fs, io};
 use xk_cli::{Command, Request, WordsFault, read_job, status};
-use xk_serve::{Fault, report, serve, tell, tell_words};
+use xk_program::Fault;
+use xk_serve::{report, serve, tell, tell_words};
 use xk_serve_ask::serve_asked;
 use xk_types::{Counted, Sink, Source};
 

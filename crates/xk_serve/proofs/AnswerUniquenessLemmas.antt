@@ -25,20 +25,22 @@ use Rattle.xk_tree.specs.declared.fault.FrontFault.{FrontFault}
 use Rattle.xk_cli.specs.declared.job.Form.{Form}
 use Rattle.xk_cli.specs.declared.job.Form.TheVariants as form
 use Rattle.xk_cli.specs.CommandLine.{By, In}
-use Rattle.xk_serve.specs.declared.job_result.Done.{Done}
-use Rattle.xk_serve.specs.declared.job_result.Done.TheVariants as done
-use Rattle.xk_serve.specs.declared.fault.Fault.{Fault}
-use Rattle.xk_serve.specs.declared.fault.Fault.TheVariants as fault
-use Rattle.xk_serve.specs.Answer.{Answers, Check, ComesTo, Compile, Doing, Draw, Expected, Explain, IsLogText, IsMisfit, IsNoRun, IsSaidBy, IsSaidOf, IsTelling, IsText, Listing, Outcomes, Races, Replay, Reply, Run, Tally, Task, Where, asks_verifier, done_reply, done_status, fault_reply, list_in, reads_list, reads_log, runs, wants_whole, whole_status}
-use Rattle.xk_serve.specs.Explanation.{Tale}
-use Rattle.xk_serve.specs.declared.picture.Picture.{Picture}
+use Rattle.xk_answers.specs.declared.job_result.Done.{Done}
+use Rattle.xk_answers.specs.declared.job_result.Done.TheVariants as done
+use Rattle.xk_program.specs.declared.fault.Fault.{Fault}
+use Rattle.xk_program.specs.declared.fault.Fault.TheVariants as fault
+use Rattle.xk_serve.specs.Answer.{Answers, IsSaidBy, IsSaidOf, Reply, Task, asks_verifier, done_reply, fault_reply, reads_list, reads_log, runs, wants_whole}
+use Rattle.xk_answers.specs.Results.{Check, ComesTo, Compile, Doing, Draw, Expected, Explain, IsLogText, IsNoRun, IsTelling, IsText, Listing, Outcomes, Races, Replay, Run, Tally, Where, list_in}
+use Rattle.xk_program.specs.Refusals.{IsMisfit}
+use Rattle.xk_answers.specs.Printed.{done_status, whole_status, done_log, done_text}
+use Rattle.xk_answers.specs.Explanation.{Tale}
+use Rattle.xk_answers.specs.declared.picture.Picture.{Picture}
 use Rattle.xk_io.specs.Lines.{number_lines}
-use Rattle.xk_serve.specs.Lines.{done_log, done_text, fault_line, status_of}
-use Rattle.xk_messages.specs.Lines.{accepted_line, ended_line, refusal_status}
-use Rattle.xk_messages.specs.Lines.{arguments_line, no_outcome_line}
+use Rattle.xk_program.specs.Lines.{fault_line, status_of}
+use Rattle.xk_messages.specs.Lines.{accepted_line, ended_line, refusal_status, arguments_line, no_outcome_line}
 use Rattle.xk_serve.specs.OneAnswer.{ComesToOne, HasOneStatus, IsDetermined, IsLeftOpen, IsSameLine, IsSameReply, TellFaults}
-use Rattle.xk_serve.specs.OrderedRun.{IsLoggedRun, IsOrderedRun, IsReplay}
-use Rattle.xk_serve.specs.Programs.{Gives, IsCompiledTo, IsNoModule, IsNoSource, IsUnread, longest_module}
+use Rattle.xk_answers.specs.OrderedRun.{IsLoggedRun, IsOrderedRun, IsReplay}
+use Rattle.xk_program.specs.Programs.{Gives, IsCompiledTo, IsNoModule, IsNoSource, IsUnread, longest_module}
 use Rattle.xk_serve.proofs.LogUniquenessLemmas.{no_run_once, text_not_cut, text_not_wrong, text_once, whole_not_refused}
 use Rattle.xk_serve.proofs.RefusalUniquenessLemmas.{not_accepted, refusal_once, refused_status}
 use Rattle.xk_serve.proofs.RunUniquenessLemmas.{list_once, logged_once, ordered_once, run_taken}

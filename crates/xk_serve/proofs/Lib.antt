@@ -3,13 +3,10 @@ pub mod AnswerUniquenessLemmas
 pub mod LogUniquenessLemmas
 pub mod RefusalUniquenessLemmas
 pub mod RunUniquenessLemmas
-pub mod OrderedRunLemmas
 pub mod ReplyLemmas
 pub mod RunLogLemmas
 pub mod TaskLemmas
 pub mod TellingUniquenessLemmas
 pub mod TextUniquenessLemmas
 pub mod ExplanationLemmas
-pub mod UnfitModuleLemmas
-pub mod UnfitTextLemmas
 pub mod VerdictLemmas

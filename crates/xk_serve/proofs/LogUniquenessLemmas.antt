@@ -8,10 +8,10 @@ use Rattle.xk_log.proofs.VerdictLemmas as texts
 use Rattle.xk_replay.specs.Replay.{IsWhole}
 use Rattle.xk_replay.specs.Replay as replay
 use Rattle.xk_replay.proofs.VerdictLemmas as logs
-use Rattle.xk_serve.specs.declared.fault.Fault.{Fault}
-use Rattle.xk_serve.specs.declared.fault.Fault.TheVariants as fault
-use Rattle.xk_serve.specs.Answer.{IsLogText, IsNoRun}
-use Rattle.xk_serve.specs.Lines.{status_of}
+use Rattle.xk_program.specs.declared.fault.Fault.{Fault}
+use Rattle.xk_program.specs.declared.fault.Fault.TheVariants as fault
+use Rattle.xk_answers.specs.Results.{IsLogText, IsNoRun}
+use Rattle.xk_program.specs.Lines.{status_of}
 
 -- what the bytes of a log can be: a line is the first wrong one, they end too early, or they are the text of a log of which this holds
 data Verdict : Type 0 where

@@ -1,5 +1,5 @@
 -- Of a text that is too long no more than one byte too many is kept: what stands against that stands against the whole text.
-use Rattle.std.proofs.Common.{◌≡◌, ◌≢◌, ◌+◌, ◌<◌, ◌≤◌, ℕ, Bool, true, false, if◌then◌else◌, List, [], length, take, min, Option, Some, None, Result, Ok, Err, IfErr, inl, inr, refl, sym, arith, ap, ◌∙◌, subst}
+use Rattle.std.proofs.Common.{◌≡◌, ◌+◌, ◌<◌, ◌≤◌, ℕ, Bool, true, false, if◌then◌else◌, List, [], length, take, min, Option, Some, None, Result, Ok, Err, IfErr, inl, inr, refl, sym, arith, ap, ◌∙◌, subst}
 use Rattle.std.proofs.lemmas.Bool.{false≢true}
 use Rattle.std.proofs.lemmas.List.{length-take, take_all}
 use Rattle.std.specs.Prelude.{◌⊎◌, IfSome}
@@ -9,20 +9,22 @@ use Rattle.xk_cli.specs.declared.job.Form.{Form}
 use Rattle.xk_cli.specs.declared.job.Form.TheVariants as form
 use Rattle.xk_bounds.specs.declared.refusal.Refusal.{Refusal}
 use Rattle.xk_bounds.specs.declared.refusal.Refusal.TheVariants as refusal
-use Rattle.xk_serve.specs.declared.job_result.Done.{Done}
-use Rattle.xk_serve.specs.declared.explanation.Refused.{Refused}
-use Rattle.xk_serve.specs.declared.fault.Fault.{Fault}
-use Rattle.xk_serve.specs.declared.fault.Fault.TheVariants as fault
+use Rattle.xk_answers.specs.declared.job_result.Done.{Done}
+use Rattle.xk_answers.specs.declared.explanation.Refused.{Refused}
+use Rattle.xk_program.specs.declared.fault.Fault.{Fault}
+use Rattle.xk_program.specs.declared.fault.Fault.TheVariants as fault
 use Rattle.xk_module.specs.declared.fault.ModuleFault.{ModuleFault}
-use Rattle.xk_serve.specs.Programs.{Gives, IsNoModule, IsNoSource, IsNoText, IsTooLong, longest_module, longest_source}
-use Rattle.xk_serve.specs.Bytes.{kept}
-use Rattle.xk_serve.specs.Answer.{Check, ComesTo, Compile, Doing, Draw, Expected, Explain, FailsBy, GivesAccepted, IsSaidBy, IsSaidOf, IsTelling, IsText, Listing, Outcomes, Races, Replay, Run, Succeeds, Tally, Task, Where}
+use Rattle.xk_program.specs.Programs.{Gives, IsNoModule, IsNoSource, IsNoText, IsTooLong, longest_module, longest_source}
+use Rattle.xk_program.specs.Bytes.{kept}
+use Rattle.xk_answers.specs.Results.{Check, ComesTo, Compile, Doing, Draw, Expected, Explain, IsTelling, IsText, Listing, Outcomes, Races, Replay, Run, Tally, Where}
+use Rattle.xk_serve.specs.Answer.{FailsBy, GivesAccepted, IsSaidBy, IsSaidOf, Succeeds, Task}
 use Rattle.xk_explain_expected.specs.Notes.{expected_notes}
-use Rattle.xk_serve.specs.Explanation.{IsByProgram, IsByTree, IsExplanation, fault_said, front_said, refusal_said}
+use Rattle.xk_program.specs.Origins.{IsByProgram, IsByTree}
+use Rattle.xk_answers.specs.Explanation.{IsExplanation, fault_said, front_said, refusal_said}
 use Rattle.xk_tree.specs.declared.fault.FrontRule.TheVariants as rule
 use Rattle.xk_serve.specs.Devices.{AgainstLog, IfKnown, IsRead, Reads, StandsAgainst, read_of}
 use Rattle.xk_explain.specs.Explanations.{has_place}
-use Rattle.xk_serve.proofs.TaskLemmas.{of_each}
+use Rattle.xk_answers.proofs.LogLemmas.{of_each}
 
 -- a front that is shorter than it may be is the whole
 whole : (n : ℕ) (bytes known : List ℕ) → bytes ≡ take (n + 1) known → length bytes ≤ n → bytes ≡ known

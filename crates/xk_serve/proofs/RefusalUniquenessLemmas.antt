@@ -23,8 +23,7 @@ use Rattle.xk_bounds.specs.declared.refusal.Refusal.{Refusal}
 use Rattle.xk_bounds.specs.declared.refusal.Refusal.TheVariants as refusal
 use Rattle.xk_bounds.specs.Refusals.{IsBoundFault, Refuses}
 use Rattle.xk_bounds.proofs.RefusalLemmas.{refused_by_memory}
-use Rattle.xk_messages.specs.Lines.{refusal_status}
-use Rattle.xk_messages.specs.Lines.{bound_text, line, place_text, refusal_line, rule_text}
+use Rattle.xk_messages.specs.Lines.{refusal_status, bound_text, line, place_text, refusal_line, rule_text}
 use Rattle.xk_serve.specs.OneAnswer.{IsSameLine, IsSameRefusal}
 
 -- ---- orders

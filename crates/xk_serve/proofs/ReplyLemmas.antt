@@ -2,15 +2,15 @@
 use Rattle.std.proofs.Common.{◌≡◌, ◌≢◌, ◌⊎◌, ℕ, zero, suc, List, [], length, take, Option, Some, None, inl, inr, refl, sym, ap, subst, ◌∙◌}
 use Rattle.std.proofs.Math.Seq.{take-length}
 use Rattle.std.proofs.lemmas.List.{append-nil}
-use Rattle.std.specs.Prelude.{IfSome, ◌++◌}
+use Rattle.std.specs.Prelude.{IfSome}
 use Rattle.std.specs.Io.KnownBytes.{Appends}
-use Rattle.xk_serve.specs.declared.job_result.Done.{Done}
-use Rattle.xk_serve.specs.declared.job_result.Done.TheVariants as done
-use Rattle.xk_serve.specs.declared.fault.Fault.{Fault}
-use Rattle.xk_serve.specs.declared.fault.Fault.TheVariants as fault
-use Rattle.xk_serve.specs.Answer.{FailsBy, IsSaidOf, Succeeds, Task, done_reply, done_status, fault_reply}
+use Rattle.xk_answers.specs.declared.job_result.Done.{Done}
+use Rattle.xk_program.specs.declared.fault.Fault.{Fault}
+use Rattle.xk_program.specs.declared.fault.Fault.TheVariants as fault
+use Rattle.xk_serve.specs.Answer.{FailsBy, IsSaidOf, Succeeds, Task, done_reply, fault_reply}
+use Rattle.xk_answers.specs.Printed.{done_status}
 use Rattle.xk_log.specs.Writing.{AppendsBeginning}
-use Rattle.xk_serve.specs.Lines.{device_line, done_ending, done_front, done_text, fault_line, status_of}
+use Rattle.xk_program.specs.Lines.{device_line, fault_line, status_of}
 use Rattle.xk_messages.specs.Lines.{memory_line}
 use Rattle.xk_serve.specs.Devices.{Answered, ErrBegins, Explained, IfKnown, IsBegun, IsTold, IsWritten, OutBegins, Reads, Reports, StandsAgainst, Tells, read_of}
 
@@ -62,14 +62,6 @@ pub written_answers : (t : Task) (program known : Option (List ℕ)) (d : Done) 
     → Answered t bytes logged result out_old out_new err_old err_new log_old log_new)
 written_answers t program known d out_old out_new err_old err_new log_old log_new result Failing h p = known_weaker t program known _ _
     (λ bytes logged s not4 not5. written_answer t bytes logged d out_old out_new err_old err_new log_old log_new result Failing s p not5) h
-
--- the two parts of what is printed
-pub parts_of_text : (d : Done) → done_front d ++ done_ending d ≡ done_text d
-parts_of_text (done.Compiled text) = refl
-parts_of_text (done.Accepted steps activities clocks) = refl
-parts_of_text (done.Told text whole) = append-nil text.items
-parts_of_text (done.Outcomes text whole log) = append-nil text.items
-parts_of_text (done.Ended printed steps log) = refl
 
 -- what was begun to be written is a beginning of a success
 pub begun_known : (t : Task) (program known : Option (List ℕ)) (d : Done) (out_old out_new log_old log_new : Option (List ℕ))

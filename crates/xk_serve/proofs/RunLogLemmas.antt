@@ -14,16 +14,18 @@ use Rattle.xk_replay.proofs.RunLogLemmas.{run_is_log}
 use Rattle.xk_cli.specs.declared.job.Form.{Form}
 use Rattle.xk_cli.specs.declared.job.Form.TheVariants as form
 use Rattle.xk_cli.specs.CommandLine.{By, In, Way}
-use Rattle.xk_serve.specs.declared.job_result.Done.{Done}
-use Rattle.xk_serve.specs.declared.job_result.Done.TheVariants as done
-use Rattle.xk_serve.specs.declared.fault.Fault.{Fault}
-use Rattle.xk_serve.specs.declared.fault.Fault.TheVariants as fault
-use Rattle.xk_serve.specs.Answer.{Answers, ComesTo, IsLogText, IsTelling, IsText, Replay, Replays, Reply, Run, Task, done_reply, whole_status}
-use Rattle.xk_serve.specs.Explanation.{Tale}
-use Rattle.xk_serve.specs.Lines.{done_log, done_text, status_of}
+use Rattle.xk_answers.specs.declared.job_result.Done.{Done}
+use Rattle.xk_answers.specs.declared.job_result.Done.TheVariants as done
+use Rattle.xk_program.specs.declared.fault.Fault.{Fault}
+use Rattle.xk_program.specs.declared.fault.Fault.TheVariants as fault
+use Rattle.xk_serve.specs.Answer.{Answers, Reply, Task, done_reply}
+use Rattle.xk_answers.specs.Results.{ComesTo, IsLogText, IsTelling, IsText, Replay, Replays, Run}
+use Rattle.xk_answers.specs.Printed.{whole_status, done_log, done_text}
+use Rattle.xk_answers.specs.Explanation.{Tale}
+use Rattle.xk_program.specs.Lines.{status_of}
 use Rattle.xk_serve.specs.OneAnswer.{IsChartOf, IsCharted, MayChart, charting, done_with, replaying}
-use Rattle.xk_serve.specs.OrderedRun.{IsReplay, IsWholeRun}
-use Rattle.xk_serve.specs.Programs.{Gives}
+use Rattle.xk_answers.specs.OrderedRun.{IsReplay, IsWholeRun}
+use Rattle.xk_program.specs.Programs.{Gives}
 use Rattle.xk_serve.proofs.AnswerUniquenessLemmas.{done_zero, prints, prints_once, whole_done}
 use Rattle.xk_serve.proofs.TellingUniquenessLemmas.{same_tale}
 

@@ -21,7 +21,7 @@ use Rattle.xk_scheduler.proofs.EnabledSetLemmas.{going}
 use Rattle.xk_replay.proofs.VerdictLemmas.{leads_from}
 use Rattle.xk_cli.specs.declared.job.Order.{Order}
 use Rattle.xk_cli.specs.declared.job.Order.TheVariants as order
-use Rattle.xk_serve.specs.OrderedRun.{FollowsOrder, IsLoggedRun, IsOrderedRun, IsWholeRun}
+use Rattle.xk_answers.specs.OrderedRun.{FollowsOrder, IsLoggedRun, IsOrderedRun, IsWholeRun}
 
 -- ---- whoever chooses
 

@@ -1,41 +1,23 @@
 -- From what is said of a module to what is said of the task on the bytes that give it.
-use Rattle.std.proofs.Common.{◌≡◌, ◌≢◌, ◌∙◌, ◌||◌, ℕ, ℤ, List, [], Bool, true, false, Option, Some, None, Result, Ok, Err, IfOk, IfErr, if◌then◌else◌, inl, inr, refl, ap, sym, subst}
+use Rattle.std.proofs.Common.{◌≡◌, ◌∙◌, ◌||◌, ℕ, ℤ, List, [], Bool, true, false, Option, Some, Result, Ok, Err, IfOk, IfErr, if◌then◌else◌, inl, inr, refl, ap, sym, subst}
 use Rattle.std.specs.Prelude.{IfSome}
-use Rattle.xk_types.specs.declared.world.Entry.{Entry}
 use Rattle.xk_types.specs.Acceptance.{IsAccepted}
 use Rattle.xk_types.specs.Code.{ModuleValue}
 use Rattle.xk_types.specs.World.{AreArguments}
-use Rattle.xk_log.specs.declared.fault.LogFault.{LogFault}
-use Rattle.xk_log.specs.declared.fault.LogFault.TheVariants as log
-use Rattle.xk_replay.specs.declared.fault.ReplayFault.{ReplayFault}
-use Rattle.xk_replay.specs.declared.fault.ReplayFault.TheVariants as replay
-use Rattle.xk_replay.specs.Replay.{IsFaultOf}
-use Rattle.xk_cli.specs.Status.{status_program}
-use Rattle.xk_bounds.specs.Refusals.{Refuses}
-use Rattle.xk_bounds.specs.declared.refusal.Refusal.{Refusal}
 use Rattle.xk_bounds.specs.declared.refusal.Refusal.TheVariants as refusal
-use Rattle.xk_serve.specs.declared.job_result.Done.{Done}
-use Rattle.xk_serve.specs.declared.fault.Fault.{Fault}
-use Rattle.xk_serve.specs.declared.fault.Fault.TheVariants as fault
-use Rattle.xk_serve.specs.Answer.{Check, ComesTo, Compile, Doing, Draw, Expected, Explain, FailsBy, IsLogText, IsNoRun, IsNotRun, IsRefusal, IsTelling, IsText, Listing, Outcomes, Races, Replay, Run, Succeeds, Tally, Task, Where, asks_verifier, reads_list, reads_log, reads_more, runs, wants_whole}
-use Rattle.xk_serve.specs.Faults.{of_log, of_refusal, of_replay}
-use Rattle.xk_serve.specs.Lines.{status_of}
+use Rattle.xk_answers.specs.declared.job_result.Done.{Done}
+use Rattle.xk_program.specs.declared.fault.Fault.{Fault}
+use Rattle.xk_program.specs.declared.fault.Fault.TheVariants as fault
+use Rattle.xk_answers.specs.Results.{Check, ComesTo, Compile, Doing, Draw, Expected, Explain, IsNoRun, IsTelling, IsText, Listing, Outcomes, Races, Replay, Run, Tally, Where}
+use Rattle.xk_serve.specs.Answer.{FailsBy, Succeeds, Task, asks_verifier, reads_list, reads_log, reads_more, runs, wants_whole}
+use Rattle.xk_program.specs.Refusals.{IsNotRun, IsRefusal}
 use Rattle.std.proofs.lemmas.Result.{IfOk-weaker}
 use Rattle.std.proofs.lemmas.Bool.{false≢true}
-use Rattle.xk_serve.specs.Programs.{Gives}
-use Rattle.xk_serve.specs.Devices.{AgainstExpected, AgainstList, AgainstLog, AgainstModule, AgainstReading, AgainstRun, AgainstText, read_of}
-
--- ---- logs that may be known
-
--- what holds of each list holds of the one that is known, if any is
-pub of_any : (P : List ℕ → Type 0) (known : Option (List ℕ)) → ((xs : List ℕ) → P xs) → IfSome known P
-of_any P None h = tt
-of_any P (Some xs) h = h xs
-
--- what follows for each list follows for the one that is known
-pub of_each : (P Q : List ℕ → Type 0) (known : Option (List ℕ)) → ((xs : List ℕ) → P xs → Q xs) → IfSome known P → IfSome known Q
-of_each P Q None f h = tt
-of_each P Q (Some xs) f h = f xs h
+use Rattle.xk_program.specs.Programs.{Gives}
+use Rattle.xk_answers.specs.Refusals.{AgainstExpected, AgainstModule, AgainstRun, AgainstText}
+use Rattle.xk_serve.specs.Devices.{AgainstLog, read_of}
+use Rattle.xk_program.specs.Faults.{GivesNoModule}
+use Rattle.xk_answers.proofs.LogLemmas.{of_any, of_each}
 
 -- a task that reads more than a program reads what is known
 read_known : (t : Task) (known : Option (List ℕ)) → reads_more t.doing ≡ true → read_of t known ≡ known
@@ -342,31 +324,16 @@ against_list t bytes known old new m what args (Ok d) is told lists given h = tt
 against_list t bytes known old new m what args (Err f) is told lists given h =
     against_listed t bytes known old new m f (ap reads_list is ∙ lists) given (subst (λ xs. AgainstExpected m xs known old new f) told h)
 
--- ---- the verifier
-
--- what stands against a run by a log of the module that it accepted
-pub run_stands : (m v : ModuleValue) (args : List ℤ) (known : Option (List ℕ)) (old new : ℕ) (r : Result Done Fault) → v ≡ m → IsAccepted m → AreArguments m args
-    → IfErr r (AgainstRun v args known old new) → IfErr r (AgainstModule m args known old new)
-run_stands m v args known old new (Ok d) is accepted taken h = tt
-run_stands m v args known old new (Err f) is accepted taken h = inr (accepted, taken, subst (λ x. AgainstRun x args known old new f) is h)
-
--- what stands against reading the text of a log, where the module is run
-pub text_stands : (m : ModuleValue) (args : List ℤ) (known : Option (List ℕ)) (old new : ℕ) (r : Result Done Fault) → IsAccepted m → AreArguments m args
-    → IfErr r (AgainstReading known old new) → IfErr r (AgainstText m args known old new)
-text_stands m args known old new (Ok d) accepted taken h = tt
-text_stands m args known old new (Err f) accepted taken h = inr (accepted, taken, h)
-
--- what stands against a list, where the module is run
-pub list_stands : (m : ModuleValue) (args : List ℤ) (known : Option (List ℕ)) (old new : ℕ) (r : Result Done Fault) → IsAccepted m → AreArguments m args
-    → IfErr r (AgainstList known old new) → IfErr r (AgainstExpected m args known old new)
-list_stands m args known old new (Ok d) accepted taken h = tt
-list_stands m args known old new (Err f) accepted taken h = inr (accepted, taken, h)
-
--- a log that was read, and is none of a whole run
-pub replay_stands : (m : ModuleValue) (args : List ℤ) (known : Option (List ℕ)) (old new : ℕ) (es : List Entry) (f : ReplayFault) → new ≡ old
-    → IfSome known (λ logged. IsLogText logged es) → IsFaultOf m args es f → AgainstRun m args known old new (of_replay f)
-replay_stands m args known old new es (replay.NotEnabled i) e text h = (e, of_each _ _ known (λ logged t. (es, t, h)) text)
-replay_stands m args known old new es replay.NotEnded e text h = (e, of_each _ _ known (λ logged t. (es, t, h)) text)
-replay_stands m args known old new es replay.OutOfMemory e text h = (e, of_any _ known (λ logged. tt))
-
--- ---- a log that was read
+-- what says that bytes give no module stands against a task on them, whatever log there is
+pub no_module_fails : (t : Task) (bytes : List ℕ) (f : Fault) → GivesNoModule t.form bytes f → (logged : List ℕ) → FailsBy t bytes logged f
+no_module_fails t bytes (fault.Text f) h logged = h
+no_module_fails t bytes (fault.Front f) h logged = h
+no_module_fails t bytes fault.OutOfMemory h logged = tt
+no_module_fails t bytes (fault.Refused r) h logged = absurd h
+no_module_fails t bytes (fault.Arguments wants has) h logged = absurd h
+no_module_fails t bytes (fault.Grammar line) h logged = absurd h
+no_module_fails t bytes fault.Truncated h logged = absurd h
+no_module_fails t bytes (fault.NotEnabled i) h logged = absurd h
+no_module_fails t bytes fault.NotEnded h logged = absurd h
+no_module_fails t bytes (fault.NoOutcome line) h logged = absurd h
+no_module_fails t bytes fault.Device h logged = absurd h

@@ -11,12 +11,13 @@ use Rattle.xk_tally.proofs.RunLemmas.{tally_once}
 use Rattle.xk_cli.specs.declared.job.Form.{Form}
 use Rattle.xk_cli.specs.declared.job.Form.TheVariants as form
 use Rattle.xk_types.specs.declared.world.Entry.{Entry}
-use Rattle.xk_serve.specs.declared.picture.Picture.{Picture}
-use Rattle.xk_serve.specs.declared.picture.Picture.TheVariants as picture
-use Rattle.xk_serve.specs.Answer.{Check, Compile, Doing, Draw, Expected, Explain, IsPicture, IsTelling, Listing, Outcomes, Races, Replay, Run, Tally, Where}
-use Rattle.xk_serve.specs.Explanation.{HaveOrigins, IsByOrigins, IsListed, Tale, acceptance_told, events_told, image_told, lanes_told, page_told, races_told, where_told}
+use Rattle.xk_answers.specs.declared.picture.Picture.{Picture}
+use Rattle.xk_answers.specs.declared.picture.Picture.TheVariants as picture
+use Rattle.xk_answers.specs.Results.{Check, Compile, Doing, Draw, Expected, Explain, IsPicture, IsTelling, Listing, Outcomes, Races, Replay, Run, Tally, Where}
+use Rattle.xk_program.specs.Origins.{HaveOrigins, IsByOrigins}
+use Rattle.xk_answers.specs.Explanation.{IsListed, Tale, acceptance_told, events_told, image_told, lanes_told, page_told, races_told, where_told}
 use Rattle.xk_cli.specs.declared.job.Order.TheVariants as order
-use Rattle.xk_serve.specs.Programs.{Gives}
+use Rattle.xk_program.specs.Programs.{Gives}
 use Rattle.xk_types.specs.World.{World}
 use Rattle.xk_serve.proofs.LogUniquenessLemmas.{text_once}
 use Rattle.xk_serve.proofs.RunUniquenessLemmas.{last_once, logged_once}

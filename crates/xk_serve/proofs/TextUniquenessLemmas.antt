@@ -13,7 +13,7 @@ use Rattle.xk_law_compiler.proofs.CompiledOnceLaw.{one_compiled}
 use Rattle.xk_codegen.specs.Faults.{IsFaultOf, IsToldOnce}
 use Rattle.xk_codegen.proofs.OneFaultLaw.{not_faulty, same_fault, told_once}
 use Rattle.xk_serve.specs.OneAnswer.{IsLeftOpen}
-use Rattle.xk_serve.specs.Programs.{IsCompiledTo, IsNoSource, IsSource}
+use Rattle.xk_program.specs.Programs.{IsCompiledTo, IsNoSource, IsSource}
 
 not_utf8 : (bytes : List ℕ) (n : ℕ) → IsValidUpTo bytes n → IsUtf8 bytes → ⊥
 not_utf8 bytes n bad good =

@@ -1,10 +1,4 @@
-pub mod Faults
 pub mod Lines
-pub mod OneAnswer
-pub mod Programs
-pub mod Bytes
-pub mod OrderedRun
-pub mod Explanation
 pub mod Answer
 pub mod Devices
-pub mod EveryRun
+pub mod OneAnswer

@@ -10,13 +10,14 @@ use Rattle.xk_typestate.specs.declared.fault.KindFault.{KindFault}
 use Rattle.xk_cli.specs.CommandLine.{By}
 use Rattle.xk_cli.specs.Status.{status_done}
 use Rattle.xk_replay.specs.Chart.{chart_text}
-use Rattle.xk_serve.specs.declared.job_result.Done.{Done}
-use Rattle.xk_serve.specs.declared.job_result.Done.TheVariants as done
-use Rattle.xk_serve.specs.declared.picture.Picture.TheVariants as picture
-use Rattle.xk_serve.specs.declared.fault.Fault.TheVariants as fault
-use Rattle.xk_serve.specs.Answer.{Answers, Doing, Draw, Expected, Explain, IsLogText, IsSaidOf, Outcomes, Reply, Replay, Run, Task, done_reply, fault_reply}
+use Rattle.xk_answers.specs.declared.job_result.Done.{Done}
+use Rattle.xk_answers.specs.declared.job_result.Done.TheVariants as done
+use Rattle.xk_answers.specs.declared.picture.Picture.TheVariants as picture
+use Rattle.xk_program.specs.declared.fault.Fault.TheVariants as fault
+use Rattle.xk_serve.specs.Answer.{Answers, IsSaidOf, Reply, Task, done_reply, fault_reply}
+use Rattle.xk_answers.specs.Results.{Doing, Draw, Expected, Explain, IsLogText, Outcomes, Replay, Run}
 use Rattle.xk_messages.specs.Lines.{kind_text, line}
-use Rattle.xk_serve.specs.Programs.{Gives, IsSource, SpellsNone}
+use Rattle.xk_program.specs.Programs.{Gives, IsSource, SpellsNone}
 
 -- one slot is refused at one place, where it is of one kind, by one rule, and neither fault has a longer walk there
 pub record IsSameRefusal (f g : KindFault) : Type 0 where

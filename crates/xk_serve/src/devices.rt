@@ -5,26 +5,36 @@ ghost use Rattle.std.specs.Io.KnownBytes.{Appends};
 ghost use Rattle.xk_types.specs.Device.{Rose};
 ghost use Rattle.xk_log.specs.Writing.{AppendsBeginning};
 ghost use Rattle.xk_cli.specs.Status.{status_device, status_done, status_memory, status_partial, status_program};
-ghost use Rattle.xk_serve.specs.Answer.{IsSaidOf, Succeeds, done_status, reads_more, task_of};
-ghost use Rattle.xk_serve.specs.Bytes.{FailsRead, IsReadToLimit, kept};
-ghost use Rattle.xk_serve.specs.Lines.{device_line, done_ending, done_log, status_of};
+ghost use Rattle.xk_serve.specs.Answer.{IsSaidOf, Succeeds, reads_more, task_of};
+ghost use Rattle.xk_answers.specs.Printed.{done_status};
+ghost use Rattle.xk_program.specs.Bytes.{IsReadToLimit};
+ghost use Rattle.xk_program.specs.Lines.{device_line, status_of};
+ghost use Rattle.xk_answers.specs.Printed.{done_ending, done_log};
 ghost use Rattle.xk_messages.specs.Lines.{memory_line};
 ghost use Rattle.xk_serve.specs.Devices.{AgainstLog, Answered, ErrBegins, Explained, IfKnown, IsBegun, IsListReadToLimit, IsQuiet, IsWritten, OutBegins, Reports, StandsAgainst, Tells, TellsWords, read_of};
 
-use crate::bounded_read::read_front;
 use crate::commands::answer;
-use crate::explanation::{Refused, unsaid};
-use crate::fault::{DEVICE_LINE, EXCLUDED_LINE, Fault, LIST_LINE, RUNS_LINE, SEED_LINE};
-use crate::job_result::Done;
-use crate::program_loader::{LONGEST_MODULE, LONGEST_SOURCE};
-use crate::verdict::explained;
 use std::alloc::Global;
 use std::sync::Wait;
 use std::thread::Threads;
-use xk_cli::{Command, Form, Job, WordsFault, status};
+use xk_answers::{Done, Refused, explained, unsaid};
+use xk_cli::{Command, Job, WordsFault, status};
 use xk_log::{Device, write_all, write_entries};
 use xk_messages::MEMORY_LINE;
+use xk_program::{DEVICE_LINE, Fault, read_program};
 use xk_types::{Sink, Source};
+
+/// The line where the words have an order beside workers.
+const EXCLUDED_LINE: &str = "x10clock: --workers and --order exclude each other\n";
+
+/// The line of words that have a seed, and no order by chance.
+const SEED_LINE: &str = "x10clock: --seed goes with --order random\n";
+
+/// The words have a number of runs, and no order by chance, or a log.
+const RUNS_LINE: &str = "x10clock: --runs goes with --order random, and not with --log\n";
+
+/// The words have a list of outcomes, and an outcome to pick, or a log.
+const LIST_LINE: &str = "x10clock: --expect goes without --log and --pick\n";
 
 /// Reads the program, does the job, and writes what comes of it: its result to `out` and then the log of a run that is to have one
 /// to `log_out`, or one line to `err`. The answer is the exit status: 0 where the job is done, 6 where it is
@@ -204,21 +214,6 @@ fn done_or_refused<R: Threads + Wait + Sync, L: Source>(
             Ok(done) => Ok(done),
             Err(fault) => Err(unsaid(alloc, fault)),
         },
-    }
-}
-
-/// All that counts of the bytes in FILE: one byte more than its text may have, at most, and no others are read then.
-pub fn read_program<P: Source>(alloc: Global, form: Form, program: &mut P) -> Result<Vec<u8>, Fault>
-    ensures kept { IfOk result (λ bytes.
-        IfSome (P.remaining program.old) (λ known. bytes.items ≡ kept form known)) }
-    ensures no_further { IsReadToLimit form (P.remaining program.old) (P.remaining program.new) }
-    ensures no_fault { OnOk result (P.fault_count program.new ≡ P.fault_count program.old) }
-    ensures failed { IfErr result
-        (FailsRead (P.fault_count program.old) (P.fault_count program.new)) }
-{
-    match form {
-        Form::Module => read_front(alloc, program, LONGEST_MODULE + 1),
-        Form::Source => read_front(alloc, program, LONGEST_SOURCE + 1),
     }
 }
 

@@ -1,33 +1,16 @@
-//! What holds of every program that is accepted, and of all answers: nothing here is computed.
+//! What holds of all answers: nothing here is computed.
 
 ghost use Rattle.std.specs.Prelude.{◌≡◌, ◌≢◌, ◌⊎◌, ℕ, ℤ, List, true};
-ghost use Rattle.xk_serve.specs.declared.job_result.Done.{Done};
-ghost use Rattle.xk_serve.specs.Answer.{Answers, ComesTo, Doing, IsTelling, IsText, Reply, Run, Task};
-ghost use Rattle.xk_serve.specs.EveryRun.{EveryRun};
-ghost use Rattle.xk_serve.specs.Lines.{done_log, done_text};
+ghost use Rattle.xk_answers.specs.declared.job_result.Done.{Done};
+ghost use Rattle.xk_serve.specs.Answer.{Answers, Reply, Task};
+ghost use Rattle.xk_answers.specs.Results.{ComesTo, Doing, IsTelling, IsText, Run};
+ghost use Rattle.xk_answers.specs.Printed.{done_log, done_text};
 ghost use Rattle.xk_serve.specs.OneAnswer.{ComesToOne, IsCharted, IsSameReply, MayChart, TellFaults, charting, done_with, replaying};
-ghost use Rattle.xk_serve.specs.Programs.{Gives, IsCompiledTo};
-ghost use Rattle.xk_types.specs.Acceptance.{IsAccepted};
+ghost use Rattle.xk_program.specs.Programs.{Gives};
 ghost use Rattle.xk_types.specs.Code.{ModuleValue};
 ghost use Rattle.xk_cli.specs.declared.job.Form.TheVariants as form;
 ghost use Rattle.xk_cli.specs.CommandLine.{Way};
 ghost use Rattle.xk_cli.specs.Status.{status_done, status_memory};
-
-use xk_law_compiler::laws::means_its_source;
-use xk_law_schedules::every_accepted_module;
-
-/// What holds of every source text that is compiled to a module which is accepted, of all arguments that its main may be given, and of
-/// every schedule of its activity steps. No step raises ClockUseException or meets a missing or wrong operand. A run has at most the
-/// verified number of steps, and its worlds at most the verified numbers of activities, of clocks, and of slots of an activity. Where nobody
-/// can take a step, every activity has ended. And each run is a run of the text with the same arguments: the text's own steps, one statement at
-/// a time, show the same to all activities. The call does nothing; its contract is the law.
-pub fn every_accepted_text()
-    ensures { (bytes : List ℕ) (m : ModuleValue) → (p : IsCompiledTo bytes m) → IsAccepted m
-        → EveryRun p.tree m }
-{
-    every_accepted_module();
-    means_its_source();
-}
 
 /// To a job on a module text there is one answer, want of memory aside: the same status, and the same bytes on every device. Left open are: which walk
 /// is told of a refusal of kinds, one of the shortest; what `explain` writes to standard output of a refusal; where workers take the steps, which run

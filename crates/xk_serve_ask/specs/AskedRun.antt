@@ -16,14 +16,16 @@ use Rattle.xk_ask.specs.Asking.{Leaves}
 use Rattle.xk_ask.specs.Play.{IsPlayed, log_by, told_by, unread}
 use Rattle.xk_ask.specs.declared.fault.AskFault.{AskFault}
 use Rattle.xk_ask.specs.declared.fault.AskFault.TheVariants as ask
-use Rattle.xk_serve.specs.declared.fault.Fault.{Fault}
-use Rattle.xk_serve.specs.declared.fault.Fault.TheVariants as fault
-use Rattle.xk_serve.specs.Answer.{IsNotRun, whole_status}
-use Rattle.xk_serve.specs.Explanation.{IsByOrigins, places_in}
-use Rattle.xk_serve.specs.Bytes.{kept}
-use Rattle.xk_serve.specs.Faults.{GivesNoModule}
-use Rattle.xk_serve.specs.Lines.{fault_line, status_of}
-use Rattle.xk_serve.specs.Programs.{Gives}
+use Rattle.xk_program.specs.declared.fault.Fault.{Fault}
+use Rattle.xk_program.specs.declared.fault.Fault.TheVariants as fault
+use Rattle.xk_program.specs.Refusals.{IsNotRun}
+use Rattle.xk_answers.specs.Printed.{whole_status}
+use Rattle.xk_program.specs.Origins.{IsByOrigins}
+use Rattle.xk_answers.specs.Explanation.{places_in}
+use Rattle.xk_program.specs.Bytes.{kept}
+use Rattle.xk_program.specs.Faults.{GivesNoModule}
+use Rattle.xk_program.specs.Lines.{fault_line, status_of}
+use Rattle.xk_program.specs.Programs.{Gives}
 
 -- want of memory is one fault, whoever met it
 abbrev pub fault_of : AskFault → Fault

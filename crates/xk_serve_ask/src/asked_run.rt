@@ -1,6 +1,6 @@
 //! `run --order ask`: a run whose order is asked for.
 
-ghost use Rattle.std.specs.Prelude.{◌≡◌, ◌≢◌, ◌⊎◌, ◌++◌, ℕ, List, Option, [], IfErr, IfOk, IfSome, OnErr, OnOk, string_bytes, if◌then◌else◌};
+ghost use Rattle.std.specs.Prelude.{◌≡◌, ◌≢◌, ◌⊎◌, ◌++◌, ℕ, List, Option, [], true, IfErr, IfOk, IfSome, OnErr, OnOk, string_bytes, if◌then◌else◌};
 ghost use Rattle.std.specs.Io.KnownBytes.{Appends};
 ghost use Rattle.xk_types.specs.Device.{Rose};
 ghost use Rattle.xk_types.specs.World.{AreArguments};
@@ -11,11 +11,13 @@ ghost use Rattle.xk_cli.specs.Status.{status_device, status_memory, status_progr
 ghost use Rattle.xk_messages.specs.Lines.{memory_line};
 ghost use Rattle.xk_ask.specs.Asking.{Leaves};
 ghost use Rattle.xk_ask.specs.Play.{IsPlayed, log_by, unread};
-ghost use Rattle.xk_serve.specs.Answer.{whole_status};
-ghost use Rattle.xk_serve.specs.Lines.{device_line, status_of};
+ghost use Rattle.xk_answers.specs.Printed.{whole_status};
+ghost use Rattle.xk_program.specs.Lines.{device_line, status_of};
 ghost use Rattle.xk_ask.specs.Answers.{AreAnswers};
 ghost use Rattle.xk_serve_ask.specs.AskedRun.{AreBegun, BeginsAsking, BeginsToAsk, EndsAsking, FailsWhile, fault_of, IsAskedBy, IsAskedFirst, IsHandReply, IsPlayedByHand, IsWrittenBy, OutBeginsRun, StandsAgainstAsked, last_line};
-ghost use Rattle.xk_serve.specs.Bytes.{IsReadToLimit, kept};
+ghost use Rattle.xk_cli.specs.declared.job.Form.{Form as FormValue};
+ghost use Rattle.xk_program.specs.Origins.{IsFrom};
+ghost use Rattle.xk_program.specs.Bytes.{IsReadToLimit, kept};
 
 use std::alloc::{AllocError, Global};
 use xk_ask::{AskFault, Played, module_ask, source_ask};
@@ -24,7 +26,8 @@ use xk_cli::{Form, status};
 use xk_io::write_numbers;
 use xk_log::{Device, write_all, write_entries};
 use xk_messages::ended_line;
-use xk_serve::{Fault, module_by, origins_in, read_program, report, runnable};
+use xk_program::{Fault, Provenance, program_by, read_program, runnable};
+use xk_serve::report;
 use xk_types::{Sink, Source};
 
 /// A run whose order was asked for, and what is printed behind its numbers.
@@ -57,8 +60,7 @@ fn last_line(alloc: Global, whole: bool, steps: u64) -> Result<String, AllocErro
 /// Asks for the order of a run of an accepted module.
 fn played_by<L: Source, E: Sink>(
     alloc: Global,
-    form: Form,
-    bytes: &[u8],
+    from: &Provenance<'_>,
     verified: &Verified,
     arguments: &[i64],
     input: &mut L,
@@ -67,12 +69,14 @@ fn played_by<L: Source, E: Sink>(
     requires { AreArguments verified.now arguments.now }
     ensures played { IfOk result (λ r. IsPlayed verified.now arguments.now
         r.log.items r.printed.items r.steps r.whole) }
-    ensures answers { IfOk result (λ r. (xs : List (Option ℕ))
+    ensures answers { (form : FormValue) (bytes : List ℕ) → IsFrom true form bytes from.now
+        → IfOk result (λ r. (xs : List (Option ℕ))
         × AreAnswers (L.remaining input.old) xs
         × (r.log.items ≡ log_by verified.now arguments.now xs)
-        × IsWrittenBy (IsAskedBy form bytes.now verified.now arguments.now xs)
+        × IsWrittenBy (IsAskedBy form bytes verified.now arguments.now xs)
         (E.contents err.old) (E.contents err.new)) }
-    ensures begins { BeginsToAsk form bytes.now verified.now arguments.now
+    ensures begins { (form : FormValue) (bytes : List ℕ) → IsFrom true form bytes from.now
+        → BeginsToAsk form bytes verified.now arguments.now
         (L.remaining input.old) (E.contents err.old) (E.contents err.new) }
     ensures rest { IfOk result (λ r. Leaves (unread verified.now arguments.now r.whole)
         (L.remaining input.old) (L.remaining input.new)) }
@@ -81,10 +85,10 @@ fn played_by<L: Source, E: Sink>(
     ensures failed { IfErr result (FailsWhile (L.fault_count input.old) (L.fault_count input.new)
         (E.fault_count err.old) (E.fault_count err.new)) }
 {
-    match origins_in(alloc, form, bytes)? {
+    match &from.origins {
         Some(origins) => {
             let units = origins.units();
-            match source_ask(alloc, bytes, units, verified, arguments, input, err) {
+            match source_ask(alloc, from.text, units, verified, arguments, input, err) {
                 Ok(played) => Ok(played),
                 Err(fault) => Err(fault_of(fault)),
             }
@@ -123,9 +127,9 @@ fn asked_of<L: Source, E: Sink>(
     ensures unread { IfErr result
         (λ f. status_of f ≡ status_program → input.new ≡ input.old) }
 {
-    let module = module_by(alloc, form, bytes)?;
-    let verified = runnable(alloc, module, arguments)?;
-    let played = played_by(alloc, form, bytes, &verified, arguments, input, err)?;
+    let program = program_by(alloc, form, true, bytes)?;
+    let verified = runnable(alloc, program.module, arguments)?;
+    let played = played_by(alloc, &program.from, &verified, arguments, input, err)?;
     let ending = last_line(alloc, played.whole, played.steps)?;
     Ok(AskedRun { played, ending })
 }

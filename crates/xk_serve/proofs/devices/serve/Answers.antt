@@ -1,6 +1,6 @@
 use Rattle.xk_serve.specs.Answer.{task_of}
 use Rattle.xk_serve.specs.Devices.{ErrBegins}
-use Rattle.xk_serve.specs.declared.fault.Fault.TheVariants as fault
+use Rattle.xk_program.specs.declared.fault.Fault.TheVariants as fault
 use Rattle.std.proofs.Common.{inl, refl}
 use Rattle.xk_serve.proofs.ReplyLemmas.{begun_known, line_begins, of_known, said_begins, told_answers, written_answers}
 use Rattle.xk_serve.proofs.devices.serve.Goals as goal

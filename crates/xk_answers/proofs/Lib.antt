@@ -1,0 +1,5 @@
+pub mod ExplanationLemmas
+pub mod LogLemmas
+pub mod OrderedRunLemmas
+pub mod PrintedLemmas
+pub mod VerdictLemmas

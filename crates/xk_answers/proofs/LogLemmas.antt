@@ -1,0 +1,54 @@
+-- Logs and lists whose bytes may be known, and what stands against reading them.
+use Rattle.std.proofs.Common.{◌≡◌, ℕ, ℤ, List, Option, Some, None, Result, Ok, Err, IfErr, inr, subst}
+use Rattle.std.specs.Prelude.{IfSome}
+use Rattle.xk_types.specs.declared.world.Entry.{Entry}
+use Rattle.xk_types.specs.Acceptance.{IsAccepted}
+use Rattle.xk_types.specs.Code.{ModuleValue}
+use Rattle.xk_types.specs.World.{AreArguments}
+use Rattle.xk_replay.specs.declared.fault.ReplayFault.{ReplayFault}
+use Rattle.xk_replay.specs.declared.fault.ReplayFault.TheVariants as replay
+use Rattle.xk_replay.specs.Replay.{IsFaultOf}
+use Rattle.xk_answers.specs.declared.job_result.Done.{Done}
+use Rattle.xk_program.specs.declared.fault.Fault.{Fault}
+use Rattle.xk_answers.specs.Results.{IsLogText}
+use Rattle.xk_program.specs.Faults.{of_replay}
+use Rattle.xk_answers.specs.Refusals.{AgainstExpected, AgainstList, AgainstModule, AgainstReading, AgainstRun, AgainstText}
+
+-- ---- logs that may be known
+
+-- what holds of each list holds of the one that is known, if any is
+pub of_any : (P : List ℕ → Type 0) (known : Option (List ℕ)) → ((xs : List ℕ) → P xs) → IfSome known P
+of_any P None h = tt
+of_any P (Some xs) h = h xs
+
+-- what follows for each list follows for the one that is known
+pub of_each : (P Q : List ℕ → Type 0) (known : Option (List ℕ)) → ((xs : List ℕ) → P xs → Q xs) → IfSome known P → IfSome known Q
+of_each P Q None f h = tt
+of_each P Q (Some xs) f h = f xs h
+
+-- ---- the verifier
+
+-- what stands against a run by a log of the module that it accepted
+pub run_stands : (m v : ModuleValue) (args : List ℤ) (known : Option (List ℕ)) (old new : ℕ) (r : Result Done Fault) → v ≡ m → IsAccepted m → AreArguments m args
+    → IfErr r (AgainstRun v args known old new) → IfErr r (AgainstModule m args known old new)
+run_stands m v args known old new (Ok d) is accepted taken h = tt
+run_stands m v args known old new (Err f) is accepted taken h = inr (accepted, taken, subst (λ x. AgainstRun x args known old new f) is h)
+
+-- what stands against reading the text of a log, where the module is run
+pub text_stands : (m : ModuleValue) (args : List ℤ) (known : Option (List ℕ)) (old new : ℕ) (r : Result Done Fault) → IsAccepted m → AreArguments m args
+    → IfErr r (AgainstReading known old new) → IfErr r (AgainstText m args known old new)
+text_stands m args known old new (Ok d) accepted taken h = tt
+text_stands m args known old new (Err f) accepted taken h = inr (accepted, taken, h)
+
+-- what stands against a list, where the module is run
+pub list_stands : (m : ModuleValue) (args : List ℤ) (known : Option (List ℕ)) (old new : ℕ) (r : Result Done Fault) → IsAccepted m → AreArguments m args
+    → IfErr r (AgainstList known old new) → IfErr r (AgainstExpected m args known old new)
+list_stands m args known old new (Ok d) accepted taken h = tt
+list_stands m args known old new (Err f) accepted taken h = inr (accepted, taken, h)
+
+-- a log that was read, and is none of a whole run
+pub replay_stands : (m : ModuleValue) (args : List ℤ) (known : Option (List ℕ)) (old new : ℕ) (es : List Entry) (f : ReplayFault) → new ≡ old
+    → IfSome known (λ logged. IsLogText logged es) → IsFaultOf m args es f → AgainstRun m args known old new (of_replay f)
+replay_stands m args known old new es (replay.NotEnabled i) e text h = (e, of_each _ _ known (λ logged t. (es, t, h)) text)
+replay_stands m args known old new es replay.NotEnded e text h = (e, of_each _ _ known (λ logged t. (es, t, h)) text)
+replay_stands m args known old new es replay.OutOfMemory e text h = (e, of_any _ known (λ logged. tt))

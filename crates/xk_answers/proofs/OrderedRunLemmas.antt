@@ -1,0 +1,105 @@
+-- Runs in an order, as the run of a chooser gives them.
+use Rattle.std.proofs.Common.{◌≡◌, ◌∙◌, ℕ, ℤ, Bool, Global, Vec, List, Option, None, Some, false, true, ap, refl, subst}
+use Rattle.std.specs.Prelude.{option_map, unwrap_or}
+use Rattle.xk_types.specs.declared.world.Entry.{Entry}
+use Rattle.xk_types.specs.Acceptance.{IsAccepted}
+use Rattle.xk_types.specs.Code.{ModuleValue}
+use Rattle.xk_types.specs.World.{World, opening}
+use Rattle.xk_types.specs.Schedule.{all_ended, printed}
+use Rattle.xk_types.specs.Logs.{schedule_of}
+use Rattle.xk_core.specs.Core.{CoreValue}
+use Rattle.xk_scheduler.specs.Choosers.{Follows}
+use Rattle.xk_scheduler.specs.LoggedRuns.{IsRunOf}
+use Rattle.xk_scheduler.specs.WholeRuns.{IsLogThat, IsRunThat}
+use Rattle.xk_scheduler.proofs.UnloggedRunLemmas.{follows_any, run_weaker}
+use Rattle.xk_cli.specs.CommandLine.{By, In, Way, way_value}
+use Rattle.xk_cli.specs.declared.job.Drive.{Drive}
+use Rattle.xk_cli.specs.declared.job.Drive.TheVariants as drive
+use Rattle.xk_cli.specs.declared.job.Order.TheVariants as order
+use Rattle.xk_cli.specs.declared.job.Form.{Form}
+use Rattle.xk_answers.specs.declared.job_result.Done.TheVariants as done
+use Rattle.xk_answers.specs.declared.picture.Picture.{Picture}
+use Rattle.xk_answers.specs.declared.picture.Picture.TheVariants as picture
+use Rattle.xk_program.specs.declared.program_loader.Provenance.{Provenance}
+use Rattle.xk_program.specs.Origins.{IsFrom}
+use Rattle.xk_answers.specs.Results.{ComesTo, Draw, IsLogText, IsPicture, IsTelling, Run, picture_told, shows_origins, way_given}
+use Rattle.xk_answers.specs.Explanation.{Tale, events_told, image_told, lanes_told, page_told, races_told}
+use Rattle.xk_answers.specs.OrderedRun.{IsFinished, IsFinishedBy, IsReplay, IsWholeRun}
+
+-- ---- choosers without a state
+
+pub without_state : {S : Type 0} (place : List ℕ → ℕ) (m : ModuleValue) (args : List ℤ) (s : S) (numbers : List ℤ) (steps : ℕ)
+    → IsRunThat (Follows {S = S} (λ z enabled. place enabled) (λ z enabled. z) m s (opening m args)) m args numbers steps
+    → IsRunThat (Follows {S = Unit {0}} (λ z enabled. place enabled) (λ z enabled. z) m tt (opening m args)) m args numbers steps
+without_state place m args s numbers steps r = run_weaker _ _ m args numbers steps (λ list h. follows_any place m s list (opening m args) h) r
+
+-- ---- logs
+
+pub log_without_state : {S : Type 0} (place : List ℕ → ℕ) (m : ModuleValue) (args : List ℤ) (s : S) (log : List Entry) (numbers : List ℤ) (steps : ℕ)
+    → IsRunThat (IsLogThat (Follows {S = S} (λ z enabled. place enabled) (λ z enabled. z) m s (opening m args)) log) m args numbers steps
+    → IsRunThat (IsLogThat (Follows {S = Unit {0}} (λ z enabled. place enabled) (λ z enabled. z) m tt (opening m args)) log) m args numbers steps
+log_without_state place m args s log numbers steps r = run_weaker _ _ m args numbers steps
+    (λ list h. record { follows = follows_any place m s list (opening m args) h.follows; stands_for = h.stands_for; single = h.single }) r
+
+-- with the log or without
+pub finished_without_state : {S : Type 0} (place : List ℕ → ℕ) (m : ModuleValue) (args : List ℤ) (s : S) (keeps : Bool) (log : Option (List Entry)) (numbers : List ℤ) (steps : ℕ)
+    → IsFinishedBy (Follows {S = S} (λ z enabled. place enabled) (λ z enabled. z) m s (opening m args)) keeps m args numbers steps log
+    → IsFinishedBy (Follows {S = Unit {0}} (λ z enabled. place enabled) (λ z enabled. z) m tt (opening m args)) keeps m args numbers steps log
+finished_without_state place m args s false None numbers steps r = without_state place m args s numbers steps r
+finished_without_state place m args s false (Some log) numbers steps r = absurd r
+finished_without_state place m args s true None numbers steps r = absurd r
+finished_without_state place m args s true (Some log) numbers steps r = log_without_state place m args s log numbers steps r
+
+-- what such a run is as an answer
+pub finished_run : (way : Way) (keeps : Bool) (m : ModuleValue) (args : List ℤ) (logged : List ℕ) (numbers : Vec ℤ Global) (steps : ℕ) (log : Option (Vec Entry Global)) → IsAccepted m
+    → IsFinished way keeps m args numbers.items steps (option_map (λ es. es.items) log) → ComesTo (Run way keeps) m args logged (done.Ended numbers steps log)
+finished_run (In o) false m args logged numbers steps None accepted r = (accepted, r)
+finished_run (In o) true m args logged numbers steps (Some log) accepted r = (accepted, r)
+finished_run (In o) false m args logged numbers steps (Some log) accepted r = absurd r
+finished_run (In o) true m args logged numbers steps None accepted r = absurd r
+finished_run (By n) false m args logged numbers steps None accepted r = (accepted, r)
+finished_run (By n) true m args logged numbers steps (Some log) accepted r = (accepted, r)
+finished_run (By n) false m args logged numbers steps (Some log) accepted r = absurd r
+finished_run (By n) true m args logged numbers steps None accepted r = absurd r
+
+-- the way that is taken where none is given
+pub way_taken : (given : Option Drive) → way_value (unwrap_or given (drive.Order order.First)) ≡ way_given given
+way_taken None = refl
+way_taken (Some d) = refl
+
+-- ---- runs that came to their end
+
+-- a run of a core whose main was given these arguments
+pub worked_run : (m n : ModuleValue) (args : List ℤ) (log : List Entry) (numbers : List ℤ) (c : CoreValue) (steps : ℕ) → n ≡ m → c.world.arguments ≡ args
+    → IsRunOf n log numbers c → all_ended c.world ≡ true → steps ≡ c.world.steps → IsReplay m args log numbers steps
+worked_run m n args log numbers c steps same given run over counted =
+    let run_of = subst (λ k. IsRunOf k log numbers c) same run in
+    record {
+      list = schedule_of log;
+      last = c.world;
+      follows = refl;
+      leads = run_of.leads;
+      given = given;
+      over = over;
+      numbers_are = subst (λ xs. numbers ≡ printed m (schedule_of log) (opening m xs)) given run_of.prints;
+      steps_are = counted;
+    }
+
+-- what is told by the origins of the bytes is a picture
+pub is_picture : (p : Picture) (kind : Form) (bytes : List ℕ) (from : Provenance) (m : ModuleValue) (args : List ℤ) (es : List Entry) (last : World) (told : Tale)
+    → IsFrom (shows_origins p) kind bytes from → told ≡ picture_told p from.text.now m args es last from.origins → IsPicture p kind bytes m args es last told
+is_picture picture.Chart kind bytes from m args es last told is h = h
+is_picture picture.Events kind bytes from m args es last told is h = (from.origins, is.1 refl, h ∙ ap (λ t. events_told t m args es from.origins) is.0)
+is_picture (picture.Lanes window) kind bytes from m args es last told is h = (from.origins, is.1 refl, h ∙ ap (λ t. lanes_told t window m es last from.origins) is.0)
+is_picture (picture.Image window) kind bytes from m args es last told is h = (from.origins, is.1 refl, h ∙ ap (λ t. image_told t window m es last from.origins) is.0)
+is_picture (picture.Page window) kind bytes from m args es last told is h = (from.origins, is.1 refl, h ∙ ap (λ t. page_told t window m es last from.origins) is.0)
+is_picture picture.Races kind bytes from m args es last told is h = (from.origins, is.1 refl, h ∙ ap (λ t. races_told t m args es from.origins) is.0)
+
+-- the log of such a run is that of a whole run, and its picture is told of it
+pub pictured : (p : Picture) (kind : Form) (file bytes : List ℕ) (n m : ModuleValue) (args : List ℤ) (log : List Entry) (logged : List ℕ) (told : Tale) (c : CoreValue) {numbers : List ℤ}
+    → n ≡ m → c.world.arguments ≡ args → IsAccepted m → IsLogText logged log → IsRunOf n log numbers c → all_ended c.world ≡ true
+    → IsPicture p kind bytes n c.world.arguments log c.world told → IsTelling (Draw p) kind file bytes m args logged told
+pictured p kind file bytes n m args log logged told c {numbers} same given accepted text run over is =
+    let run_of = subst (λ k. IsRunOf k log numbers c) same run in
+    let whole : IsWholeRun m args log = record { last = c.world; leads = run_of.leads; given = given; over = over } in
+    (accepted, (log, text, whole, subst (λ xs. IsPicture p kind bytes m xs log c.world told) given (subst (λ k. IsPicture p kind bytes k c.world.arguments log c.world told) same is)))

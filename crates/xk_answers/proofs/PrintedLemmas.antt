@@ -1,0 +1,15 @@
+-- What is printed of a result, part by part.
+use Rattle.std.proofs.Common.{◌≡◌, refl}
+use Rattle.std.proofs.lemmas.List.{append-nil}
+use Rattle.std.specs.Prelude.{◌++◌}
+use Rattle.xk_answers.specs.declared.job_result.Done.{Done}
+use Rattle.xk_answers.specs.declared.job_result.Done.TheVariants as done
+use Rattle.xk_answers.specs.Printed.{done_ending, done_front, done_text}
+
+-- the two parts of what is printed
+pub parts_of_text : (d : Done) → done_front d ++ done_ending d ≡ done_text d
+parts_of_text (done.Compiled text) = refl
+parts_of_text (done.Accepted steps activities clocks) = refl
+parts_of_text (done.Told text whole) = append-nil text.items
+parts_of_text (done.Outcomes text whole log) = append-nil text.items
+parts_of_text (done.Ended printed steps log) = refl

@@ -1,0 +1,26 @@
+use Rattle.std.proofs.Common.{◌∙◌, ap, refl}
+use Rattle.std.proofs.lemmas.Result.{IfOk-weaker}
+use Rattle.xk_answers.specs.Explanation.{races_told}
+use Rattle.xk_answers.proofs.OrderedRunLemmas.{log_without_state}
+use Rattle.xk_answers.proofs.first_races.first_races.Goals as goal
+
+pub returns : goal.returns
+returns c = λ form bytes given.
+    let e = c.in_ok-ended.ended in
+    let is = c.in_ok-ended.ensures in
+    let origins = c.args.from.now.origins in
+    IfOk-weaker c.races_of.result _ _
+    (λ tale h. (
+      e.printed.items,
+      e.core.world.steps,
+      e.log.items,
+      log_without_state (λ enabled. 0) c.args.verified.now c.args.arguments.now _ e.log.items e.printed.items e.core.world.steps is.run,
+      (
+        origins,
+        given.1 refl,
+        h ∙ ap (λ t. races_told t e.module.now e.core.world.arguments e.log.items origins) given.0
+            ∙ ap (λ m. races_told bytes m e.core.world.arguments e.log.items origins) is.same_module
+            ∙ ap (λ args. races_told bytes c.args.verified.now args e.log.items origins) is.same_arguments,
+      ),
+    ))
+    c.races_of.ensures

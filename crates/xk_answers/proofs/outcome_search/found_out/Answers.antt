@@ -1,0 +1,27 @@
+use Rattle.std.proofs.Common.{◌≡◌, ◌∙◌, ◌&&◌, not, Option, None, Some, option_map, refl, ap}
+use Rattle.std.specs.Prelude.{is_some}
+use Rattle.xk_outcomes.specs.Text.{outcomes_text}
+use Rattle.xk_answers.specs.Results.{kept_log}
+use Rattle.xk_answers.proofs.outcome_search.found_out.Goals as goal
+
+-- what is made of something is there where that is
+made_there : {X Y : Type 0} (f : X → Y) (o : Option X) → is_some o ≡ is_some (option_map f o)
+made_there f None = refl
+made_there f (Some x) = refl
+
+pub returns : goal.returns
+returns c =
+    let complete = c.in_ok-found.found.complete in
+    let log = c.in_ok-log.ensures ∙ ap (kept_log c.args.keeps_log c.args.pick) c.deref-2.ensures.value in
+    record {
+      taken = c.requires;
+      list = c.in_ok-found.found.list.items;
+      complete = complete;
+      shown = c.in_ok-found.ensures.shown;
+      distinct = c.in_ok-found.ensures.distinct;
+      all = c.in_ok-found.ensures.all;
+      far = record { entries = c.in_ok-found.found.entries; apart = c.in_ok-found.ensures.kept; met = c.in_ok-found.ensures.limit; few = c.in_ok-found.ensures.most };
+      text_is = c.in_ok-text.ensures ∙ ap (λ list. outcomes_text list complete) c.deref.ensures.value;
+      whole_is = c.is_whole-whole.ensures ∙ ap (λ there. complete && not (c.args.keeps_log && not there)) (c.is_some.ensures ∙ made_there (λ es. es.items) c.in_ok-log.log ∙ ap is_some log);
+      log_is = log;
+    }

@@ -1,0 +1,147 @@
+-- What is told of a program by its lines and names: what `explain` says of what stands against it and of one that is accepted, and its listing. This
+-- project's own.
+use Rattle.std.specs.Prelude.{◌≡◌, ℕ, ℤ, Bool, true, false, List, [], ◌++◌, Option, Some, None}
+use Rattle.std.specs.Option.{option_map_or}
+use Rattle.xk_types.specs.Code.{ModuleValue}
+use Rattle.xk_types.specs.World.{World}
+use Rattle.xk_types.specs.Bound.{steps_bound, activities_bound, clocks_bound}
+use Rattle.xk_tree.specs.Tree.{TreeValue}
+use Rattle.xk_tree.specs.declared.fault.FrontFault.{FrontFault}
+use Rattle.xk_bounds.specs.declared.refusal.Refusal.{Refusal}
+use Rattle.xk_origins.specs.UnitOrigins.{UnitOrigins}
+use Rattle.xk_explain.specs.declared.module_rule.ModuleRule.{ModuleRule}
+use Rattle.xk_explain.specs.Messages.{module_rule}
+use Rattle.xk_explain.specs.Explanations.{front_explanation, module_explanation, refusal_explanation}
+use Rattle.xk_explain.specs.Notes.{NoteValue, note_lines, plain_lines}
+use Rattle.xk_explain.specs.SourceExplanations.{source_explanation}
+use Rattle.xk_explain_json.specs.Objects.{json_line, text_of}
+use Rattle.xk_explain_json.specs.Explanations.{accepted_value, front_value, module_value, refusal_value, source_value}
+use Rattle.xk_explain_names.specs.Notes.{front_notes}
+use Rattle.xk_explain_expected.specs.Notes.{expected_notes}
+use Rattle.xk_explain_bounds.specs.Notes.{accepted_notes, module_notes, refusal_notes}
+use Rattle.xk_listing.specs.Listing.{IsListing}
+use Rattle.xk_show_events.specs.Events.{PlacesValue, events_text, no_text}
+use Rattle.xk_show_lanes.specs.Lanes.{are_lanes_whole, lanes_text}
+use Rattle.xk_show_lanes.specs.declared.window.Window.{Window}
+use Rattle.xk_show_picture.specs.Picture.{is_drawn, picture_text}
+use Rattle.xk_show_page.specs.Page.{page_text}
+use Rattle.xk_races.specs.Races.{is_race_free}
+use Rattle.xk_races.specs.Text.{races_text}
+use Rattle.xk_show_where.specs.Where.{are_steps_legal, where_text}
+use Rattle.xk_types.specs.declared.world.Entry.{Entry}
+use Rattle.xk_cli.specs.declared.job.Form.{Form}
+use Rattle.xk_program.specs.declared.fault.Fault.{Fault}
+use Rattle.xk_program.specs.declared.fault.Fault.TheVariants as fault
+use Rattle.xk_messages.specs.Lines.{accepted_line}
+use Rattle.xk_program.specs.Origins.{HaveOrigins, Program, IsByProgram, IsByTree}
+
+-- what is told: a text, and whether that is a whole answer
+abbrev pub Tale : Type 0
+Tale = List ℕ × Bool
+
+-- a whole answer
+abbrev pub all_told : List ℕ → Tale
+all_told text = (text, true)
+
+-- ---- what stands against a program: as a text, or as a JSON value on a line
+
+abbrev pub module_said : Bool → List ℕ → ModuleRule → List ℕ
+module_said false file r = module_explanation file r
+module_said true file r = json_line (module_value file r)
+
+abbrev pub front_said : Bool → List ℕ → List ℕ → FrontFault → List NoteValue → List ℕ
+front_said false file text f notes = front_explanation file text f notes
+front_said true file text f notes = json_line (front_value file text f notes)
+
+-- what its tree declares by the name that stands there, if the text spells one, and else what could stand there
+abbrev pub notes_of : List ℕ → FrontFault → Option TreeValue → List NoteValue
+notes_of text f (Some tree) = front_notes tree text f
+notes_of text f None = expected_notes text f
+
+-- with these notes
+abbrev pub fault_said : Bool → List ℕ → List ℕ → FrontFault → Option TreeValue → List ℕ
+fault_said json file text f tree = front_said json file text f (notes_of text f tree)
+
+-- by numbers
+abbrev pub plain_said : Bool → List ℕ → Refusal → List NoteValue → List ℕ
+plain_said false file r notes = refusal_explanation file r notes
+plain_said true file r notes = text_of (refusal_value file r notes)
+
+-- by the lines and names of the text whose instructions have these origins
+abbrev pub source_said : Bool → List ℕ → List ℕ → Refusal → List UnitOrigins → List NoteValue → List ℕ
+source_said false file text r origins notes = source_explanation file text origins r notes
+source_said true file text r origins notes = text_of (source_value file text origins r notes)
+
+-- of a refused program, with what its code says of that. (Bytes that give none aren't refused so.)
+abbrev pub refusal_said : Bool → List ℕ → List ℕ → Refusal → Option Program → List ℕ
+refusal_said json file text r None = plain_said json file r []
+refusal_said json file text r (Some (m, None)) = plain_said json file r (module_notes m r)
+refusal_said json file text r (Some (m, Some origins)) = source_said json file text r origins (refusal_notes m origins r)
+
+-- What `explain` says of a fault on standard output, beside its line: of want of memory and of devices nothing.
+abbrev pub IsExplanation : Bool → Form → List ℕ → List ℕ → Fault → List ℕ → Type 0
+IsExplanation json kind file bytes (fault.Text f) said = said ≡ option_map_or (module_said json file) (module_rule f) []
+IsExplanation json kind file bytes (fault.Front f) said = IsByTree bytes (fault_said json file bytes f) said
+IsExplanation json kind file bytes (fault.Refused r) said = IsByProgram kind bytes (refusal_said json file bytes r) said
+IsExplanation json kind file bytes _ said = said ≡ []
+
+-- ---- a program that is accepted
+
+-- the lines of notes, which have their places in this text, if there is one
+abbrev pub lines_of : Option (List ℕ) → List NoteValue → List ℕ
+lines_of (Some text) notes = note_lines text notes
+lines_of None notes = plain_lines notes
+
+-- its bounds, with these notes
+abbrev pub acceptance_said : Bool → List ℕ → Option (List ℕ) → ModuleValue → List NoteValue → List ℕ
+acceptance_said false file text m notes = accepted_line (steps_bound m) (activities_bound m) (clocks_bound m) ++ lines_of text notes
+acceptance_said true file text m notes = json_line (accepted_value file text (steps_bound m) (activities_bound m) (clocks_bound m) notes)
+
+-- its bounds, with what they are made of
+abbrev pub accepted_said : Bool → List ℕ → List ℕ → ModuleValue → Option (List UnitOrigins) → List ℕ
+accepted_said json file text m None = acceptance_said json file None m (accepted_notes m [])
+accepted_said json file text m (Some origins) = acceptance_said json file (Some text) m (accepted_notes m origins)
+
+abbrev pub acceptance_told : Bool → List ℕ → List ℕ → ModuleValue → Option (List UnitOrigins) → Tale
+acceptance_told json file text m origins = all_told (accepted_said json file text m origins)
+
+-- ---- listings
+
+-- the module's instructions, and of a source text where they come from
+abbrev pub IsListed : List ℕ → ModuleValue → Option (List UnitOrigins) → List ℕ → Type 0
+IsListed text m (Some origins) told = IsListing text origins m told
+IsListed text m None told = IsListing [] [] m told
+
+abbrev pub IsProgramListed : Form → List ℕ → ModuleValue → List ℕ → Type 0
+IsProgramListed kind bytes m told = (origins : Option (List UnitOrigins)) × HaveOrigins kind bytes origins × IsListed bytes m origins told
+
+-- ---- runs
+
+-- a text, and where the instructions come from; a module alone has neither
+abbrev pub places_in : List ℕ → Option (List UnitOrigins) → PlacesValue
+places_in text None = no_text
+places_in text (Some origins) = record { text = text; origins = origins }
+
+-- what others see of the run of a log
+abbrev pub events_told : List ℕ → ModuleValue → List ℤ → List Entry → Option (List UnitOrigins) → Tale
+events_told text m args log origins = all_told (events_text (places_in text origins) m args log)
+
+-- the same, with a lane for each activity, of the steps in this window; the run ends in this world
+abbrev pub lanes_told : List ℕ → Window → ModuleValue → List Entry → World → Option (List UnitOrigins) → Tale
+lanes_told text window m log last origins = (lanes_text (places_in text origins) window m log last, are_lanes_whole last)
+
+-- the same as an image
+abbrev pub image_told : List ℕ → Window → ModuleValue → List Entry → World → Option (List UnitOrigins) → Tale
+image_told text window m log last origins = (picture_text (places_in text origins) window m log last, is_drawn window m log last)
+
+-- the same as a page
+abbrev pub page_told : List ℕ → Window → ModuleValue → List Entry → World → Option (List UnitOrigins) → Tale
+page_told text window m log last origins = (page_text (places_in text origins) window m log last, is_drawn window m log last)
+
+-- its races
+abbrev pub races_told : List ℕ → ModuleValue → List ℤ → List Entry → Option (List UnitOrigins) → Tale
+races_told text m args log origins = (races_text (places_in text origins) m args log, is_race_free m args log)
+
+-- how things stand behind the steps of a log, as far as they can be taken
+abbrev pub where_told : List ℕ → ModuleValue → List ℤ → List Entry → Option (List UnitOrigins) → Tale
+where_told text m args log origins = (where_text (places_in text origins) m args log, are_steps_legal m args log)

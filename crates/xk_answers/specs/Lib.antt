@@ -1,0 +1,5 @@
+pub mod OrderedRun
+pub mod Explanation
+pub mod Results
+pub mod Refusals
+pub mod Printed

@@ -1,0 +1,203 @@
+-- What a job on a module comes to, or tells of it: the numbers and the log of a run, what a module can print, pictures of a run. This project's own.
+use Rattle.std.specs.Prelude.{◌≡◌, ℕ, ⊤, ℤ, ◌-◌, ◌&&◌, not, Bool, true, false, List, take, slice_get, Option, Some, None, is_some, option_map, unwrap_or, string_bytes, if◌then◌else◌}
+use Rattle.serde_json.specs.Written.{compact_text}
+use Rattle.xk_types.specs.Code.{ModuleValue}
+use Rattle.xk_origins.specs.UnitOrigins.{UnitOrigins}
+use Rattle.xk_types.specs.World.{World, AreArguments}
+use Rattle.xk_types.specs.Bound.{steps_bound, activities_bound, clocks_bound}
+use Rattle.xk_types.specs.Acceptance.{IsAccepted}
+use Rattle.xk_cli.specs.declared.job.Drive.{Drive}
+use Rattle.xk_cli.specs.declared.job.Form.{Form}
+use Rattle.xk_cli.specs.declared.job.Order.TheVariants as order
+use Rattle.xk_cli.specs.CommandLine.{By, In, Way, way_value}
+use Rattle.xk_module.specs.ModuleText.{module_value}
+use Rattle.xk_answers.specs.declared.job_result.Done.{Done}
+use Rattle.xk_answers.specs.declared.job_result.Done.TheVariants as done
+use Rattle.xk_show_lanes.specs.declared.window.Window.{Window}
+use Rattle.xk_show_lanes.specs.Lanes.{whole_run}
+use Rattle.xk_answers.specs.declared.picture.Picture.{Picture}
+use Rattle.xk_answers.specs.declared.picture.Picture.TheVariants as picture
+use Rattle.xk_program.specs.declared.fault.Fault.{Fault}
+use Rattle.xk_program.specs.declared.fault.Fault.TheVariants as fault
+use Rattle.xk_types.specs.declared.world.Entry.{Entry}
+use Rattle.xk_log.specs.Verdicts.{IsTruncated, IsWrongAt, Says, Whole}
+use Rattle.xk_replay.specs.Chart.{chart_text}
+use Rattle.xk_outcomes.specs.Sets.{AreAllAs, AreDistinctAs, AreShownAs}
+use Rattle.xk_outcomes.specs.declared.listing.Outcome.{Outcome}
+use Rattle.xk_outcomes.specs.Text.{outcomes_text}
+use Rattle.xk_outcomes.specs.declared.all_outcomes.Limit.{Limit}
+use Rattle.xk_outcomes.specs.Limits.{GoesFar, limit_of}
+use Rattle.xk_outcomes.specs.Expected.{AreExpected}
+use Rattle.xk_tally.specs.Runs.{IsTallyText}
+use Rattle.xk_replay.specs.Replay.{IsStoppedAt, IsUnfinished}
+use Rattle.xk_answers.specs.OrderedRun.{IsLoggedRun, IsOrderedRun, IsReplay, IsSomeRun, IsWholeRun}
+use Rattle.xk_program.specs.Origins.{IsByOrigins}
+use Rattle.xk_answers.specs.Explanation.{IsProgramListed, Tale, acceptance_told, all_told, events_told, image_told, lanes_told, page_told, races_told, where_told}
+
+-- what is to be done with a module; what is explained is a JSON value or not; a run is in an order, or by workers, and has its log kept or not; some
+-- picture is drawn of one; it is told how things stand behind a log, which races the run in the order `first` has, or how often so many runs by chance,
+-- from this seed on, print what; of outcomes, as lists of numbers or without their order, so many are looked for, and of one, counted from 1, the log
+-- is kept or not, or they are held against a list
+pub data Doing : Type 0 where
+  Check : Doing
+  Explain : Bool → Doing
+  Compile : Doing
+  Listing : Doing
+  Run : Way → Bool → Doing
+  Replay : Doing
+  Draw : Picture → Doing
+  Where : Doing
+  Races : Doing
+  Tally : ℕ → ℕ → Doing
+  Outcomes : Bool → Option ℕ → ℕ → Bool → Doing
+  Expected : Bool → Option ℕ → Doing
+
+-- a run is in the order `first` where neither an order nor workers were given
+abbrev pub way_given : Option Drive → Way
+way_given given = unwrap_or (option_map way_value given) (In order.First)
+
+-- the steps that are drawn: from the first to the last of the run, where nothing else is said
+abbrev pub window_given : Option ℕ → Option ℕ → Window
+window_given from to = record { first = unwrap_or from whole_run.first; last = unwrap_or to whole_run.last }
+
+-- as a text, or as an image
+abbrev pub lanes_given : Option ℕ → Option ℕ → Bool → Picture
+lanes_given from to svg = if svg then picture.Image (window_given from to) else picture.Lanes (window_given from to)
+
+-- these bytes are the text of a log of these entries
+abbrev pub IsLogText : List ℕ → List Entry → Type 0
+IsLogText bytes es = Says (Whole es) bytes
+
+-- a whole run with these arguments again, by the log in these bytes
+abbrev pub Replays : ModuleValue → List ℤ → List ℕ → List ℤ → ℕ → Type 0
+Replays m args logged numbers steps = (es : List Entry) × IsLogText logged es × IsReplay m args es numbers steps
+
+-- this holds of a whole run with these arguments, by the log in these bytes, and of the world in which it ends
+abbrev pub OfRun : ModuleValue → List ℤ → List ℕ → (List Entry → World → Type 0) → Type 0
+OfRun m args logged P = (es : List Entry) × IsLogText logged es × (whole : IsWholeRun m args es) × P es whole.last
+
+-- the outcome whose log is kept, counted from 1
+abbrev pub outcome_at : ℕ → List Outcome → Option Outcome
+outcome_at pick list = slice_get list (pick - 1)
+
+-- the log that is kept: of that outcome, if there is one
+abbrev pub kept_log : Bool → ℕ → List Outcome → Option (List Entry)
+kept_log true pick list = option_map (λ x. x.log.items) (outcome_at pick list)
+kept_log false pick list = None
+
+-- a log is to be kept, and there is no such outcome
+abbrev pub lacks_log : Bool → ℕ → List Outcome → Bool
+lacks_log keeps pick list = keeps && not (is_some (kept_log keeps pick list))
+
+-- What a module can print that is given these arguments, as lists of numbers or without their order. The answer is whole where they are all, and the log
+-- that is to be kept is there. They are looked for up to this limit.
+pub record AreOutcomes (m : ModuleValue) (args : List ℤ) (sets : Bool) (limit : Limit) (pick : ℕ) (keeps : Bool) (text : List ℕ) (whole : Bool) (log : Option (List Entry)) : Type 0 where
+  pub taken : AreArguments m args
+  pub list : List Outcome
+  pub complete : Bool
+  pub shown : AreShownAs sets m args list
+  pub distinct : AreDistinctAs sets list
+  pub all : complete ≡ true → AreAllAs sets m args list
+  pub far : GoesFar m args limit list complete
+  pub text_is : text ≡ outcomes_text list complete
+  pub whole_is : whole ≡ (complete && not (lacks_log keeps pick list))
+  pub log_is : log ≡ kept_log keeps pick list
+
+-- that is what it comes to
+abbrev pub IsFoundOut : ModuleValue → List ℤ → Bool → Limit → ℕ → Bool → Done → Type 0
+IsFoundOut m args sets limit pick keeps (done.Outcomes text whole log) =
+    AreOutcomes m args sets limit pick keeps text.items whole (option_map (λ es. es.items) log)
+IsFoundOut m args sets limit pick keeps _ = ⊥
+
+-- how many bytes of a list are read at most
+abbrev pub longest_list : ℕ
+longest_list = 100_000_000
+
+-- the list in the bytes of its file
+abbrev pub list_in : List ℕ → List ℕ
+list_in bytes = take longest_list bytes
+
+-- What a module can print that is given these arguments is held against the list in these bytes: the answer is whole where that is all, and each is
+-- in the list.
+abbrev pub IsHeldOut : ModuleValue → List ℤ → Bool → Limit → List ℕ → Done → Type 0
+IsHeldOut m args sets limit bytes (done.Outcomes text whole None) = AreArguments m args × AreExpected m args sets limit (list_in bytes) text.items whole
+IsHeldOut m args sets limit bytes _ = ⊥
+
+-- What is to be done with a module, whose main is given these arguments where it is run, and with the bytes of a log or a list where one is read, comes
+-- to this: for `compile` the text of the module; where the module is accepted, for `check` its bounds, for `run` its run in the order, or, by workers,
+-- some run of it, for `replay` the run that the log has, for `outcomes` what it can print.
+abbrev pub ComesTo : Doing → ModuleValue → List ℤ → List ℕ → Done → Type 0
+ComesTo Compile m args logged (done.Compiled text) = string_bytes text ≡ compact_text (module_value m)
+ComesTo Check m args logged (done.Accepted steps activities clocks) =
+    IsAccepted m × (steps ≡ steps_bound m) × (activities ≡ activities_bound m) × (clocks ≡ clocks_bound m)
+ComesTo (Run (In o) false) m args logged (done.Ended numbers steps None) = IsAccepted m × IsOrderedRun o m args numbers.items steps
+ComesTo (Run (In o) true) m args logged (done.Ended numbers steps (Some log)) = IsAccepted m × IsLoggedRun o m args numbers.items steps log.items
+ComesTo (Run (By n) false) m args logged (done.Ended numbers steps None) = IsAccepted m × IsSomeRun m args numbers.items steps
+ComesTo (Run (By n) true) m args logged (done.Ended numbers steps (Some log)) = IsAccepted m × IsReplay m args log.items numbers.items steps
+ComesTo Replay m args logged (done.Ended numbers steps None) = IsAccepted m × Replays m args logged numbers.items steps
+ComesTo (Outcomes sets limit pick keeps) m args logged d = IsAccepted m × IsFoundOut m args sets (limit_of limit (activities_bound m)) pick keeps d
+ComesTo (Expected sets limit) m args logged d = IsAccepted m × IsHeldOut m args sets (limit_of limit (activities_bound m)) logged d
+ComesTo _ m args logged _ = ⊥
+
+-- What is told of a run of the module that the bytes give, by their lines where they are a source text: its chart, what others see of its steps, the
+-- same with a lane for each activity, as a text, as an image or as a page, or its races.
+abbrev pub IsPicture : Picture → Form → List ℕ → ModuleValue → List ℤ → List Entry → World → Tale → Type 0
+IsPicture picture.Chart kind bytes m args es last told = told ≡ all_told (chart_text m args es)
+IsPicture picture.Events kind bytes m args es last told = IsByOrigins kind bytes (events_told bytes m args es) told
+IsPicture (picture.Lanes window) kind bytes m args es last told = IsByOrigins kind bytes (lanes_told bytes window m es last) told
+IsPicture (picture.Image window) kind bytes m args es last told = IsByOrigins kind bytes (image_told bytes window m es last) told
+IsPicture (picture.Page window) kind bytes m args es last told = IsByOrigins kind bytes (page_told bytes window m es last) told
+IsPicture picture.Races kind bytes m args es last told = IsByOrigins kind bytes (races_told bytes m args es) told
+
+-- whether it is told by the lines of a source text
+abbrev pub shows_origins : Picture → Bool
+shows_origins picture.Chart = false
+shows_origins _ = true
+
+-- what is told, where the instructions have these origins in the text
+abbrev pub picture_told : Picture → List ℕ → ModuleValue → List ℤ → List Entry → World → Option (List UnitOrigins) → Tale
+picture_told picture.Chart bytes m args es last origins = all_told (chart_text m args es)
+picture_told picture.Events bytes m args es last origins = events_told bytes m args es origins
+picture_told (picture.Lanes window) bytes m args es last origins = lanes_told bytes window m es last origins
+picture_told (picture.Image window) bytes m args es last origins = image_told bytes window m es last origins
+picture_told (picture.Page window) bytes m args es last origins = page_told bytes window m es last origins
+picture_told picture.Races bytes m args es last origins = races_told bytes m args es origins
+
+-- Where things stand behind the steps of a log, which need not be that of a whole run, is told by the lines of a source text.
+abbrev pub IsWhereabouts : Form → List ℕ → ModuleValue → List ℤ → List ℕ → Tale → Type 0
+IsWhereabouts kind bytes m args logged told =
+    AreArguments m args × ((es : List Entry) × IsLogText logged es × IsByOrigins kind bytes (where_told bytes m args es) told)
+
+-- the races of the run in the order `first` are told
+abbrev pub AreFirstRaces : Form → List ℕ → ModuleValue → List ℤ → Tale → Type 0
+AreFirstRaces kind bytes m args told = (numbers : List ℤ) × (steps : ℕ) × (es : List Entry) × IsLoggedRun order.First m args numbers steps es
+    × IsByOrigins kind bytes (races_told bytes m args es) told
+
+-- so many runs by chance, from this seed on, are told as a tally
+abbrev pub IsTallied : ModuleValue → List ℤ → ℕ → ℕ → Tale → Type 0
+IsTallied m args seed runs told = IsTallyText m args seed runs told.0 × (told.1 ≡ true)
+
+-- What is told of the module that the bytes give, by their lines and names where they are a source text: for `explain`, where the module is accepted,
+-- its bounds, and for `listing` its instructions; for all others, where it is accepted, the run that the log has, or the runs in their orders.
+abbrev pub IsTelling : Doing → Form → List ℕ → List ℕ → ModuleValue → List ℤ → List ℕ → Tale → Type 0
+IsTelling (Explain json) kind file bytes m args logged told = IsAccepted m × IsByOrigins kind bytes (acceptance_told json file bytes m) told
+IsTelling Listing kind file bytes m args logged told = IsProgramListed kind bytes m told.0 × (told.1 ≡ true)
+IsTelling (Draw picture) kind file bytes m args logged told = IsAccepted m × OfRun m args logged (λ es last. IsPicture picture kind bytes m args es last told)
+IsTelling Where kind file bytes m args logged told = IsAccepted m × IsWhereabouts kind bytes m args logged told
+IsTelling Races kind file bytes m args logged told = IsAccepted m × AreFirstRaces kind bytes m args told
+IsTelling (Tally seed runs) kind file bytes m args logged told = IsAccepted m × AreArguments m args × IsTallied m args seed runs told
+IsTelling _ kind file bytes m args logged told = ⊥
+
+-- it is a text of which this holds
+abbrev pub IsText : (Tale → Type 0) → Done → Type 0
+IsText P (done.Told text whole) = P (text.items, whole)
+IsText P _ = ⊥
+
+-- What stands against a log of a run of the module with these arguments. Of want of memory nothing is claimed.
+abbrev pub IsNoRun : ModuleValue → List ℤ → List ℕ → Fault → Type 0
+IsNoRun m args logged (fault.Grammar line) = IsWrongAt logged line
+IsNoRun m args logged fault.Truncated = IsTruncated logged
+IsNoRun m args logged (fault.NotEnabled i) = (es : List Entry) × IsLogText logged es × IsStoppedAt m args es i
+IsNoRun m args logged fault.NotEnded = (es : List Entry) × IsLogText logged es × IsUnfinished m args es
+IsNoRun m args logged fault.OutOfMemory = ⊤
+IsNoRun m args logged _ = ⊥

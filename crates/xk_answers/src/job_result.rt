@@ -1,0 +1,147 @@
+//! What a job comes to.
+
+ghost use Rattle.std.specs.Prelude.{◌≡◌, [], IfOk, OnErr, OnOk, string_bytes};
+ghost use Rattle.std.specs.Io.KnownBytes.{Appends};
+ghost use Rattle.std.specs.Option.{option_map_or};
+ghost use Rattle.xk_types.specs.Device.{Rose};
+ghost use Rattle.xk_log.specs.LogText.{log_text};
+ghost use Rattle.xk_log.specs.Writing.{AppendsBeginning};
+ghost use Rattle.xk_answers.specs.Printed.{done_status};
+ghost use Rattle.xk_answers.specs.Printed.{done_ending, done_front, done_log, done_text};
+ghost use Rattle.xk_answers.specs.declared.job_result.Done.TheVariants.{Ended};
+ghost use Rattle.xk_messages.specs.Lines.{accepted_line, ended_line};
+
+use crate::runs::Finished;
+use std::alloc::{AllocError, Global};
+use xk_cli::status;
+use xk_io::write_numbers;
+use xk_log::{Device, write_all};
+use xk_messages::{accepted_line, ended_line};
+use xk_types::{Entry, Sink};
+
+/// What a job comes to where nothing stands against it.
+#[derive(Debug, Drop)]
+pub enum Done {
+    /// `compile`: the module has this text.
+    Compiled(String),
+    /// `check`: the module is accepted, with these bounds on its runs.
+    Accepted {
+        steps: u64,
+        activities: u32,
+        clocks: u32,
+    },
+    /// `explain`, `listing`: this is told of the module; `chart`, `events`, `lanes`, `page`, `where`, `races`: of the run that the log has; `run --runs`: of
+    /// many runs.
+    Told {
+        text: Vec<u8>,
+        /// Whether that is a whole answer: nothing is left out, and a run has no races.
+        whole: bool,
+    },
+    /// `run`, `replay`: the module ran to its end, and printed these numbers.
+    Ended {
+        printed: Vec<i64>,
+        steps: u64,
+        /// Who took a step after whom, where that is to be kept.
+        log: Option<Vec<Entry>>,
+    },
+    /// `outcomes`: this is told of what the module can print, or of what isn't in a list.
+    Outcomes {
+        text: Vec<u8>,
+        /// Whether that is all, and the log that is to be kept is there.
+        whole: bool,
+        /// The log of one of them, where that is to be kept.
+        log: Option<Vec<Entry>>,
+    },
+}
+
+impl Done {
+    /// A run that came to its end.
+    pub fn of_run(run: Finished) -> Done
+        ensures { result ≡ Ended run.printed run.steps run.log }
+    {
+        Done::Ended {
+            printed: run.printed,
+            steps: run.steps,
+            log: run.log,
+        }
+    }
+
+    /// The log of a run that is to have one.
+    pub fn log(&self) -> Option<&[Entry]>
+        ensures { option_map_or (λ log. log_text log.now) result [] ≡ done_log self.now }
+    {
+        match self {
+            Done::Ended { log: Some(log), .. } | Done::Outcomes { log: Some(log), .. } => Some(log),
+            Done::Ended { log: None, .. }
+            | Done::Outcomes { log: None, .. }
+            | Done::Compiled(_)
+            | Done::Accepted { .. }
+            | Done::Told { .. } => None,
+        }
+    }
+
+    /// The status that the program ends with.
+    pub fn status(&self) -> u8
+        ensures { result ≡ done_status self.now }
+    {
+        match self {
+            Done::Told { whole: false, .. } | Done::Outcomes { whole: false, .. } => {
+                status::PARTIAL
+            }
+            Done::Told { whole: true, .. }
+            | Done::Outcomes { whole: true, .. }
+            | Done::Compiled(_)
+            | Done::Accepted { .. }
+            | Done::Ended { .. } => status::DONE,
+        }
+    }
+
+    /// What stands behind the numbers or the text that it has: the last line, or the end of one. All memory that writing wants is taken here.
+    pub fn ending(&self, alloc: Global) -> Result<String, AllocError>
+        ensures { IfOk result (λ ending. string_bytes ending ≡ done_ending self.now) }
+    {
+        match self {
+            Done::Compiled(_) => String::from_str(alloc, "\n"),
+            Done::Accepted {
+                steps,
+                activities,
+                clocks,
+            } => accepted_line(alloc, *steps, *activities, *clocks),
+            Done::Told { .. } | Done::Outcomes { .. } => Ok(String::new(alloc)),
+            Done::Ended { steps, .. } => ended_line(alloc, *steps),
+        }
+    }
+
+    /// Writes what goes to standard output, of which the ending was made, and takes no memory. Where a write fails, a beginning of it was
+    /// written.
+    pub fn write<O: Sink>(&self, ending: &str, out: &mut O) -> Result<(), Device>
+        requires { ending.now ≡ done_ending self.now }
+        ensures all { OnOk result
+            (Appends (O.contents out.old) (O.contents out.new) (done_text self.now)) }
+        ensures beginning { AppendsBeginning
+            (O.contents out.old) (O.contents out.new) (done_text self.now) }
+        ensures no_fault { OnOk result (O.fault_count out.new ≡ O.fault_count out.old) }
+        ensures failed { OnErr result (Rose (O.fault_count out.old) (O.fault_count out.new)) }
+    {
+        self.write_front(out)?;
+        write_all(out, ending.as_bytes())
+    }
+
+    /// Writes its numbers, each on a line of its own, or its text.
+    fn write_front<O: Sink>(&self, out: &mut O) -> Result<(), Device>
+        ensures all { OnOk result
+            (Appends (O.contents out.old) (O.contents out.new) (done_front self.now)) }
+        ensures beginning { AppendsBeginning
+            (O.contents out.old) (O.contents out.new) (done_front self.now) }
+        ensures no_fault { OnOk result (O.fault_count out.new ≡ O.fault_count out.old) }
+        ensures failed { OnErr result (Rose (O.fault_count out.old) (O.fault_count out.new)) }
+    {
+        match self {
+            Done::Compiled(text) => write_all(out, text.as_bytes()),
+            Done::Accepted { .. } => Ok(()),
+            Done::Told { text, .. } => write_all(out, text),
+            Done::Outcomes { text, .. } => write_all(out, text),
+            Done::Ended { printed, .. } => write_numbers(printed, out),
+        }
+    }
+}

@@ -1,0 +1,24 @@
+//! What a job on a program comes to: its runs, what it can print, and what is shown of it.
+#![tactic(auto)]
+
+mod explanation;
+mod first_races;
+mod job_result;
+mod outcome_search;
+mod picture;
+mod replay;
+mod runs;
+mod tally;
+mod verdict;
+mod whereabouts;
+
+pub use explanation::{Refused, listing, unsaid};
+pub use first_races::raced;
+pub use job_result::Done;
+pub use outcome_search::{held, searched};
+pub use picture::{Picture, drawn, lanes_given, window_given};
+pub use replay::replayed;
+pub use runs::{Finished, run_as};
+pub use tally::tallied;
+pub use verdict::explained;
+pub use whereabouts::stood;

@@ -1,0 +1,247 @@
+//! What is told of the run that a log has.
+
+ghost use Rattle.std.specs.Prelude.{◌≡◌, ◌≢◌, ℕ, List, true, IfOk, IfErr, IfSome, OnOk};
+ghost use Rattle.xk_types.specs.Acceptance.{IsAccepted};
+ghost use Rattle.xk_types.specs.World.{AreArguments};
+ghost use Rattle.xk_cli.specs.Status.{status_program};
+ghost use Rattle.xk_cli.specs.declared.job.Form.{Form as FormValue};
+ghost use Rattle.xk_answers.specs.Results.{Draw, IsTelling, IsText, lanes_given, picture_told, shows_origins, window_given};
+ghost use Rattle.xk_answers.specs.Refusals.{AgainstModule, AgainstRun};
+ghost use Rattle.xk_program.specs.Origins.{IsFrom};
+ghost use Rattle.xk_answers.specs.Explanation.{events_told, image_told, lanes_told, page_told, races_told};
+ghost use Rattle.xk_program.specs.Lines.{status_of};
+
+use crate::job_result::Done;
+use crate::replay::run_again;
+use std::alloc::{AllocError, Global};
+use xk_bounds::Verified;
+use xk_program::{Fault, Program, Provenance, runnable};
+use xk_races::{module_races, source_races};
+use xk_replay::chart;
+use xk_scheduler::Ended;
+use xk_show_events::{module_events, source_events};
+use xk_show_lanes::{Window, module_lanes, source_lanes};
+use xk_show_page::{module_page, source_page};
+use xk_show_picture::{module_picture, source_picture};
+use xk_types::Source;
+
+/// What is told of a run.
+#[derive(Clone, Copy)]
+pub enum Picture {
+    /// When its clocks advanced.
+    Chart,
+    /// What others see of its steps.
+    Events,
+    /// The same, with a lane for each activity, of the steps in a window.
+    Lanes(Window),
+    /// The same as an image.
+    Image(Window),
+    /// The same as a page that goes through it step by step.
+    Page(Window),
+    /// Its races.
+    Races,
+}
+
+/// What is told, and whether that is a whole answer.
+#[derive(Drop)]
+pub(crate) struct Tale {
+    pub(crate) text: Vec<u8>,
+    pub(crate) whole: bool,
+}
+
+/// The steps from one to another, each of which may be left out.
+pub fn window_given(from: Option<u64>, to: Option<u64>) -> Window
+    ensures { result ≡ window_given from to }
+{
+    let run = Window::whole();
+    Window {
+        first: from.unwrap_or(run.first),
+        last: to.unwrap_or(run.last),
+    }
+}
+
+/// The lanes of these steps, as a text or as an image.
+pub fn lanes_given(from: Option<u64>, to: Option<u64>, svg: bool) -> Picture
+    ensures { result ≡ lanes_given from to svg }
+{
+    let window = window_given(from, to);
+    if svg {
+        return Picture::Image(window);
+    }
+    Picture::Lanes(window)
+}
+
+/// This picture of the run of the program with these arguments that the log has, if it is accepted and main takes as many. Where it isn't run, no
+/// log is read.
+pub fn drawn<L: Source>(
+    alloc: Global,
+    picture: Picture,
+    program: Program<'_>,
+    arguments: &[i64],
+    log_in: &mut L,
+) -> Result<Done, Fault>
+    ensures done { (form : FormValue) (file bytes : List ℕ)
+        → IsFrom (shows_origins picture) form bytes program.entry.from
+        → IfOk result (λ d. IfSome (L.remaining log_in.old) (λ logged. IsText
+        (IsTelling (Draw picture) form file bytes program.entry.module arguments.now logged) d)) }
+    ensures no_fault { OnOk result (L.fault_count log_in.new ≡ L.fault_count log_in.old) }
+    ensures fault { IfErr result (AgainstModule program.entry.module arguments.now
+        (L.remaining log_in.old) (L.fault_count log_in.old) (L.fault_count log_in.new)) }
+    ensures refused { IfErr result
+        (λ f. status_of f ≡ status_program → log_in.new ≡ log_in.old) }
+{
+    let verified = runnable(alloc, program.module, arguments)?;
+    drawn_by(alloc, picture, &program.from, &verified, arguments, log_in)
+}
+
+/// The same of an accepted module.
+fn drawn_by<L: Source>(
+    alloc: Global,
+    picture: Picture,
+    from: &Provenance<'_>,
+    verified: &Verified,
+    arguments: &[i64],
+    log_in: &mut L,
+) -> Result<Done, Fault>
+    requires accepted { IsAccepted verified.now }
+    requires taken { AreArguments verified.now arguments.now }
+    ensures done { (form : FormValue) (file bytes : List ℕ)
+        → IsFrom (shows_origins picture) form bytes from.now
+        → IfOk result (λ d. IfSome (L.remaining log_in.old) (λ logged. IsText
+        (IsTelling (Draw picture) form file bytes verified.now arguments.now logged) d)) }
+    ensures no_fault { OnOk result (L.fault_count log_in.new ≡ L.fault_count log_in.old) }
+    ensures fault { IfErr result (AgainstRun verified.now arguments.now (L.remaining log_in.old)
+        (L.fault_count log_in.old) (L.fault_count log_in.new)) }
+    ensures of_log { IfErr result (λ f. status_of f ≢ status_program) }
+{
+    let ended = run_again(alloc, verified, arguments, log_in)?;
+    let tale = picture_of(alloc, picture, from, &ended)?;
+    Ok(Done::Told {
+        text: tale.text,
+        whole: tale.whole,
+    })
+}
+
+/// This picture of a run that came to its end.
+fn picture_of(
+    alloc: Global,
+    picture: Picture,
+    from: &Provenance<'_>,
+    ended: &Ended<'_>,
+) -> Result<Tale, AllocError>
+    ensures { IfOk result (λ tale. (tale.text.items, tale.whole)
+        ≡ picture_told picture from.now.text.now ended.now.module.now
+        ended.now.core.world.arguments ended.now.log.items ended.now.core.world
+        from.now.origins) }
+{
+    match picture {
+        Picture::Chart => Ok(Tale {
+            text: chart(alloc, ended)?.into_bytes(),
+            whole: true,
+        }),
+        Picture::Events => events_of(alloc, from, ended),
+        Picture::Lanes(window) => lanes_of(alloc, from, ended, window),
+        Picture::Image(window) => image_of(alloc, from, ended, window),
+        Picture::Page(window) => page_of(alloc, from, ended, window),
+        Picture::Races => races_of(alloc, from, ended),
+    }
+}
+
+/// What others see of its steps.
+fn events_of(alloc: Global, from: &Provenance<'_>, ended: &Ended<'_>) -> Result<Tale, AllocError>
+    ensures { IfOk result (λ tale. (tale.text.items, tale.whole)
+        ≡ events_told from.now.text.now ended.now.module.now
+        ended.now.core.world.arguments ended.now.log.items from.now.origins) }
+{
+    let text = match &from.origins {
+        Some(origins) => source_events(alloc, from.text, origins.units(), ended)?,
+        None => module_events(alloc, ended)?,
+    };
+    Ok(Tale {
+        text: text.into_bytes(),
+        whole: true,
+    })
+}
+
+/// The same, with a lane for each activity, of the steps in this window.
+fn lanes_of(
+    alloc: Global,
+    from: &Provenance<'_>,
+    ended: &Ended<'_>,
+    window: Window,
+) -> Result<Tale, AllocError>
+    ensures { IfOk result (λ tale. (tale.text.items, tale.whole)
+        ≡ lanes_told from.now.text.now window ended.now.module.now ended.now.log.items
+        ended.now.core.world from.now.origins) }
+{
+    let drawing = match &from.origins {
+        Some(origins) => source_lanes(alloc, from.text, origins.units(), ended, window)?,
+        None => module_lanes(alloc, ended, window)?,
+    };
+    Ok(Tale {
+        text: drawing.text,
+        whole: drawing.whole,
+    })
+}
+
+/// The same as an image.
+fn image_of(
+    alloc: Global,
+    from: &Provenance<'_>,
+    ended: &Ended<'_>,
+    window: Window,
+) -> Result<Tale, AllocError>
+    ensures { IfOk result (λ tale. (tale.text.items, tale.whole)
+        ≡ image_told from.now.text.now window ended.now.module.now ended.now.log.items
+        ended.now.core.world from.now.origins) }
+{
+    let drawing = match &from.origins {
+        Some(origins) => source_picture(alloc, from.text, origins.units(), ended, window)?,
+        None => module_picture(alloc, ended, window)?,
+    };
+    Ok(Tale {
+        text: drawing.text,
+        whole: drawing.whole,
+    })
+}
+
+/// The same as a page.
+fn page_of(
+    alloc: Global,
+    from: &Provenance<'_>,
+    ended: &Ended<'_>,
+    window: Window,
+) -> Result<Tale, AllocError>
+    ensures { IfOk result (λ tale. (tale.text.items, tale.whole)
+        ≡ page_told from.now.text.now window ended.now.module.now ended.now.log.items
+        ended.now.core.world from.now.origins) }
+{
+    let drawing = match &from.origins {
+        Some(origins) => source_page(alloc, from.text, origins.units(), ended, window)?,
+        None => module_page(alloc, ended, window)?,
+    };
+    Ok(Tale {
+        text: drawing.text,
+        whole: drawing.whole,
+    })
+}
+
+/// The races of a run that came to its end.
+pub(crate) fn races_of(
+    alloc: Global,
+    from: &Provenance<'_>,
+    ended: &Ended<'_>,
+) -> Result<Tale, AllocError>
+    ensures { IfOk result (λ tale. (tale.text.items, tale.whole)
+        ≡ races_told from.now.text.now ended.now.module.now
+        ended.now.core.world.arguments ended.now.log.items from.now.origins) }
+{
+    let report = match &from.origins {
+        Some(origins) => source_races(alloc, from.text, origins.units(), ended)?,
+        None => module_races(alloc, ended)?,
+    };
+    Ok(Tale {
+        text: report.text,
+        whole: report.free,
+    })
+}

@@ -1,0 +1,94 @@
+//! How things stand behind a log, which need not be that of a whole run.
+
+ghost use Rattle.std.specs.Prelude.{◌≡◌, ◌≢◌, ℕ, List, true, IfOk, IfErr, IfSome, OnOk};
+ghost use Rattle.xk_types.specs.Acceptance.{IsAccepted};
+ghost use Rattle.xk_types.specs.World.{AreArguments};
+ghost use Rattle.xk_cli.specs.declared.job.Form.{Form as FormValue};
+ghost use Rattle.xk_cli.specs.Status.{status_program};
+ghost use Rattle.xk_answers.specs.Results.{IsTelling, IsText, Where};
+ghost use Rattle.xk_answers.specs.Refusals.{AgainstReading, AgainstText};
+ghost use Rattle.xk_program.specs.Origins.{IsFrom};
+ghost use Rattle.xk_answers.specs.Explanation.{where_told};
+ghost use Rattle.xk_program.specs.Lines.{status_of};
+
+use crate::job_result::Done;
+use crate::picture::Tale;
+use std::alloc::{AllocError, Global};
+use xk_bounds::Verified;
+use xk_log::read_log;
+use xk_program::{Fault, Program, Provenance, runnable};
+use xk_show_where::{module_where, source_where};
+use xk_types::{Entry, Source};
+
+/// How things stand behind the steps of the log, as far as they can be taken, of the program with these arguments, if it is accepted and main takes
+/// as many. Where it isn't run, no log is read.
+pub fn stood<L: Source>(
+    alloc: Global,
+    program: Program<'_>,
+    arguments: &[i64],
+    log_in: &mut L,
+) -> Result<Done, Fault>
+    ensures done { (form : FormValue) (file bytes : List ℕ)
+        → IsFrom true form bytes program.entry.from
+        → IfOk result (λ d. IfSome (L.remaining log_in.old) (λ logged. IsText
+        (IsTelling Where form file bytes program.entry.module arguments.now logged) d)) }
+    ensures no_fault { OnOk result (L.fault_count log_in.new ≡ L.fault_count log_in.old) }
+    ensures fault { IfErr result (AgainstText program.entry.module arguments.now
+        (L.remaining log_in.old) (L.fault_count log_in.old) (L.fault_count log_in.new)) }
+    ensures refused { IfErr result
+        (λ f. status_of f ≡ status_program → log_in.new ≡ log_in.old) }
+{
+    let verified = runnable(alloc, program.module, arguments)?;
+    stood_by(alloc, &program.from, &verified, arguments, log_in)
+}
+
+/// The same of an accepted module.
+fn stood_by<L: Source>(
+    alloc: Global,
+    from: &Provenance<'_>,
+    verified: &Verified,
+    arguments: &[i64],
+    log_in: &mut L,
+) -> Result<Done, Fault>
+    requires accepted { IsAccepted verified.now }
+    requires taken { AreArguments verified.now arguments.now }
+    ensures done { (form : FormValue) (file bytes : List ℕ) → IsFrom true form bytes from.now
+        → IfOk result (λ d. IfSome (L.remaining log_in.old) (λ logged. IsText
+        (IsTelling Where form file bytes verified.now arguments.now logged) d)) }
+    ensures no_fault { OnOk result (L.fault_count log_in.new ≡ L.fault_count log_in.old) }
+    ensures fault { IfErr result (AgainstReading (L.remaining log_in.old)
+        (L.fault_count log_in.old) (L.fault_count log_in.new)) }
+    ensures of_log { IfErr result (λ f. status_of f ≢ status_program) }
+{
+    let log = read_log(alloc, log_in)?;
+    let tale = whereabouts(alloc, from, verified, arguments, log.entries())?;
+    Ok(Done::Told {
+        text: tale.text,
+        whole: tale.whole,
+    })
+}
+
+/// The same by the entries of the log.
+fn whereabouts(
+    alloc: Global,
+    from: &Provenance<'_>,
+    verified: &Verified,
+    arguments: &[i64],
+    log: &[Entry],
+) -> Result<Tale, AllocError>
+    requires { AreArguments verified.now arguments.now }
+    ensures { IfOk result (λ tale. (tale.text.items, tale.whole)
+        ≡ where_told from.now.text.now verified.now arguments.now log.now from.now.origins) }
+{
+    let found = match &from.origins {
+        Some(origins) => {
+            let units = origins.units();
+            source_where(alloc, from.text, units, verified, arguments, log)?
+        }
+        None => module_where(alloc, verified, arguments, log)?,
+    };
+    Ok(Tale {
+        text: found.text,
+        whole: found.whole,
+    })
+}

@@ -1,0 +1,2 @@
+pub mod UnfitModuleLemmas
+pub mod UnfitTextLemmas

@@ -1,5 +1,0 @@
-use Rattle.xk_serve.proofs.UnfitTextLemmas.{unspelled}
-use Rattle.xk_serve.proofs.program_loader.source_origins.Goals as goal
-
-pub returns-in-Err-clause-fault : goal.returns-in-Err-clause-fault
-returns-in-Err-clause-fault c = unspelled c.args.bytes.now c.in-Err.e c.in-Err.ensures.fault
