@@ -2,8 +2,7 @@
 use Rattle.std.specs.Prelude.{◌≡◌, ◌≢◌, ℕ, List, ◌++◌, codes, true, false, Option, None, IfSome, is_some, option_map}
 use Rattle.std.specs.Io.KnownBytes.{Appends}
 use Rattle.xk_cli.specs.Status.{status_device, status_memory}
-use Rattle.xk_cli.specs.declared.job.Command.{Command}
-use Rattle.xk_cli.specs.declared.job.Command.TheVariants as command
+use Rattle.xk_cli.specs.CommandFiles.{written_path}
 use Rattle.xk_cli.specs.declared.job.HandRun.{HandRun}
 use Rattle.xk_cli.specs.declared.job.Request.{Request}
 use Rattle.xk_cli.specs.declared.job.Request.TheVariants as request
@@ -20,13 +19,8 @@ over_line (request.ByHand run) = codes "x10clock: --log would write over FILE or
 -- ---- the log that is written
 
 -- where it goes, if there is one
-abbrev pub path_in : Command → Option (List ℕ)
-path_in (command.Run given log) = option_map (λ path. path.now) log
-path_in (command.Outcomes limit pick log sets) = option_map (λ path. path.now) log
-path_in _ = None
-
 abbrev pub log_path : Request → Option (List ℕ)
-log_path (request.Job job) = path_in job.command
+log_path (request.Job job) = written_path job.command
 log_path (request.ByHand run) = option_map (λ path. path.now) run.log
 
 abbrev pub WritesLog : Request → Type 0

@@ -23,7 +23,7 @@ use std::process::ExitCode;
 use std::sync::Wait;
 use std::thread::Threads;
 use std::{env, fs, io};
-use xk_cli::{Command, Request, WordsFault, read_job, status};
+use xk_cli::{Request, WordsFault, read_job, status};
 use xk_program::Fault;
 use xk_serve::{report, serve, tell, tell_words};
 use xk_serve_ask::serve_asked;
@@ -216,15 +216,7 @@ fn on_program<R: Runtime, P: Read + Drop, O: Sink, E: Sink>(
             err,
         );
     };
-    let (Command::Replay { log: path }
-    | Command::Chart { log: path }
-    | Command::Events { log: path }
-    | Command::Lanes { log: path, .. }
-    | Command::Page { log: path, .. }
-    | Command::Where { log: path }
-    | Command::Races { log: Some(path) }
-    | Command::Expected { list: path, .. }) = job.command
-    else {
+    let Some(path) = job.command.read_path() else {
         return on_log(
             rt,
             request,
@@ -290,25 +282,9 @@ fn on_log<R: Runtime, P: Read + Drop, L: Source, O: Sink, E: Sink>(
 fn path_of_log<'a>(request: &Request<'a>) -> Option<&'a str>
     ensures { option_map (λ path. path.now) result ≡ log_path request.now }
 {
-    let job = match request {
-        Request::ByHand(run) => return run.log,
-        Request::Job(job) => job,
-    };
-    match job.command {
-        Command::Run { log, .. } | Command::Outcomes { log, .. } => log,
-        Command::Check
-        | Command::Compile
-        | Command::Explain { .. }
-        | Command::Listing
-        | Command::Replay { .. }
-        | Command::Chart { .. }
-        | Command::Events { .. }
-        | Command::Lanes { .. }
-        | Command::Page { .. }
-        | Command::Where { .. }
-        | Command::Races { .. }
-        | Command::Tally { .. }
-        | Command::Expected { .. } => None,
+    match request {
+        Request::Job(job) => job.command.written_path(),
+        Request::ByHand(run) => run.log,
     }
 }
 
