@@ -28,7 +28,7 @@ use Rattle.xk_answers.specs.OrderedRun.{IsFinished, IsFinishedBy, IsReplay, IsWh
 
 -- ---- choosers without a state
 
-pub without_state : {S : Type 0} (place : List ℕ → ℕ) (m : ModuleValue) (args : List ℤ) (s : S) (numbers : List ℤ) (steps : ℕ)
+without_state : {S : Type 0} (place : List ℕ → ℕ) (m : ModuleValue) (args : List ℤ) (s : S) (numbers : List ℤ) (steps : ℕ)
     → IsRunThat (Follows {S = S} (λ z enabled. place enabled) (λ z enabled. z) m s (opening m args)) m args numbers steps
     → IsRunThat (Follows {S = Unit {0}} (λ z enabled. place enabled) (λ z enabled. z) m tt (opening m args)) m args numbers steps
 without_state place m args s numbers steps r = run_weaker _ _ m args numbers steps (λ list h. follows_any place m s list (opening m args) h) r

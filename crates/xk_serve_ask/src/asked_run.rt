@@ -70,8 +70,7 @@ fn played_by<L: Source, E: Sink>(
     ensures played { IfOk result (λ r. IsPlayed verified.now arguments.now
         r.log.items r.printed.items r.steps r.whole) }
     ensures answers { (form : FormValue) (bytes : List ℕ) → IsFrom true form bytes from.now
-        → IfOk result (λ r. (xs : List (Option ℕ))
-        × AreAnswers (L.remaining input.old) xs
+        → IfOk result (λ r. (xs : List (Option ℕ)) × AreAnswers (L.remaining input.old) xs
         × (r.log.items ≡ log_by verified.now arguments.now xs)
         × IsWrittenBy (IsAskedBy form bytes verified.now arguments.now xs)
         (E.contents err.old) (E.contents err.new)) }
