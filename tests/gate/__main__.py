@@ -8,6 +8,7 @@ from __future__ import annotations
 
 import argparse
 import os
+import pathlib
 import sys
 
 from tests import harness
@@ -52,18 +53,26 @@ ASK = (
 )
 
 
+def prepare(program: pathlib.Path) -> None:
+    """Builds what the scripts ask, where it is this checkout's and isn't there yet, and names it to them."""
+    if program == harness.BUILT:
+        for path in (program, harness.beside(program, "xk_tests_memory")):
+            harness.build(path)
+    if not program.exists():
+        sys.exit(f"ask: no program {program}")
+    os.environ["X10CLOCK"] = str(program)
+
+
 def main() -> int:
     parser = argparse.ArgumentParser(description="Runs the scripts of a stage of the gate side by side.")
     stages = parser.add_subparsers(dest="stage", required=True)
     stages.add_parser("static")
     harness.add_program(stages.add_parser("ask"))
     given = parser.parse_args()
-    if given.stage == "ask":
-        for path in (given.program, harness.beside(given.program, "xk_tests_memory")):
-            harness.build(path)
-        # Each script takes it from there.
-        os.environ["X10CLOCK"] = str(given.program)
-    return 0 if side_by_side.run_all(ASK if given.stage == "ask" else STATIC) else 1
+    if given.stage == "static":
+        return 0 if side_by_side.run_all(STATIC) else 1
+    prepare(given.program)
+    return 0 if side_by_side.run_all(ASK) else 1
 
 
 if __name__ == "__main__":
