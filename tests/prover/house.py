@@ -27,16 +27,16 @@ MOST = {
     "long": 16,
     "bodies": 3,
     "forwarders": 72,
-    "uncommented": 17,
+    "uncommented": 16,
     "prover": 0,
     "uncited": 0,
     "twice": 27,
     "pub": 76,
     "clauses": 0,
-    "code": 269,
-    "proofs": 6829,
-    "docs": 92,
-    "files": 4,
+    "code": 267,
+    "proofs": 6791,
+    "docs": 78,
+    "files": 3,
 }
 TESTS = {"xk_tests", "xk_tests_memory"}
 FN = re.compile(r"^(\s*)((?:pub(?:\([^)]*\))? )?(?:const )?)fn (\w+)")
