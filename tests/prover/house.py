@@ -26,15 +26,15 @@ MOST = {
     "full": 0,
     "long": 16,
     "bodies": 3,
-    "forwarders": 72,
-    "uncommented": 16,
+    "forwarders": 74,
+    "uncommented": 9,
     "prover": 0,
     "uncited": 0,
     "twice": 27,
     "pub": 76,
     "clauses": 0,
     "code": 267,
-    "proofs": 6791,
+    "proofs": 6749,
     "docs": 78,
     "files": 3,
 }
@@ -97,12 +97,20 @@ def body_of(lines: list[str], head: int, indent: str) -> tuple[int, int]:
         line = lines[k].rstrip()
         if line.endswith("{}") and (line == indent + "{}" or k == head):
             return k, k
-        if line == indent + "{" or (line.endswith("{") and k == head):
+        if line == indent + "{" or (line.endswith("{") and (k == head or line.startswith(indent + ")"))):
             close = next((j for j in range(k + 1, len(lines)) if lines[j].rstrip() == indent + "}"), k)
             return k, close
         if line.endswith(";") and (k == head or line.startswith(indent + ")")):
             return k, k
     return head, head
+
+
+def is_of_trait(lines: list[str], head: int) -> bool:
+    """Whether a function is a method of a trait's impl: its comment is the trait's."""
+    if not lines[head].startswith(" "):
+        return False
+    impl = next((line for line in reversed(lines[:head]) if line and not line[0].isspace()), "")
+    return impl.startswith("impl") and " for " in impl
 
 
 def functions(top: Path) -> list[Function]:
@@ -116,7 +124,7 @@ def functions(top: Path) -> list[Function]:
                 above = i - 1
                 while above >= 0 and lines[above].strip().startswith("#["):
                     above -= 1
-                commented = above >= 0 and lines[above].strip().startswith("///")
+                commented = above >= 0 and lines[above].strip().startswith("///") or is_of_trait(lines, i)
                 found.append(Function(file, m.group(3), i + 1, closes + 1, lines[opens + 1 : closes], commented))
     return found
 
