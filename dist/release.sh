@@ -59,7 +59,7 @@ version $version
 kit $(rt version)
 sources $sources
 gate rt ci: $verdict
-needs x86-64 Linux, glibc ${glibc#GLIBC_} or later
+needs Linux, a processor with x86-64-v2, glibc ${glibc#GLIBC_} or later
 END
 (cd "$made" && find . -type f | LC_ALL=C sort | sed 's|^\./||' | xargs sha256sum) > "$said"
 cp "$said" "$made/SHA256SUMS"
