@@ -1,17 +1,16 @@
 //! What the steps of a run have to do with its order.
 
-ghost use Rattle.std.specs.Prelude.{◌≡◌, ◌<◌, true, [], ◌∷◌, ◌++◌, length, flat_map, replicate, slice_get, Some, if◌then◌else◌, IfOk, OnOk};
+ghost use Rattle.std.specs.Prelude.{◌≡◌, ◌<◌, true, [], ◌∷◌, ◌++◌, length, flat_map, slice_get, Some, if◌then◌else◌, IfOk, OnOk};
 ghost use Rattle.xk_types.specs.Step.{is_pending, is_signalled};
-ghost use Rattle.xk_types.specs.Schedule.{Through, is_enabled, run};
-ghost use Rattle.xk_core.specs.Core.{StepsTo, advanced_now};
-ghost use Rattle.xk_show_events.specs.Steps.{IsLegalFrom, told, told_of_run};
+ghost use Rattle.xk_types.specs.Schedule.{is_enabled};
+ghost use Rattle.xk_core.specs.Core.{StepsTo};
 ghost use Rattle.xk_races.specs.Deeds.{advance, at_clocks, awaiting, awaits, cell_at, cell_of, deeds_of_run, gives_way, has_left, has_resumed, leave, pass, plain, plain_part, resumed_by, signal, signals, tell_deeds};
 
 use std::alloc::{AllocError, Global};
 use xk_core::Core;
 use xk_scheduler::Ended;
-use xk_show_events::{RunStep, take_step};
-use xk_types::{Act, ClockId, Entry, Event, Instr, Module, Standing};
+use xk_show_events::{RunStep, Tell, advanced, take_step, tell_run};
+use xk_types::{Act, ClockId, Event, Instr, Module, Standing};
 
 /// What a step has to do with the order of a run.
 #[derive(Clone, Copy, Debug)]
@@ -228,15 +227,6 @@ fn push_passes(list: &mut Vec<Deed>, step: &RunStep, clocks: &[u32]) -> Result<(
     Ok(())
 }
 
-/// The clocks that advanced in the last step.
-fn advanced(alloc: Global, core: &Core<'_>) -> Result<Vec<u32>, AllocError>
-    ensures { IfOk result (λ v. v.items ≡ advanced_now core.now.world) }
-{
-    let mut clocks = Vec::with_capacity(alloc, core.clocks() as usize)?;
-    core.list_advanced(&mut clocks);
-    Ok(clocks)
-}
-
 /// Adds the deeds at those clocks that gave way, of those that awaited the activity before, and the advances.
 fn push_signals_and_advances(
     alloc: Global,
@@ -341,65 +331,40 @@ fn push_seen(
     alloc: Global,
     list: &mut Vec<Deed>,
     core: &mut Core<'_>,
-    program: &Module,
     act: Act,
 ) -> Result<Event, AllocError>
-    requires enabled { is_enabled core.old.module_run core.old.world act ≡ true }
-    requires same { core.old.module_run ≡ program.now }
+    requires { is_enabled core.old.module_run core.old.world act ≡ true }
     ensures stepped { IfOk result (StepsTo core.old act core.new) }
     ensures told { IfOk result (λ e. list.new.items ≡ list.old.items
-        ++ tell_deeds program.now act core.old.world core.new.world e) }
+        ++ tell_deeds core.old.module_run act core.old.world core.new.world e) }
     ensures same_module { core.new.module_run ≡ core.old.module_run }
 {
     let resumed = resumed_by(alloc, core, act)?;
     let awaiting = awaiting(alloc, core, act)?;
     let step = take_step(core, act)?;
-    push_plain(list, program, &step)?;
+    push_plain(list, core.module().module(), &step)?;
     push_at_clocks(alloc, list, core, &step, &resumed, &awaiting)?;
     Ok(step.event)
 }
 
-/// Takes a step, and adds its deeds.
-fn push_step(
-    alloc: Global,
-    list: &mut Vec<Deed>,
-    core: &mut Core<'_>,
-    program: &Module,
-    act: Act,
-) -> Result<Event, AllocError>
-    requires enabled { is_enabled core.old.module_run core.old.world act ≡ true }
-    requires same { core.old.module_run ≡ program.now }
-    ensures stepped { IfOk result (StepsTo core.old act core.new) }
-    ensures told { IfOk result (λ e. list.new.items ≡ list.old.items
-        ++ tell_deeds program.now act core.old.world core.new.world e) }
-    ensures same_module { core.new.module_run ≡ core.old.module_run }
-{
-    if core.next_local(act) {
-        return core.step(act);
-    }
-    push_seen(alloc, list, core, program, act)
-}
+/// Tells of each step what it has to do with the order of the run.
+struct DeedTeller;
 
-/// Takes the steps of an entry, and adds their deeds.
-fn push_entry(
-    alloc: Global,
-    list: &mut Vec<Deed>,
-    core: &mut Core<'_>,
-    program: &Module,
-    entry: Entry,
-) -> Result<(), AllocError>
-    requires legal { IsLegalFrom core.old (replicate entry.steps entry.act) }
-    requires same { core.old.module_run ≡ program.now }
-    ensures told { OnOk result (list.new.items ≡ list.old.items ++ told (tell_deeds program.now)
-        core.old.module_run (replicate entry.steps entry.act) core.old.world) }
-    ensures led { OnOk result (run core.old.module_run (replicate entry.steps entry.act)
-        core.old.world ≡ Through core.new.world) }
-    ensures same_module { core.new.module_run ≡ core.old.module_run }
-{
-    for _done in 0..entry.steps {
-        push_step(alloc, list, core, program, Act(entry.act))?;
+impl Tell<Deed> for DeedTeller {
+    ghost tell = { λ teller m. tell_deeds m };
+
+    fn push_step(
+        &self,
+        alloc: Global,
+        out: &mut Vec<Deed>,
+        core: &mut Core<'_>,
+        act: Act,
+    ) -> Result<Event, AllocError> {
+        if core.next_local(act) {
+            return core.step(act);
+        }
+        push_seen(alloc, out, core, act)
     }
-    Ok(())
 }
 
 /// The deeds of a run. The log is played again for it. Err where memory was refused.
@@ -407,10 +372,7 @@ pub(crate) fn deeds_of_run(alloc: Global, ended: &Ended<'_>) -> Result<Vec<Deed>
     ensures { IfOk result (λ v. v.items ≡ deeds_of_run
         ended.now.module.now ended.now.core.world.arguments ended.now.log.items) }
 {
-    let mut core = Core::open(alloc, ended.module, ended.core.arguments())?;
     let mut list = Vec::new(alloc);
-    for entry in &ended.log {
-        push_entry(alloc, &mut list, &mut core, ended.module.module(), *entry)?;
-    }
+    tell_run(&DeedTeller, alloc, &mut list, ended)?;
     Ok(list)
 }

@@ -1,8 +1,7 @@
 -- What is told of a run, step by step and entry by entry.
-use Rattle.std.proofs.Common.{◌≡◌, ◌∙◌, ℕ, suc, ◌+◌, ◌<◌, true, List, [], ◌∷◌, ◌++◌, length, replicate, drop, get_or, refl, sym, ap, subst, arith, Option, Some, None, slice_get}
-use Rattle.std.specs.Prelude.{ℤ}
+use Rattle.std.proofs.Common.{◌≡◌, ◌∙◌, ℕ, zero, suc, ◌+◌, ◌<◌, ◌≤◌, true, List, [], ◌∷◌, ◌++◌, length, replicate, drop, get_or, refl, sym, ap, subst, arith, Option, Some, None, slice_get}
 use Rattle.std.proofs.Math.Seq.{drop-cons}
-use Rattle.std.proofs.lemmas.List.{append_assoc}
+use Rattle.std.proofs.lemmas.List.{append_assoc, append-nil}
 use Rattle.std.proofs.lemmas.Option.{slice_get_within}
 use Rattle.std.proofs.lemmas.List.Concat.{flat_map-cons}
 use Rattle.xk_types.specs.declared.world.Entry.{Entry}
@@ -10,13 +9,13 @@ use Rattle.xk_types.specs.declared.world.Event.{Event}
 use Rattle.xk_types.specs.Code.{ModuleValue}
 use Rattle.xk_types.specs.World.{Activity, World}
 use Rattle.xk_types.specs.Step.{Stepped, step, step_of}
-use Rattle.xk_types.specs.Schedule.{Course, Through, run, run_on, is_enabled, is_step}
+use Rattle.xk_types.specs.Schedule.{Through, run, run_on, is_enabled, is_step}
 use Rattle.xk_types.specs.Logs.{schedule_of}
 use Rattle.xk_law_schedules.proofs.ReachabilityLemmas.{same_through, first_step}
-use Rattle.xk_core.specs.Core.{CoreValue, opening_core}
-use Rattle.xk_scheduler.specs.LoggedRuns.{IsRunOf}
+use Rattle.xk_law_schedules.proofs.StepCountLemmas.{step_counts}
+use Rattle.xk_core.specs.Core.{CoreValue, StepsTo}
 use Rattle.xk_scheduler.proofs.RunSequenceLemmas.{run_then}
-use Rattle.xk_show_events.specs.Steps.{Teller, told, told_on, told_of_run}
+use Rattle.xk_show_events.specs.Steps.{IsLegalFrom, IsSilentAfter, Teller, told, told_on}
 
 -- ---- runs in two parts
 
@@ -38,8 +37,6 @@ told_append tell m (a ∷ xs) ys w v h =
     ∙ sym (append_assoc (tell a w f.0 f.1) (told tell m xs f.0) (told tell m ys v))
     ∙ sym (ap (λ o. told_on tell a w o (told tell m xs) ++ told tell m ys v) f.2)
 
--- ---- by a step
-
 -- who can take a step is there
 pub enabled_there : (m : ModuleValue) (w : World) (a : ℕ) → is_enabled m w a ≡ true → a < length w.activities
 enabled_there m w a h = of (slice_get w.activities a) refl h
@@ -48,42 +45,42 @@ enabled_there m w a h = of (slice_get w.activities a) refl h
     of None e g = cc
     of (Some x) e g = slice_get_within w.activities a x e
 
--- who is to take the first of some steps can take one
-pub can_step : (m : ModuleValue) (a n k : ℕ) (w v : World) → n ≡ suc k → run m (replicate n a) w ≡ Through v → is_enabled m w a ≡ true
-can_step m a n k w v is h =
-    let f = first_step w v (step m w a) (run m (replicate k a)) (subst (λ j. run m (replicate j a) w ≡ Through v) is h) in
-    ap is_step f.2
+-- ---- what is left of a walk
 
--- the rest goes as the whole does
-pub rest_run : (m : ModuleValue) (a n k : ℕ) (w x : World) (e : Event) (all : Course) → n ≡ suc k → run m (replicate n a) w ≡ all → step m w a ≡ Stepped x e
-    → run m (replicate k a) x ≡ all
-rest_run m a n k w x e all is h stepped =
-    subst (λ o. run_on w o (run m (replicate k a)) ≡ all) stepped (subst (λ j. run m (replicate j a) w ≡ all) is h)
+-- All these steps were to be taken from world w, and to be told behind what was there first; some are left: they go as all do, and what is told of
+-- them is what is wanting.
+pub record IsLeft {X : Type 0} (tell : Teller X) (m : ModuleValue) (all : List ℕ) (w : World) (first : List X) (left : List ℕ) (c : CoreValue) (out : List X) : Type 0 where
+  pub same_module : c.module_run ≡ m
+  pub goes : run m left c.world ≡ run m all w
+  pub rest : out ++ told tell m left c.world ≡ first ++ told tell m all w
 
--- and what is told of it comes behind what is told of the step
-pub rest_told : {X : Type 0} (tell : Teller X) (m : ModuleValue) (a n k : ℕ) (w x : World) (e : Event) (old more all : List X) → n ≡ suc k → step m w a ≡ Stepped x e
-    → more ≡ old ++ tell a w x e → old ++ told tell m (replicate n a) w ≡ all → more ++ told tell m (replicate k a) x ≡ all
-rest_told tell m a n k w x e old more all is stepped grown h =
-    ap (λ l. l ++ told tell m (replicate k a) x) grown
-    ∙ append_assoc old (tell a w x e) (told tell m (replicate k a) x)
-    ∙ ap (λ o. old ++ told_on tell a w o (told tell m (replicate k a))) (sym stepped)
-    ∙ ap (λ j. old ++ told tell m (replicate j a) w) (sym is)
-    ∙ h
+-- ---- by a step
+
+-- who is to take the first of the steps that are left can take one
+pub can_step : {X : Type 0} (tell : Teller X) (m : ModuleValue) (all : List ℕ) (w v : World) (first : List X) (a n : ℕ) (c : CoreValue) (out : List X) → 0 < n
+    → run m all w ≡ Through v → IsLeft tell m all w first (replicate n a) c out → is_enabled c.module_run c.world a ≡ true
+can_step tell m all w v first a zero c out some legal left = absurd omega (arith, some)
+can_step tell m all w v first a (suc k) c out some legal left =
+    subst (λ j. is_enabled j c.world a ≡ true) (sym left.same_module) (ap is_step (first_step c.world v (step m c.world a) (run m (replicate k a)) (left.goes ∙ legal)).2)
+
+-- and behind it the rest is left
+pub step_told : {X : Type 0} (tell : Teller X) (m : ModuleValue) (all : List ℕ) (w : World) (first : List X) (a n k : ℕ) (c d : CoreValue) (e : Event) (out more : List X) → n ≡ suc k
+    → StepsTo c a d e → d.module_run ≡ c.module_run → more ≡ out ++ tell a c.world d.world e
+    → IsLeft tell m all w first (replicate n a) c out → IsLeft tell m all w first (replicate k a) d more
+step_told tell m all w first a n k c d e out more is steps same grown left =
+    let stepped : step m c.world a ≡ Stepped d.world e = subst (λ j. step j c.world a ≡ Stepped d.world e) left.same_module steps in
+    let list = replicate k a in
+    record {
+      same_module = same ∙ left.same_module;
+      goes = subst (λ o. run_on c.world o (run m list) ≡ run m all w) stepped (subst (λ j. run m (replicate j a) c.world ≡ run m all w) is left.goes);
+      rest = ap (λ l. l ++ told tell m list d.world) grown
+          ∙ append_assoc out (tell a c.world d.world e) (told tell m list d.world)
+          ∙ ap (λ o. out ++ told_on tell a c.world o (told tell m list)) (sym stepped)
+          ∙ ap (λ j. out ++ told tell m (replicate j a) c.world) (sym is)
+          ∙ left.rest;
+    }
 
 -- ---- by an entry
-
--- The entries before number i were carried out, and told behind what was there first: the rest is legal, and what is told of it is what is wanting.
-pub record IsTold {X : Type 0} (tell : Teller X) (m : ModuleValue) (args : List ℤ) (log : List Entry) (first : List X) (i : ℕ) (c : CoreValue) (out : List X) : Type 0 where
-  pub same_module : c.module_run ≡ m
-  pub last : World
-  pub legal : run m (schedule_of (drop i log)) c.world ≡ Through last
-  pub rest : out ++ told tell m (schedule_of (drop i log)) c.world ≡ first ++ told_of_run tell m args log
-
--- none was carried out yet
-pub told_starts : {X : Type 0} (tell : Teller X) (m : ModuleValue) (log : List Entry) (numbers : List ℤ) (c d : CoreValue) (first : List X) → IsRunOf m log numbers d
-    → c ≡ opening_core m d.world.arguments → IsTold tell m d.world.arguments log first 0 c first
-told_starts tell m log numbers c d first r is =
-    subst (λ x. IsTold tell m d.world.arguments log first 0 x first) (sym is) (record { same_module = refl; last = d.world; legal = r.leads.1; rest = refl })
 
 schedule_rest : (log : List Entry) (i : ℕ) (z : Entry) → i < length log
     → schedule_of (drop i log) ≡ replicate (get_or log i z).steps (get_or log i z).act ++ schedule_of (drop (i + 1) log)
@@ -93,32 +90,50 @@ schedule_rest log i z lt =
     ∙ flat_map-cons (λ (x : Entry). replicate x.steps x.act) (get_or log i z) (drop (suc i) log)
     ∙ ap (λ j. replicate (get_or log i z).steps (get_or log i z).act ++ schedule_of (drop j log)) next
 
--- the entry's steps are legal
-pub entry_legal : {X : Type 0} (tell : Teller X) (m : ModuleValue) (args : List ℤ) (log : List Entry) (first : List X) (i : ℕ) (z : Entry) (c : CoreValue) (out : List X) → i < length log
-    → IsTold tell m args log first i c out → (u : World) × (run c.module_run (replicate (get_or log i z).steps (get_or log i z).act) c.world ≡ Through u)
-entry_legal tell m args log first i z c out lt h =
+-- the steps of the next entry are legal
+pub entry_legal : {X : Type 0} (tell : Teller X) (m : ModuleValue) (log : List Entry) (w v : World) (first : List X) (i : ℕ) (z : Entry) (c : CoreValue) (out : List X) → i < length log
+    → z ≡ get_or log i z → run m (schedule_of log) w ≡ Through v → IsLeft tell m (schedule_of log) w first (schedule_of (drop i log)) c out
+    → IsLegalFrom c (replicate z.steps z.act)
+entry_legal tell m log w v first i z c out lt is legal left =
     let list = replicate (get_or log i z).steps (get_or log i z).act in
-    let f = legal_front m list (schedule_of (drop (i + 1) log)) c.world h.last
-    (ap (λ l. run m l c.world) (sym (schedule_rest log i z lt)) ∙ h.legal) in
-    (f.0, ap (λ k. run k list c.world) h.same_module ∙ f.1)
+    let f = legal_front m list (schedule_of (drop (i + 1) log)) c.world v
+    (ap (λ l. run m l c.world) (sym (schedule_rest log i z lt)) ∙ left.goes ∙ legal) in
+    subst (λ (x : Entry). IsLegalFrom c (replicate x.steps x.act)) (sym is) (f.0, ap (λ k. run k list c.world) left.same_module ∙ f.1)
 
--- and behind them the rest goes on
-pub entry_told : {X : Type 0} (tell : Teller X) (m : ModuleValue) (args : List ℤ) (log : List Entry) (first : List X) (i : ℕ) (z : Entry) (c d : CoreValue) (out more : List X) → i < length log
-    → IsTold tell m args log first i c out
-    → run c.module_run (replicate (get_or log i z).steps (get_or log i z).act) c.world ≡ Through d.world → d.module_run ≡ c.module_run
-    → more ≡ out ++ told tell c.module_run (replicate (get_or log i z).steps (get_or log i z).act) c.world
-    → IsTold tell m args log first (i + 1) d more
-entry_told tell m args log first i z c d out more lt h led same grown =
-    let list = replicate (get_or log i z).steps (get_or log i z).act in
+-- and behind them the rest is left
+pub entry_told : {X : Type 0} (tell : Teller X) (m : ModuleValue) (log : List Entry) (w : World) (first : List X) (i : ℕ) (z : Entry) (c d : CoreValue) (out more : List X) → i < length log
+    → z ≡ get_or log i z → run c.module_run (replicate z.steps z.act) c.world ≡ Through d.world → d.module_run ≡ c.module_run
+    → more ≡ out ++ told tell m (replicate z.steps z.act) c.world
+    → IsLeft tell m (schedule_of log) w first (schedule_of (drop i log)) c out → IsLeft tell m (schedule_of log) w first (schedule_of (drop (i + 1) log)) d more
+entry_told tell m log w first i z c d out more lt is led same grown left =
+    let list = replicate z.steps z.act in
     let rest = schedule_of (drop (i + 1) log) in
-    let through : run m list c.world ≡ Through d.world = ap (λ k. run k list c.world) (sym h.same_module) ∙ led in
+    let split : schedule_of (drop i log) ≡ list ++ rest = schedule_rest log i z lt ∙ ap (λ (x : Entry). replicate x.steps x.act ++ rest) (sym is) in
+    let through : run m list c.world ≡ Through d.world = ap (λ k. run k list c.world) (sym left.same_module) ∙ led in
     record {
-      same_module = same ∙ h.same_module;
-      last = h.last;
-      legal = sym (run_then m list rest c.world d.world through) ∙ ap (λ l. run m l c.world) (sym (schedule_rest log i z lt)) ∙ h.legal;
-      rest = ap (λ l. l ++ told tell m rest d.world) (grown ∙ ap (λ k. out ++ told tell k list c.world) h.same_module)
+      same_module = same ∙ left.same_module;
+      goes = sym (run_then m list rest c.world d.world through) ∙ ap (λ l. run m l c.world) (sym split) ∙ left.goes;
+      rest = ap (λ l. l ++ told tell m rest d.world) grown
           ∙ append_assoc out (told tell m list c.world) (told tell m rest d.world)
           ∙ ap (λ l. out ++ l) (sym (told_append tell m list rest c.world d.world through))
-          ∙ ap (λ l. out ++ told tell m l c.world) (sym (schedule_rest log i z lt))
-          ∙ h.rest;
+          ∙ ap (λ l. out ++ told tell m l c.world) (sym split)
+          ∙ left.rest;
     }
+
+-- ---- where nothing is told any more
+
+silent_nothing : {X : Type 0} (tell : Teller X) (m : ModuleValue) (list : List ℕ) (n : ℕ) (w v : World) → n ≤ w.steps → IsSilentAfter tell n → run m list w ≡ Through v
+    → told tell m list w ≡ []
+silent_nothing tell m [] n w v past silent h = refl
+silent_nothing tell m (a ∷ list) n w v past silent h =
+    let f = first_step w v (step m w a) (run m list) h in
+    let counted : f.0.steps ≡ w.steps + 1 = step_counts m w f.0 a f.1 f.2 in
+    ap (λ o. told_on tell a w o (told tell m list)) f.2
+    ∙ ap (λ l. l ++ told tell m list f.0) (silent a w f.0 f.1 (omega arith))
+    ∙ silent_nothing tell m list n f.0 v (omega arith) silent f.3
+
+-- what is told already is all
+pub all_told : {X : Type 0} (tell : Teller X) (m : ModuleValue) (all : List ℕ) (w v : World) (first : List X) (left : List ℕ) (n : ℕ) (c : CoreValue) (out : List X) → n ≡ c.world.steps
+    → run m all w ≡ Through v → IsSilentAfter tell n → IsLeft tell m all w first left c out → out ≡ first ++ told tell m all w
+all_told tell m all w v first left n c out is legal silent h =
+    sym (append-nil out) ∙ ap (λ l. out ++ l) (sym (silent_nothing tell m left n c.world v (omega arith) silent (h.goes ∙ legal))) ∙ h.rest

@@ -1,6 +1,6 @@
 -- The steps of a run, one after another, and what is told of them. What a step is, `xk_types` says in `Step.antt`; that it is told so is this
 -- project's own.
-use Rattle.std.specs.Prelude.{◌≡◌, ℕ, ℤ, List, [], ◌∷◌, ◌++◌, length, if◌then◌else◌}
+use Rattle.std.specs.Prelude.{◌≡◌, ◌<◌, ℕ, ℤ, List, [], ◌∷◌, ◌++◌, length, if◌then◌else◌}
 use Rattle.xk_types.specs.declared.world.Entry.{Entry}
 use Rattle.xk_types.specs.declared.world.Event.{Event}
 use Rattle.xk_types.specs.Code.{ModuleValue}
@@ -31,6 +31,10 @@ told tell m (a ∷ list) w = told_on tell a w (step m w a) (told tell m list)
 -- of the run that a log stands for, where main is given these numbers
 abbrev pub told_of_run : {X : Type 0} → Teller X → ModuleValue → List ℤ → List Entry → List X
 told_of_run tell m args log = told tell m (schedule_of log) (opening m args)
+
+-- nothing is told of the steps behind the first n of a run
+abbrev pub IsSilentAfter : {X : Type 0} → Teller X → ℕ → Type 0
+IsSilentAfter tell n = (a : ℕ) (w v : World) (e : Event) → n < v.steps → tell a w v e ≡ []
 
 -- the list is legal from the core's world
 abbrev pub IsLegalFrom : CoreValue → List ℕ → Type 0

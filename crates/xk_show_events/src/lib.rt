@@ -1,12 +1,16 @@
 //! The steps of a run that other activities can see, a line each.
 #![tactic(auto)]
 
+mod advances;
 mod events;
 mod places;
 mod steps;
+mod walk;
 mod words;
 
+pub use advances::advanced;
 pub use events::{module_events, source_events};
 pub use places::Places;
 pub use steps::{RunStep, seen_steps, take_step};
+pub use walk::{Tell, tell_run};
 pub use words::{event_line, event_words, is_seen, place_words};

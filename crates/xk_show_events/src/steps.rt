@@ -1,15 +1,16 @@
 //! The steps of a run, one by one.
 
-ghost use Rattle.std.specs.Prelude.{◌≡◌, true, ◌++◌, replicate, IfOk, OnErr, OnOk};
-ghost use Rattle.xk_types.specs.Schedule.{Through, is_enabled, run};
+ghost use Rattle.std.specs.Prelude.{◌≡◌, true, ◌++◌, IfOk, OnErr, OnOk};
+ghost use Rattle.xk_types.specs.Schedule.{is_enabled};
 ghost use Rattle.xk_core.specs.Core.{StepsTo, WantsMemory};
-ghost use Rattle.xk_show_events.specs.Steps.{IsLegalFrom, if_seen, run_step, seen_steps, tell_seen, told};
+ghost use Rattle.xk_show_events.specs.Steps.{if_seen, run_step, seen_steps, tell_seen};
 
+use crate::walk::{Tell, tell_run};
 use crate::words::is_seen;
 use std::alloc::{AllocError, Global};
 use xk_core::Core;
 use xk_scheduler::Ended;
-use xk_types::{Act, Entry, Event};
+use xk_types::{Act, Event};
 
 /// A step of a run.
 #[derive(Clone, Copy)]
@@ -69,20 +70,23 @@ fn push_if_seen(list: &mut Vec<RunStep>, step: RunStep) -> Result<(), AllocError
     Ok(())
 }
 
-/// Takes the steps of an entry, and adds those that other activities can see.
-fn push_entry(list: &mut Vec<RunStep>, core: &mut Core<'_>, entry: Entry) -> Result<(), AllocError>
-    requires { IsLegalFrom core.old (replicate entry.steps entry.act) }
-    ensures steps { OnOk result (list.new.items ≡ list.old.items
-        ++ told tell_seen core.old.module_run (replicate entry.steps entry.act) core.old.world) }
-    ensures led { OnOk result (run core.old.module_run (replicate entry.steps entry.act)
-        core.old.world ≡ Through core.new.world) }
-    ensures same_module { core.new.module_run ≡ core.old.module_run }
-{
-    for _done in 0..entry.steps {
-        let step = take_step(core, Act(entry.act))?;
-        push_if_seen(list, step)?;
+/// Tells of the steps that other activities can see.
+struct SeenSteps;
+
+impl Tell<RunStep> for SeenSteps {
+    ghost tell = { λ teller m. tell_seen };
+
+    fn push_step(
+        &self,
+        _alloc: Global,
+        out: &mut Vec<RunStep>,
+        core: &mut Core<'_>,
+        act: Act,
+    ) -> Result<Event, AllocError> {
+        let step = take_step(core, act)?;
+        push_if_seen(out, step)?;
+        Ok(step.event)
     }
-    Ok(())
 }
 
 /// The steps of a run that other activities can see, in their order. The log is played again for it. Err where memory was refused.
@@ -90,10 +94,7 @@ pub fn seen_steps(alloc: Global, ended: &Ended<'_>) -> Result<Vec<RunStep>, Allo
     ensures { IfOk result (λ v. v.items ≡ seen_steps
         ended.now.module.now ended.now.core.world.arguments ended.now.log.items) }
 {
-    let mut core = Core::open(alloc, ended.module, ended.core.arguments())?;
     let mut list = Vec::new(alloc);
-    for entry in &ended.log {
-        push_entry(&mut list, &mut core, *entry)?;
-    }
+    tell_run(&SeenSteps, alloc, &mut list, ended)?;
     Ok(list)
 }

@@ -1,19 +1,24 @@
--- The longest of some texts; clocks that advanced, and where none did.
-use Rattle.std.proofs.Common.{◌≡◌, ◌∙◌, ℕ, suc, ◌+◌, ◌<◌, List, [], ◌∷◌, ◌++◌, length, map, take, get_or, slice_get, Bool, true, false, not, ◌&&◌, ◌==◌, zero, refl, sym, ap, arith}
-use Rattle.std.specs.Prelude.{max}
+-- The longest of some texts; steps that are asked for; clocks that advanced.
+use Rattle.std.proofs.Common.{◌≡◌, ◌∙◌, ℕ, suc, ◌+◌, ◌<◌, List, [], ◌∷◌, ◌++◌, length, map, take, get_or, slice_get, Bool, false, not, ◌&&◌, refl, sym, ap, arith}
+use Rattle.std.specs.Prelude.{max, filter, if◌then◌else◌}
 use Rattle.std.proofs.Math.Seq.{take-suc}
+use Rattle.std.proofs.lemmas.Bool.Decides.{nat_tests}
 use Rattle.std.proofs.lemmas.List.{map-append}
-use Rattle.std.proofs.lemmas.List.{append-nil}
+use Rattle.std.proofs.lemmas.List.Elements.{filter-append}
 use Rattle.std.proofs.lemmas.Option.{slice_get-get_or}
-use Rattle.std.specs.Prelude.{flat_map}
-use Rattle.std.specs.List.{list_all}
-use Rattle.std.specs.Option.{option_map_or}
-use Rattle.xk_types.specs.World.{Clock, World}
-use Rattle.xk_core.specs.Core.{advanced_now, has_advanced, is_quiet}
-use Rattle.xk_collections.specs.NumberSets.{numbers_from}
+use Rattle.xk_types.specs.declared.world.Entry.{Entry}
+use Rattle.xk_types.specs.Code.{ModuleValue}
+use Rattle.xk_types.specs.World.{World, opening}
+use Rattle.xk_types.specs.Step.{Outcome, Blocked, Wrong, Stepped, step}
+use Rattle.xk_types.specs.Schedule.{is_local}
+use Rattle.xk_types.specs.Logs.{schedule_of}
+use Rattle.xk_core.specs.Core.{advanced_now, has_advanced}
 use Rattle.xk_collections.proofs.RisingListLemmas.{member_passes}
-use Rattle.xk_scheduler.proofs.WakeLemmas.{none_pass}
+use Rattle.xk_show_events.specs.declared.steps.RunStep.{RunStep}
+use Rattle.xk_show_events.specs.Steps.{run_step, tell_seen, told, told_on, told_of_run}
+use Rattle.xk_show_lanes.specs.declared.window.Window.{Window}
 use Rattle.xk_show_lanes.specs.Fields.{longest}
+use Rattle.xk_show_lanes.specs.Lanes.{is_asked, steps_asked, tell_asked}
 
 longest_append : (xs : List (List ℕ)) (x : List ℕ) → longest (xs ++ x ∷ []) ≡ max (longest xs) (length x)
 longest_append [] x = omega arith
@@ -29,23 +34,37 @@ longest_more f xs i z most new inside is grown =
     ∙ sym (ap longest (map-append f (take i xs) (get_or xs i z ∷ [])))
     ∙ ap (λ l. longest (map f l)) (sym (take-suc xs i z inside) ∙ ap (λ k. take k xs) next)
 
+-- ---- the part of a run that is asked for
+
+-- no step behind the last one is asked for
+pub none_asked : (window : Window) (k : ℕ) → window.last < k → is_asked window k ≡ false
+none_asked window k behind = grind (arith, nat_tests)
+
+kept : (p : RunStep → Bool) (s : RunStep) (b : Bool) → (if p s && not b then s ∷ [] else []) ≡ filter p (if b then [] else s ∷ [])
+kept p s b = grind arith
+
+asked_from : (window : Window) (m : ModuleValue) (list : List ℕ) (w : World)
+    → told (tell_asked window) m list w ≡ filter (λ (s : RunStep). is_asked window s.number) (told tell_seen m list w)
+asked_from window m [] w = refl
+asked_from window m (a ∷ list) w = of (step m w a) (asked_from window m list)
+  where
+    p : RunStep → Bool
+    p s = is_asked window s.number
+
+    of : (o : Outcome) → ((v : World) → told (tell_asked window) m list v ≡ filter (λ (s : RunStep). is_asked window s.number) (told tell_seen m list v))
+        → told_on (tell_asked window) a w o (told (tell_asked window) m list) ≡ filter (λ (s : RunStep). is_asked window s.number) (told_on tell_seen a w o (told tell_seen m list))
+    of Blocked rest = refl
+    of (Wrong c) rest = refl
+    of (Stepped v e) rest =
+        ap (λ l. l ++ told (tell_asked window) m list v) (kept p (run_step a w v e) (is_local e))
+        ∙ ap (λ l. filter p (tell_seen a w v e) ++ l) (rest v)
+        ∙ sym (filter-append p (tell_seen a w v e) (told tell_seen m list v))
+
+-- those that are asked for are told
+pub asked_told : (window : Window) (m : ModuleValue) (log : List Entry) (last : World) → told_of_run (tell_asked window) m last.arguments log ≡ steps_asked window m log last
+asked_told window m log last = asked_from window m (schedule_of log) (opening m last.arguments)
+
 -- ---- clocks that advanced
-
-apart : (b r : Bool) → (not b && r) ≡ true → (b ≡ false) × (r ≡ true)
-apart false r h = (refl, h)
-apart true r h = cc
-
-quiet_at : (now : ℕ) (ks : List Clock) (c : ℕ) → list_all (λ (k : Clock). not (k.last == now)) ks ≡ true
-    → option_map_or (λ (k : Clock). k.last == now) (slice_get ks c) false ≡ false
-quiet_at now [] c h = refl
-quiet_at now (k ∷ ks) zero h = (apart (k.last == now) (list_all (λ (x : Clock). not (x.last == now)) ks) h).0
-quiet_at now (k ∷ ks) (suc c) h = quiet_at now ks c (apart (k.last == now) (list_all (λ (x : Clock). not (x.last == now)) ks) h).1
-
--- where none did, nothing is told
-pub quiet_nothing : (f : ℕ → List ℕ) (v : World) (out : List ℕ) → is_quiet v ≡ true → out ≡ out ++ flat_map f (advanced_now v)
-quiet_nothing f v out quiet =
-    sym (append-nil out)
-    ∙ ap (λ l. out ++ flat_map f l) (sym (none_pass (has_advanced v) (numbers_from 0 (length v.clocks)) (λ c. quiet_at v.steps v.clocks c quiet)))
 
 -- a clock that advanced is there
 pub clock_there : (w : World) (clocks : List ℕ) (i : ℕ) → i < length clocks → clocks ≡ advanced_now w → get_or clocks i 0 < length w.clocks

@@ -1,6 +1,6 @@
 -- The lanes of a run: a column for each activity, a row for each step that others can see, and a bar where a clock advanced. What steps are,
 -- who can take one, and when clocks advance, `xk_types` says in `Step.antt`; that it is drawn so is this project's own.
-use Rattle.std.specs.Prelude.{ℕ, zero, suc, ◌+◌, ◌-◌, ◌^◌, nat_eq, nat_lt, nat_le, Bool, false, ◌&&◌, ◌||◌, List, [], ◌∷◌, ◌++◌, length, map, min, max, filter, flat_map, replicate, Option, Some, None, codes, decimal, if◌then◌else◌}
+use Rattle.std.specs.Prelude.{ℕ, zero, suc, ◌+◌, ◌-◌, ◌^◌, nat_eq, nat_lt, nat_le, Bool, false, not, ◌&&◌, ◌||◌, List, [], ◌∷◌, ◌++◌, length, map, min, max, filter, flat_map, replicate, Option, Some, None, codes, decimal, if◌then◌else◌}
 use Rattle.xk_types.specs.declared.world.Entry.{Entry}
 use Rattle.xk_types.specs.Code.{ModuleValue}
 use Rattle.xk_types.specs.World.{World}
@@ -28,6 +28,10 @@ whole_run = record { first = 0; last = 2 ^ 64 - 1 }
 -- the steps of a run that are drawn, each with a row of its own: of those that are asked for, the ones that others can see
 abbrev pub steps_asked : Window → ModuleValue → List Entry → World → List RunStep
 steps_asked w m log last = filter (λ s. is_asked w s.number) (seen_steps m last.arguments log)
+
+-- such a step
+abbrev pub tell_asked : Window → Teller RunStep
+tell_asked w a u v e = if is_asked w v.steps && not (is_local e) then run_step a u v e ∷ [] else []
 
 -- ---- columns
 

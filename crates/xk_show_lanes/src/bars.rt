@@ -9,6 +9,7 @@ use crate::fields::{push_text, push_times};
 use crate::grid::Grid;
 use std::alloc::{AllocError, Global};
 use xk_core::Core;
+use xk_show_events::advanced;
 use xk_types::{Act, ClockId};
 
 /// Whether an activity has started, and is registered on the clock.
@@ -144,15 +145,6 @@ fn push_bar(
     push_text(out, "\n")
 }
 
-/// The clocks that advanced in the last step.
-pub fn advanced(alloc: Global, core: &Core<'_>) -> Result<Vec<u32>, AllocError>
-    ensures { IfOk result (λ v. v.items ≡ advanced_now core.now.world) }
-{
-    let mut clocks = Vec::with_capacity(alloc, core.clocks() as usize)?;
-    core.list_advanced(&mut clocks);
-    Ok(clocks)
-}
-
 /// Adds the bars of these clocks.
 fn push_bars_of(
     alloc: Global,
@@ -183,9 +175,6 @@ pub(crate) fn push_bars(
     ensures { OnOk result (out.new.items ≡ out.old.items
         ++ flat_map (bar grid core.now.world act) (advanced_now core.now.world)) }
 {
-    if core.is_quiet() {
-        return Ok(());
-    }
     let clocks = advanced(alloc, core)?;
     push_bars_of(alloc, out, core, grid, act, &clocks)
 }

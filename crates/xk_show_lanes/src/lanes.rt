@@ -1,11 +1,8 @@
 //! The whole text: head, rows and bars.
 
-ghost use Rattle.std.specs.Prelude.{◌≡◌, true, ◌++◌, filter, replicate, IfOk, OnOk};
-ghost use Rattle.xk_types.specs.Schedule.{Through, is_enabled, run};
-ghost use Rattle.xk_core.specs.Core.{StepsTo};
-ghost use Rattle.xk_show_events.specs.Steps.{IsLegalFrom, told, told_of_run};
+ghost use Rattle.std.specs.Prelude.{◌≡◌, ◌++◌, IfOk, OnOk};
 ghost use Rattle.xk_show_events.specs.Events.{no_text, places_of};
-ghost use Rattle.xk_show_lanes.specs.Lanes.{are_lanes_whole, grid_for, is_asked, lanes_in, lanes_text, left_out_by, row_and_bars, tell_lanes};
+ghost use Rattle.xk_show_lanes.specs.Lanes.{are_lanes_whole, grid_for, lanes_in, lanes_text, left_out_by, row_and_bars, steps_asked, tell_asked, tell_lanes};
 
 use crate::bars::push_bars;
 use crate::fields::push_text;
@@ -16,8 +13,8 @@ use std::alloc::{AllocError, Global};
 use xk_core::Core;
 use xk_origins::UnitOrigins;
 use xk_scheduler::Ended;
-use xk_show_events::{Places, RunStep, seen_steps, take_step};
-use xk_types::{Act, Entry, Event};
+use xk_show_events::{Places, RunStep, Tell, is_seen, take_step, tell_run};
+use xk_types::{Act, Event};
 
 /// What is drawn, and whether it is whole: no lane is left out. (A step that wasn't asked for isn't left out.)
 #[derive(Debug, Drop)]
@@ -42,68 +39,34 @@ fn push_row_and_bars(
     push_bars(alloc, out, core, grid, step.act)
 }
 
-/// Takes a step, and adds its row and bars, if it is asked for; what it was seen to do.
-fn push_step(
-    alloc: Global,
-    out: &mut Vec<u8>,
-    core: &mut Core<'_>,
+/// Tells of the steps that are asked for, by their rows and bars.
+#[derive(Drop)]
+struct LaneTeller<'a, 't> {
     grid: Grid,
-    places: &Places<'_>,
-    act: Act,
-) -> Result<Event, AllocError>
-    requires { is_enabled core.old.module_run core.old.world act ≡ true }
-    ensures stepped { IfOk result (StepsTo core.old act core.new) }
-    ensures told { IfOk result (λ e. out.new.items ≡ out.old.items
-        ++ tell_lanes grid places.now core.old.module_run act core.old.world core.new.world e) }
-    ensures same_module { core.new.module_run ≡ core.old.module_run }
-{
-    let step = take_step(core, act)?;
-    if grid.window.asks(step.number) {
-        push_row_and_bars(alloc, out, core, grid, places, &step)?;
-    }
-    Ok(step.event)
+    places: &'a Places<'t>,
 }
 
-/// Takes the steps of an entry, and adds their rows and bars.
-fn push_entry(
-    alloc: Global,
-    out: &mut Vec<u8>,
-    core: &mut Core<'_>,
-    grid: Grid,
-    places: &Places<'_>,
-    entry: Entry,
-) -> Result<(), AllocError>
-    requires { IsLegalFrom core.old (replicate entry.steps entry.act) }
-    ensures told { OnOk result (out.new.items ≡ out.old.items
-        ++ told (tell_lanes grid places.now core.old.module_run) core.old.module_run
-        (replicate entry.steps entry.act) core.old.world) }
-    ensures led { OnOk result (run core.old.module_run (replicate entry.steps entry.act)
-        core.old.world ≡ Through core.new.world) }
-    ensures same_module { core.new.module_run ≡ core.old.module_run }
-{
-    for _done in 0..entry.steps {
-        push_step(alloc, out, core, grid, places, Act(entry.act))?;
-    }
-    Ok(())
-}
+impl Tell<u8> for LaneTeller<'_, '_> {
+    ghost tell = { λ teller m. tell_lanes teller.grid teller.places.now m };
 
-/// Adds the rows and bars of a run. The log is played again for it.
-fn push_run(
-    alloc: Global,
-    out: &mut Vec<u8>,
-    grid: Grid,
-    places: &Places<'_>,
-    ended: &Ended<'_>,
-) -> Result<(), AllocError>
-    ensures { OnOk result (out.new.items ≡ out.old.items
-        ++ told_of_run (tell_lanes grid places.now ended.now.module.now)
-        ended.now.module.now ended.now.core.world.arguments ended.now.log.items) }
-{
-    let mut core = Core::open(alloc, ended.module, ended.core.arguments())?;
-    for entry in &ended.log {
-        push_entry(alloc, out, &mut core, grid, places, *entry)?;
+    fn push_step(
+        &self,
+        alloc: Global,
+        out: &mut Vec<u8>,
+        core: &mut Core<'_>,
+        act: Act,
+    ) -> Result<Event, AllocError> {
+        let step = take_step(core, act)?;
+        if self.grid.window.asks(step.number) {
+            push_row_and_bars(alloc, out, core, self.grid, self.places, &step)?;
+        }
+        Ok(step.event)
     }
-    Ok(())
+
+    #[tactic(auto, using(crate::proofs::LaneLemmas::none_asked))]
+    fn is_silent_after(&self, steps: u64) -> bool {
+        self.grid.window.last <= steps
+    }
 }
 
 /// Adds how many activities have no lane, if some have none.
@@ -131,7 +94,7 @@ fn lanes_in(
 {
     let mut out = Vec::new(alloc);
     push_head(alloc, &mut out, grid)?;
-    push_run(alloc, &mut out, grid, places, ended)?;
+    tell_run(&LaneTeller { grid, places }, alloc, &mut out, ended)?;
     push_left_out(
         alloc,
         &mut out,
@@ -140,16 +103,44 @@ fn lanes_in(
     Ok(out)
 }
 
-/// Those of these steps that are asked for.
-fn asked(alloc: Global, steps: &[RunStep], window: Window) -> Result<Vec<RunStep>, AllocError>
-    ensures { IfOk result (λ v. v.items
-        ≡ filter (λ s. is_asked window s.number) steps.now) }
+/// Tells of the steps that are asked for, and that others can see.
+#[derive(Drop)]
+struct AskedSteps {
+    window: Window,
+}
+
+impl Tell<RunStep> for AskedSteps {
+    ghost tell = { λ teller m. tell_asked teller.window };
+
+    fn push_step(
+        &self,
+        _alloc: Global,
+        out: &mut Vec<RunStep>,
+        core: &mut Core<'_>,
+        act: Act,
+    ) -> Result<Event, AllocError> {
+        let step = take_step(core, act)?;
+        if self.window.asks(step.number) && is_seen(step.event) {
+            out.push(step)?;
+        }
+        Ok(step.event)
+    }
+
+    #[tactic(auto, using(crate::proofs::LaneLemmas::none_asked))]
+    fn is_silent_after(&self, steps: u64) -> bool {
+        self.window.last <= steps
+    }
+}
+
+/// The steps of a run that are asked for, and that others can see. The log is played again for it.
+#[tactic(auto, using(crate::proofs::LaneLemmas::asked_told))]
+fn steps_asked(alloc: Global, ended: &Ended<'_>, window: Window) -> Result<Vec<RunStep>, AllocError>
+    ensures { IfOk result (λ v. v.items ≡ steps_asked window ended.now.module.now
+        ended.now.log.items ended.now.core.world) }
 {
-    steps
-        .iter()
-        .copied()
-        .filter(|step| window.asks(step.number))
-        .collect(alloc)
+    let mut steps = Vec::new(alloc);
+    tell_run(&AskedSteps { window }, alloc, &mut steps, ended)?;
+    Ok(steps)
 }
 
 /// The columns for these steps of a run.
@@ -162,8 +153,7 @@ pub fn grid_for(
     ensures { IfOk result (λ g. g ≡ grid_for places.now window ended.now.module.now
         ended.now.log.items ended.now.core.world) }
 {
-    let seen = seen_steps(alloc, ended)?;
-    let steps = asked(alloc, &seen, window)?;
+    let steps = steps_asked(alloc, ended, window)?;
     grid_of(alloc, places, window, &steps, ended.core.activities())
 }
 

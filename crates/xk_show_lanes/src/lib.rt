@@ -8,7 +8,7 @@ mod lanes;
 mod rows;
 mod window;
 
-pub use bars::{advanced, any_behind, any_below, bar_label, is_on};
+pub use bars::{any_behind, any_below, bar_label, is_on};
 pub use grid::{Grid, spot};
 pub use lanes::{Drawing, grid_for, module_lanes, source_lanes};
 pub use rows::title;

@@ -1,10 +1,7 @@
 //! How things stand behind each step.
 
-ghost use Rattle.std.specs.Prelude.{◌≡◌, None, true, ◌++◌, replicate, OnOk, IfOk};
+ghost use Rattle.std.specs.Prelude.{◌≡◌, None, ◌++◌, OnOk};
 ghost use Rattle.xk_types.specs.World.{opening};
-ghost use Rattle.xk_types.specs.Schedule.{Through, is_enabled, run};
-ghost use Rattle.xk_core.specs.Core.{StepsTo};
-ghost use Rattle.xk_show_events.specs.Steps.{IsLegalFrom, told, told_of_run};
 ghost use Rattle.xk_show_events.specs.Events.{event_line};
 ghost use Rattle.xk_show_where.specs.Where.{standings_text};
 ghost use Rattle.xk_show_page.specs.Page.{is_moment, moment, moments, print_by, tell_moment, told_step};
@@ -13,10 +10,10 @@ use crate::texts::put;
 use std::alloc::{AllocError, Global};
 use xk_core::Core;
 use xk_scheduler::Ended;
-use xk_show_events::{Places, RunStep, event_line, is_seen, take_step};
+use xk_show_events::{Places, RunStep, Tell, event_line, is_seen, take_step, tell_run};
 use xk_show_lanes::Window;
 use xk_show_where::standings_text;
-use xk_types::{Act, Entry, Event};
+use xk_types::{Act, Event};
 
 /// Whether others can see a step, and it is asked for.
 fn is_moment(window: Window, step: &RunStep) -> bool
@@ -102,66 +99,27 @@ fn push_told(
     push_print(alloc, out, places, step, step.event)
 }
 
-/// Takes a step, and adds what is told of it; what it was seen to do.
-fn push_step(
-    alloc: Global,
-    out: &mut Vec<u8>,
-    core: &mut Core<'_>,
+/// Tells of steps by how things stand behind them, and of those that aren't asked for that they printed.
+#[derive(Drop)]
+struct MomentTeller<'a, 't> {
     window: Window,
-    places: &Places<'_>,
-    act: Act,
-) -> Result<Event, AllocError>
-    requires { is_enabled core.old.module_run core.old.world act ≡ true }
-    ensures stepped { IfOk result (StepsTo core.old act core.new) }
-    ensures told { IfOk result (λ e. out.new.items ≡ out.old.items ++ tell_moment
-        window places.now core.old.module_run act core.old.world core.new.world e) }
-    ensures same_module { core.new.module_run ≡ core.old.module_run }
-{
-    let step = take_step(core, act)?;
-    push_told(alloc, out, core, window, places, &step)?;
-    Ok(step.event)
+    places: &'a Places<'t>,
 }
 
-/// Takes the steps of an entry, and adds what is told of them.
-fn push_entry(
-    alloc: Global,
-    out: &mut Vec<u8>,
-    core: &mut Core<'_>,
-    window: Window,
-    places: &Places<'_>,
-    entry: Entry,
-) -> Result<(), AllocError>
-    requires { IsLegalFrom core.old (replicate entry.steps entry.act) }
-    ensures told { OnOk result (out.new.items ≡ out.old.items
-        ++ told (tell_moment window places.now core.old.module_run)
-        core.old.module_run (replicate entry.steps entry.act) core.old.world) }
-    ensures led { OnOk result (run core.old.module_run (replicate entry.steps entry.act)
-        core.old.world ≡ Through core.new.world) }
-    ensures same_module { core.new.module_run ≡ core.old.module_run }
-{
-    for _done in 0..entry.steps {
-        push_step(alloc, out, core, window, places, Act(entry.act))?;
-    }
-    Ok(())
-}
+impl Tell<u8> for MomentTeller<'_, '_> {
+    ghost tell = { λ teller m. tell_moment teller.window teller.places.now m };
 
-/// Adds what is told of the steps of a run. The log is played again for it.
-fn push_run(
-    alloc: Global,
-    out: &mut Vec<u8>,
-    window: Window,
-    places: &Places<'_>,
-    ended: &Ended<'_>,
-) -> Result<(), AllocError>
-    ensures { OnOk result (out.new.items ≡ out.old.items ++ told_of_run
-        (tell_moment window places.now ended.now.module.now)
-        ended.now.module.now ended.now.core.world.arguments ended.now.log.items) }
-{
-    let mut core = Core::open(alloc, ended.module, ended.core.arguments())?;
-    for entry in &ended.log {
-        push_entry(alloc, out, &mut core, window, places, *entry)?;
+    fn push_step(
+        &self,
+        alloc: Global,
+        out: &mut Vec<u8>,
+        core: &mut Core<'_>,
+        act: Act,
+    ) -> Result<Event, AllocError> {
+        let step = take_step(core, act)?;
+        push_told(alloc, out, core, self.window, self.places, &step)?;
+        Ok(step.event)
     }
-    Ok(())
 }
 
 /// Adds how things stand before the first step of a run.
@@ -192,5 +150,5 @@ pub(crate) fn push_moments(
         ended.now.core.world) }
 {
     push_opening(alloc, out, places, ended)?;
-    push_run(alloc, out, window, places, ended)
+    tell_run(&MomentTeller { window, places }, alloc, out, ended)
 }

@@ -11,7 +11,8 @@ use crate::shapes::{label, shape, stroke, top};
 use crate::sheet::{Sheet, labels, lane_left, middle};
 use std::alloc::{AllocError, Global};
 use xk_core::Core;
-use xk_show_lanes::{advanced, any_behind, any_below, bar_label, is_on};
+use xk_show_events::advanced;
+use xk_show_lanes::{any_behind, any_below, bar_label, is_on};
 use xk_types::ClockId;
 
 /// A stroke, if there is one.

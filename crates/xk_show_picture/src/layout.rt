@@ -1,17 +1,15 @@
 //! Which rows a picture has, from the top.
 
-ghost use Rattle.std.specs.Prelude.{◌≡◌, true, ◌∷◌, ◌++◌, length, replicate, IfOk, OnOk};
-ghost use Rattle.xk_types.specs.Schedule.{Through, is_enabled, run};
-ghost use Rattle.xk_core.specs.Core.{StepsTo, advanced_now};
-ghost use Rattle.xk_show_events.specs.Steps.{IsLegalFrom, told};
+ghost use Rattle.std.specs.Prelude.{◌≡◌, ◌∷◌, ◌++◌, length, replicate, IfOk, OnOk};
+ghost use Rattle.xk_core.specs.Core.{advanced_now};
 ghost use Rattle.xk_show_picture.specs.Picture.{bar_row, is_shown, row_of, rows_of, rows_told, tell_rows};
 
 use std::alloc::{AllocError, Global};
 use xk_core::Core;
 use xk_scheduler::Ended;
-use xk_show_events::{is_seen, take_step};
-use xk_show_lanes::{Window, advanced};
-use xk_types::{Act, Entry, Event};
+use xk_show_events::{Tell, advanced, is_seen, tell_run};
+use xk_show_lanes::Window;
+use xk_types::{Act, Event};
 
 /// Whether the step that led to the core, and was seen to do this, is shown.
 pub(crate) fn is_shown(core: &Core<'_>, window: Window, event: Event) -> bool
@@ -57,45 +55,31 @@ fn push_rows(
     push_number(rows, core.steps_done(), &clocks)
 }
 
-/// Takes a step, and adds its rows; what it was seen to do.
-fn push_step(
-    alloc: Global,
-    rows: &mut Vec<u64>,
-    core: &mut Core<'_>,
+/// Tells of the steps that are shown, by the numbers of their rows.
+#[derive(Drop)]
+struct RowTeller {
     window: Window,
-    act: Act,
-) -> Result<Event, AllocError>
-    requires { is_enabled core.old.module_run core.old.world act ≡ true }
-    ensures stepped { IfOk result (StepsTo core.old act core.new) }
-    ensures told { IfOk result (λ e. rows.new.items ≡ rows.old.items
-        ++ tell_rows window act core.old.world core.new.world e) }
-    ensures same_module { core.new.module_run ≡ core.old.module_run }
-{
-    let step = take_step(core, act)?;
-    push_rows(alloc, rows, core, window, step.event)?;
-    Ok(step.event)
 }
 
-/// Takes the steps of an entry, and adds their rows.
-fn push_entry(
-    alloc: Global,
-    rows: &mut Vec<u64>,
-    core: &mut Core<'_>,
-    window: Window,
-    entry: Entry,
-) -> Result<(), AllocError>
-    requires { IsLegalFrom core.old (replicate entry.steps entry.act) }
-    ensures told { OnOk result (rows.new.items ≡ rows.old.items
-        ++ told (tell_rows window) core.old.module_run
-        (replicate entry.steps entry.act) core.old.world) }
-    ensures led { OnOk result (run core.old.module_run (replicate entry.steps entry.act)
-        core.old.world ≡ Through core.new.world) }
-    ensures same_module { core.new.module_run ≡ core.old.module_run }
-{
-    for _done in 0..entry.steps {
-        push_step(alloc, rows, core, window, Act(entry.act))?;
+impl Tell<u64> for RowTeller {
+    ghost tell = { λ teller m. tell_rows teller.window };
+
+    fn push_step(
+        &self,
+        alloc: Global,
+        out: &mut Vec<u64>,
+        core: &mut Core<'_>,
+        act: Act,
+    ) -> Result<Event, AllocError> {
+        let event = core.step(act)?;
+        push_rows(alloc, out, core, self.window, event)?;
+        Ok(event)
     }
-    Ok(())
+
+    #[tactic(auto, using(xk_show_lanes::proofs::LaneLemmas::none_asked))]
+    fn is_silent_after(&self, steps: u64) -> bool {
+        self.window.last <= steps
+    }
 }
 
 /// The rows of a run. The log is played again for it.
@@ -107,11 +91,8 @@ pub(crate) fn rows_of(
     ensures { IfOk result (λ v. v.items ≡ rows_of window ended.now.module.now
         ended.now.core.world.arguments ended.now.log.items) }
 {
-    let mut core = Core::open(alloc, ended.module, ended.core.arguments())?;
     let mut rows = Vec::new(alloc);
-    for entry in &ended.log {
-        push_entry(alloc, &mut rows, &mut core, window, *entry)?;
-    }
+    tell_run(&RowTeller { window }, alloc, &mut rows, ended)?;
     Ok(rows)
 }
 

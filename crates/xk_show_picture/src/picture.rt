@@ -1,9 +1,6 @@
 //! The whole picture.
 
-ghost use Rattle.std.specs.Prelude.{◌≡◌, true, ◌++◌, length, replicate, IfOk, OnOk};
-ghost use Rattle.xk_types.specs.Schedule.{Through, is_enabled, run};
-ghost use Rattle.xk_core.specs.Core.{StepsTo};
-ghost use Rattle.xk_show_events.specs.Steps.{IsLegalFrom, told, told_of_run};
+ghost use Rattle.std.specs.Prelude.{◌≡◌, ◌++◌, length, IfOk, OnOk};
 ghost use Rattle.xk_show_events.specs.Events.{no_text, places_of};
 ghost use Rattle.xk_show_events.specs.Worlds.{each_below};
 ghost use Rattle.xk_show_picture.specs.Picture.{fits, furniture, head, high, is_drawn, lane_head, picture_by, picture_in, picture_text, rows_of_step, sheet_for, tell_picture};
@@ -19,9 +16,9 @@ use std::alloc::{AllocError, Global};
 use xk_core::Core;
 use xk_origins::UnitOrigins;
 use xk_scheduler::Ended;
-use xk_show_events::{Places, RunStep, take_step};
+use xk_show_events::{Places, RunStep, Tell, take_step, tell_run};
 use xk_show_lanes::{Drawing, Window, grid_for, title};
-use xk_types::{Act, Entry, Event};
+use xk_types::{Act, Event};
 
 /// The most rows that are drawn.
 const ROWS: usize = 2000;
@@ -46,71 +43,35 @@ fn push_row_and_bars(
     push_bars(alloc, out, core, sheet, rows, step.act)
 }
 
-/// Takes a step, and adds its rows, if it is shown; what it was seen to do.
-fn push_step(
-    alloc: Global,
-    out: &mut Vec<u8>,
-    core: &mut Core<'_>,
+/// Tells of the steps that are shown, by their rows.
+#[derive(Drop)]
+struct PictureTeller<'a, 't> {
     sheet: Sheet,
-    rows: &[u64],
-    places: &Places<'_>,
-    act: Act,
-) -> Result<Event, AllocError>
-    requires { is_enabled core.old.module_run core.old.world act ≡ true }
-    ensures stepped { IfOk result (StepsTo core.old act core.new) }
-    ensures told { IfOk result (λ e. out.new.items ≡ out.old.items ++ tell_picture
-        sheet rows.now places.now core.old.module_run act core.old.world core.new.world e) }
-    ensures same_module { core.new.module_run ≡ core.old.module_run }
-{
-    let step = take_step(core, act)?;
-    if is_shown(core, sheet.window, step.event) {
-        push_row_and_bars(alloc, out, core, sheet, rows, places, &step)?;
-    }
-    Ok(step.event)
+    rows: &'a [u64],
+    places: &'a Places<'t>,
 }
 
-/// Takes the steps of an entry, and adds their rows.
-fn push_entry(
-    alloc: Global,
-    out: &mut Vec<u8>,
-    core: &mut Core<'_>,
-    sheet: Sheet,
-    rows: &[u64],
-    places: &Places<'_>,
-    entry: Entry,
-) -> Result<(), AllocError>
-    requires { IsLegalFrom core.old (replicate entry.steps entry.act) }
-    ensures told { OnOk result (out.new.items ≡ out.old.items
-        ++ told (tell_picture sheet rows.now places.now core.old.module_run)
-        core.old.module_run (replicate entry.steps entry.act) core.old.world) }
-    ensures led { OnOk result (run core.old.module_run (replicate entry.steps entry.act)
-        core.old.world ≡ Through core.new.world) }
-    ensures same_module { core.new.module_run ≡ core.old.module_run }
-{
-    for _done in 0..entry.steps {
-        push_step(alloc, out, core, sheet, rows, places, Act(entry.act))?;
-    }
-    Ok(())
-}
+impl Tell<u8> for PictureTeller<'_, '_> {
+    ghost tell = { λ teller m. tell_picture teller.sheet teller.rows.now teller.places.now m };
 
-/// Adds the rows of a run. The log is played again for it.
-fn push_run(
-    alloc: Global,
-    out: &mut Vec<u8>,
-    sheet: Sheet,
-    rows: &[u64],
-    places: &Places<'_>,
-    ended: &Ended<'_>,
-) -> Result<(), AllocError>
-    ensures { OnOk result (out.new.items ≡ out.old.items ++ told_of_run
-        (tell_picture sheet rows.now places.now ended.now.module.now)
-        ended.now.module.now ended.now.core.world.arguments ended.now.log.items) }
-{
-    let mut core = Core::open(alloc, ended.module, ended.core.arguments())?;
-    for entry in &ended.log {
-        push_entry(alloc, out, &mut core, sheet, rows, places, *entry)?;
+    fn push_step(
+        &self,
+        alloc: Global,
+        out: &mut Vec<u8>,
+        core: &mut Core<'_>,
+        act: Act,
+    ) -> Result<Event, AllocError> {
+        let step = take_step(core, act)?;
+        if is_shown(core, self.sheet.window, step.event) {
+            push_row_and_bars(alloc, out, core, self.sheet, self.rows, self.places, &step)?;
+        }
+        Ok(step.event)
     }
-    Ok(())
+
+    #[tactic(auto, using(xk_show_lanes::proofs::LaneLemmas::none_asked))]
+    fn is_silent_after(&self, steps: u64) -> bool {
+        self.sheet.window.last <= steps
+    }
 }
 
 /// Adds the titles of all lanes.
@@ -174,7 +135,12 @@ fn picture_in(
 {
     let mut out = Vec::new(alloc);
     push_head(alloc, &mut out, sheet, ended.core.activities(), rows.len())?;
-    push_run(alloc, &mut out, sheet, rows, places, ended)?;
+    let teller = PictureTeller {
+        sheet,
+        rows,
+        places,
+    };
+    tell_run(&teller, alloc, &mut out, ended)?;
     put(&mut out, "</svg>\n")?;
     Ok(out)
 }

@@ -1,0 +1,83 @@
+//! One walk over the log of a run, for whoever tells of its steps.
+
+ghost use Rattle.std.specs.Prelude.{◌≡◌, true, ◌++◌, replicate, IfOk, OnOk};
+ghost use Rattle.xk_types.specs.Code.{ModuleValue};
+ghost use Rattle.xk_types.specs.Schedule.{Through, is_enabled, run};
+ghost use Rattle.xk_core.specs.Core.{StepsTo};
+ghost use Rattle.xk_show_events.specs.Steps.{IsLegalFrom, IsSilentAfter, Teller, told, told_of_run};
+
+use std::alloc::{AllocError, Global};
+use xk_core::Core;
+use xk_scheduler::Ended;
+use xk_types::{Act, Entry, Event};
+
+/// Tells of the steps of runs, each by some items.
+pub trait Tell<X> {
+    /// What it tells of a step in a run of a module.
+    ghost tell: { Self → ModuleValue → Teller X };
+
+    /// Takes a step of an activity that can take one, and adds what is told of it; what it was seen to do. Err where memory was refused.
+    fn push_step(
+        &self,
+        alloc: Global,
+        out: &mut Vec<X>,
+        core: &mut Core<'_>,
+        act: Act,
+    ) -> Result<Event, AllocError>
+        requires { is_enabled core.old.module_run core.old.world act ≡ true }
+        ensures stepped { IfOk result (StepsTo core.old act core.new) }
+        ensures told { IfOk result (λ e. out.new.items ≡ out.old.items
+            ++ tell self.now core.old.module_run act core.old.world core.new.world e) }
+        ensures same_module { core.new.module_run ≡ core.old.module_run };
+
+    /// Whether it tells nothing of the steps behind the first so many of a run, so that nobody has to take them.
+    fn is_silent_after(&self, _steps: u64) -> bool
+        ensures { result ≡ true
+            → (m : ModuleValue) → IsSilentAfter (tell self.now m) _steps }
+    {
+        false
+    }
+}
+
+/// Takes the steps of an entry, and adds what is told of them.
+fn push_entry<X, T: Tell<X>>(
+    teller: &T,
+    alloc: Global,
+    out: &mut Vec<X>,
+    core: &mut Core<'_>,
+    entry: Entry,
+) -> Result<(), AllocError>
+    requires { IsLegalFrom core.old (replicate entry.steps entry.act) }
+    ensures told { OnOk result (out.new.items ≡ out.old.items
+        ++ told (T.tell teller.now core.old.module_run) core.old.module_run
+        (replicate entry.steps entry.act) core.old.world) }
+    ensures led { OnOk result (run core.old.module_run (replicate entry.steps entry.act)
+        core.old.world ≡ Through core.new.world) }
+    ensures same_module { core.new.module_run ≡ core.old.module_run }
+{
+    for _done in 0..entry.steps {
+        teller.push_step(alloc, out, core, Act(entry.act))?;
+    }
+    Ok(())
+}
+
+/// Adds what is told of the steps of a run, in their order. The log is played again for it. Err where memory was refused.
+pub fn tell_run<X, T: Tell<X>>(
+    teller: &T,
+    alloc: Global,
+    out: &mut Vec<X>,
+    ended: &Ended<'_>,
+) -> Result<(), AllocError>
+    ensures { OnOk result (out.new.items ≡ out.old.items
+        ++ told_of_run (T.tell teller.now ended.now.module.now)
+        ended.now.module.now ended.now.core.world.arguments ended.now.log.items) }
+{
+    let mut core = Core::open(alloc, ended.module, ended.core.arguments())?;
+    for entry in &ended.log {
+        if teller.is_silent_after(core.steps_done()) {
+            return Ok(());
+        }
+        push_entry(teller, alloc, out, &mut core, *entry)?;
+    }
+    Ok(())
+}
