@@ -361,6 +361,12 @@ def small_stack(tried: Tried) -> None:
             tried.wants(f"check {name} in {size} KB of stack", ran, whole)
 
 
+def mind_signals() -> None:
+    """In a child: what a shell in the background or `nohup` has it ignore ends it again."""
+    for sign in (signal.SIGINT, signal.SIGHUP):
+        signal.signal(sign, signal.SIG_DFL)
+
+
 def killed(tried: Tried) -> None:
     """A run that is ended by a signal leaves nothing that looks like a whole log."""
     tried.file("long.x10", LONG)
@@ -368,7 +374,10 @@ def killed(tried: Tried) -> None:
         tried.calls += 1
         tried.file("log", "something that was there before")
         ran = subprocess.Popen(
-            [tried.program, "run", "--log", "log", "long.x10"], cwd=tried.folder, stdout=subprocess.PIPE
+            [tried.program, "run", "--log", "log", "long.x10"],
+            cwd=tried.folder,
+            stdout=subprocess.PIPE,
+            preexec_fn=mind_signals,
         )
         time.sleep(0.2)
         ran.send_signal(sign)
