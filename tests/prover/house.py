@@ -35,7 +35,7 @@ MOST = {
     "clauses": 0,
     "code": 267,
     "proofs": 6749,
-    "docs": 78,
+    "docs": 74,
     "files": 3,
 }
 TESTS = {"xk_tests", "xk_tests_memory"}
