@@ -1,7 +1,7 @@
 #!/usr/bin/env python3
-"""Writes the man page of the program and its completions for bash, zsh and fish: from what it says of itself
-(`--version`, `--help` and the help of each command), and for the man page from README's section "Commands" too, its
-table of calls and its statuses.
+"""Writes the man page of the program and its completions for bash, zsh and fish: from what it says of itself (`-V`,
+`--help` and the help of each command), and for the man page from README's section "Commands" too, its table of calls
+and its statuses.
 
     python3 dist/manual.py [--program PATH] [--to FOLDER]
 
@@ -123,7 +123,7 @@ def command(program: pathlib.Path, name: str, text: str) -> Command:
 def program_at(path: pathlib.Path) -> Program:
     told = said(path, "--help")
     commands = tuple(command(path, name, text) for name, text in rows(told, "Commands"))
-    return Program(said(path, "--version").strip(), told.partition("\n")[0], options(told), commands)
+    return Program(said(path, "-V").strip(), told.partition("\n")[0], options(told), commands)
 
 
 # What README says of the commands.

@@ -2,13 +2,15 @@
 # Makes the release in dist/ anew, from the present sources as `rt ci` proves, builds and tests them: the program, its
 # man page, completions, folders for editors, BUILT and SHA256SUMS. Then `git add dist`, and a commit.
 #
-# Refuses where the tree isn't clean, for what is committed is what is built; and where `rt ci` isn't green. Nothing that
-# `rt ci` leaves says that it was, so this runs it: over kept proofs in about the time of the tests.
+# Refuses where the tree isn't clean, for what is committed is what is built; where README.md, CHANGELOG.md or the line
+# of the kit doesn't go with the version; and where `rt ci` isn't green. Nothing that `rt ci` leaves says that it was, so
+# this runs it: over kept proofs in about the time of the tests.
 set -eu
 cd "$(dirname "$0")/.."
 git rev-parse --git-dir > /dev/null
 own="dist/release.sh dist/manual.py dist/sources.sh"
 program=crates/x10clock/out/x10clock
+constants=crates/xk_cli/src/commands.rt
 
 refuse() {
     echo "release: $1" >&2
@@ -23,6 +25,12 @@ changes() {
 }
 
 [ -z "$(changes)" ] || refuse "the tree isn't clean: git status"
+number=$(sed -n 's/^const VERSION: &str = "\([0-9.]*\)";$/\1/p' $constants)
+[ -n "$number" ] || refuse "$constants has no VERSION"
+grep -qF "x10clock-$number-x86_64-linux" README.md || refuse "README.md has another version than $number"
+grep -q "^## $number " CHANGELOG.md || refuse "CHANGELOG.md has no heading $number"
+kit=$(rt version)
+grep -qF "proved with $kit\"" $constants || refuse "$constants names another kit than $kit"
 sources=$(sh dist/sources.sh)
 said=$(mktemp)
 made=$(mktemp -d)
@@ -35,8 +43,8 @@ if ! echo "$verdict" | grep -qx '[1-9][0-9]* passed, 0 failed'; then
 fi
 [ "$sources $(changes)" = "$(sh dist/sources.sh) " ] || refuse "the tree changed meanwhile"
 
-version=$($program --version)
-number=${version#x10clock }
+version=$($program -V)
+[ "$version" = "x10clock $number" ] || refuse "$program is $version"
 cp "$program" "$made/x10clock-$number-x86_64-linux"
 chmod 755 "$made/x10clock-$number-x86_64-linux"
 python3 dist/manual.py --program "$program" --to "$made"
@@ -56,7 +64,7 @@ END
 glibc=$(grep -ao 'GLIBC_2\.[0-9]*' "$program" | sort -u -t . -k 2n | tail -n 1)
 cat > "$made/BUILT" << END
 version $version
-kit $(rt version)
+kit $kit
 sources $sources
 gate rt ci: $verdict
 needs Linux, a processor with x86-64-v2, glibc ${glibc#GLIBC_} or later

@@ -4,11 +4,12 @@
 The man page and the completions that `dist/manual.py` writes say what `--help` says: each command, each of its options,
 each value of an option that takes names, and nothing else. Those in `dist/` say it of the program there. The files
 there are those of `SHA256SUMS`, and the program runs an example in a folder that has nothing else, with nothing on the
-path but what copies files and sums them up.
+path but what copies files and sums them up. `--version` prints the version and the kit of `dist/BUILT`, and each page
+that names the program names that version.
 
 Where the sum in `dist/BUILT` is that of the present sources, and its kit is the present one, the program there is the
-built one, byte for byte, and all other files are what `dist/release.sh` makes now. Else the release is of an older
-version, and that is said.
+built one, byte for byte, and all other files are what `dist/release.sh` makes now. Where one of them is another, none of
+this is compared, and the last line says why: the release is of an older version, or by another kit.
 
     python3 -m tests.answers.release [--program PATH]
 """
@@ -227,7 +228,7 @@ def is_what_sources_give(held: Held, version: str, program: pathlib.Path) -> Non
     """The release is what dist/release.sh makes now."""
     package = json.loads((DIST / "vscode/package.json").read_text(encoding="utf-8"))
     held.wants("dist/vscode/package.json: version", f"x10clock {package['version']}", version)
-    held.wants("dist/BUILT: version", version, said(program, "--version").strip())
+    held.wants("dist/BUILT: version", version, said(program, "-V").strip())
     pairs = {name: TOP / "editors" / source for name, source in EDITORS.items()}
     if program == harness.BUILT:
         pairs[name_of(version)] = program
@@ -237,6 +238,14 @@ def is_what_sources_give(held: Held, version: str, program: pathlib.Path) -> Non
         for name, source in pairs.items():
             is_same = (DIST / name).read_bytes() == source.read_bytes()
             held.wants(f"dist/{name} is what dist/release.sh makes now", is_same, True)
+
+
+def pages_name(held: Held, version: str) -> None:
+    """Wherever a page has the name of the program's file, it is that of the release."""
+    name = version.replace(" ", "-")
+    for page in (TOP / "README.md", *sorted((TOP / "docs").glob("*.md"))):
+        named = set(re.findall(r"x10clock-\d+\.\d+\.\d+", page.read_text(encoding="utf-8")))
+        held.wants(f"{page.relative_to(TOP)}: versions", sorted(named | {name}), [name])
 
 
 def name_of(version: str) -> str:
@@ -257,7 +266,10 @@ def release(held: Held, program: pathlib.Path) -> str:
     ours = DIST / name_of(built["version"])
     sums_are_right(held)
     runs_alone(held, ours)
-    held.wants(f"{ours.name} --version", said(ours, "--version").strip(), built["version"])
+    held.wants(f"{ours.name} -V", said(ours, "-V").strip(), built["version"])
+    wanted = [built["version"], f"proved with {built['kit']}"]
+    held.wants(f"{ours.name} --version", said(ours, "--version").splitlines(), wanted)
+    pages_name(held, built["version"])
     texts_say(held, DIST, words_of_help(ours))
     if built["sources"] != said("sh", DIST / "sources.sh").strip():
         return f"{ours.name} is of an older version of the sources"
