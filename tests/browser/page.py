@@ -2,6 +2,7 @@
 """Opens pages of `page` in headless Chromium, and compares what they say at each moment with what the program says.
 
     python3 -m tests.browser.page [--program PATH] [--shots FOLDER]
+    python3 -m tests.browser.page [--program PATH] --picture    # makes the picture of the pages, and tries nothing
 
 At each moment of some runs: what the page says was done with `events`, how things stand, and which lines are marked,
 with `where` behind the log cut to so many steps, the printed numbers and the framed box with the events up to there.
@@ -45,6 +46,10 @@ RUNS = (
 )
 # Screenshots: a name, and how wide and high the window is.
 SIZES = {"wide": (1200, 900), "phone": (390, 844)}
+# The picture of the pages: where it is, and of which run and moment, in a window how wide and high.
+PICTURE = TOP / "examples/pictures/page.png"
+PICTURED = ("two-in-step.x10", "last", ())
+PICTURED_STEP, PICTURED_SIZE = 8, (1100, 810)
 # What a page shows.
 SHOWN = """(() => {
   const lines = id => [...document.querySelectorAll(id + " > li")].map(line => line.textContent);
@@ -285,10 +290,21 @@ def made(
     return run, page
 
 
+def picture(browser: Browser, program: pathlib.Path, folder: pathlib.Path) -> None:
+    """Makes the picture of the pages anew."""
+    _, page = made(program, *PICTURED, folder)
+    browser.look("light", *PICTURED_SIZE)
+    browser.ask("Emulation.setScrollbarsHidden", hidden=True)
+    browser.open(page, f"#{PICTURED_STEP}")
+    browser.shoot(PICTURE)
+    print(PICTURE.relative_to(TOP))
+
+
 def main() -> int:
     words = argparse.ArgumentParser()
     harness.add_program(words)
     words.add_argument("--shots", type=pathlib.Path)
+    words.add_argument("--picture", action="store_true")
     asked = words.parse_args()
     found = next(filter(None, map(shutil.which, BROWSERS)), None)
     if not found:
@@ -300,7 +316,9 @@ def main() -> int:
         folder = pathlib.Path(there)
         browser = Browser(found, f"{there}/browser")
         try:
-            for name, order, part in RUNS:
+            if asked.picture:
+                picture(browser, asked.program, folder)
+            for name, order, part in () if asked.picture else RUNS:
                 run, page = made(asked.program, name, order, part, folder)
                 print(page.name, try_moments(browser, run, page), "moments", flush=True)
                 steps = run.asked()
