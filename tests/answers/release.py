@@ -8,8 +8,8 @@ path but what copies files and sums them up. `--version` prints the version and 
 that names the program names that version.
 
 Where the sum in `dist/BUILT` is that of the present sources, and its kit is the present one, the program there is the
-built one, byte for byte, and all other files are what `dist/release.sh` makes now. Where one of them is another, none of
-this is compared, and the last line says why: the release is of an older version, or by another kit.
+built one, byte for byte, and all other files are what `dist/release.sh` makes now. Where sum or kit is another one,
+none of this is compared, and the last line says why: the release is of an older version, or by another kit.
 
     python3 -m tests.answers.release [--program PATH]
 """
