@@ -151,9 +151,11 @@ lanes_line = on_file (codes "lanes") (module_flag ∷ log_place ∷ arg_option �
 abbrev pub page_line : App
 page_line = on_file (codes "page") (module_flag ∷ log_place ∷ arg_option ∷ from_option ∷ to_option ∷ [])
 
--- the program with a command that has to be there, and a version that it tells
+-- the program with a command that has to be there, and a version that it tells, in short and at length
 abbrev pub program : App
-program = record (new_app (codes "x10clock")) { top = record (new_app (codes "x10clock")).top { has_version = true; subcommand_required = true } }
+program = record (new_app (codes "x10clock")) {
+  top = record (new_app (codes "x10clock")).top { has_version = true; has_long_version = true; subcommand_required = true };
+}
 
 -- a program with these commands too, in their order
 abbrev pub with_commands : App → List App → App

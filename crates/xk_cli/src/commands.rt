@@ -13,8 +13,11 @@ use crate::options::{
 use clap::Arg;
 use std::alloc::{AllocError, Global};
 
-/// What `--version` prints after the program's name.
-const VERSION: &str = "1.0.0";
+/// What `-V` prints after the program's name.
+const VERSION: &str = "1.1.0";
+
+/// What `--version` prints there: the same, and on a line of its own the kit that proved these sources, as `rt version` names it.
+const VERSION_AND_KIT: &str = "1.1.0\nproved with rattle-kit-13f logic dac8208d650f15bf";
 
 /// The program's command line, with its commands in the order in which help lists them.
 pub(crate) fn line<'a>(alloc: Global) -> Result<clap::Command<'a>, AllocError>
@@ -42,6 +45,7 @@ fn program<'a>(alloc: Global) -> clap::Command<'a>
     clap::Command::new(alloc, "x10clock")
         .about("Verifies and runs clocked programs.")
         .version(VERSION)
+        .long_version(VERSION_AND_KIT)
         .subcommand_required(true)
 }
 
