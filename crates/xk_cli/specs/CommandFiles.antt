@@ -1,5 +1,5 @@
--- Which files a command has beside FILE, and which command explains. This project's own.
-use Rattle.std.specs.Prelude.{Bool, List, ℕ, Option, Some, None, option_map}
+-- Which files a command has beside FILE. This project's own.
+use Rattle.std.specs.Prelude.{List, ℕ, Option, Some, None, option_map}
 use Rattle.xk_cli.specs.declared.job.Command.{Command}
 use Rattle.xk_cli.specs.declared.job.Command.TheVariants as command
 
@@ -20,8 +20,3 @@ abbrev pub written_path : Command → Option (List ℕ)
 written_path (command.Run given log) = option_map (λ path. path.now) log
 written_path (command.Outcomes limit pick log sets) = option_map (λ path. path.now) log
 written_path _ = None
-
--- of `explain`, whether it is as a JSON value
-abbrev pub explanation : Command → Option Bool
-explanation (command.Explain json) = Some json
-explanation _ = None

@@ -99,7 +99,8 @@ pub enum Command<'a> {
 }
 
 impl<'a> Command<'a> {
-    ghost use Rattle.xk_cli.specs.CommandFiles.{explanation, read_path, written_path};
+    ghost use Rattle.xk_cli.specs.CommandAnswers.{explanation, shows_origins};
+    ghost use Rattle.xk_cli.specs.CommandFiles.{read_path, written_path};
 
     /// The path of the log or the list of outcomes that is read beside FILE, if one is.
     pub fn read_path(&self) -> Option<&'a str>
@@ -166,6 +167,29 @@ impl<'a> Command<'a> {
             | Command::Races { .. }
             | Command::Outcomes { .. }
             | Command::Expected { .. } => None,
+        }
+    }
+
+    /// Whether what it prints has the lines of a source text, from which steps or instructions come.
+    pub fn shows_origins(&self) -> bool
+        ensures { result ≡ shows_origins self.now }
+    {
+        match *self {
+            Command::Explain { .. }
+            | Command::Listing
+            | Command::Events { .. }
+            | Command::Lanes { .. }
+            | Command::Page { .. }
+            | Command::Where { .. }
+            | Command::Races { .. } => true,
+            Command::Check
+            | Command::Compile
+            | Command::Run { .. }
+            | Command::Tally { .. }
+            | Command::Replay { .. }
+            | Command::Chart { .. }
+            | Command::Outcomes { .. }
+            | Command::Expected { .. } => false,
         }
     }
 }

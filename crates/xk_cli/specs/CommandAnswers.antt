@@ -1,0 +1,20 @@
+-- What the answer to a command has beside what it comes to. This project's own.
+use Rattle.std.specs.Prelude.{Bool, true, false, Option, Some, None}
+use Rattle.xk_cli.specs.declared.job.Command.{Command}
+use Rattle.xk_cli.specs.declared.job.Command.TheVariants as command
+
+-- of `explain`, whether it is as a JSON value
+abbrev pub explanation : Command → Option Bool
+explanation (command.Explain json) = Some json
+explanation _ = None
+
+-- whether what is printed has the lines of a source text
+abbrev pub shows_origins : Command → Bool
+shows_origins (command.Explain json) = true
+shows_origins command.Listing = true
+shows_origins (command.Events log) = true
+shows_origins (command.Lanes log from to svg) = true
+shows_origins (command.Page log from to) = true
+shows_origins (command.Where log) = true
+shows_origins (command.Races path) = true
+shows_origins _ = false
