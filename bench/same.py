@@ -6,7 +6,7 @@ byte.
     python3 -m bench.same [CASES] [SEED] [--program PATH | --alone]
 
 400 cases and seed 1 where nothing else is said. With `--alone` the second telling of the rules is asked in the place of
-the program (tests/reference/telling.py).
+the program (tests/reference/modules.py).
 """
 
 from __future__ import annotations
@@ -22,7 +22,7 @@ from collections.abc import Iterator
 from bench.by_hand import ORDERS, TOP, built
 from tests import harness
 from tests.generated import generated, mutations
-from tests.reference import telling
+from tests.reference import modules
 
 
 MOST_STEPS, MOST_WORK = 20_000, 2_000_000
@@ -43,20 +43,20 @@ def texts(cases: int, seed: int) -> Iterator[bytes]:
         yield generated.case(random.Random(f"{seed} {case}"), seeds)
 
 
-def told(program: pathlib.Path | None, judged: telling.Accepted, path: str, order: str) -> str:
+def told(program: pathlib.Path | None, judged: modules.Accepted, path: str, order: str) -> str:
     if program is None:
-        return telling.run(judged.module, telling.Order(order)).text()
+        return modules.run(judged.module, modules.Order(order)).text()
     words = [program, "run", "--order", order, "--module", path]
     return harness.call(words).texts()[1]
 
 
-def is_known(module: telling.Module) -> bool:
+def is_known(module: modules.Module) -> bool:
     """Whether the plain machine knows all that a module has: no loops with a limit, and no numbers that main is
     given."""
     return not module.wants and not any(instr.name == "forto" for unit in module.units for instr in unit.code)
 
 
-def is_small(bounds: telling.Bounds) -> bool:
+def is_small(bounds: modules.Bounds) -> bool:
     return bounds.steps <= MOST_STEPS and bounds.steps * (bounds.activities + bounds.clocks) <= MOST_WORK
 
 
@@ -69,10 +69,10 @@ def main() -> int:
     machine, counts = built(), collections.Counter()
     with tempfile.NamedTemporaryFile(suffix=".json") as file:
         for text in texts(given.cases, given.seed):
-            judged = telling.judge(text)
+            judged = modules.judge(text)
             # The plain reader knows no escapes: those rows are about the text alone; and it reads the first version
             # alone.
-            accepted = isinstance(judged, telling.Accepted) and is_small(judged.bounds) and is_known(judged.module)
+            accepted = isinstance(judged, modules.Accepted) and is_small(judged.bounds) and is_known(judged.module)
             if not accepted or b"\\" in text or b'"version":1' not in text:
                 counts["left out"] += 1
                 continue

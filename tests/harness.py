@@ -16,7 +16,7 @@ from typing import Any, BinaryIO
 
 TOP = pathlib.Path(__file__).resolve().parents[1]
 BUILT = TOP / "crates/x10clock/out/x10clock"
-# How many seconds a call may take: of the program, and of the reference (tests/reference/told.py).
+# How many seconds a call may take: of the program, and of the reference (tests/reference/program.py).
 SECONDS, SECONDS_OF_REFERENCE = 60, 1_200
 # How a call ends that doesn't in time.
 LATE = -1_000

@@ -1,5 +1,5 @@
 #!/usr/bin/env python3
-"""Schedules of small modules: whether the second telling of the rules (tests/reference/telling.py, telling_log.py) says
+"""Schedules of small modules: whether the second telling of the rules (tests/reference/modules.py, logs.py) says
 of them what the rows of tests/answers/schedules.rows want, and whether the program says the same of their logs.
 
     python3 -m tests.answers.schedules [--program PATH]
@@ -20,11 +20,10 @@ from collections import Counter
 from dataclasses import dataclass, field
 
 from tests import harness
-from tests.generated import logs
-from tests.generated.logs import Program, Text, Told
+from tests.generated.logs import Program, Text, Told, wanted
 from tests.harness import TOP
-from tests.reference import meaning, telling, telling_log, telling_outcomes, telling_runs, telling_source
-from tests.reference.telling import World, Wrong
+from tests.reference import logs, meaning, modules, outcomes, runs, source
+from tests.reference.modules import World, Wrong
 
 MOST, SOME, TOLD = 100, 60, 5
 
@@ -53,7 +52,7 @@ class Asked:
 class Known:
     """What is known of a run, as a row has it."""
 
-    module: telling.Module
+    module: modules.Module
     world: World
     seen: list[str] = field(default_factory=list)
     phases: list[int] = field(default_factory=list)
@@ -62,7 +61,7 @@ class Known:
 
     def step(self, who: int, number: int) -> bool:
         """The step of this number is one of this activity, if it can step."""
-        taken = telling.step(self.module, self.world, who)
+        taken = modules.step(self.module, self.world, who)
         if taken is None:
             return False
         if taken.event:
@@ -82,7 +81,7 @@ class Known:
         return True
 
     def text(self, begin: str) -> str:
-        able = [who for who in range(len(self.world.activities)) if telling.step(self.module, self.world, who)]
+        able = [who for who in range(len(self.world.activities)) if modules.step(self.module, self.world, who)]
         clocks = "".join(f" {phase}@{last}" for phase, last in zip(self.phases, self.last))
         since = "".join(f" {step}" for step in self.since)
         end = " over" if self.world.has_ended else " able" + "".join(f" {who}" for who in able)
@@ -91,7 +90,7 @@ class Known:
 
 def known_of(text: Text, schedule: list[int]) -> str:
     module = text.judged().module
-    known = Known(module, telling.opening(module, text.arguments))
+    known = Known(module, modules.opening(module, text.arguments))
     for at, who in enumerate(schedule):
         if not known.step(who, at + 1):
             return known.text(f"halted at {at}: ")
@@ -100,7 +99,7 @@ def known_of(text: Text, schedule: list[int]) -> str:
 
 def log_of(schedule: list[int]) -> bytes:
     """The log with an entry for each step."""
-    return telling_log.text_of([telling_log.Entry(who, 1) for who in schedule])
+    return logs.text_of([logs.Entry(who, 1) for who in schedule])
 
 
 def ask_able(asked: Asked, program: Program, text: Text, schedule: list[int], known: str) -> None:
@@ -112,7 +111,7 @@ def ask_able(asked: Asked, program: Program, text: Text, schedule: list[int], kn
         can_step = str(who) in (able or "").split()
         line = "x10clock: L5 NotEnded" if can_step else f"x10clock: L4 NotEnabled entry {len(done)}"
         given = log_of([*done, who])
-        asked.said(f"{text}\n    replay {given!r}", logs.wanted(line, "replay"), program.answer(text, given, "replay"))
+        asked.said(f"{text}\n    replay {given!r}", wanted(line, "replay"), program.answer(text, given, "replay"))
 
 
 # All schedules.
@@ -123,14 +122,14 @@ class Every:
     """All schedules of a module that come to the end, in the order of the numbers that they have, and the world in
     which they begin."""
 
-    module: telling.Module
+    module: modules.Module
     start: World
     known: dict[World, Counter[str]] = field(default_factory=dict)
 
-    def steps(self, world: World) -> list[tuple[int, telling.Step]]:
+    def steps(self, world: World) -> list[tuple[int, modules.Step]]:
         """The steps that can be taken, and who takes them."""
         return [
-            (who, taken) for who in range(len(world.activities)) if (taken := telling.step(self.module, world, who))
+            (who, taken) for who in range(len(world.activities)) if (taken := modules.step(self.module, world, who))
         ]
 
     def printed(self, world: World) -> Counter[str]:
@@ -163,7 +162,7 @@ def ask_outcomes(asked: Asked, program: Program, text: Text, printed: list[str])
     file = program.folder / "text"
     file.write_bytes(text.data)
     status, out, err = program.call("outcomes", *text.words(), file)
-    lists, is_complete = telling_outcomes.read(out) or ([], False)
+    lists, is_complete = outcomes.read(out) or ([], False)
     told = sorted("".join(f" {number}" for number in numbers) for numbers in lists)
     wanted = 0, sorted(printed), True, ""
     asked.said(f"{text}\n    outcomes", wanted, (status, told, is_complete, err))
@@ -172,7 +171,7 @@ def ask_outcomes(asked: Asked, program: Program, text: Text, printed: list[str])
 def ask_every(asked: Asked, program: Program, text: Text, row: str) -> None:
     """How many schedules print what; and some of them, or all, are replayed and charted."""
     module = text.judged().module
-    every = Every(module, telling.opening(module, text.arguments))
+    every = Every(module, modules.opening(module, text.arguments))
     printed, known = every.printed(every.start), {numbers: int(count) for count, numbers in PRINTED.findall(row)}
     asked.said(f"{text}\n    every", known, dict(printed))
     ask_outcomes(asked, program, text, [*known])
@@ -180,7 +179,7 @@ def ask_every(asked: Asked, program: Program, text: Text, row: str) -> None:
     count = total if total <= MOST else SOME
     for at in range(count):
         given = log_of(every.schedule(at * total // count))
-        for command in ("replay", "chart") if at % TOLD else telling_runs.COMMANDS:
+        for command in ("replay", "chart") if at % TOLD else runs.COMMANDS:
             asked.said(
                 f"{text}\n    {command} {given!r}",
                 Told().answer(text, given, command),
@@ -215,7 +214,7 @@ def ask_rows(asked: Asked, program: Program) -> None:
                 for command in ("replay", "chart") if name == "refused" else (name,):
                     for who in (Told(), program):
                         question = f"{text}\n    {command} of {schedule}, {type(who).__name__}"
-                        asked.said(question, logs.wanted(row, command), who.answer(text, log_of(schedule), command))
+                        asked.said(question, wanted(row, command), who.answer(text, log_of(schedule), command))
 
 
 def seen_of(world: meaning.World, schedule: str) -> str:
@@ -243,8 +242,8 @@ def texts() -> list[tuple[str, str, str, str, str]]:
 def ask_texts(asked: Asked) -> None:
     """The rows of texts, of the telling alone."""
     for text, args, own, compiled, seen in texts():
-        tree, arguments = telling_source.parse(text.encode()), tuple(map(int, args.split()))
-        module = telling.read_module(telling_source.module_text(text.encode()).encode())
+        tree, arguments = source.parse(text.encode()), tuple(map(int, args.split()))
+        module = modules.read_module(source.module_text(text.encode()).encode())
         asked.said(f"{text}\n    text: {own}", seen, seen_of(meaning.Program(tree, arguments), own))
         asked.said(f"{text}\n    module: {compiled}", seen, seen_of(meaning.Machine(module, arguments), compiled))
 

@@ -22,7 +22,7 @@ from dataclasses import dataclass
 
 from tests import harness
 from tests.harness import Ended
-from tests.reference import telling, telling_source
+from tests.reference import modules, source
 
 MEGABYTE = 1_000_000
 # What the program takes before it looks at anything.
@@ -53,12 +53,12 @@ def to_read_module(text: bytes) -> int:
     return START + 140 * len(text)
 
 
-def to_verify(module: telling.Module) -> int:
+def to_verify(module: modules.Module) -> int:
     """What the verifier can want: each unit is looked at with all of its slots at all of its instructions."""
     return sum(8 * len(unit.code) * max(unit.slots, 4) for unit in module.units)
 
 
-def to_run(found: telling.Accepted) -> int:
+def to_run(found: modules.Accepted) -> int:
     """A clock has two numbers and a place in the list of one that is registered on it: who makes it, or who is given it
     at a start."""
     given = max(unit.params.count("c") for unit in found.module.units)
@@ -141,7 +141,7 @@ def refused_texts() -> Iterator[tuple[str, str]]:
     yield "one line of a fault", filled(" ", behind="x=1;}")
 
 
-def modules() -> Iterator[tuple[str, object]]:
+def large_modules() -> Iterator[tuple[str, object]]:
     """Module texts that are large: values that are none, and units in which all slots may be of all kinds."""
     yield "objects of nothing", "[" + ",".join(['{"":0}'] * 100_000) + "]"
     yield "brackets", "[" + ",".join(["[]"] * 300_000) + "]"
@@ -175,9 +175,9 @@ def runs() -> Iterator[tuple[str, list[str], str]]:
     yield "workers", ["--workers", "4"], "def main(){for(i in 1..99999)async;}"
 
 
-def judged(text: str) -> telling.Accepted:
-    found = telling_source.judge(text.encode())
-    assert isinstance(found, telling.Accepted), found
+def judged(text: str) -> modules.Accepted:
+    found = source.judge(text.encode())
+    assert isinstance(found, modules.Accepted), found
     return found
 
 
@@ -211,9 +211,9 @@ class Calls:
                 yield Call(f"explain --json, {name}", ["explain", "--json", self.file(text)], to_read(text.encode()))
 
     def of_modules(self) -> Iterator[Call]:
-        for name, value in modules():
+        for name, value in large_modules():
             text = value if isinstance(value, str) else json.dumps(value, separators=(",", ":"))
-            verify = 0 if isinstance(value, str) else to_verify(telling.read_module(text.encode()))
+            verify = 0 if isinstance(value, str) else to_verify(modules.read_module(text.encode()))
             yield Call(
                 f"check --module, {name}",
                 ["check", "--module", self.file(text)],

@@ -19,9 +19,9 @@ import tempfile
 
 from tests import harness
 from tests.harness import TOP
-from tests.reference import telling, telling_ask, telling_source
-from tests.reference.telling import Accepted
-from tests.reference.telling_events import Program
+from tests.reference import ask, modules, source
+from tests.reference.events import Program
+from tests.reference.modules import Accepted
 
 MOST_STEPS = 2_000
 STRANGE = (b"", b"-1", b"one", b"1 2", b"4294967296", b"99", b"\xff", b"0x0", b"+0")
@@ -42,12 +42,12 @@ def answers(rng: random.Random, most: int) -> bytes:
     return b"\n".join(lines) + rng.choice([b"\n", b""])
 
 
-def played(program: pathlib.Path, file: pathlib.Path, data: bytes) -> telling_ask.Game:
+def played(program: pathlib.Path, file: pathlib.Path, data: bytes) -> ask.Game:
     """What the program answers."""
     with tempfile.TemporaryDirectory() as folder:
         log = pathlib.Path(folder) / "log"
         words = [program, "run", "--order", "ask", "--log", log, file]
-        return telling_ask.Game(*harness.call(words, data).texts(), log.read_bytes())
+        return ask.Game(*harness.call(words, data).texts(), log.read_bytes())
 
 
 def main() -> int:
@@ -59,13 +59,13 @@ def main() -> int:
     rng, count, early, differing = random.Random(given.seed), 0, 0, []
     for file in sorted((TOP / "examples").glob("*.x10")):
         data = file.read_bytes()
-        judged = telling_source.judge(data)
-        if not isinstance(judged, Accepted) or judged.bounds.steps > MOST_STEPS or telling.refusal("run", judged, ()):
+        judged = source.judge(data)
+        if not isinstance(judged, Accepted) or judged.bounds.steps > MOST_STEPS or modules.refusal("run", judged, ()):
             continue
         for game in range(given.games):
             said = answers(rng, judged.bounds.activities - 1)
-            wanted = telling_ask.game(Program(data, is_module=False), judged, said)
-            count, early = count + 1, early + (wanted.status == telling_ask.EARLY)
+            wanted = ask.game(Program(data, is_module=False), judged, said)
+            count, early = count + 1, early + (wanted.status == ask.EARLY)
             if played(given.program, file, said) != wanted:
                 differing.append(f"{file.name}, game {game}: {said!r}")
     print(*differing[:SHOWN], sep="\n", end="\n" if differing else "", file=sys.stderr)

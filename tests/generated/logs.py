@@ -1,5 +1,5 @@
 #!/usr/bin/env python3
-"""Logs and what is told of them: whether a second telling (tests/reference/telling_log.py, telling_runs.py) says what
+"""Logs and what is told of them: whether a second telling (tests/reference/logs.py, runs.py) says what
 the rows of tests/answers/logs.rows want, and, with `--program`, whether the program says the same of these rows, and of
 logs that nobody wrote.
 
@@ -7,7 +7,7 @@ logs that nobody wrote.
 
 2,000 cases, seed 1 and 2 jobs where nothing else is said. A case is a program, as a source text or a module, and the
 log of a run by an order or by chance, which may be changed: an entry, a line, or a byte. Five cases in a row have the
-same program, which is run with `--log` in some order; the program is asked of each log for what telling_runs.py names
+same program, which is run with `--log` in some order; the program is asked of each log for what runs.py names
 (`COMMANDS`). The telling is held against itself, too: what is written is read back, no beginning of a text is a text,
 and entries that are joined give the same run. The rows are asked of the program twice: as they are, and of the modules
 that their programs are compiled to; and so are runs with about as many activities as have lanes. `--tally` tells how
@@ -32,9 +32,9 @@ from dataclasses import dataclass, replace
 from tests import harness
 from tests.generated import generated, generated_source, tally
 from tests.harness import TOP
-from tests.reference import telling, telling_log, telling_runs, telling_source
-from tests.reference.telling import Accepted, Arguments, ByChance, Order, Refused, Way
-from tests.reference.telling_log import Answer, Entry, Fault, Log
+from tests.reference import logs, modules, runs, source
+from tests.reference.logs import Answer, Entry, Fault, Log
+from tests.reference.modules import Accepted, Arguments, ByChance, Order, Refused, Way
 
 ROWS = TOP / "tests/answers/logs.rows"
 IN_STEP = TOP / "tests/answers/rows/in-step.x10"
@@ -71,7 +71,7 @@ class Text:
 
     @functools.lru_cache(maxsize=4)
     def judged(self) -> Accepted | Refused:
-        return telling.judge(self.data) if self.is_module else telling_source.judge(self.data)
+        return modules.judge(self.data) if self.is_module else source.judge(self.data)
 
     def words(self) -> list[str]:
         return [*(["--module"] if self.is_module else []), *(f"--arg={number}" for number in self.arguments)]
@@ -81,7 +81,7 @@ class Text:
         return replace(self, arguments=arguments)
 
     def compiled(self) -> Text:
-        return Text(telling_source.module_text(self.data).encode(), True, self.arguments)
+        return Text(source.module_text(self.data).encode(), True, self.arguments)
 
 
 # Who answers.
@@ -93,11 +93,11 @@ class Told:
     def run(self, text: Text, way: Way) -> tuple[Answer, bytes]:
         """What a run prints, and its log."""
         module = text.judged().module
-        log = telling_log.log_of(module, way, text.arguments)
-        return (0, telling.run(module, way, text.arguments).text(), ""), telling_log.text_of(log)
+        log = logs.log_of(module, way, text.arguments)
+        return (0, modules.run(module, way, text.arguments).text(), ""), logs.text_of(log)
 
     def answer(self, text: Text, log: bytes, command: str) -> Answer:
-        return telling_runs.answer(command, text.judged(), text.data, text.is_module, log, text.arguments)
+        return runs.answer(command, text.judged(), text.data, text.is_module, log, text.arguments)
 
 
 class Program:
@@ -170,7 +170,7 @@ def row_differences(who: Told | Program) -> tuple[int, list[str]]:
         made, order, line_wanted, command, log, answer = asked.groups()
         if made == "log":
             entries = [Entry(int(activity), 1) for activity in line_wanted.split()]
-            said(line, telling_log.text_of(entries), who.run(text, ORDERS[order])[1])
+            said(line, logs.text_of(entries), who.run(text, ORDERS[order])[1])
         elif made:
             said(line, wanted(line_wanted or "", "chart"), who.answer(text, who.run(text, ORDERS[order])[1], "chart"))
         else:
@@ -185,7 +185,7 @@ def edge_differences(who: Told | Program) -> tuple[int, list[str]]:
     asked = [(log[:end], "x10clock: L2 Truncated") for end in range(len(log))]
     behind = f"x10clock: L1 Grammar line {log.count(NEW_LINE) + 1}"
     asked += [(log + bytes([more]), behind) for more in range(256)]
-    spared = [command for command in telling_runs.COMMANDS if command not in ("replay", "chart")]
+    spared = [command for command in runs.COMMANDS if command not in ("replay", "chart")]
     questions = [*itertools.product(asked, ("replay", "chart")), *itertools.product(asked[::SPARED], spared)]
     differing = []
     for (given, line), command in questions:
@@ -199,7 +199,7 @@ def wide_differences(program: Program) -> tuple[int, list[str]]:
     """The same of runs with many activities, as the telling has them."""
     texts = [program.form(Text(WIDE).given(width)) for width in WIDTHS]
     differing = [what for text in texts for what in log_differences(text, Told().run(text, Order.ROUND)[1], program)]
-    return len(telling_runs.COMMANDS) * len(texts), differing
+    return len(runs.COMMANDS) * len(texts), differing
 
 
 # Logs that nobody wrote.
@@ -227,9 +227,9 @@ def accepted_text(rng: random.Random) -> tuple[Text, Accepted]:
             return text.given(*generated.arguments(rng, judged.module.wants)), judged
 
 
-def by_chance(rng: random.Random, module: telling.Module, arguments: Arguments) -> Log:
+def by_chance(rng: random.Random, module: modules.Module, arguments: Arguments) -> Log:
     """The log of a run in which whoever can step may be next, and stays so for a while."""
-    played, log = telling_log.Played.opening(module, arguments), []
+    played, log = logs.Played.opening(module, arguments), []
     stay = rng.choice([0.0, 0.5, 0.9])
     while not played.world.has_ended:
         everybody = range(len(played.world.activities))
@@ -254,7 +254,7 @@ def joined(rng: random.Random, log: Log) -> Log:
     return made
 
 
-EDGES = (0, 1, 2, 3, telling_log.GREATEST - 1, telling_log.GREATEST, telling_log.GREATEST + 1)
+EDGES = (0, 1, 2, 3, logs.GREATEST - 1, logs.GREATEST, logs.GREATEST + 1)
 
 
 def changed_entries(rng: random.Random, log: Log) -> Log:
@@ -273,9 +273,7 @@ def changed_entries(rng: random.Random, log: Log) -> Log:
         case 2:
             log.insert(at, other)
         case 3:
-            log[at] = Entry(
-                entry.activity, entry.steps + rng.choice([1, 1, 2, 100, telling_log.GREATEST - entry.steps])
-            )
+            log[at] = Entry(entry.activity, entry.steps + rng.choice([1, 1, 2, 100, logs.GREATEST - entry.steps]))
         case 4:
             log[at] = other
         case 5:
@@ -318,15 +316,15 @@ def changed_byte(rng: random.Random, text: bytes) -> bytes:
 SPOILS = [bytes([sign]) for sign in b"0123456789 endx\n\r\t+-.\x00\xff"] + [b"end ", b"00", b"\n\n"]
 
 
-def log_of_case(rng: random.Random, module: telling.Module, arguments: Arguments) -> bytes:
+def log_of_case(rng: random.Random, module: modules.Module, arguments: Arguments) -> bytes:
     """The log of a run, as it is or changed."""
     in_order = rng.random() < 0.4
-    log = telling_log.log_of(module, any_way(rng), arguments) if in_order else by_chance(rng, module, arguments)
+    log = logs.log_of(module, any_way(rng), arguments) if in_order else by_chance(rng, module, arguments)
     log = joined(rng, log) if rng.random() < 0.6 else log
     way = rng.random()
     if way < 0.3:
         log = changed_entries(rng, log)
-    text = telling_log.text_of(log)
+    text = logs.text_of(log)
     changes: list[Callable[[], bytes]] = [
         lambda: changed_lines(rng, text),
         lambda: changed_byte(rng, text),
@@ -353,7 +351,7 @@ def differences(rng: random.Random, program: Program | None, cases: int) -> Iter
 
 def log_differences(text: Text, given: bytes, program: Program | None) -> Iterator[str]:
     """What the program says otherwise of a log."""
-    for command in telling_runs.COMMANDS:
+    for command in runs.COMMANDS:
         right = Told().answer(text, given, command)
         if program and (got := program.answer(text, given, command)) != right:
             yield shown(text, f"{command} {given!r}", right, got)
@@ -365,13 +363,13 @@ def shown(text: Text, question: str, right: object, got: object) -> str:
 
 def against_itself(rng: random.Random, text: Text, written: bytes, way: Way) -> Iterator[str]:
     """What has to hold of the telling alone, of the log that was written of a run."""
-    module, log = text.judged().module, telling_log.read(written)
-    played = telling_log.replay(module, log, text.arguments)
-    if played.output() != telling.run(module, way, text.arguments).text():
+    module, log = text.judged().module, logs.read(written)
+    played = logs.replay(module, log, text.arguments)
+    if played.output() != modules.run(module, way, text.arguments).text():
         yield f"another run: {written!r}"
-    again = telling_log.replay(module, joined(rng, log), text.arguments)
-    for command in telling_runs.OF_RUNS:
-        tell = telling_runs.teller(command, text.data, text.is_module)
+    again = logs.replay(module, joined(rng, log), text.arguments)
+    for command in runs.OF_RUNS:
+        tell = runs.teller(command, text.data, text.is_module)
         if tell(again) != tell(played):
             yield f"joined entries give another run, by {command}: {written!r}"
     yield from where_against_itself(rng, text, log)
@@ -384,20 +382,20 @@ def where_against_itself(rng: random.Random, text: Text, log: Log) -> Iterator[s
     """Of the beginning of a log each step can be taken; joined entries lead to the same place; and behind all of it
     nobody can step."""
     begun = log[: rng.randrange(len(log))]
-    status, told, _ = answer = Told().answer(text, telling_log.text_of(begun), telling_runs.WHERE)
+    status, told, _ = answer = Told().answer(text, logs.text_of(begun), runs.WHERE)
     if status or not told.startswith(f"steps {sum(entry.steps for entry in begun)}\n"):
         yield f"not the place behind these steps: {begun} {told}"
-    if Told().answer(text, telling_log.text_of(joined(rng, begun)), telling_runs.WHERE) != answer:
+    if Told().answer(text, logs.text_of(joined(rng, begun)), runs.WHERE) != answer:
         yield f"joined entries lead elsewhere: {begun}"
     more = Entry(rng.choice(log).activity, 2)
-    status, told, _ = Told().answer(text, telling_log.text_of([*log, more]), telling_runs.WHERE)
+    status, told, _ = Told().answer(text, logs.text_of([*log, more]), runs.WHERE)
     if not status or not told.endswith(f"entry {len(log)} step 1 of 2: act {more.activity} has ended\n"):
         yield f"a step behind the end: {log} {told}"
 
 
 def refused_so(text: bytes, line: str) -> Iterator[str]:
     try:
-        telling_log.read(text)
+        logs.read(text)
         yield f"not refused: {text!r}"
     except Fault as fault:
         if str(fault) != line:

@@ -12,8 +12,8 @@ from __future__ import annotations
 import sys
 from dataclasses import dataclass, replace
 
-from tests.reference import meaning, telling, telling_source as source
-from tests.reference.telling_source import Coder
+from tests.reference import meaning, modules, source
+from tests.reference.source import Coder
 
 RIGHT = source.Coder
 
@@ -234,7 +234,7 @@ def first_told(coder: type[Coder], cases: int) -> str | None:
         text = meaning.text_of_case(1, case)
         source.Coder = coder
         try:
-            meaning.compare_runs(text, telling.read_module(source.module_text(text).encode()), 3)
+            meaning.compare_runs(text, modules.read_module(source.module_text(text).encode()), 3)
         except meaning.Differs as differs:
             return f"program {case}: {differs}"
         except source.Fault:

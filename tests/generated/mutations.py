@@ -1,6 +1,6 @@
 #!/usr/bin/env python3
 """Feeds the built program modules that nobody wrote, and compares each answer with a second telling of it
-(tests/reference/telling.py).
+(tests/reference/modules.py).
 
 The modules are those of tests/answers/rows and whole programs that are made up here, as they are, with a rule broken,
 or changed operand by operand and byte by byte (tests/generated/generated.py). `check` and `run`, the latter in each
@@ -11,7 +11,7 @@ taken too, and counted. Of an accepted module with few worlds the telling goes t
 the promises hold; of one such module in ten `outcomes` has to tell what these schedules print. With `--source` the
 texts are programs in the language (tests/generated/generated_source.py) and those of
 tests/answers/programs/sources*.rows and of examples, and `compile` is compared too, with what
-tests/reference/telling_source.py makes of them. Some runs of the module are compared with what the text means
+tests/reference/source.py makes of them. Some runs of the module are compared with what the text means
 (tests/reference/meaning.py). Needs the built program and python3. The gate runs it with 2,000 cases.
 
     python3 -m tests.generated.mutations [CASES] [SEED] [--source [--changed]] [--jobs N] [--program PATH]
@@ -42,19 +42,9 @@ from functools import cached_property
 from tests import harness
 from tests.generated import generated, generated_source, tally
 from tests.harness import TOP
-from tests.reference import (
-    meaning,
-    telling,
-    telling_explain,
-    telling_explain_json,
-    telling_listing,
-    telling_log,
-    telling_outcomes,
-    telling_runs,
-    telling_source,
-)
-from tests.reference.telling import Accepted, Arguments, ByChance, Order, Refused, Way
-from tests.reference.telling_outcomes import Asked
+from tests.reference import explain, explain_json, listing, logs, meaning, modules, outcomes, runs, source
+from tests.reference.modules import Accepted, Arguments, ByChance, Order, Refused, Way
+from tests.reference.outcomes import Asked
 
 # Runs of more steps than this are not made at all; those of more steps, or of more steps times activities and clocks,
 # than these are looked at for their form alone; and schedules are followed where there are no more activities than
@@ -179,8 +169,8 @@ def source_texts() -> list[bytes]:
     return found + [path.read_bytes() for path in sorted((TOP / "examples").glob("*.x10"))]
 
 
-def seed_texts(source: bool) -> list[bytes]:
-    if source:
+def seed_texts(is_source: bool) -> list[bytes]:
+    if is_source:
         return source_texts()
     return [path.read_bytes() for path in sorted((TOP / "tests/answers/rows").glob("*.json"))] + [
         sharing(*form) for form in SHARING
@@ -224,7 +214,7 @@ def words_of(arguments: Arguments) -> list[str]:
 def ways(text: bytes, judged: Accepted) -> list[tuple[Way, Arguments]]:
     """The orders in which a program is run, and the numbers that it is given in each, by its text alone."""
     rng = random.Random(text)
-    given = [generated.arguments(rng, judged.module.wants) for _ in telling.ORDERS]
+    given = [generated.arguments(rng, judged.module.wants) for _ in modules.ORDERS]
     return list(zip([*Order, ByChance(rng.choice([0, 1, rng.randrange(2**64)]))], given, strict=True))
 
 
@@ -236,8 +226,8 @@ def is_short(text: bytes, judged: Accepted) -> bool:
         return bounds.steps * (bounds.activities + bounds.clocks) <= MOST_WORK
     if not any(instr.name == "forto" for unit in judged.module.units for instr in unit.code):
         return False
-    runs = (telling_log.driven(judged.module, *how) for how in ways(text, judged))
-    return all(next(itertools.islice(run, SHORT, None), None) is None for run in runs)
+    driven = (logs.driven(judged.module, *how) for how in ways(text, judged))
+    return all(next(itertools.islice(run, SHORT, None), None) is None for run in driven)
 
 
 def is_sampled(text: bytes, one_in: int = 4) -> bool:
@@ -262,7 +252,7 @@ class Comparer:
         return answer
 
     def outcome(self, text: bytes) -> Outcome:
-        judged = telling_source.judge(text) if self.source else telling.judge(text)
+        judged = source.judge(text) if self.source else modules.judge(text)
         outcome = self.of_refused(text, judged) if isinstance(judged, Refused) else self.of_accepted(text, judged)
         if self.source:
             self.compiles(text, outcome)
@@ -273,9 +263,9 @@ class Comparer:
     def lists(self, text: bytes, outcome: Outcome) -> None:
         """`listing` tells of each text that gives a module, and answers of another one as `check` does."""
         try:
-            told = done(telling_listing.listed(text, not self.source))
+            told = done(listing.listed(text, not self.source))
             outcome.counts["modules listed"] += 1
-        except (telling.Unread, telling_source.Fault) as fault:
+        except (modules.Unread, source.Fault) as fault:
             told = refused(str(fault))
         answer = self.ask(text, "listing")
         if answer != told:
@@ -283,11 +273,11 @@ class Comparer:
 
     def compiles(self, text: bytes, outcome: Outcome) -> None:
         try:
-            module = telling_source.module_text(text)
+            module = source.module_text(text)
             self.means(text, module, outcome)
             told = done(module + "\n")
             outcome.counts["texts that are compiled"] += 1
-        except telling_source.Fault as fault:
+        except source.Fault as fault:
             told = refused(str(fault))
         answer = self.ask(text, "compile")
         if answer != told:
@@ -296,7 +286,7 @@ class Comparer:
     def means(self, text: bytes, module: str, outcome: Outcome) -> None:
         """Whether some runs of the module are runs of the text, and the reverse."""
         try:
-            counts = meaning.compare_runs(text, telling.read_module(module.encode()), RUNS_MEANT)
+            counts = meaning.compare_runs(text, modules.read_module(module.encode()), RUNS_MEANT)
             outcome.counts["runs compared with what the text means"] += counts["runs"]
         except meaning.Differs as differs:
             outcome.differences.append(f"the module isn't the text's: {differs}")
@@ -345,21 +335,19 @@ class Comparer:
         said = ("-", text, judged.line, kinds, not self.source)
         is_told = checked == refused(judged.line)
         outcome.counts["refusals explained"] += 1
-        self.explained(text, [], checked, telling_explain.explained(*said) if is_told else None, outcome)
+        self.explained(text, [], checked, explain.explained(*said) if is_told else None, outcome)
         if is_sampled(text, LISTED):
             outcome.counts["refusals explained as JSON"] += 1
-            self.explained(
-                text, ["--json"], checked, telling_explain_json.explained(*said) if is_told else None, outcome
-            )
+            self.explained(text, ["--json"], checked, explain_json.explained(*said) if is_told else None, outcome)
 
     def explains_accepted(self, text: bytes, checked: Answer, outcome: Outcome) -> None:
         """`explain` has to give the line of `check`, and what its numbers come from."""
         said = (text, checked.out, not self.source)
         outcome.counts["accepted modules explained"] += 1
-        self.explained(text, [], checked, telling_explain.accepted(*said), outcome)
+        self.explained(text, [], checked, explain.accepted(*said), outcome)
         if is_sampled(text, LISTED):
             outcome.counts["accepted modules explained as JSON"] += 1
-            self.explained(text, ["--json"], checked, telling_explain_json.accepted("-", *said), outcome)
+            self.explained(text, ["--json"], checked, explain_json.accepted("-", *said), outcome)
 
     def explained(self, text: bytes, flags: list[str], checked: Answer, said: str | None, outcome: Outcome) -> None:
         """`explain` has to answer as `check` did, but for standard output, which has to be this, if it is told."""
@@ -384,7 +372,7 @@ class Comparer:
         rng = random.Random(text)
         given = generated.arguments(rng, rng.choice([count for count in range(5) if count != judged.module.wants]))
         answer = self.ask(text, "run", *words_of(given))
-        told = refused(telling.misgiven(judged.module, given))
+        told = refused(modules.misgiven(judged.module, given))
         outcome.counts["runs that aren't given what they want"] += 1
         if answer != told:
             outcome.differ(f"run {' '.join(words_of(given))}", told, answer)
@@ -411,17 +399,17 @@ class Comparer:
         """`events`, `lanes`, its picture, `page`, `races` and `where` tell of a run by its log, unless it is a large
         one."""
         way, given = random.Random(text).choice(ways(text, judged))
-        log = telling_log.log_of(judged.module, way, given)
+        log = logs.log_of(judged.module, way, given)
         if len(log) * judged.bounds.activities > MOST_DRAWN:
             outcome.counts["runs too large to be drawn"] += 1
             return
         outcome.counts["runs drawn"] += 1
         with tempfile.NamedTemporaryFile() as file:
-            pathlib.Path(file.name).write_bytes(telling_log.text_of(log))
+            pathlib.Path(file.name).write_bytes(logs.text_of(log))
             for command, *flags in (["events"], ["lanes"], ["lanes", "--svg"], ["page"], ["races"], ["where"]):
                 told = Answer(
-                    *telling_runs.answer(
-                        command, judged, text, not self.source, telling_log.text_of(log), given, is_picture=bool(flags)
+                    *runs.answer(
+                        command, judged, text, not self.source, logs.text_of(log), given, is_picture=bool(flags)
                     )
                 )
                 answer = self.ask(text, command, *flags, *words_of(given), log=file.name)
@@ -443,10 +431,10 @@ class Comparer:
                 *words_of(given),
             ]
             answer = self.ask(text, *question)
-            told = telling_outcomes.Answer(answer.status, answer.out, pathlib.Path(file.name).read_bytes())
+            told = outcomes.Answer(answer.status, answer.out, pathlib.Path(file.name).read_bytes())
         outcome.counts[f"programs whose outcomes are told{'' if answer.status == 0 else ', not whole'}"] += 1
-        walk = telling_outcomes.walked(judged.module, given)
-        wrong = [*telling_outcomes.faults(walk, judged.module, given, asked, told)]
+        walk = outcomes.walked(judged.module, given)
+        wrong = [*outcomes.faults(walk, judged.module, given, asked, told)]
         if wrong or answer.err:
             outcome.differ(" ".join(question), wrong, answer)
 
@@ -456,8 +444,8 @@ class Comparer:
         outcome.counts["runs compared"] += 1
         outcome.counts["of them with numbers given"] += 1 if how[1] else 0
         try:
-            ran = telling.run(judged.module, *how)
-        except telling.Wrong as wrong:
+            ran = modules.run(judged.module, *how)
+        except modules.Wrong as wrong:
             outcome.differ(question, f"a wrong step: {wrong}", answer)
             return
         told = done(ran.text())
@@ -468,8 +456,8 @@ class Comparer:
         """Whether all schedules were walked through."""
         few = judged.bounds.activities <= MOST_ACTIVITIES and judged.bounds.steps <= LONGEST_COMPARED
         try:
-            worlds = telling.Schedules(judged, self.worlds, ways(text, judged)[0][1]).walk() if few else None
-        except telling.Broken as broken:
+            worlds = modules.Schedules(judged, self.worlds, ways(text, judged)[0][1]).walk() if few else None
+        except modules.Broken as broken:
             outcome.differences.append(f"a promise is broken: {broken}")
             return False
         if worlds is None:
@@ -494,9 +482,9 @@ def shorter(text: bytes) -> Iterator[bytes]:
         size //= 2
 
 
-def smaller(text: bytes, source: bool) -> Iterable[bytes]:
+def smaller(text: bytes, is_source: bool) -> Iterable[bytes]:
     """Texts that have a little less than this one."""
-    if source:
+    if is_source:
         return itertools.islice(shorter(text), 400)
     try:
         value = json.loads(text)

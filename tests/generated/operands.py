@@ -8,7 +8,7 @@ what the program says.
 tests/answers/rows are compiled to. A number becomes 0 and one more; where it may have no sign also the greatest of 16
 bits, one beyond it, and -1; where it may also both ends of 64 bits and one beyond each. A name becomes each other name,
 a comparison each other one, a letter of `params` the other, and each instruction is left out, and doubled. Each of
-these modules is refused as the second telling says (tests/reference/telling.py), or runs in the three orders and by
+these modules is refused as the second telling says (tests/reference/modules.py), or runs in the three orders and by
 chance as it says, within its bound; its logs are played again and say the same. Besides, each beginning of a module's
 text, and brackets within brackets, are no JSON.
 """
@@ -29,8 +29,8 @@ from tests import harness
 from tests.generated import generated, logs
 from tests.generated.mutations import SHORT, Comparer, Summary, in_order, refused
 from tests.harness import TOP
-from tests.reference import telling, telling_source
-from tests.reference.telling import Accepted, ByChance, Order, Role, Way
+from tests.reference import modules, source
+from tests.reference.modules import Accepted, ByChance, Order, Role, Way
 
 # Two in step; a clock dropped on one of two ways; activities that add; a loop with a limit, whose main takes a number.
 TEXTS = [
@@ -50,14 +50,14 @@ CHUNK = 50
 SHOWN = 5
 
 
-def modules() -> list[dict]:
-    return [json.loads(telling_source.module_text(text)) for text in TEXTS]
+def plain_modules() -> list[dict]:
+    return [json.loads(source.module_text(text)) for text in TEXTS]
 
 
 def others(role: Role, operand: object) -> Iterator[object]:
     """What an operand becomes."""
     if role is Role.OPERATOR:
-        yield from (name for name in telling.COMPARISONS if name != operand)
+        yield from (name for name in modules.COMPARISONS if name != operand)
     elif role is Role.ARGUMENTS:
         for at, slot in enumerate(operand):
             yield from (operand[:at] + [other] + operand[at + 1 :] for other in numbers(UNSIGNED, slot))
@@ -75,10 +75,10 @@ def instructions(unit: dict) -> Iterator[list]:
     """The code with one instruction changed, left out or doubled."""
     code = unit["code"]
     for at, (name, *operands) in enumerate(code):
-        for place, (role, operand) in enumerate(zip(telling.ROLES[name], operands)):
+        for place, (role, operand) in enumerate(zip(modules.ROLES[name], operands)):
             for other in others(role, operand):
                 yield code[:at] + [[name, *operands[:place], other, *operands[place + 1 :]]] + code[at + 1 :]
-        for other in telling.ROLES:
+        for other in modules.ROLES:
             yield code[:at] + [[other, *operands]] + code[at + 1 :]
         yield generated.without(code, at)
         yield code[: at + 1] + code[at:]
@@ -112,7 +112,7 @@ def changed(module: dict) -> Iterator[dict]:
 
 
 def texts() -> list[bytes]:
-    found = [json.dumps(one, separators=(",", ":")).encode() for module in modules() for one in changed(module)]
+    found = [json.dumps(one, separators=(",", ":")).encode() for module in plain_modules() for one in changed(module)]
     return list(dict.fromkeys(found))
 
 
@@ -132,7 +132,7 @@ def replays(program: logs.Program, text: bytes, judged: Accepted) -> Iterator[st
 
 def is_logged(judged: Accepted) -> bool:
     """Whether each order ends soon."""
-    runs = (logs.telling_log.driven(judged.module, way, (3,) * judged.module.wants) for way in WAYS)
+    runs = (logs.logs.driven(judged.module, way, (3,) * judged.module.wants) for way in WAYS)
     return all(next(itertools.islice(run, SHORT, None), None) is None for run in runs)
 
 
@@ -142,7 +142,7 @@ def looked_at(path: pathlib.Path, cases: list[tuple[int, bytes]]) -> Summary:
         program = logs.Program(path, folder)
         for number, text in cases:
             outcome = comparer.outcome(text)
-            judged = telling.judge(text)
+            judged = modules.judge(text)
             if isinstance(judged, Accepted) and is_logged(judged):
                 outcome.differences += replays(program, text, judged)
                 outcome.counts["logs played again"] += len(WAYS)

@@ -1,6 +1,6 @@
 #!/usr/bin/env python3
 """Small programs that nobody wrote: whether `outcomes` tells all that they print, and nothing else, as a walk through
-all schedules finds it (tests/reference/telling_outcomes.py), each outcome with a log that prints it.
+all schedules finds it (tests/reference/outcomes.py), each outcome with a log that prints it.
 
     python3 -m tests.generated.outcomes [CASES] [SEED] [--sets] [--program PATH] [--jobs N] [--worlds N] [--tally]
                                         [--only CASE]
@@ -30,9 +30,9 @@ from tests import harness
 from tests.generated import generated, generated_source, tally
 from tests.generated.generated_source import Tokens, Writer
 from tests.generated.logs import Program, Text
-from tests.reference import telling_outcomes
-from tests.reference.telling import Accepted
-from tests.reference.telling_outcomes import Answer, Asked, Walk
+from tests.reference import outcomes
+from tests.reference.modules import Accepted
+from tests.reference.outcomes import Answer, Asked, Walk
 
 CHUNK = 10
 SHOWN = 5
@@ -98,7 +98,7 @@ def case(rng: random.Random, worlds: int) -> Case:
         if not any(instr.name == "print" for unit in judged.module.units for instr in unit.code):
             continue
         text = (text.compiled() if rng.random() < 0.2 else text).given(*generated.arguments(rng, judged.module.wants))
-        walk = telling_outcomes.walked(judged.module, text.arguments, worlds)
+        walk = outcomes.walked(judged.module, text.arguments, worlds)
         # Programs with one outcome are many, and one in ten is enough.
         if walk and walk.entries <= worlds and (len(walk.outcomes) > 1 or rng.random() < 0.1):
             return Case(text, judged, walk)
@@ -127,21 +127,19 @@ class Asker:
             *(["--pick", pick, "--log", log] if pick else []),
         ]
         status, out, err = self.program.call("outcomes", *self.case.text.words(), *options, file)
-        self.counts["answers that are whole" if status == telling_outcomes.WHOLE else "answers that aren't whole"] += 1
+        self.counts["answers that are whole" if status == outcomes.WHOLE else "answers that aren't whole"] += 1
         question = f"outcomes {' '.join(map(str, options))}"
         given, asked = Answer(status, out, log.read_bytes() if pick else b""), Asked(
-            limit or telling_outcomes.USUAL_LIMIT, pick, self.sets
+            limit or outcomes.USUAL_LIMIT, pick, self.sets
         )
-        wrong = [
-            *telling_outcomes.faults(self.case.walk, self.case.judged.module, self.case.text.arguments, asked, given)
-        ]
+        wrong = [*outcomes.faults(self.case.walk, self.case.judged.module, self.case.text.arguments, asked, given)]
         wrong += [f"on standard error: {err}"] if err else []
         wrong += self.replayed(out, pick, asked, given.log) if pick else []
         yield from (f"{question}: {what}" for what in wrong)
 
     def replayed(self, out: str, pick: int, asked: Asked, log: bytes) -> Iterator[str]:
         """What is wrong with what the program prints by a log, if there is one."""
-        lists, _ = telling_outcomes.read(out) or ([], True)
+        lists, _ = outcomes.read(out) or ([], True)
         if pick > len(lists):
             self.counts["logs of no outcome"] += 1
             return
@@ -159,16 +157,16 @@ class Asker:
         status, out, err = self.program.call("outcomes", *self.case.text.words(), *options, file)
         self.counts["lists"] += 1
         try:
-            told = telling_outcomes.expected(listed.read_bytes())
-        except telling_outcomes.Stray as fault:
+            told = outcomes.expected(listed.read_bytes())
+        except outcomes.Stray as fault:
             wrong = (
                 []
-                if (status, out, err) == (telling_outcomes.NO_LIST, "", f"x10clock: {fault}\n")
+                if (status, out, err) == (outcomes.NO_LIST, "", f"x10clock: {fault}\n")
                 else [f"the list is none: {fault}"]
             )
         else:
-            asked = Asked(limit or telling_outcomes.USUAL_LIMIT, None, self.sets)
-            wrong = [*telling_outcomes.held_faults(self.case.walk, asked, told, Answer(status, out))] + (
+            asked = Asked(limit or outcomes.USUAL_LIMIT, None, self.sets)
+            wrong = [*outcomes.held_faults(self.case.walk, asked, told, Answer(status, out))] + (
                 [f"on standard error: {err}"] if err else []
             )
         yield from (
@@ -183,11 +181,11 @@ class Asker:
         status, out, err = self.program.call("races", *self.case.text.words(), file, log)
         said, numbers = out.splitlines()[-1], tuple(map(int, printed.rpartition("ended")[0].split()))
         self.counts[f"races: {said}"] += 1
-        outcomes = self.case.walk.outcomes
+        printable = self.case.walk.outcomes
         is_right = {
             THIS_RUN: status == 6,
-            THESE_NUMBERS: status == 0 and {tuple(sorted(each)) for each in outcomes} == {tuple(sorted(numbers))},
-            THIS_ORDER: status == 0 and outcomes == {numbers},
+            THESE_NUMBERS: status == 0 and {tuple(sorted(each)) for each in printable} == {tuple(sorted(numbers))},
+            THIS_ORDER: status == 0 and printable == {numbers},
         }
         if err or not is_right.get(said, False):
             yield f"races of the run in the order {order}, which prints {numbers}: {(status, out, err)}"
@@ -226,7 +224,7 @@ class Asker:
             yield from self.asked(None, pick)
         yield from self.asked(None, rng.choice([count + 1, 2 * count + 1, 2**64 - 1]))
         limit = rng.choice(
-            [1, 2, 3, 10, max(1, count - 1), count, count + 1, telling_outcomes.SPARE * self.case.walk.entries + 1]
+            [1, 2, 3, 10, max(1, count - 1), count, count + 1, outcomes.SPARE * self.case.walk.entries + 1]
         )
         yield from self.asked(limit, rng.choice([None, 1, 2, count]))
         yield from self.lists(rng)
@@ -235,9 +233,9 @@ class Asker:
 
 
 def count_case(counts: collections.Counter[str], case: Case) -> None:
-    module, outcomes = case.judged.module, len(case.walk.outcomes)
-    counts["outcomes"] += outcomes
-    counts["programs with more than one"] += outcomes > 1
+    module, found = case.judged.module, len(case.walk.outcomes)
+    counts["outcomes"] += found
+    counts["programs with more than one"] += found > 1
     counts["programs with shared numbers"] += bool(module.shared)
     counts["programs with clocks"] += case.judged.bounds.clocks > 0
     counts["programs that are given numbers"] += bool(case.text.arguments)

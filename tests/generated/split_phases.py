@@ -18,9 +18,9 @@ import sys
 import tempfile
 
 from tests import harness
-from tests.reference import telling_log, telling_races, telling_source
-from tests.reference.telling import Accepted
-from tests.reference.telling_events import Program
+from tests.reference import logs, races, source
+from tests.reference.events import Program
+from tests.reference.modules import Accepted
 
 ORDERS = ("first", "last", "round", "random:1", "random:2", "random:3")
 MOST_STEPS = 150
@@ -73,7 +73,7 @@ def written(rng: random.Random) -> tuple[bytes, Accepted]:
     """A program that is accepted, with several activities."""
     while True:
         data = Writer(rng).text().encode()
-        judged = telling_source.judge(data)
+        judged = source.judge(data)
         if isinstance(judged, Accepted) and judged.bounds.activities > 1 and judged.bounds.steps <= MOST_STEPS:
             return data, judged
 
@@ -90,8 +90,8 @@ def told(program: pathlib.Path, data: bytes, judged: Accepted, folder: pathlib.P
     for order in ORDERS:
         name, _, seed = order.partition(":")
         called(program, "run", "--order", name, *(["--seed", seed] if seed else []), "--log", log, file)
-        played = telling_log.replay(judged.module, telling_log.read(log.read_bytes()))
-        expected = telling_races.races(Program(data, False), played)
+        played = logs.replay(judged.module, logs.read(log.read_bytes()))
+        expected = races.races(Program(data, False), played)
         status, answer = called(program, "races", file, log)
         said.add(answer.splitlines()[-1])
         if (status, answer) != (6 if expected.startswith("race ") else 0, expected):

@@ -1,6 +1,6 @@
 #!/usr/bin/env python3
 """Command lines that nobody wrote: whether the built program says of them what a second telling says
-(tests/reference/telling_words.py).
+(tests/reference/command_line.py).
 
     python3 -m tests.generated.words [CASES] [SEED] [--program PATH] [--jobs N] [--tally] [--only CASE]
 
@@ -10,7 +10,7 @@ which some are texts, modules or logs, one is a folder, and some aren't there; m
 meant, with a word left out, doubled, put in or replaced. Each call is made in a folder of its own, and told in another:
 the status, standard output, the first line of standard error and what is in the folder then have to be the same. What a
 run by workers prints is compared in any order, and its log is played again; outcomes, which the program tells in an
-order of its own, have to be right (tests/reference/telling_outcomes.py), and so has their log, and what is said of them
+order of its own, have to be right (tests/reference/outcomes.py), and so has their log, and what is said of them
 where they are held against a list. `--tally` tells how often each answer was given; `--only` prints the words of one
 case. It fails where something is answered otherwise, and where of 500 calls or more none told outcomes, events, lanes
 or a page.
@@ -33,10 +33,10 @@ from dataclasses import dataclass
 from tests import harness
 from tests.generated import tally
 from tests.harness import TOP
-from tests.reference import telling_log, telling_outcomes, telling_runs, telling_source, telling_words
-from tests.reference.telling import Order
-from tests.reference.telling_outcomes import Answer
-from tests.reference.telling_words import Job, Told
+from tests.reference import command_line, logs, outcomes, runs, source
+from tests.reference.command_line import Job, Told
+from tests.reference.modules import Order
+from tests.reference.outcomes import Answer
 
 # Of so many calls some have to tell what each of these commands tells.
 MANY, ANSWERED = 500, ("outcomes", "events", "lanes", "page")
@@ -45,14 +45,14 @@ SHOWN = 5
 IN_STEP, AS_MANY = ((TOP / f"tests/answers/rows/{name}.x10").read_bytes() for name in ("in-step", "as-many"))
 LOG = b"x10log 1\n" + b"".join(b"%d 1\n" % who for who in (0, 0, 0, 1, 0, 0, 0, 0, 1, 1, 1, 1)) + b"end 12\n"
 # Of a run with three activities beside main, as with each number from 3 on.
-LOG_OF_MANY = telling_log.text_of(telling_log.log_of(telling_source.judge(AS_MANY).module, Order.LAST, (3,)))
+LOG_OF_MANY = logs.text_of(logs.log_of(source.judge(AS_MANY).module, Order.LAST, (3,)))
 FILES = {
     "step.x10": IN_STEP,
     "many.x10": AS_MANY,
     "bad.x10": b"main",
     "void": b"",
-    "step.json": telling_source.module_text(IN_STEP).encode(),
-    "many.json": telling_source.module_text(AS_MANY).encode(),
+    "step.json": source.module_text(IN_STEP).encode(),
+    "many.json": source.module_text(AS_MANY).encode(),
     "step.log": LOG,
     "many.log": LOG_OF_MANY,
     "cut.log": LOG[:40],
@@ -125,18 +125,18 @@ def options(rng: random.Random, command: str, text: str) -> Iterator[list[str]]:
         yield option(rng, "workers", small(rng))
     if command in ("run", "outcomes") and rng.random() < (0.05 if is_held else 0.4):
         yield option(rng, "log", rng.choice(["made", "step.log", *NAMES]))
-    if command in ("run", "outcomes", "races", *telling_runs.COMMANDS):
+    if command in ("run", "outcomes", "races", *runs.COMMANDS):
         for _ in range(text.startswith("many") if rng.random() < 0.8 else rng.randrange(3)):
             yield option(rng, "arg", rng.choice(NUMBERS[:12] if rng.random() < 0.8 else NUMBERS))
 
 
 def meant(rng: random.Random, given: str) -> list[str]:
     """A call that could be meant, with this file as standard input."""
-    command = rng.choice([*telling_words.COMMANDS, "run", "run", "run", "run", "outcomes"])
+    command = rng.choice([*command_line.COMMANDS, "run", "run", "run", "run", "outcomes"])
     file = rng.choice(["step.x10", "many.x10", "step.json", "many.json", "-"] if rng.random() < 0.8 else NAMES)
     parts = [[file], *options(rng, command, given if file == "-" else file)]
     rng.shuffle(parts)
-    if command in telling_runs.COMMANDS or command == "races" and rng.random() < 0.5:
+    if command in runs.COMMANDS or command == "races" and rng.random() < 0.5:
         at = parts.index([file])
         fitting = f"{(given if file == '-' else file)[:4]}.log"
         log = fitting if rng.random() < 0.6 else rng.choice(["cut.log", "waits.log", *NAMES])
@@ -176,7 +176,7 @@ def case(rng: random.Random) -> tuple[list[str], str]:
         for _ in range(rng.choice([0, 0, 0, 0, 1, 1, 2, 5])):
             words = changed(rng, words)
         job = job_of(words)
-        if not job or int(job.values.get("runs", "1")) <= telling_words.MOST_RUNS:
+        if not job or int(job.values.get("runs", "1")) <= command_line.MOST_RUNS:
             return words, given
 
 
@@ -217,17 +217,13 @@ class Caller:
     def told(self, words: list[str], given: str) -> tuple[Told, Folder]:
         fill(self.folder)
         with contextlib.chdir(self.folder), open(given, "rb") as stdin:
-            return telling_words.told(words, stdin), found(self.folder)
+            return command_line.told(words, stdin), found(self.folder)
 
     def difference(self, words: list[str], given: str) -> tuple[Told, str | None]:
         """What the program answers, and what is wrong with it."""
         (right, left), (got, there) = self.told(words, given), self.called(words, given)
         job = job_of(words)
-        if (
-            job
-            and job.command == "outcomes"
-            and {right.status, got.status} <= {telling_outcomes.WHOLE, telling_outcomes.NOT_WHOLE}
-        ):
+        if job and job.command == "outcomes" and {right.status, got.status} <= {outcomes.WHOLE, outcomes.NOT_WHOLE}:
             return got, "; ".join(outcome_faults(job, given, got, left, there)) or None
         if got.status == 0 and job and "workers" in job.values:
             played = replayed(job, given, left, there)
@@ -244,15 +240,15 @@ class Caller:
 def job_of(words: list[str]) -> Job | None:
     """What words ask for that are a job."""
     try:
-        return telling_words.read(words)
-    except (telling_words.Mistake, telling_words.Help, telling_words.Version):
+        return command_line.read(words)
+    except (command_line.Mistake, command_line.Help, command_line.Version):
         return None
 
 
 def is_asked(words: list[str]) -> bool:
     """Whether they ask for a run whose order is asked for, of which all that goes to standard error counts."""
     job = job_of(words)
-    return job is not None and job.values.get("order") == telling_words.ASK
+    return job is not None and job.values.get("order") == command_line.ASK
 
 
 def log_path(job: Job) -> str:
@@ -290,8 +286,8 @@ def replayed(job: Job, given: str, left: Folder, there: Folder) -> Told | None:
         return None
     if not are_others_same(job, left, there):
         return Told(-1, "", "other files differ")
-    judged = telling_words.judge(job, program_of(job, given))
-    status, out, err = telling_log.answer(judged, there[log_path(job)], telling_log.Played.output, tuple(job.numbers))
+    judged = command_line.judge(job, program_of(job, given))
+    status, out, err = logs.answer(judged, there[log_path(job)], logs.Played.output, tuple(job.numbers))
     return Told(status, out, err)
 
 
@@ -300,17 +296,15 @@ def outcome_faults(job: Job, given: str, got: Told, left: Folder, there: Folder)
     they are told to be."""
     if got.err or not are_others_same(job, left, there):
         yield f"other files differ, or something is on standard error: {got}"
-    module, numbers = telling_words.judge(job, program_of(job, given)).module, tuple(job.numbers)
+    module, numbers = command_line.judge(job, program_of(job, given)).module, tuple(job.numbers)
     log = there.get(log_path(job), b"no log") if "log" in job.values else b""
     walk, asked, answer = (
-        telling_outcomes.walked(module, numbers), telling_words.asked_outcomes(job), Answer(got.status, got.out, log)
+        outcomes.walked(module, numbers), command_line.asked_outcomes(job), Answer(got.status, got.out, log)
     )
     if "expect" in job.values:
-        faults = telling_outcomes.held_faults(
-            walk, asked, telling_outcomes.expected(contents_of(job.values["expect"])), answer
-        )
+        faults = outcomes.held_faults(walk, asked, outcomes.expected(contents_of(job.values["expect"])), answer)
     else:
-        faults = telling_outcomes.faults(walk, module, numbers, asked, answer)
+        faults = outcomes.faults(walk, module, numbers, asked, answer)
     yield from (f"{fault}: {got}" for fault in faults)
 
 

@@ -2,7 +2,7 @@
 """What a source text means, without its code; and whether a compiled program does that.
 
 A program is carried out on its tree here: a step does one statement with its expressions, or ends a turn of a loop, a
-finish, a call or an activity. It shares no world with tests/reference/telling.py: a clock keeps a phase and where each
+finish, a call or an activity. It shares no world with tests/reference/modules.py: a clock keeps a phase and where each
 activity stands, a finish keeps how many it still waits for. Then the module is run by a schedule by chance, and
 whenever a step of it is seen, the same activity of the program goes on up to its next step that is seen: these two have
 to be the same event, and leave the same phases, standings and shared numbers, with all activities ended in both or in
@@ -13,7 +13,7 @@ takes some.
     python3 -m tests.reference.meaning --file FILE [--runs N] [--program PATH | --alone]
 
 2,000 programs that nobody wrote, seed 1, 3 runs of each and 2 jobs where nothing else is said. The module is the one
-that tests/reference/telling_source.py makes of the text, or with `--program` the one that this program prints for
+that tests/reference/source.py makes of the text, or with `--program` the one that this program prints for
 `compile`. `--only` prints one text alone.
 """
 
@@ -32,8 +32,8 @@ from typing import Protocol
 
 from tests import harness
 from tests.generated import generated, generated_source
-from tests.reference import telling, telling_source as source
-from tests.reference.telling import Arguments, ClockName, Standing, Status, Wrong, wrapped
+from tests.reference import modules, source
+from tests.reference.modules import Arguments, ClockName, Standing, Status, Wrong, wrapped
 
 # A run is left after so many steps of who goes first.
 LONGEST = 400
@@ -305,7 +305,7 @@ class Program:
                 self.shared[cell] = wrapped(self.shared[cell] + self.number(names, term))
                 return "Added"
             case source.Branch(left, comparison, right, then, otherwise):
-                compare = telling.COMPARISONS[source.COMPARISONS[comparison]]
+                compare = modules.COMPARISONS[source.COMPARISONS[comparison]]
                 holds = compare(self.number(names, left), self.number(names, right))
                 doing.next_comes(*([then] if holds else [otherwise] if otherwise else []))
                 return ""
@@ -376,10 +376,10 @@ class Program:
 
 
 class Machine:
-    """A module that is run as tests/reference/telling.py has it, whose phases are counted."""
+    """A module that is run as tests/reference/modules.py has it, whose phases are counted."""
 
-    def __init__(self, module: telling.Module, arguments: Arguments) -> None:
-        self.module, self.world = module, telling.opening(module, arguments)
+    def __init__(self, module: modules.Module, arguments: Arguments) -> None:
+        self.module, self.world = module, modules.opening(module, arguments)
         self.phases: list[int] = []
 
     def count(self) -> int:
@@ -394,7 +394,7 @@ class Machine:
         return clocks, self.world.shared, self.world.has_ended
 
     def take(self, who: int) -> str | None:
-        taken = telling.step(self.module, self.world, who)
+        taken = modules.step(self.module, self.world, who)
         if taken is None:
             return None
         self.world = taken.world
@@ -475,7 +475,7 @@ class Pair:
                 raise self.differ(f"nobody can step, and activity {who} can: {told}")
 
 
-def compare(tree: source.Tree, module: telling.Module, rng: random.Random) -> collections.Counter[str]:
+def compare(tree: source.Tree, module: modules.Module, rng: random.Random) -> collections.Counter[str]:
     """A run by chance, to its end where that comes soon; raises Differs. Answers what was counted."""
     arguments = generated.arguments(rng, module.wants)
     worlds = Program(tree, arguments), Machine(module, arguments)
@@ -519,17 +519,17 @@ def text_of_case(seed: int, case: int) -> bytes:
             pass
 
 
-def module_of(text: bytes, program: pathlib.Path | None) -> telling.Module:
+def module_of(text: bytes, program: pathlib.Path | None) -> modules.Module:
     """The module that a text is compiled to: by the telling, or by the program."""
     if program is None:
-        return telling.read_module(source.module_text(text).encode())
+        return modules.read_module(source.module_text(text).encode())
     status, out, err = harness.call([program, "compile", "-"], text).texts()
     if status or err:
         raise Differs(f"it is not compiled: status {status}, {err}")
-    return telling.read_module(out.encode())
+    return modules.read_module(out.encode())
 
 
-def compare_runs(text: bytes, module: telling.Module, runs: int) -> collections.Counter[str]:
+def compare_runs(text: bytes, module: modules.Module, runs: int) -> collections.Counter[str]:
     """So many runs of a text and its module, which are the same whenever it is asked; raises Differs."""
     tree, rng = source.parse(text), random.Random(text)
     return sum((compare(tree, module, rng) for _ in range(runs)), collections.Counter())

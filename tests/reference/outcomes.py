@@ -2,7 +2,7 @@
 """A second telling, in Python, of all that a program can print, and what may be said of that by `outcomes`.
 
 All schedules are walked, step by step; a world that was met before is known again, and neither phases nor numbers of
-steps are part of one (tests/reference/telling.py). Which order outcomes are told in, which of them where there may be
+steps are part of one (tests/reference/modules.py). Which order outcomes are told in, which of them where there may be
 more, and by which runs they are shown, is the program's own: so an answer is judged here, and one that may be given is
 made.
 
@@ -10,7 +10,7 @@ Where sets are asked for, lists of the same numbers, each as often, in whatever 
 
 Outcomes may be held against a list, a text of such lines: then one is told that isn't in it, or how many they are.
 
-    python3 -m tests.reference.telling_outcomes [--module] [--sets] [--expect=LIST] FILE [LIMIT] [--arg=N]..
+    python3 -m tests.reference.outcomes [--module] [--sets] [--expect=LIST] FILE [LIMIT] [--arg=N]..
 """
 
 from __future__ import annotations
@@ -22,9 +22,9 @@ from collections.abc import Iterator
 from functools import cached_property
 from typing import NamedTuple
 
-from tests.reference import telling, telling_log, telling_source
-from tests.reference.telling import Arguments, Module, World
-from tests.reference.telling_log import Entry, Log
+from tests.reference import logs, modules, source
+from tests.reference.logs import Entry, Log
+from tests.reference.modules import Arguments, Module, World
 
 # No more worlds are walked through, and no more lists of numbers kept with one of them, than this.
 MOST_WORLDS, MOST_LISTS = 100_000, 100_000
@@ -66,7 +66,7 @@ class Edge(NamedTuple):
 
 def edges(module: Module, world: World) -> list[Edge]:
     """The steps that can be taken in a world."""
-    steps = ((who, telling.step(module, world, who)) for who in range(len(world.activities)))
+    steps = ((who, modules.step(module, world, who)) for who in range(len(world.activities)))
     return [Edge(who, () if step.printed is None else (step.printed,), step.world) for who, step in steps if step]
 
 
@@ -75,7 +75,7 @@ class Walk:
 
     def __init__(self, module: Module, arguments: Arguments = (), worlds: int = MOST_WORLDS) -> None:
         self.module, self.worlds = module, worlds
-        self.start = telling.opening(module, arguments)
+        self.start = modules.opening(module, arguments)
         self.edges: dict[World, list[Edge]] = {}
         # What can be printed from a world on until all have ended; a world stands behind those that its steps lead to.
         self.rest: dict[World, frozenset[Numbers]] = {}
@@ -195,7 +195,7 @@ def answer(walk: Walk, asked: Asked) -> Answer:
     lists = sorted(outcomes)[: asked.limit]
     is_complete = len(lists) == len(outcomes)
     has_log = asked.pick is not None and asked.pick <= len(lists)
-    log = telling_log.text_of(log_of(walk, asked, lists[asked.pick - 1])) if has_log else b""
+    log = logs.text_of(log_of(walk, asked, lists[asked.pick - 1])) if has_log else b""
     return Answer(status_of(asked, len(lists), is_complete), text_of(lists, is_complete), log)
 
 
@@ -310,8 +310,8 @@ def log_faults(module: Module, arguments: Arguments, asked: Asked, picked: list[
             yield f"there is a log of no outcome: {log!r}"
         return
     try:
-        printed = tuple(telling_log.replay(module, telling_log.read(log), arguments).printed)
-    except telling_log.Fault as fault:
+        printed = tuple(logs.replay(module, logs.read(log), arguments).printed)
+    except logs.Fault as fault:
         yield f"the log is refused: {fault}: {log!r}"
         return
     if asked.told(printed) != picked[0]:
@@ -319,13 +319,13 @@ def log_faults(module: Module, arguments: Arguments, asked: Asked, picked: list[
 
 
 def main(words: list[str]) -> int:
-    more, arguments = telling.parted(words)
+    more, arguments = modules.parted(words)
     is_module, are_sets = "--module" in more, "--sets" in more
     path, *limit = [word for word in more if word not in ("--module", "--sets") and not word.startswith("--expect=")]
     lists = [word.removeprefix("--expect=") for word in more if word.startswith("--expect=")]
     data = pathlib.Path(path).read_bytes()
-    judged = telling.judge(data) if is_module else telling_source.judge(data)
-    line = telling.refusal("outcomes", judged, arguments)
+    judged = modules.judge(data) if is_module else source.judge(data)
+    line = modules.refusal("outcomes", judged, arguments)
     if line:
         print(f"x10clock: {line}", file=sys.stderr)
         return 1

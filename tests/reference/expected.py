@@ -3,7 +3,7 @@ has no table of the grammar."""
 
 from __future__ import annotations
 
-from tests.reference.telling_source import Fault, parse
+from tests.reference.source import Fault, parse
 
 # Each token that is told alone, in the order of docs/EXPLAIN.md, and how it is told.
 ALONE = """; , ) } ( { = : . .. + - * == != < <= > >= shared def else in async finish Clock Long

@@ -5,10 +5,10 @@ from __future__ import annotations
 
 from dataclasses import dataclass
 
-from tests.reference import telling, telling_log
-from tests.reference.telling import Accepted, Arguments, Refused, Standing, Status
-from tests.reference.telling_events import Program
-from tests.reference.telling_log import Answer, Entry, Fault, Log, Played
+from tests.reference import logs, modules
+from tests.reference.events import Program
+from tests.reference.logs import Answer, Entry, Fault, Log, Played
+from tests.reference.modules import Accepted, Arguments, Refused, Standing, Status
 
 # So many activities are named in a row.
 NAMED = 8
@@ -39,7 +39,7 @@ class Place:
         return range(len(self.played.world.activities))
 
     def can_step(self, who: int) -> bool:
-        return telling.step(self.played.module, self.played.world, who) is not None
+        return modules.step(self.played.module, self.played.world, who) is not None
 
     def doing(self, who: int) -> str:
         """What an activity does, or that it isn't there."""
@@ -110,11 +110,11 @@ def taken(played: Played, log: Log) -> Stop | None:
 
 def answer(program: Program, judged: Accepted | Refused, data: bytes, arguments: Arguments = ()) -> Answer:
     """How things stand behind the steps of a log, whose text is judged as for a replay."""
-    line = telling.refusal("replay", judged, arguments)
+    line = modules.refusal("replay", judged, arguments)
     if line:
         return 1, "", f"x10clock: {line}\n"
     try:
-        log = telling_log.read(data)
+        log = logs.read(data)
     except Fault as fault:
         return 3, "", f"x10clock: {fault}\n"
     played = Played.opening(judged.module, arguments)

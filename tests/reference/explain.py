@@ -7,8 +7,8 @@ import re
 from functools import cache
 
 from tests.harness import TOP
-from tests.reference import telling_declarations, telling_expected, telling_origins, telling_sums
-from tests.reference.telling_sums import Note
+from tests.reference import declarations, expected, origins, sums
+from tests.reference.sums import Note
 
 PAGE = TOP / "docs/EXPLAIN.md"
 ROW = re.compile(r"\| (?P<rule>[FMV]\d+) \w+ \| (?P<wrong>.*) \| (?P<repair>.*) \|")
@@ -157,8 +157,8 @@ def notes_on(data: bytes, said: str, is_module: bool) -> list[Note]:
     """The notes beside a line of `check` on what is refused, without `x10clock: `."""
     if found := FRONT.fullmatch(said):
         where = data, found["rule"], int(found["at"])
-        return telling_expected.notes(*where) + telling_declarations.notes(*where)
-    return telling_sums.of_refused(data, said, is_module)
+        return expected.notes(*where) + declarations.notes(*where)
+    return sums.of_refused(data, said, is_module)
 
 
 def note_lines(data: bytes, notes: list[Note]) -> str:
@@ -210,7 +210,7 @@ def stops(text: bytes, offsets: list[int], places: list[int], kinds: list[str]) 
 def in_source(file: str, text: bytes, found: re.Match[str], kinds: list[str], notes: str) -> str:
     """What is said of a place of a source text that the verifier refuses."""
     rule, number, place = found["rule"], *map(int, re.findall(r"\d+", found["place"]))
-    unit = telling_origins.origins(text)[number]
+    unit = origins.origins(text)[number]
     title = f"in {unit.name}" if unit.name else f"in the `async` at {place_title(text, unit.at)}"
     at = unit.offsets[place]
     word = WORD.match(text, at)
@@ -251,4 +251,4 @@ def explained(file: str, text: bytes, line: str, kinds: list[str], is_module: bo
 
 def accepted(text: bytes, line: str, is_module: bool) -> str:
     """What is said of a program of which `check` says this line."""
-    return line + note_lines(text, telling_sums.of_accepted(text, is_module))
+    return line + note_lines(text, sums.of_accepted(text, is_module))

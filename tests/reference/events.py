@@ -4,11 +4,11 @@ from __future__ import annotations
 
 from dataclasses import dataclass
 
-from tests.reference import telling_explain, telling_origins
-from tests.reference.telling import Frame
-from tests.reference.telling_log import Played, Taken
+from tests.reference import explain, origins
+from tests.reference.logs import Played, Taken
+from tests.reference.modules import Frame
 
-# What others see of a step, by its name in tests/reference/telling.py; of a print, and of what gets a number, it has
+# What others see of a step, by its name in tests/reference/modules.py; of a print, and of what gets a number, it has
 # one behind it.
 WORDS = {
     "Made": "make",
@@ -37,9 +37,7 @@ class Program:
         """The line and column that a frame's next instruction comes from; a module alone has none."""
         if self.is_module:
             return None
-        return telling_explain.place_title(
-            self.data, telling_origins.origins(self.data)[frame.unit].offsets[frame.place]
-        )
+        return explain.place_title(self.data, origins.origins(self.data)[frame.unit].offsets[frame.place])
 
 
 def frame_before(taken: Taken) -> Frame:

@@ -6,7 +6,7 @@ from __future__ import annotations
 import re
 from collections.abc import Iterator
 
-from tests.reference.telling_source import Token, tokens_of
+from tests.reference.source import Token, tokens_of
 
 ON_NAMES = ("F5", "F6", "F7", "F8", "F10", "F11", "F12")
 # So many are told one by one.

@@ -1,7 +1,7 @@
 #!/usr/bin/env python3
 """A second telling of what `listing` prints, in Python, from docs/LISTING.md.
 
-    python3 -m tests.reference.telling_listing [--module] FILE
+    python3 -m tests.reference.listing [--module] FILE
 """
 
 from __future__ import annotations
@@ -9,9 +9,9 @@ from __future__ import annotations
 import pathlib
 import sys
 
-from tests.reference import telling, telling_explain, telling_origins
-from tests.reference.telling import Instr, Kind, Kinds, Module, Role, Unit
-from tests.reference.telling_origins import Origins
+from tests.reference import explain, modules, origins
+from tests.reference.modules import Instr, Kind, Kinds, Module, Role, Unit
+from tests.reference.origins import Origins
 
 # How wide a field is at least: an instruction's place, its words, the clocks, and where it comes from. Two blanks stand
 # between fields.
@@ -21,11 +21,11 @@ OF_CLOCKS = (Kind.LIVE, Kind.RESUMED, Kind.OUT)
 
 def has_shape(module: Module) -> bool:
     """Whether no place breaks V1 to V10; each is asked where the ones before it aren't broken."""
-    return all(next(breaches(module), None) is None for _, breaches in telling.PLACE_RULES)
+    return all(next(breaches(module), None) is None for _, breaches in modules.PLACE_RULES)
 
 
 def words(instr: Instr) -> str:
-    operands = zip(telling.ROLES[instr.name], instr.operands, strict=True)
+    operands = zip(modules.ROLES[instr.name], instr.operands, strict=True)
     listed = [
         f"({' '.join(map(str, operand))})" if role is Role.ARGUMENTS else str(operand) for role, operand in operands
     ]
@@ -56,17 +56,17 @@ def module_unit(number: int, unit: Unit, kinds: Kinds | None) -> str:
     return said
 
 
-def source_unit(text: bytes, number: int, unit: Unit, origins: Origins, kinds: Kinds | None) -> str:
-    name = f"def {origins.name}" if origins.name else "async"
+def source_unit(text: bytes, number: int, unit: Unit, comes_from: Origins, kinds: Kinds | None) -> str:
+    name = f"def {comes_from.name}" if comes_from.name else "async"
     slots = "".join(
-        f" {slot}:{origins.slots[slot]}" if slot in origins.slots else f" {slot}" for slot in range(unit.slots)
+        f" {slot}:{comes_from.slots[slot]}" if slot in comes_from.slots else f" {slot}" for slot in range(unit.slots)
     )
-    said = f"unit {number}  {name}  {telling_explain.place_title(text, origins.at)}  slots{slots}\n"
+    said = f"unit {number}  {name}  {explain.place_title(text, comes_from.at)}  slots{slots}\n"
     before = None
-    for place, (instr, at) in enumerate(zip(unit.code, origins.offsets, strict=True)):
-        held = f"  {clocks(kinds, number, place, origins.slots):<{CLOCKS}}" if kinds else ""
-        title = telling_explain.place_title(text, at)
-        line = title if at == before else f"{title:<{FROM}}  {telling_explain.line_text(text, at)}"
+    for place, (instr, at) in enumerate(zip(unit.code, comes_from.offsets, strict=True)):
+        held = f"  {clocks(kinds, number, place, comes_from.slots):<{CLOCKS}}" if kinds else ""
+        title = explain.place_title(text, at)
+        line = title if at == before else f"{title:<{FROM}}  {explain.line_text(text, at)}"
         said += f"{front(place)}{words(instr):<{WORDS}}{held}  {line}\n"
         before = at
     return said
@@ -74,11 +74,11 @@ def source_unit(text: bytes, number: int, unit: Unit, origins: Origins, kinds: K
 
 def listed(data: bytes, is_module: bool) -> str:
     """Of bytes that give a module; of others the fault is raised."""
-    module, origins = telling_origins.program(data, is_module)
+    module, known = origins.program(data, is_module)
     kinds = Kinds.of(module) if has_shape(module) else None
-    if origins is None:
+    if known is None:
         return "\n".join(module_unit(number, unit, kinds) for number, unit in enumerate(module.units))
-    units = zip(module.units, origins, strict=True)
+    units = zip(module.units, known, strict=True)
     return "\n".join(
         source_unit(data, number, unit, comes_from, kinds) for number, (unit, comes_from) in enumerate(units)
     )

@@ -3,12 +3,12 @@
 
 It shares nothing with the program. A text becomes tokens, these a tree, or the first token that can't stand; each name
 is then looked up where it stands, and what it means is kept by its offset; the units that main reaches get their
-numbers and their code; and what is made of the module from there on is told by tests/reference/telling.py.
+numbers and their code; and what is made of the module from there on is told by tests/reference/modules.py.
 
-    python3 -m tests.reference.telling_source compile FILE            what the program prints
-    python3 -m tests.reference.telling_source check FILE
-    python3 -m tests.reference.telling_source run FILE [ORDER] [--arg=N]..        ORDER is first, last or round
-    python3 -m tests.reference.telling_source walk FILE [WORLDS] [--arg=N]..      all schedules, through WORLDS at most
+    python3 -m tests.reference.source compile FILE            what the program prints
+    python3 -m tests.reference.source check FILE
+    python3 -m tests.reference.source run FILE [ORDER] [--arg=N]..        ORDER is first, last or round
+    python3 -m tests.reference.source walk FILE [WORLDS] [--arg=N]..      all schedules, through WORLDS at most
 """
 
 from __future__ import annotations
@@ -23,7 +23,7 @@ from collections.abc import Iterator
 from contextlib import contextmanager
 from dataclasses import dataclass, field
 
-from tests.reference import telling
+from tests.reference import modules
 
 LONGEST = 1_048_576
 DEEPEST = 64
@@ -336,7 +336,7 @@ class Parser:
             len(text) > 1
             and text[0] == "0"
             or len(text) > 19
-            or not telling.LEAST <= sign * int(text) <= telling.GREATEST
+            or not modules.LEAST <= sign * int(text) <= modules.GREATEST
         ):
             raise Fault(13, self.token.at)
         self.next += 1
@@ -1162,13 +1162,13 @@ def module_text(data: bytes) -> str:
     return json.dumps(compile_tree(parse(data)), separators=(",", ":"), sort_keys=True)
 
 
-def judge(data: bytes) -> telling.Accepted | telling.Refused:
+def judge(data: bytes) -> modules.Accepted | modules.Refused:
     """What becomes of a source text: a fault, or what becomes of its module."""
     try:
         text = module_text(data)
     except Fault as fault:
-        return telling.Refused(str(fault))
-    return telling.judge(text.encode())
+        return modules.Refused(str(fault))
+    return modules.judge(text.encode())
 
 
 def answer_compile(data: bytes) -> int:
@@ -1182,9 +1182,9 @@ def answer_compile(data: bytes) -> int:
 
 
 def main(words: list[str]) -> int:
-    (command, path, *more), arguments = telling.parted(words)
+    (command, path, *more), arguments = modules.parted(words)
     data = sys.stdin.buffer.read() if path == "-" else pathlib.Path(path).read_bytes()
-    return answer_compile(data) if command == "compile" else telling.answer(command, judge(data), more, arguments)
+    return answer_compile(data) if command == "compile" else modules.answer(command, judge(data), more, arguments)
 
 
 if __name__ == "__main__":

@@ -6,21 +6,9 @@ from __future__ import annotations
 from dataclasses import dataclass
 from functools import lru_cache
 
-from tests.reference import telling, telling_source
-from tests.reference.telling import Module
-from tests.reference.telling_source import (
-    Between,
-    Block,
-    Coder,
-    Finish,
-    Loop,
-    Names,
-    Parser,
-    Sort,
-    Stmt,
-    Tree,
-    UnitForm,
-)
+from tests.reference import modules, source
+from tests.reference.modules import Module
+from tests.reference.source import Between, Block, Coder, Finish, Loop, Names, Parser, Sort, Stmt, Tree, UnitForm
 
 CLOSERS = ("next", "endfinish")
 
@@ -105,7 +93,7 @@ def slot_names(data: bytes, names: Names, unit: UnitForm) -> dict[int, str]:
     """The names of a unit's slots; those that the text has no name for aren't told."""
     texts = {
         names.meanings[token.at]: token.text
-        for token in telling_source.tokens_of(data)
+        for token in source.tokens_of(data)
         if token.sort is Sort.NAME and token.at in names.meanings
     }
     return {slot: texts[declared] for declared, slot in unit.named.items() if declared in texts}
@@ -119,14 +107,14 @@ def origins(data: bytes) -> list[Origins]:
     names = Names(tree)
     names.check()
     coder = type("Coder", (PlacedCoder,), {"parser": parser})
-    usual, telling_source.Coder = telling_source.Coder, coder
+    usual, source.Coder = source.Coder, coder
     try:
-        coders = telling_source.reached_units(names)
+        coders = source.reached_units(names)
     finally:
-        telling_source.Coder = usual
+        source.Coder = usual
     method_names = {id(unit): name for name, unit in names.units.items()}
     told = []
-    for unit in telling_source.in_order(names, coders):
+    for unit in source.in_order(names, coders):
         made = coders[unit]
         offsets = [made.offsets[at] for at in range(len(made.code))]
         told.append(Origins(method_names.get(id(unit)), unit.at, offsets, slot_names(data, names, unit)))
@@ -137,5 +125,5 @@ def origins(data: bytes) -> list[Origins]:
 def program(data: bytes, is_module: bool) -> tuple[Module, list[Origins] | None]:
     """The module of bytes that give one, and where its instructions come from, if the bytes are a source text."""
     if is_module:
-        return telling.read_module(data), None
-    return telling.read_module(telling_source.module_text(data).encode()), origins(data)
+        return modules.read_module(data), None
+    return modules.read_module(source.module_text(data).encode()), origins(data)

@@ -3,10 +3,10 @@ that others see, and a bar for each clock that advances."""
 
 from __future__ import annotations
 
-from tests.reference import telling, telling_events
-from tests.reference.telling import Module, Status, World
-from tests.reference.telling_events import Program
-from tests.reference.telling_log import Advance, Played, Taken
+from tests.reference import events, modules
+from tests.reference.events import Program
+from tests.reference.logs import Advance, Played, Taken
+from tests.reference.modules import Module, Status, World
 
 NUMBER, GAP = 6, 2
 MOST_LANES, NARROWEST = 64, 8
@@ -22,7 +22,7 @@ class Grid:
     def __init__(self, program: Program, played: Played, window: Window) -> None:
         seen = asked(played, window)
         self.place = GAP + max(len("at"), *(len(spot(program, taken)) for taken in seen), 0)
-        self.lane = max(NARROWEST, GAP + max((len(telling_events.words(taken)) for taken in seen), default=0))
+        self.lane = max(NARROWEST, GAP + max((len(events.words(taken)) for taken in seen), default=0))
         self.lanes = range(min(MOST_LANES, len(played.world.activities)))
         self.left_out = len(played.world.activities) - len(self.lanes)
 
@@ -45,13 +45,13 @@ class Grid:
 
 def spot(program: Program, taken: Taken) -> str:
     """Where a step was taken."""
-    frame = telling_events.frame_before(taken)
+    frame = events.frame_before(taken)
     return program.position(frame) or f"{frame.unit}.{frame.place}"
 
 
 def asked(played: Played, window: Window) -> list[Taken]:
     """The steps that are asked for and that others see."""
-    return [taken for taken in telling_events.seen(played) if taken.number in window]
+    return [taken for taken in events.seen(played) if taken.number in window]
 
 
 def title(lane: int) -> str:
@@ -62,13 +62,13 @@ def mark(module: Module, world: World, who: int) -> str:
     """What an activity shows where another one took the step that led to this world."""
     if who >= len(world.activities) or world.activities[who].status is Status.ENDED:
         return ""
-    return "|" if telling.step(module, world, who) else ":"
+    return "|" if modules.step(module, world, who) else ":"
 
 
 def rows(program: Program, played: Played, grid: Grid, taken: Taken) -> str:
     """The row of a step that others see, and its bars. One who has no lane is told behind all lanes."""
     others = [mark(played.module, taken.step.world, lane) for lane in grid.lanes]
-    words = telling_events.words(taken)
+    words = events.words(taken)
     cells = [words if lane == taken.who else other for lane, other in zip(grid.lanes, others, strict=True)]
     behind = "" if taken.who in grid.lanes else f"{title(taken.who)} {words}"
     bars = [grid.bar(taken.who, advance) for advance in taken.advances]

@@ -7,9 +7,9 @@ that may go on, and for each open finish the set of activities that it waits for
 all schedules of a small module and looks whether the promises hold: no wrong step, no longer schedule than was
 verified, and all have ended where nobody can step.
 
-    python3 -m tests.reference.telling check FILE                           what the program prints
-    python3 -m tests.reference.telling run FILE [ORDER [SEED]] [--arg=N]..  ORDER is first, last, round or random
-    python3 -m tests.reference.telling walk FILE [WORLDS] [--arg=N]..       all schedules, through WORLDS at most
+    python3 -m tests.reference.modules check FILE                           what the program prints
+    python3 -m tests.reference.modules run FILE [ORDER [SEED]] [--arg=N]..  ORDER is first, last, round or random
+    python3 -m tests.reference.modules walk FILE [WORLDS] [--arg=N]..       all schedules, through WORLDS at most
 """
 
 from __future__ import annotations

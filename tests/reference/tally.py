@@ -2,8 +2,8 @@
 
 from __future__ import annotations
 
-from tests.reference import telling
-from tests.reference.telling import Arguments, ByChance, Module
+from tests.reference import modules
+from tests.reference.modules import Arguments, ByChance, Module
 
 SEEDS = 2**64
 
@@ -11,7 +11,7 @@ SEEDS = 2**64
 def tally(module: Module, arguments: Arguments, seed: int, runs: int) -> str:
     """What so many runs print, of which the first has this seed."""
     printed = [
-        (each % SEEDS, tuple(telling.run(module, ByChance(each % SEEDS), arguments).printed))
+        (each % SEEDS, tuple(modules.run(module, ByChance(each % SEEDS), arguments).printed))
         for each in range(seed, seed + runs)
     ]
     lists = [numbers for _, numbers in printed]

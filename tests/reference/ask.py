@@ -1,7 +1,7 @@
 #!/usr/bin/env python3
 """A second telling, in Python, of `run --order ask`: a person names who takes the next steps.
 
-    python3 -m tests.reference.telling_ask [--module] FILE [LOG] [--arg=N].. < ANSWERS
+    python3 -m tests.reference.ask [--module] FILE [LOG] [--arg=N].. < ANSWERS
 """
 
 from __future__ import annotations
@@ -11,10 +11,10 @@ import re
 import sys
 from dataclasses import dataclass
 
-from tests.reference import telling, telling_log, telling_source
-from tests.reference.telling import Accepted, Arguments, Refused
-from tests.reference.telling_events import Program
-from tests.reference.telling_log import Entry, Played
+from tests.reference import logs, modules, source
+from tests.reference.events import Program
+from tests.reference.logs import Entry, Played
+from tests.reference.modules import Accepted, Arguments, Refused
 
 NUMBER = re.compile(rb"[ \t\r]*([0-9]+)[ \t\r]*")
 PROMPT, AGAIN = "who steps?\n", "none of these: who steps?\n"
@@ -41,7 +41,7 @@ def named(line: bytes) -> int | None:
 def able(played: Played) -> list[int]:
     """Who can step, rising."""
     return [
-        who for who in range(len(played.world.activities)) if telling.step(played.module, played.world, who) is not None
+        who for who in range(len(played.world.activities)) if modules.step(played.module, played.world, who) is not None
     ]
 
 
@@ -67,7 +67,7 @@ def take_turn(played: Played, who: int) -> None:
 
 def game(program: Program, judged: Accepted | Refused, data: bytes, arguments: Arguments = ()) -> Game:
     """The run of a program by the answers in these bytes."""
-    line = telling.refusal("run", judged, arguments)
+    line = modules.refusal("run", judged, arguments)
     if line:
         return Game(1, "", f"x10clock: {line}\n")
     played = Played.opening(judged.module, arguments)
@@ -81,7 +81,7 @@ def game(program: Program, judged: Accepted | Refused, data: bytes, arguments: A
             continue
         take_turn(played, who)
         told += question(program, played)
-    log = telling_log.text_of([Entry(taken.who, 1) for taken in played.taken])
+    log = logs.text_of([Entry(taken.who, 1) for taken in played.taken])
     if played.world.has_ended:
         return Game(0, played.output(), told, log)
     return Game(
@@ -90,14 +90,14 @@ def game(program: Program, judged: Accepted | Refused, data: bytes, arguments: A
 
 
 def main(words: list[str]) -> int:
-    more, arguments = telling.parted(words)
+    more, arguments = modules.parted(words)
     is_module = "--module" in more
-    file, *logs = [word for word in more if word != "--module"]
+    file, *paths = [word for word in more if word != "--module"]
     data = pathlib.Path(file).read_bytes()
-    judged = telling.judge(data) if is_module else telling_source.judge(data)
+    judged = modules.judge(data) if is_module else source.judge(data)
     told = game(Program(data, is_module), judged, sys.stdin.buffer.read(), arguments)
-    for log in logs:
-        pathlib.Path(log).write_bytes(told.log)
+    for path in paths:
+        pathlib.Path(path).write_bytes(told.log)
     sys.stdout.write(told.out)
     sys.stderr.write(told.err)
     return told.status

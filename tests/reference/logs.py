@@ -2,13 +2,13 @@
 """A second telling, in Python, of logs, their replay and their charts.
 
 A log is the schedule of a run, written down: lines of an activity and how many steps it takes one after the other. A
-text is read as one here by patterns, line by line; a replay takes the steps one by one, as tests/reference/telling.py
+text is read as one here by patterns, line by line; a replay takes the steps one by one, as tests/reference/modules.py
 has them; a chart has a line for each clock that advances.
 
-    python3 -m tests.reference.telling_log FILE [ORDER [SEED]] [--arg=N]..      ORDER is first, last, round or random
+    python3 -m tests.reference.logs FILE [ORDER [SEED]] [--arg=N]..      ORDER is first, last, round or random
 
 FILE is a module, or with a name that ends in `.x10` a source text. What is told of logs,
-tests/reference/telling_runs.py tells.
+tests/reference/runs.py tells.
 """
 
 from __future__ import annotations
@@ -20,8 +20,8 @@ from collections.abc import Callable, Iterable, Iterator
 from dataclasses import dataclass, field
 from typing import NamedTuple
 
-from tests.reference import telling, telling_source
-from tests.reference.telling import Arguments, Way
+from tests.reference import modules, source
+from tests.reference.modules import Arguments, Way
 
 GREATEST = 4_294_967_295
 MOST_ENTRIES = 1_000_000_000
@@ -112,8 +112,8 @@ class Taken(NamedTuple):
 
     number: int
     who: int
-    before: telling.World
-    step: telling.Step
+    before: modules.World
+    step: modules.Step
     advances: list[Advance]
 
 
@@ -122,15 +122,15 @@ class Played:
     """What a run has come to: the world, the steps that it took, what it printed, the phases of clocks, and their
     advances."""
 
-    module: telling.Module
-    world: telling.World
+    module: modules.Module
+    world: modules.World
     taken: list[Taken] = field(default_factory=list)
     printed: list[int] = field(default_factory=list)
     phases: dict[int, int] = field(default_factory=dict)
 
     @staticmethod
-    def opening(module: telling.Module, arguments: Arguments) -> Played:
-        return Played(module, telling.opening(module, arguments))
+    def opening(module: modules.Module, arguments: Arguments) -> Played:
+        return Played(module, modules.opening(module, arguments))
 
     @property
     def steps(self) -> int:
@@ -142,7 +142,7 @@ class Played:
 
     def step(self, who: int) -> bool:
         """A step of an activity, if it can take one."""
-        taken = telling.step(self.module, self.world, who)
+        taken = modules.step(self.module, self.world, who)
         if taken is None:
             return False
         number, before, self.world, advances = self.steps + 1, self.world, taken.world, []
@@ -155,13 +155,13 @@ class Played:
         return True
 
     def output(self) -> str:
-        return telling.Ran(self.printed, self.steps, True).text()
+        return modules.Ran(self.printed, self.steps, True).text()
 
     def chart(self) -> str:
         return "".join(advance.line() for advance in self.advances)
 
 
-def replay(module: telling.Module, log: Iterable[Entry], arguments: Arguments = ()) -> Played:
+def replay(module: modules.Module, log: Iterable[Entry], arguments: Arguments = ()) -> Played:
     """The run of a log, with these numbers given, which has to come to the end of all activities; raises Fault."""
     played = Played.opening(module, arguments)
     for number, entry in enumerate(log):
@@ -173,15 +173,15 @@ def replay(module: telling.Module, log: Iterable[Entry], arguments: Arguments = 
     return played
 
 
-def driven(module: telling.Module, way: Way, arguments: Arguments = ()) -> Iterator[int]:
+def driven(module: modules.Module, way: Way, arguments: Arguments = ()) -> Iterator[int]:
     """The activities that take the steps of a run in this order, with these numbers given."""
-    world, chooser = telling.opening(module, arguments), telling.Chooser(way)
+    world, chooser = modules.opening(module, arguments), modules.Chooser(way)
     while (taken := chooser.step(module, world)) is not None:
         world = taken.world
         yield chooser.before
 
 
-def log_of(module: telling.Module, way: Way, arguments: Arguments = ()) -> Log:
+def log_of(module: modules.Module, way: Way, arguments: Arguments = ()) -> Log:
     """The log of a run in this order: an entry for each step."""
     return [Entry(who, 1) for who in driven(module, way, arguments)]
 
@@ -193,10 +193,10 @@ Answer = tuple[int, str, str]
 Teller = Callable[[Played], "str | tuple[str, bool]"]
 
 
-def answer(judged: telling.Accepted | telling.Refused, data: bytes, tell: Teller, arguments: Arguments = ()) -> Answer:
+def answer(judged: modules.Accepted | modules.Refused, data: bytes, tell: Teller, arguments: Arguments = ()) -> Answer:
     """Of a command on a log: the program is judged, and the numbers that are given are counted, before the log is
     read."""
-    line = telling.refusal("replay", judged, arguments)
+    line = modules.refusal("replay", judged, arguments)
     if line:
         return 1, "", f"x10clock: {line}\n"
     try:
@@ -208,19 +208,19 @@ def answer(judged: telling.Accepted | telling.Refused, data: bytes, tell: Teller
     return (0 if is_whole else 6), text, ""
 
 
-def judge(path: pathlib.Path) -> telling.Accepted | telling.Refused:
+def judge(path: pathlib.Path) -> modules.Accepted | modules.Refused:
     data = path.read_bytes()
-    return telling_source.judge(data) if path.suffix == ".x10" else telling.judge(data)
+    return source.judge(data) if path.suffix == ".x10" else modules.judge(data)
 
 
 def main(words: list[str]) -> int:
-    (file, *more), arguments = telling.parted(words)
+    (file, *more), arguments = modules.parted(words)
     judged = judge(pathlib.Path(file))
-    line = telling.refusal("run", judged, arguments)
+    line = modules.refusal("run", judged, arguments)
     if line:
         print(f"x10clock: {line}", file=sys.stderr)
         return 1
-    sys.stdout.buffer.write(text_of(log_of(judged.module, telling.way_of(*telling.named(more)), arguments)))
+    sys.stdout.buffer.write(text_of(log_of(judged.module, modules.way_of(*modules.named(more)), arguments)))
     return 0
 
 

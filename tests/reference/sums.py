@@ -11,9 +11,9 @@ import re
 from collections.abc import Callable, Iterable, Iterator
 from dataclasses import dataclass
 
-from tests.reference import telling
-from tests.reference.telling import WHOLE_UNIT, Instr, Module, Role, Unit
-from tests.reference.telling_origins import Origins, program
+from tests.reference import modules
+from tests.reference.modules import WHOLE_UNIT, Instr, Module, Role, Unit
+from tests.reference.origins import Origins, program
 
 # A note: its offset in the text, if it has a place there, and its words.
 Note = tuple[int | None, str]
@@ -120,7 +120,7 @@ def totals(module: Module, own: Callable[[Instr], int]) -> list[int]:
         below = [sum(found[callee] for callee in instr.of(Role.UNIT)) for instr in unit.code]
         found[number] = sum(
             times * (own(instr) + more)
-            for times, instr, more in zip(telling.turns(unit), unit.code, below, strict=True)
+            for times, instr, more in zip(modules.turns(unit), unit.code, below, strict=True)
         )
     return found
 
@@ -193,7 +193,7 @@ def parts(told: Sum, module: Module, speaker: Speaker) -> Iterator[Note]:
     """Unit by unit what its instructions add, and then what it comes to."""
     wholes = told.wholes(module) if told.wholes else []
     for number, unit in enumerate(module.units):
-        for place, times in enumerate(telling.turns(unit)):
+        for place, times in enumerate(modules.turns(unit)):
             if words := part(told, number, unit, place, times, speaker):
                 yield speaker.at(number, place, words)
         for words in wholes[number : number + 1]:

@@ -8,10 +8,10 @@ from collections.abc import Iterator
 from dataclasses import dataclass, field
 from itertools import combinations
 
-from tests.reference import telling_events
-from tests.reference.telling import Frame, Standing
-from tests.reference.telling_events import Program
-from tests.reference.telling_log import Played, Taken
+from tests.reference import events
+from tests.reference.events import Program
+from tests.reference.logs import Played, Taken
+from tests.reference.modules import Frame, Standing
 
 AWAITED = (Standing.OPEN, Standing.AHEAD)
 ACCESSES = ("Got", "Put", "Added")
@@ -89,7 +89,7 @@ def pasts(played: Played) -> dict[int, int]:
 
 
 def frame(taken: Taken) -> Frame:
-    return telling_events.frame_before(taken)
+    return events.frame_before(taken)
 
 
 def cell(played: Played, taken: Taken) -> int:
@@ -133,7 +133,7 @@ def print_words(program: Program, played: Played, past: dict[int, int]) -> str:
 def races(program: Program, played: Played) -> str:
     past = pasts(played)
     def access(taken: Taken) -> str:
-        return f"{step_words(program, taken)} {telling_events.words(taken)}"
+        return f"{step_words(program, taken)} {events.words(taken)}"
 
     lines = [
         f"race shared {number}: {access(first)}, {access(second)}\n" for number, first, second in found(played, past)

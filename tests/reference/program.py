@@ -2,7 +2,7 @@
 """Answers as x10clock does, by the second telling: so that scripts, pages and transcripts can be tried without the
 built program.
 
-    X10CLOCK=tests/reference/told.py sh tests/answers/answers.sh tests/answers/programs/sources.rows
+    X10CLOCK=tests/reference/program.py sh tests/answers/answers.sh tests/answers/programs/sources.rows
 
 Of clap's texts it knows the help, and of each other the first line.
 """
@@ -14,13 +14,13 @@ import sys
 
 # It is called as the program is, by its path and from any folder.
 sys.path.insert(0, str(pathlib.Path(__file__).resolve().parents[2]))
-from tests.reference import telling_words
+from tests.reference import command_line
 
 
 def main() -> int:
     try:
-        told = telling_words.told(sys.argv[1:], sys.stdin.buffer)
-    except telling_words.TooLong:
+        told = command_line.told(sys.argv[1:], sys.stdin.buffer)
+    except command_line.TooLong:
         print("told: too many steps for a run in Python", file=sys.stderr)
         return 9
     sys.stdout.write(told.out)

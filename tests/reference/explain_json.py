@@ -7,8 +7,8 @@ import json
 import re
 from collections.abc import Iterable
 
-from tests.reference import telling_origins, telling_sums
-from tests.reference.telling_explain import (
+from tests.reference import origins, sums
+from tests.reference.explain import (
     BOUND,
     FRONT,
     PLACE,
@@ -20,7 +20,7 @@ from tests.reference.telling_explain import (
     repair_at,
     tables,
 )
-from tests.reference.telling_sums import Note
+from tests.reference.sums import Note
 
 ACCEPTED = re.compile(r"accepted steps (?P<steps>\d+) activities (?P<activities>\d+) clocks (?P<clocks>\d+)\n?")
 Members = dict[str, object]
@@ -58,7 +58,7 @@ def front(file: str, text: bytes, found: re.Match[str]) -> Members:
 def by_place(file: str, text: bytes | None, found: re.Match[str], kinds: list[str]) -> Members:
     """What is said of a place that the verifier refuses; of that of a source text with its lines and names."""
     number, at = map(int, re.findall(r"\d+", found["place"]))
-    unit = None if text is None else telling_origins.origins(text)[number]
+    unit = None if text is None else origins.origins(text)[number]
     said = refused(file, found["title"]) | {"unit": number, "place": at}
     if unit:
         said |= {"in": unit.name or f"async at {place_title(text, unit.at)}"} | place(text, unit.offsets[at])
@@ -95,5 +95,5 @@ def accepted(file: str, text: bytes, line: str, is_module: bool) -> str:
     return line_of(
         {"accepted": True, "file": file}
         | numbers
-        | notes_of(None if is_module else text, telling_sums.of_accepted(text, is_module))
+        | notes_of(None if is_module else text, sums.of_accepted(text, is_module))
     )

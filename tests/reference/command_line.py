@@ -16,20 +16,9 @@ from dataclasses import dataclass, field
 from typing import BinaryIO
 
 from tests.harness import TOP
-from tests.reference import (
-    telling,
-    telling_ask,
-    telling_explain,
-    telling_explain_json,
-    telling_listing,
-    telling_log,
-    telling_outcomes,
-    telling_runs,
-    telling_source,
-    telling_tally,
-)
-from tests.reference.telling import Accepted, Arguments, Refused, Way
-from tests.reference.telling_events import Program
+from tests.reference import ask, explain, explain_json, listing, logs, modules, outcomes, runs, source, tally
+from tests.reference.events import Program
+from tests.reference.modules import Accepted, Arguments, Refused, Way
 
 # A number's digits are read one after another, up to the first that makes it too large.
 SIGNED, UNSIGNED = range(-(2**63), 2**63), range(2**64)
@@ -90,7 +79,7 @@ class Option:
 
 
 OPTIONS = {
-    "order": Option("--order <ORDER>", names=[*telling.ORDERS, ASK]),
+    "order": Option("--order <ORDER>", names=[*modules.ORDERS, ASK]),
     "seed": Option("--seed <SEED>", UNSIGNED),
     "runs": Option("--runs <RUNS>", COUNTS),
     "workers": Option("--workers <N>", WORKERS),
@@ -294,9 +283,9 @@ def read(words: list[str]) -> Job:
         job = Reader(first).read(rest)
         if "order" in job.values and "workers" in job.values:
             raise Mistake(EXCLUDED)
-        if "seed" in job.values and job.values.get("order") != telling.ByChance.NAME:
+        if "seed" in job.values and job.values.get("order") != modules.ByChance.NAME:
             raise Mistake(SEED_ALONE)
-        if "runs" in job.values and ("log" in job.values or job.values.get("order") != telling.ByChance.NAME):
+        if "runs" in job.values and ("log" in job.values or job.values.get("order") != modules.ByChance.NAME):
             raise Mistake(RUNS_MISPLACED)
         if "expect" in job.values and {"log", "pick"} & {*job.values}:
             raise Mistake(LIST_MISPLACED)
@@ -372,26 +361,26 @@ def is_same(path: str, file: BinaryIO | None) -> bool:
 
 def listed(job: Job, data: bytes) -> Told:
     try:
-        return Told(0, telling_listing.listed(data, "module" in job.flags))
-    except (telling.Unread, telling_source.Fault) as fault:
+        return Told(0, listing.listed(data, "module" in job.flags))
+    except (modules.Unread, source.Fault) as fault:
         return Told(1, "", f"x10clock: {fault}")
 
 
 def judge(job: Job, data: bytes) -> Accepted | Refused:
-    return telling.judge(data) if "module" in job.flags else telling_source.judge(data)
+    return modules.judge(data) if "module" in job.flags else source.judge(data)
 
 
 def compiled(data: bytes) -> Told:
     try:
-        return Told(0, telling_source.module_text(data) + "\n")
-    except telling_source.Fault as fault:
+        return Told(0, source.module_text(data) + "\n")
+    except source.Fault as fault:
         return Told(1, "", f"x10clock: {fault}")
 
 
 def explained(job: Job, data: bytes, judged: Refused) -> str:
     """What is said of a program that is refused."""
     kinds = [kind.name.lower() for kind in judged.by_kind.kinds] if judged.by_kind else []
-    teller = telling_explain_json if "json" in job.flags else telling_explain
+    teller = explain_json if "json" in job.flags else explain
     return teller.explained(job.values["FILE"], data, judged.line, kinds, "module" in job.flags)
 
 
@@ -401,25 +390,25 @@ def accepted(job: Job, data: bytes, line: str) -> str:
     if job.command == "check":
         return line
     if "json" in job.flags:
-        return telling_explain_json.accepted(job.values["FILE"], data, line, is_module)
-    return telling_explain.accepted(data, line, is_module)
+        return explain_json.accepted(job.values["FILE"], data, line, is_module)
+    return explain.accepted(data, line, is_module)
 
 
 def ran(job: Job, judged: Accepted, log: BinaryIO | None) -> Told:
     """What a run prints; by workers as by one of them, and such a run's log isn't told."""
-    way, given = telling.way_of(job.values.get("order", "first"), int(job.values.get("seed", "0"))), tuple(job.numbers)
+    way, given = modules.way_of(job.values.get("order", "first"), int(job.values.get("seed", "0"))), tuple(job.numbers)
     if is_too_long(judged, way, given):
         raise TooLong
     if log and "workers" not in job.values:
-        log.write(telling_log.text_of(telling_log.log_of(judged.module, way, given)))
-    return Told(0, telling.run(judged.module, way, given).text())
+        log.write(logs.text_of(logs.log_of(judged.module, way, given)))
+    return Told(0, modules.run(judged.module, way, given).text())
 
 
 def asked(job: Job, data: bytes, judged: Accepted, answers: bytes, log: BinaryIO | None) -> Told:
     """What a run prints whose order is asked for, and what is asked."""
     if judged.bounds.steps > TOO_LONG:
         raise TooLong
-    told = telling_ask.game(Program(data, "module" in job.flags), judged, answers, tuple(job.numbers))
+    told = ask.game(Program(data, "module" in job.flags), judged, answers, tuple(job.numbers))
     if log:
         log.write(told.log)
     return Told(told.status, told.out, told.err.removesuffix("\n"))
@@ -427,32 +416,32 @@ def asked(job: Job, data: bytes, judged: Accepted, answers: bytes, log: BinaryIO
 
 def tallied(job: Job, judged: Accepted) -> Told:
     """How often what is printed in runs by chance."""
-    seed, runs, given = int(job.values.get("seed", "0")), int(job.values["runs"]), tuple(job.numbers)
-    if runs > MOST_RUNS or any(
-        is_too_long(judged, telling.ByChance(each % telling_tally.SEEDS), given) for each in range(seed, seed + runs)
+    seed, count, given = int(job.values.get("seed", "0")), int(job.values["runs"]), tuple(job.numbers)
+    if count > MOST_RUNS or any(
+        is_too_long(judged, modules.ByChance(each % tally.SEEDS), given) for each in range(seed, seed + count)
     ):
         raise TooLong
-    return Told(0, telling_tally.tally(judged.module, given, seed, runs))
+    return Told(0, tally.tally(judged.module, given, seed, count))
 
 
 def is_too_long(judged: Accepted, way: Way, arguments: Arguments) -> bool:
     if judged.bounds.steps <= TOO_LONG:
         return False
-    return next(itertools.islice(telling_log.driven(judged.module, way, arguments), TOO_LONG, None), None) is not None
+    return next(itertools.islice(logs.driven(judged.module, way, arguments), TOO_LONG, None), None) is not None
 
 
-def asked_outcomes(job: Job) -> telling_outcomes.Asked:
+def asked_outcomes(job: Job) -> outcomes.Asked:
     """How many outcomes at most are asked for, and whose log."""
-    limit, pick = int(job.values.get("limit", telling_outcomes.USUAL_LIMIT)), int(job.values.get("pick", "1"))
-    return telling_outcomes.Asked(limit, pick if "log" in job.values else None, "sets" in job.flags)
+    limit, pick = int(job.values.get("limit", outcomes.USUAL_LIMIT)), int(job.values.get("pick", "1"))
+    return outcomes.Asked(limit, pick if "log" in job.values else None, "sets" in job.flags)
 
 
-def outcomes(job: Job, judged: Accepted, log: BinaryIO | None) -> Told:
+def searched(job: Job, judged: Accepted, log: BinaryIO | None) -> Told:
     """An answer that `outcomes` may give, for which it has its choice."""
-    walk = telling_outcomes.walked(judged.module, tuple(job.numbers))
+    walk = outcomes.walked(judged.module, tuple(job.numbers))
     if walk is None:
         raise TooLong
-    answer = telling_outcomes.answer(walk, asked_outcomes(job))
+    answer = outcomes.answer(walk, asked_outcomes(job))
     if log:
         log.write(answer.log)
     return Told(answer.status, answer.out)
@@ -461,22 +450,22 @@ def outcomes(job: Job, judged: Accepted, log: BinaryIO | None) -> Told:
 def held(job: Job, judged: Accepted, list_in: BinaryIO | None) -> Told:
     """An answer that may be given where outcomes are held against a list."""
     try:
-        told = telling_outcomes.expected(contents(list_in))
-    except telling_outcomes.Stray as fault:
-        return Told(telling_outcomes.NO_LIST, "", f"x10clock: {fault}")
-    walk = telling_outcomes.walked(judged.module, tuple(job.numbers))
+        told = outcomes.expected(contents(list_in))
+    except outcomes.Stray as fault:
+        return Told(outcomes.NO_LIST, "", f"x10clock: {fault}")
+    walk = outcomes.walked(judged.module, tuple(job.numbers))
     if walk is None:
         raise TooLong
-    answer = telling_outcomes.held(walk, asked_outcomes(job), told)
+    answer = outcomes.held(walk, asked_outcomes(job), told)
     return Told(answer.status, answer.out)
 
 
 def first_log(judged: Accepted, arguments: Arguments) -> bytes:
     """The log of the run in the order `first`, whose races are told where no log is given."""
-    way = telling.way_of("first", 0)
+    way = modules.way_of("first", 0)
     if is_too_long(judged, way, arguments):
         raise TooLong
-    return telling_log.text_of(telling_log.log_of(judged.module, way, arguments))
+    return logs.text_of(logs.log_of(judged.module, way, arguments))
 
 
 def answered(job: Job, data: bytes, given: BinaryIO, log_in: BinaryIO | None, log_out: BinaryIO | None) -> Told:
@@ -484,7 +473,7 @@ def answered(job: Job, data: bytes, given: BinaryIO, log_in: BinaryIO | None, lo
     if job.command in ("compile", "listing"):
         return compiled(data) if job.command == "compile" else listed(job, data)
     judged = judge(job, data)
-    line = telling.refusal(job.command, judged, tuple(job.numbers))
+    line = modules.refusal(job.command, judged, tuple(job.numbers))
     if line:
         return Told(1, explained(job, data, judged) if job.command == "explain" else "", f"x10clock: {line}")
     if job.command in ("check", "explain"):
@@ -496,10 +485,10 @@ def answered(job: Job, data: bytes, given: BinaryIO, log_in: BinaryIO | None, lo
     if "expect" in job.values:
         return held(job, judged, log_in)
     if job.command in ("run", "outcomes"):
-        return ran(job, judged, log_out) if job.command == "run" else outcomes(job, judged, log_out)
+        return ran(job, judged, log_out) if job.command == "run" else searched(job, judged, log_out)
     log = contents(log_in) if "LOG" in job.values else first_log(judged, tuple(job.numbers))
     window = range(int(job.values.get("from", "0")), int(job.values.get("to", str(2**64 - 1))) + 1)
-    status, out, err = telling_runs.answer(
+    status, out, err = runs.answer(
         job.command, judged, data, "module" in job.flags, log, tuple(job.numbers), window, "svg" in job.flags
     )
     return Told(status, out, err.removesuffix("\n"))

@@ -2,10 +2,10 @@
 
 from __future__ import annotations
 
-from tests.reference import telling, telling_events, telling_lanes
-from tests.reference.telling_events import Program
-from tests.reference.telling_lanes import WHOLE, Window
-from tests.reference.telling_log import Advance, Played, Taken
+from tests.reference import events, lanes, modules
+from tests.reference.events import Program
+from tests.reference.lanes import WHOLE, Window
+from tests.reference.logs import Advance, Played, Taken
 
 # The most rows and activities that are drawn.
 MOST_ROWS, MOST_LANES = 2000, 64
@@ -79,7 +79,7 @@ LEGEND = """<g class='life'><rect x='16' y='14' width='32' height='18' rx='3'/><
 <text class='number' x='80' y='104'>step</text><text class='at' x='88' y='104'>at</text>
 """
 
-# What kind of step each one is, by its name in tests/reference/telling.py.
+# What kind of step each one is, by its name in tests/reference/modules.py.
 KINDS = {
     **dict.fromkeys(("Made", "Resumed", "Dropped", "Arrived", "Passed"), "clock"),
     **dict.fromkeys(("Got", "Put", "Added"), "shared"),
@@ -95,7 +95,7 @@ class Sheet:
     """Where things stand: which rows there are, and how wide the columns are."""
 
     def __init__(self, program: Program, played: Played, window: Window) -> None:
-        grid = telling_lanes.Grid(program, played, window)
+        grid = lanes.Grid(program, played, window)
         self.steps = [
             taken for taken in played.taken if taken.number in window and (taken.step.event or taken.advances)
         ]
@@ -118,7 +118,7 @@ class Sheet:
 
     def titles(self) -> str:
         return "".join(
-            f"<text class='lane' x='{self.middle(lane)}' y='104'>{telling_lanes.title(lane)}</text>\n"
+            f"<text class='lane' x='{self.middle(lane)}' y='104'>{lanes.title(lane)}</text>\n"
             for lane in self.lanes
         )
 
@@ -136,7 +136,7 @@ class Drawn:
     """A step, the row in which it is drawn, and the phases of clocks behind it."""
 
     def __init__(
-        self, program: Program, module: telling.Module, sheet: Sheet, taken: Taken, row: int, phases: dict[int, int]
+        self, program: Program, module: modules.Module, sheet: Sheet, taken: Taken, row: int, phases: dict[int, int]
     ) -> None:
         self.program, self.module, self.sheet, self.taken, self.row, self.phases = (
             program, module, sheet, taken, row, phases
@@ -148,7 +148,7 @@ class Drawn:
     def lines(self, top: int, but: int | None) -> str:
         """How each activity but this one stands behind the step."""
         world, signs = self.taken.step.world, {"|": "free", ":": "held"}
-        marks = [(lane, telling_lanes.mark(self.module, world, lane)) for lane in self.sheet.lanes if lane != but]
+        marks = [(lane, lanes.mark(self.module, world, lane)) for lane in self.sheet.lanes if lane != but]
         return "".join(
             f"<use href='#{signs[mark]}' x='{self.sheet.middle(lane)}' y='{top}'/>\n" for lane, mark in marks if mark
         )
@@ -166,8 +166,8 @@ class Drawn:
     def box(self) -> str:
         """The step itself: its number, its place, and in the lane of who took it what was done."""
         taken, sheet, top = self.taken, self.sheet, self.top(0)
-        words = telling_events.words(taken)
-        spot = telling_lanes.spot(self.program, taken)
+        words = events.words(taken)
+        spot = lanes.spot(self.program, taken)
         left, middle = sheet.left + sheet.lane * taken.who + 4, sheet.middle(taken.who)
         return (
             f"<text class='number' x='{NUMBER_END}' y='{top + 16}'>{taken.number}</text>"

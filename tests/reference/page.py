@@ -9,11 +9,11 @@ import re
 from collections.abc import Iterator
 
 from tests.harness import TOP
-from tests.reference import telling_events, telling_picture
-from tests.reference.telling_events import Program
-from tests.reference.telling_lanes import WHOLE, Window
-from tests.reference.telling_log import Played
-from tests.reference.telling_where import Place
+from tests.reference import events, picture
+from tests.reference.events import Program
+from tests.reference.lanes import WHOLE, Window
+from tests.reference.logs import Played
+from tests.reference.where import Place
 
 FURNITURE = TOP / "crates/xk_show_page/src/furniture.rt"
 TEXT = re.compile(r'^pub(?:\(crate\))? const (\w+): &str = r(#+)"(.*?)"\2;$', re.MULTILINE | re.DOTALL)
@@ -50,19 +50,19 @@ def moments(program: Program, played: Played, window: Window) -> Iterator[str]:
         behind.world = taken.step.world
         behind.phases.update({advance.clock: advance.phase for advance in taken.advances})
         if taken.step.event and taken.number in window:
-            yield telling_events.line(program, taken) + Place(program, behind, None).text()
+            yield events.line(program, taken) + Place(program, behind, None).text()
         elif taken.step.printed is not None:
-            yield telling_events.line(program, taken)
+            yield events.line(program, taken)
 
 
 def drawing(program: Program, played: Played, window: Window = WHOLE) -> tuple[str, bool]:
     """The page, and whether its picture isn't too large; the line that stands in the picture's place stands in the
     page's, too."""
-    picture, is_drawn = telling_picture.drawing(program, played, window)
+    drawn, is_drawn = picture.drawing(program, played, window)
     if not is_drawn:
-        return picture, False
+        return drawn, False
     told = "".join(moments(program, played, window))
     return (
-        piece(HEAD) + source(program) + piece(BEHIND_SOURCE) + picture + piece(BEHIND_PICTURE) + told + piece(TAIL),
+        piece(HEAD) + source(program) + piece(BEHIND_SOURCE) + drawn + piece(BEHIND_PICTURE) + told + piece(TAIL),
         True,
     )
