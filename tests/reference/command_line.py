@@ -41,7 +41,9 @@ OVER_ANSWERS = "x10clock: --log would write over FILE or standard input"
 ASKED_INPUT = "x10clock: --order ask reads standard input, so FILE can't be -"
 # The order that a person is asked for.
 ASK = "ask"
-VERSION = "x10clock 1.0.0\n"
+VERSION = "x10clock 1.1.0\n"
+# The kit that proved the sources.
+PROVED = "proved with rattle-kit-13f logic dac8208d650f15bf\n"
 
 
 class Mistake(Exception):
@@ -53,7 +55,7 @@ class Help(Exception):
 
 
 class Version(Exception):
-    """The words ask for the program's version."""
+    """The words ask for the program's version; the message is what is told."""
 
 
 class Device(Exception):
@@ -309,7 +311,9 @@ def of_all(word: str) -> Exception:
             return Mistake(f"error: unexpected value '{value}' for '--{name}' found; no more were expected")
     elif (name := {"h": "help", "V": "version"}.get(word[1], "")) == "":
         return unexpected(f"-{word[1]}")
-    return Version() if name == "version" else Help("")
+    if name == "help":
+        return Help("")
+    return Version(VERSION + PROVED if word.startswith("--") else VERSION)
 
 
 def help_text(command: str) -> str:
@@ -520,8 +524,8 @@ def told(words: list[str], given: BinaryIO) -> Told:
     """What the words are answered, with this standard input."""
     try:
         return done(read(words), given)
-    except Version:
-        return Told(0, VERSION)
+    except Version as version:
+        return Told(0, str(version))
     except Help as asked:
         return Told(0, help_text(str(asked)))
     except Mistake as mistake:
