@@ -28,7 +28,7 @@ changes() {
 number=$(sed -n 's/^const VERSION: &str = "\([0-9.]*\)";$/\1/p' $constants)
 [ -n "$number" ] || refuse "$constants has no VERSION"
 grep -qF "x10clock-$number-x86_64-linux" README.md || refuse "README.md has another version than $number"
-grep -q "^## $number " CHANGELOG.md || refuse "CHANGELOG.md has no heading $number"
+grep -qE "^## $number( |\$)" CHANGELOG.md || refuse "CHANGELOG.md has no heading $number"
 kit=$(rt version)
 grep -qF "proved with $kit\"" $constants || refuse "$constants names another kit than $kit"
 sources=$(sh dist/sources.sh)
