@@ -5,8 +5,8 @@ byte.
 
     python3 -m bench.same [CASES] [SEED] [--program PATH | --alone]
 
-400 cases and seed 1 where nothing else is said. With `--alone` the second telling of the rules is asked in the place of
-the program (tests/reference/modules.py).
+400 cases and seed 1 where nothing else is said. With `--alone` the reference is asked in the place of the program
+(tests/reference/modules.py).
 """
 
 from __future__ import annotations

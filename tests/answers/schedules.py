@@ -1,10 +1,10 @@
 #!/usr/bin/env python3
-"""Schedules of small modules: whether the second telling of the rules (tests/reference/modules.py, logs.py) says
-of them what the rows of tests/answers/schedules.rows want, and whether the program says the same of their logs.
+"""Schedules of small modules: whether the reference (tests/reference/modules.py, logs.py) says of them what the rows of
+tests/answers/schedules.rows want, and whether the program says the same of their logs.
 
     python3 -m tests.answers.schedules [--program PATH]
 
-The telling knows no phases and no numbers of steps: they are counted here. Where all schedules of a module are known,
+The reference knows no phases and no numbers of steps: they are counted here. Where all schedules of a module are known,
 the program has to tell of all that they print by `outcomes`, and replays and charts the log of each, or, where there
 are more than 100, of 60 that are spread evenly among them; of one in five it tells the events and draws the lanes, too.
 The rows of tests/answers/texts.rows are of programs as texts, which are carried out by tests/reference/meaning.py and
@@ -240,7 +240,7 @@ def texts() -> list[tuple[str, str, str, str, str]]:
 
 
 def ask_texts(asked: Asked) -> None:
-    """The rows of texts, of the telling alone."""
+    """The rows of texts, of the reference alone."""
     for text, args, own, compiled, seen in texts():
         tree, arguments = source.parse(text.encode()), tuple(map(int, args.split()))
         module = modules.read_module(source.module_text(text.encode()).encode())
@@ -250,7 +250,7 @@ def ask_texts(asked: Asked) -> None:
 
 def words() -> argparse.Namespace:
     parser = argparse.ArgumentParser(
-        description="Compares what is known of schedules with a second telling, and asks the program."
+        description="Compares what is known of schedules with the reference, and asks the program."
     )
     harness.add_program(parser)
     return parser.parse_args()

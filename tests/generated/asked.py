@@ -1,6 +1,6 @@
 #!/usr/bin/env python3
-"""Plays the examples by answers that nobody wrote: whether `run --order ask` asks, prints and logs what the second
-telling does.
+"""Plays the examples by answers that nobody wrote: whether `run --order ask` asks, prints and logs what the reference
+does.
 
     python3 -m tests.generated.asked [GAMES] [SEED] [--program PATH]
 

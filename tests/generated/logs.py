@@ -1,14 +1,14 @@
 #!/usr/bin/env python3
-"""Logs and what is told of them: whether a second telling (tests/reference/logs.py, runs.py) says what
-the rows of tests/answers/logs.rows want, and, with `--program`, whether the program says the same of these rows, and of
-logs that nobody wrote.
+"""Logs and what is told of them: whether the reference (tests/reference/logs.py, runs.py) says what the rows of
+tests/answers/logs.rows want, and, with `--program`, whether the program says the same of these rows, and of logs that
+nobody wrote.
 
     python3 -m tests.generated.logs [CASES] [SEED] [--program PATH | --alone] [--jobs N] [--tally]
 
 2,000 cases, seed 1 and 2 jobs where nothing else is said. A case is a program, as a source text or a module, and the
 log of a run by an order or by chance, which may be changed: an entry, a line, or a byte. Five cases in a row have the
 same program, which is run with `--log` in some order; the program is asked of each log for what runs.py names
-(`COMMANDS`). The telling is held against itself, too: what is written is read back, no beginning of a text is a text,
+(`COMMANDS`). The reference is held against itself, too: what is written is read back, no beginning of a text is a text,
 and entries that are joined give the same run. The rows are asked of the program twice: as they are, and of the modules
 that their programs are compiled to; and so are runs with about as many activities as have lanes. `--tally` tells how
 often the program gave each answer.
@@ -88,7 +88,7 @@ class Text:
 
 
 class Told:
-    """The telling."""
+    """The reference."""
 
     def run(self, text: Text, way: Way) -> tuple[Answer, bytes]:
         """What a run prints, and its log."""
@@ -196,7 +196,7 @@ def edge_differences(who: Told | Program) -> tuple[int, list[str]]:
 
 
 def wide_differences(program: Program) -> tuple[int, list[str]]:
-    """The same of runs with many activities, as the telling has them."""
+    """The same of runs with many activities, as the reference has them."""
     texts = [program.form(Text(WIDE).given(width)) for width in WIDTHS]
     differing = [what for text in texts for what in log_differences(text, Told().run(text, Order.ROUND)[1], program)]
     return len(runs.COMMANDS) * len(texts), differing
@@ -358,11 +358,11 @@ def log_differences(text: Text, given: bytes, program: Program | None) -> Iterat
 
 
 def shown(text: Text, question: str, right: object, got: object) -> str:
-    return f"{text}\n    {question}\n    telling: {right}\n    program: {got}"
+    return f"{text}\n    {question}\n    reference: {right}\n    program:   {got}"
 
 
 def against_itself(rng: random.Random, text: Text, written: bytes, way: Way) -> Iterator[str]:
-    """What has to hold of the telling alone, of the log that was written of a run."""
+    """What has to hold of the reference alone, of the log that was written of a run."""
     module, log = text.judged().module, logs.read(written)
     played = logs.replay(module, log, text.arguments)
     if played.output() != modules.run(module, way, text.arguments).text():
@@ -422,7 +422,7 @@ class Job:
 
 
 def words() -> argparse.Namespace:
-    parser = argparse.ArgumentParser(description="Compares what is said of logs with a second telling.")
+    parser = argparse.ArgumentParser(description="Compares what is said of logs with the reference.")
     parser.add_argument("cases", nargs="?", type=int, default=2_000)
     parser.add_argument("seed", nargs="?", type=int, default=1)
     parser.add_argument("--jobs", type=int, default=2)

@@ -1,18 +1,18 @@
 #!/usr/bin/env python3
-"""Feeds the built program modules that nobody wrote, and compares each answer with a second telling of it
+"""Feeds the built program modules that nobody wrote, and compares each answer with the reference
 (tests/reference/modules.py).
 
 The modules are those of tests/answers/rows and whole programs that are made up here, as they are, with a rule broken,
 or changed operand by operand and byte by byte (tests/generated/generated.py). `check` and `run`, the latter in each
-order, also by chance, and with numbers by chance where main takes some, and `explain`, have to answer what the telling
-answers, byte for byte, and so have `explain --json` and `listing` of one text in ten, and `events`, `lanes` and `page`
-of a run of one accepted program in five; where there are several walks to what is refused, another shortest one is
-taken too, and counted. Of an accepted module with few worlds the telling goes through all schedules, and looks whether
-the promises hold; of one such module in ten `outcomes` has to tell what these schedules print. With `--source` the
-texts are programs in the language (tests/generated/generated_source.py) and those of
-tests/answers/programs/sources*.rows and of examples, and `compile` is compared too, with what
-tests/reference/source.py makes of them. Some runs of the module are compared with what the text means
-(tests/reference/meaning.py). Needs the built program and python3. The gate runs it with 2,000 cases.
+order, also by chance, and with numbers by chance where main takes some, and `explain`, have to answer what the
+reference answers, byte for byte, and so have `explain --json` and `listing` of one text in ten, and `events`, `lanes`
+and `page` of a run of one accepted program in five; where there are several walks to what is refused, another shortest
+one is taken too, and counted. Of an accepted module with few worlds the reference goes through all schedules, and looks
+whether the promises hold; of one such module in ten `outcomes` has to print what these schedules print. With `--source`
+the texts are programs in the language (tests/generated/generated_source.py) and those of
+tests/answers/programs/sources*.rows and of examples, and `compile` is compared too, with what tests/reference/source.py
+makes of them. Some runs of the module are compared with what the text means (tests/reference/meaning.py). Needs the
+built program and python3. The gate runs it with 2,000 cases.
 
     python3 -m tests.generated.mutations [CASES] [SEED] [--source [--changed]] [--jobs N] [--program PATH]
                                          [--worlds N] [--tally] [--only CASE]
@@ -203,7 +203,7 @@ class Outcome:
     def differ(self, words: str, wanted: object, got: Answer) -> None:
         if got.status == harness.LATE:
             self.counts["answers that didn't come in time"] += 1
-        self.differences.append(f"{words}\n      telling: {wanted}\n      program: {got}")
+        self.differences.append(f"{words}\n      reference: {wanted}\n      program:   {got}")
 
 
 def words_of(arguments: Arguments) -> list[str]:
@@ -237,7 +237,7 @@ def is_sampled(text: bytes, one_in: int = 4) -> bool:
 
 @dataclass(frozen=True)
 class Comparer:
-    """Asks the program and the telling, and compares."""
+    """Asks the program and the reference, and compares."""
 
     program: pathlib.Path
     worlds: int
@@ -329,8 +329,8 @@ class Comparer:
         return outcome
 
     def explains(self, text: bytes, judged: Refused, checked: Answer, outcome: Outcome) -> None:
-        """`explain` has to give the line of `check`, and beside it what the telling says of that, where the line is the
-        telling's."""
+        """`explain` has to give the line of `check`, and beside it what the reference says of that, where the line is
+        the reference's."""
         kinds = [kind.name.lower() for kind in judged.by_kind.kinds] if judged.by_kind else []
         said = ("-", text, judged.line, kinds, not self.source)
         is_told = checked == refused(judged.line)
@@ -357,7 +357,7 @@ class Comparer:
             outcome.differ(" ".join(["explain", *flags]), told, answer)
 
     def is_other_walk(self, judged: Refused, told: Answer, answer: Answer) -> bool:
-        """Whether the answer is the telling's, but for the walk, which is another shortest one."""
+        """Whether the answer is the reference's, but for the walk, which is another shortest one."""
         found = WALK.fullmatch(answer.err)
         if not judged.by_kind or not found or answer != Answer(told.status, told.out, answer.err):
             return False
@@ -417,7 +417,7 @@ class Comparer:
                     outcome.differ(f"{' '.join([command, *flags])}, run {' '.join(way.words())}", told, answer)
 
     def finds_out(self, text: bytes, judged: Accepted, outcome: Outcome) -> None:
-        """`outcomes` tells what the telling finds, and the log of one of them."""
+        """`outcomes` prints what the reference finds, and the log of one of them."""
         given, asked = ways(text, judged)[0][1], Asked(LIMIT, random.Random(text).choice([1, 1, 1, 2]))
         with tempfile.NamedTemporaryFile() as file:
             question = [
@@ -561,8 +561,8 @@ def compared(comparer: Comparer, maker: Maker, cases: range) -> Summary:
         text = maker.text_of(case)
         try:
             outcome = comparer.outcome(text)
-        except Exception as fault:  # A fault of the telling is a difference like any other.
-            outcome = Outcome("?", differences=[f"the telling failed: {fault!r}"])
+        except Exception as fault:  # A fault of the reference is a difference like any other.
+            outcome = Outcome("?", differences=[f"the reference failed: {fault!r}"])
         summary.add(case, text, outcome)
     summary.answers += comparer.answers
     return summary
@@ -573,7 +573,7 @@ def in_order(label: str) -> tuple[str, int]:
 
 
 def words() -> argparse.Namespace:
-    parser = argparse.ArgumentParser(description="Compares what x10clock answers with a second telling.")
+    parser = argparse.ArgumentParser(description="Compares what x10clock answers with the reference.")
     parser.add_argument("cases", nargs="?", type=int, default=20_000)
     parser.add_argument("seed", nargs="?", type=int, default=1)
     parser.add_argument("--source", action="store_true")

@@ -8,9 +8,9 @@ what the program says.
 tests/answers/rows are compiled to. A number becomes 0 and one more; where it may have no sign also the greatest of 16
 bits, one beyond it, and -1; where it may also both ends of 64 bits and one beyond each. A name becomes each other name,
 a comparison each other one, a letter of `params` the other, and each instruction is left out, and doubled. Each of
-these modules is refused as the second telling says (tests/reference/modules.py), or runs in the three orders and by
-chance as it says, within its bound; its logs are played again and say the same. Besides, each beginning of a module's
-text, and brackets within brackets, are no JSON.
+these modules is refused as the reference says (tests/reference/modules.py), or runs in the three orders and by chance
+as it says, within its bound; its logs are played again and say the same. Besides, each beginning of a module's text,
+and brackets within brackets, are no JSON.
 """
 
 from __future__ import annotations

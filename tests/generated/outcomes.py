@@ -9,7 +9,7 @@ all schedules finds it (tests/reference/outcomes.py), each outcome with a log th
 has 2 to 4 activities that print, and mostly shared numbers, clocks and finishes; some are asked about as their modules,
 some take numbers. The program is asked with no limit, for the log of each outcome, or of 8 that are spread evenly, for
 that of one which there isn't, and with a limit; with `--sets` the same where the order of numbers doesn't count. Each
-log is played again by the program, and by the telling. All outcomes are held against lists, too: against what the
+log is played again by the program, and by the reference. All outcomes are held against lists, too: against what the
 program told, in another order, against that without one line or with another, and with a limit. `--tally` tells how
 often each answer was given; `--only` prints one program alone.
 """

@@ -1,6 +1,6 @@
 #!/usr/bin/env python3
-"""Programs of split phases that nobody wrote: whether `races` tells what the second telling does, and says by one run
-of a program what it says by each other one.
+"""Programs of split phases that nobody wrote: whether `races` prints what the reference does, and says by one run of a
+program what it says by each other one.
 
     python3 -m tests.generated.split_phases [PROGRAMS] [SEED] [--program PATH]
 
@@ -84,7 +84,7 @@ def called(*words: object) -> tuple[int, str]:
 
 
 def told(program: pathlib.Path, data: bytes, judged: Accepted, folder: pathlib.Path) -> tuple[list[str], set[str]]:
-    """What differs from the second telling, and all that is said of all runs."""
+    """What differs from the reference, and all that is said of all runs."""
     file, log, differing, said = folder / "text", folder / "log", [], set()
     file.write_bytes(data)
     for order in ORDERS:

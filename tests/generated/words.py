@@ -1,5 +1,5 @@
 #!/usr/bin/env python3
-"""Command lines that nobody wrote: whether the built program says of them what a second telling says
+"""Command lines that nobody wrote: whether the built program says of them what the reference says
 (tests/reference/command_line.py).
 
     python3 -m tests.generated.words [CASES] [SEED] [--program PATH] [--jobs N] [--tally] [--only CASE]
@@ -10,10 +10,9 @@ which some are texts, modules or logs, one is a folder, and some aren't there; m
 meant, with a word left out, doubled, put in or replaced. Each call is made in a folder of its own, and told in another:
 the status, standard output, the first line of standard error and what is in the folder then have to be the same. What a
 run by workers prints is compared in any order, and its log is played again; outcomes, which the program tells in an
-order of its own, have to be right (tests/reference/outcomes.py), and so has their log, and what is said of them
-where they are held against a list. `--tally` tells how often each answer was given; `--only` prints the words of one
-case. It fails where something is answered otherwise, and where of 500 calls or more none told outcomes, events, lanes
-or a page.
+order of its own, have to be right (tests/reference/outcomes.py), and so has their log, and what is said of them where
+they are held against a list. `--tally` tells how often each answer was given; `--only` prints the words of one case. It
+fails where something is answered otherwise, and where of 500 calls or more none told outcomes, events, lanes or a page.
 """
 
 from __future__ import annotations
@@ -234,7 +233,7 @@ class Caller:
         if (right, left) == (got, there):
             return got, None
         files = {name for name in {*left, *there} if left.get(name) != there.get(name)}
-        return got, f"telling: {right}\n    program: {got}\n    files that differ: {sorted(files)}"
+        return got, f"reference: {right}\n    program:   {got}\n    files that differ: {sorted(files)}"
 
 
 def job_of(words: list[str]) -> Job | None:
@@ -327,8 +326,8 @@ class Cases:
                 words, given = case(random.Random(f"{self.seed} {number}"))
                 try:
                     answer, what = caller.difference(words, given)
-                except Exception as fault:  # A fault of the telling is a difference like any other.
-                    answer, what = Told(-1), f"the telling failed: {fault!r}"
+                except Exception as fault:  # A fault of the reference is a difference like any other.
+                    answer, what = Told(-1), f"the reference failed: {fault!r}"
                 answers[tally.label(answer.status, answer.err)] += 1
                 done[words[0] if words and answer.status == 0 and job_of(words) else ""] += 1
                 if what:
@@ -337,7 +336,7 @@ class Cases:
 
 
 def main() -> int:
-    parser = argparse.ArgumentParser(description="Compares what x10clock says of command lines with a second telling.")
+    parser = argparse.ArgumentParser(description="Compares what x10clock says of command lines with the reference.")
     parser.add_argument("cases", nargs="?", type=int, default=2_000)
     parser.add_argument("seed", nargs="?", type=int, default=1)
     harness.add_program(parser)

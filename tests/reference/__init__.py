@@ -1,1 +1,1 @@
-"""The rules told a second time."""
+"""The reference: the rules, implemented a second time, in Python."""

@@ -1,5 +1,5 @@
 #!/usr/bin/env python3
-"""A second telling, in Python, of `run --order ask`: a person names who takes the next steps.
+"""The reference for `run --order ask`: a person names who takes the next steps.
 
     python3 -m tests.reference.ask [--module] FILE [LOG] [--arg=N].. < ANSWERS
 """

@@ -1,10 +1,9 @@
-"""A second telling of the command line, in Python: what words ask for, or why they are no job; and what a job on files
-is answered.
+"""The reference for the command line: what words ask for, or why they are no job; and what a job on files is answered.
 
-Of clap's texts it tells the first line, and help by its place in tests/answers/words.txt. The words are taken one after
-another, and the first that is wrong is told; what an option is given is looked at when the next argument begins, and
-what is missing at the end. Files are opened, in this order: FILE, LOG or the list of `--expect`, and PATH of `--log`,
-which is emptied; then FILE is read.
+Of clap's texts it has the first line, and help by its place in tests/answers/words.txt. The words are taken one after
+another, and the first that is wrong is reported; what an option is given is looked at when the next argument begins,
+and what is missing at the end. Files are opened, in this order: FILE, LOG or the list of `--expect`, and PATH of
+`--log`, which is emptied; then FILE is read.
 """
 
 from __future__ import annotations

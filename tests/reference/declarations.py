@@ -1,4 +1,4 @@
-"""A second telling of what is told beside a fault of names: where else the name that stands there is declared. By
+"""The reference for the notes on a fault of names: where else the name that stands there is declared. It goes by
 tokens, without a tree."""
 
 from __future__ import annotations
@@ -9,7 +9,7 @@ from collections.abc import Iterator
 from tests.reference.source import Token, tokens_of
 
 ON_NAMES = ("F5", "F6", "F7", "F8", "F10", "F11", "F12")
-# So many are told one by one.
+# So many are named one by one.
 MOST = 8
 WORD = re.compile(rb"[0-9A-Za-z_]*")
 

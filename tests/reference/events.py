@@ -1,4 +1,4 @@
-"""A second telling, in Python, of what `events` prints: a line for each step of a logged run that others see."""
+"""The reference for `events`: a line for each step of a logged run that others see."""
 
 from __future__ import annotations
 

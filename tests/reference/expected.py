@@ -1,17 +1,17 @@
-"""A second telling of what could stand where a token can't: each token is tried there, and the text read up to it. It
-has no table of the grammar."""
+"""The reference for the notes on what could stand where a token can't: each token is tried there, and the text read up
+to it. It has no table of the grammar."""
 
 from __future__ import annotations
 
 from tests.reference.source import Fault, parse
 
-# Each token that is told alone, in the order of docs/EXPLAIN.md, and how it is told.
+# Each token that is named alone, in the order of docs/EXPLAIN.md, and how it is named.
 ALONE = """; , ) } ( { = : . .. + - * == != < <= > >= shared def else in async finish Clock Long
     Math min make resume drop advanceAll OUT println""".split()
 END = "the end of the text"
 # A name that no place of the grammar wants by its letters.
 ANY = "anything"
-# What a group is told as, by which tokens it is known, and the tokens that aren't told alone beside it.
+# What a group is called, by which tokens it is known, and the tokens that aren't named alone beside it.
 NAMES = {"Math", "min", "make", "resume", "drop", "advanceAll", "OUT", "println"}
 GROUPS = [
     ("a statement", ["val"], NAMES | set("{ ; async finish Clock".split())),

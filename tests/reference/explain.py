@@ -1,5 +1,5 @@
-"""A second telling of what `explain` says on standard output, in Python, from docs/EXPLAIN.md: its rules in words, its
-tables and its notes."""
+"""The reference for what `explain` prints on standard output, from docs/EXPLAIN.md: its rules in words, its tables and
+its notes."""
 
 from __future__ import annotations
 

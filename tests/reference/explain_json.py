@@ -1,5 +1,5 @@
-"""A second telling of what `explain --json` says on standard output, in Python: from docs/EXPLAIN.md, "As JSON" and its
-tables, and the line of `check`."""
+"""The reference for what `explain --json` prints on standard output: from docs/EXPLAIN.md, "As JSON" and its tables,
+and the line of `check`."""
 
 from __future__ import annotations
 

@@ -1,5 +1,5 @@
-"""A second telling, in Python, of what `lanes` draws: a column for each activity, a row for each step of a logged run
-that others see, and a bar for each clock that advances."""
+"""The reference for `lanes`: a column for each activity, a row for each step of a logged run that others see, and a bar
+for each clock that advances."""
 
 from __future__ import annotations
 
@@ -66,7 +66,7 @@ def mark(module: Module, world: World, who: int) -> str:
 
 
 def rows(program: Program, played: Played, grid: Grid, taken: Taken) -> str:
-    """The row of a step that others see, and its bars. One who has no lane is told behind all lanes."""
+    """The row of a step that others see, and its bars. One who has no lane stands behind all lanes."""
     others = [mark(played.module, taken.step.world, lane) for lane in grid.lanes]
     words = events.words(taken)
     cells = [words if lane == taken.who else other for lane, other in zip(grid.lanes, others, strict=True)]

@@ -1,5 +1,5 @@
 #!/usr/bin/env python3
-"""A second telling of what `listing` prints, in Python, from docs/LISTING.md.
+"""The reference for `listing`, from docs/LISTING.md.
 
     python3 -m tests.reference.listing [--module] FILE
 """

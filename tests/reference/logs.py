@@ -1,5 +1,5 @@
 #!/usr/bin/env python3
-"""A second telling, in Python, of logs, their replay and their charts.
+"""The reference for logs, their replay and their charts.
 
 A log is the schedule of a run, written down: lines of an activity and how many steps it takes one after the other. A
 text is read as one here by patterns, line by line; a replay takes the steps one by one, as tests/reference/modules.py
@@ -7,8 +7,8 @@ has them; a chart has a line for each clock that advances.
 
     python3 -m tests.reference.logs FILE [ORDER [SEED]] [--arg=N]..      ORDER is first, last, round or random
 
-FILE is a module, or with a name that ends in `.x10` a source text. What is told of logs,
-tests/reference/runs.py tells.
+FILE is a module, or with a name that ends in `.x10` a source text. What other commands print of a log is in
+tests/reference/runs.py.
 """
 
 from __future__ import annotations

@@ -13,8 +13,8 @@ takes some.
     python3 -m tests.reference.meaning --file FILE [--runs N] [--program PATH | --alone]
 
 2,000 programs that nobody wrote, seed 1, 3 runs of each and 2 jobs where nothing else is said. The module is the one
-that tests/reference/source.py makes of the text, or with `--program` the one that this program prints for
-`compile`. `--only` prints one text alone.
+that tests/reference/source.py makes of the text, or with `--program` the one that this program prints for `compile`.
+`--only` prints one text alone.
 """
 
 from __future__ import annotations
@@ -520,7 +520,7 @@ def text_of_case(seed: int, case: int) -> bytes:
 
 
 def module_of(text: bytes, program: pathlib.Path | None) -> modules.Module:
-    """The module that a text is compiled to: by the telling, or by the program."""
+    """The module that a text is compiled to: by the reference, or by the program."""
     if program is None:
         return modules.read_module(source.module_text(text).encode())
     status, out, err = harness.call([program, "compile", "-"], text).texts()
@@ -553,8 +553,8 @@ class Job:
                 counts += self.of_text(text)
             except Differs as differs:
                 differing.append((case, text, str(differs)))
-            except Exception as fault:  # A fault of the telling is a difference like any other.
-                differing.append((case, text, f"the telling failed: {fault!r}"))
+            except Exception as fault:  # A fault of the reference is a difference like any other.
+                differing.append((case, text, f"the reference failed: {fault!r}"))
         return counts, differing
 
 

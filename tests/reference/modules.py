@@ -1,11 +1,11 @@
 #!/usr/bin/env python3
-"""A second telling, in Python, of all that x10clock answers for a module.
+"""The reference for modules: all that x10clock answers for one.
 
-It shares nothing with the program: the module is read here by a reader of its own, the rules are told as sets of places
-that break them, and the machine keeps for each clock the sets of activities that are registered, that have resumed, and
-that may go on, and for each open finish the set of activities that it waits for. Beside the answers it walks through
-all schedules of a small module and looks whether the promises hold: no wrong step, no longer schedule than was
-verified, and all have ended where nobody can step.
+It shares nothing with the program: the module is read here by a reader of its own, a rule is the set of places that
+break it, and the machine keeps for each clock the sets of activities that are registered, that have resumed, and that
+may go on, and for each open finish the set of activities that it waits for. Beside the answers it walks through all
+schedules of a small module and looks whether the promises hold: no wrong step, no longer schedule than was verified,
+and all have ended where nobody can step.
 
     python3 -m tests.reference.modules check FILE                           what the program prints
     python3 -m tests.reference.modules run FILE [ORDER [SEED]] [--arg=N]..  ORDER is first, last, round or random
@@ -441,14 +441,14 @@ def read_module(data: bytes) -> Module:
     return module
 
 
-# The rules on places. Each tells the places of a module that break it, where the module breaks none of those before it.
+# The rules on places. Each has the places of a module that break it, where the module breaks none of those before it.
 
 Place = tuple[int, int]
 Breaches = Iterator[Place]
 
 
 def each_unit(breaches: Callable[[Module, Unit], Iterable[int]]) -> Callable[[Module], Breaches]:
-    """A rule that is told of one unit, for all of them."""
+    """A rule on one unit, for all units."""
 
     def of_all(module: Module) -> Breaches:
         for number, unit in enumerate(module.units):

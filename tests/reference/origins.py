@@ -1,4 +1,4 @@
-"""A second telling of where the instructions of a compiled text come from in it, and what its slots are called
+"""The reference for where the instructions of a compiled text come from in it, and what its slots are called
 (docs/EXPLAIN.md)."""
 
 from __future__ import annotations
@@ -54,7 +54,7 @@ class PlacedParser(Parser):
             self.ends[id(made)] = last.at
 
     def place(self, first: int) -> int:
-        """The token that tells a statement's place, which begins at this one."""
+        """The token at the place of a statement, which begins at this one."""
         token = self.tokens[first]
         if token.sort is Sort.NAME:
             return token.at

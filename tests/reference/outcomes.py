@@ -1,14 +1,15 @@
 #!/usr/bin/env python3
-"""A second telling, in Python, of all that a program can print, and what may be said of that by `outcomes`.
+"""The reference for `outcomes`: all that a program can print, and what may be answered of that.
 
 All schedules are walked, step by step; a world that was met before is known again, and neither phases nor numbers of
-steps are part of one (tests/reference/modules.py). Which order outcomes are told in, which of them where there may be
-more, and by which runs they are shown, is the program's own: so an answer is judged here, and one that may be given is
-made.
+steps are part of one (tests/reference/modules.py). Which order outcomes are printed in, which of them where there may
+be more, and by which runs they are shown, is the program's own: so an answer is judged here, and one that may be given
+is made.
 
-Where sets are asked for, lists of the same numbers, each as often, in whatever order, are one, and it is told rising.
+Where sets are asked for, lists of the same numbers, each as often, in whatever order, are one, and it is printed
+rising.
 
-Outcomes may be held against a list, a text of such lines: then one is told that isn't in it, or how many they are.
+Outcomes may be held against a list, a text of such lines: then one is printed that isn't in it, or how many they are.
 
     python3 -m tests.reference.outcomes [--module] [--sets] [--expect=LIST] FILE [LIMIT] [--arg=N]..
 """

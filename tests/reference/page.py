@@ -1,6 +1,5 @@
-"""A second telling, in Python, of the page that `page` makes: the source text, the picture, and how things stand behind
-each step. What stands in each page besides, with its script, means nothing to a run: it is taken from where the program
-has it."""
+"""The reference for `page`: the source text, the picture, and how things stand behind each step. What stands in each
+page besides, with its script, means nothing to a run: it is taken from where the program has it."""
 
 from __future__ import annotations
 

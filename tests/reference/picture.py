@@ -1,4 +1,4 @@
-"""A second telling, in Python, of the picture that `lanes --svg` draws: what `lanes` tells, in SVG."""
+"""The reference for `lanes --svg`: what `lanes` draws, as a picture."""
 
 from __future__ import annotations
 

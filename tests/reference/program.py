@@ -1,6 +1,6 @@
 #!/usr/bin/env python3
-"""Answers as x10clock does, by the second telling: so that scripts, pages and transcripts can be tried without the
-built program.
+"""Answers as x10clock does, by the reference: so that scripts, pages and transcripts can be tried without the built
+program.
 
     X10CLOCK=tests/reference/program.py sh tests/answers/answers.sh tests/answers/programs/sources.rows
 
@@ -21,7 +21,7 @@ def main() -> int:
     try:
         told = command_line.told(sys.argv[1:], sys.stdin.buffer)
     except command_line.TooLong:
-        print("told: too many steps for a run in Python", file=sys.stderr)
+        print("reference: too many steps for a run in Python", file=sys.stderr)
         return 9
     sys.stdout.write(told.out)
     if told.err:

@@ -1,6 +1,6 @@
-"""A second telling, in Python, of what `races` prints: pairs of accesses of one shared number whose order nothing but
-the schedule of a logged run says, by the rules in words of docs/RACES.md. Each step has the whole set of steps that
-come before it, as the bits of a number."""
+"""The reference for `races`: pairs of accesses of one shared number whose order nothing but the schedule of a logged
+run says, by the rules in words of docs/RACES.md. Each step has the whole set of steps that come before it, as the bits
+of a number."""
 
 from __future__ import annotations
 

@@ -1,6 +1,6 @@
 #!/usr/bin/env python3
-"""A second telling, in Python, of what is told of a log: `replay`, `chart`, `events`, `lanes`, `page` and `races` of a
-whole run, and `where` of any.
+"""The reference for commands on a log: `replay`, `chart`, `events`, `lanes`, `page` and `races` of a whole run, and
+`where` of any.
 
     python3 -m tests.reference.runs events [--module] FILE LOG [--arg=N]..
     python3 -m tests.reference.runs lanes [--module] [--svg] FILE LOG [--arg=N]..
@@ -18,7 +18,7 @@ from tests.reference.lanes import WHOLE
 from tests.reference.logs import Answer, Played, Teller
 from tests.reference.modules import Accepted, Arguments, Refused
 
-# What is told of whole runs, and of any log.
+# The commands on the log of a whole run, and the one on any log.
 OF_RUNS, WHERE = ("replay", "chart", "events", "lanes", "page", "races"), "where"
 COMMANDS = (*OF_RUNS, WHERE)
 
@@ -30,7 +30,7 @@ def races_of(program: Program, played: Played) -> tuple[str, bool]:
 
 
 def teller(command: str, data: bytes, is_module: bool, window: range = WHOLE, is_picture: bool = False) -> Teller:
-    """What a command tells of a run of this program, whose bytes are looked at where there is one."""
+    """What a command prints of a run of this program, whose bytes are looked at where there is one."""
     if command in ("lanes", "page"):
         draw = page.drawing if command == "page" else picture.drawing if is_picture else lanes.drawing
         return lambda played: draw(Program(data, is_module), played, window)

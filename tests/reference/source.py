@@ -1,9 +1,9 @@
 #!/usr/bin/env python3
-"""A second telling, in Python, of what x10clock makes of a source text: tokens, trees, names, units and code.
+"""The reference for source texts: the tokens, trees, names, units and code that x10clock makes of one.
 
 It shares nothing with the program. A text becomes tokens, these a tree, or the first token that can't stand; each name
 is then looked up where it stands, and what it means is kept by its offset; the units that main reaches get their
-numbers and their code; and what is made of the module from there on is told by tests/reference/modules.py.
+numbers and their code; and what is made of the module from there on is in tests/reference/modules.py.
 
     python3 -m tests.reference.source compile FILE            what the program prints
     python3 -m tests.reference.source check FILE

@@ -1,4 +1,4 @@
-"""A second telling of the notes of `explain` on what the verifier says (docs/EXPLAIN.md, "Notes"), from the module and
+"""The reference for the notes of `explain` on what the verifier says (docs/EXPLAIN.md, "Notes"), from the module and
 where its instructions come from.
 
 Beside V8, V9 and V12 stands the other place that the rule speaks of, beside V14 to V17 the sum by its parts, and of a
@@ -18,7 +18,7 @@ from tests.reference.origins import Origins, program
 # A note: its offset in the text, if it has a place there, and its words.
 Note = tuple[int | None, str]
 
-# Numbers up to this one are told in digits.
+# Numbers up to this one are printed in digits.
 MOST_TOLD = 10**18
 FAULT = re.compile(r"(?P<rule>V\d+) \w+ (?:unit (?P<unit>\d+) at (?P<at>\d+)|over \d+)")
 LOOPS = ("for", "forto")

@@ -1,4 +1,4 @@
-"""A second telling, in Python, of a tally of runs by chance: how often what was printed (docs/RUNS.md, "By chance")."""
+"""The reference for a tally of runs by chance: how often what was printed (docs/RUNS.md, "By chance")."""
 
 from __future__ import annotations
 

@@ -1,5 +1,4 @@
-"""A second telling, in Python, of what `where` prints: how things stand behind the steps of a log, as far as they can
-be taken."""
+"""The reference for `where`: how things stand behind the steps of a log, as far as they can be taken."""
 
 from __future__ import annotations
 
