@@ -21,6 +21,7 @@ STATIC = (
     "python3 tests/prover/house.py --ratchet",
     "python3 tests/prover/bugs.py --applies",
     "python3 tests/prover/wrong_bodies.py",
+    "python3 tests/prover/tables.py --check",
     "python3 -m tests.gate.links",
     "python3 -m compileall -q bench dist tests",
     "python3 -m tests.gate.python_style",

@@ -1,21 +1,29 @@
 #!/usr/bin/env python3
-"""Tells what each crate costs in a run of `rt ci`: seconds of one processor, of its proof, of its tests and of its
+"""Prints what each crate costs in a run of `rt ci`: seconds of one processor, of its proof, of its tests and of its
 edits.
 
-    tests/prover/gate_times.py [SECONDS]
+    tests/prover/gate_times.py [SECONDS] [--processors LIST]
 
 Begin it right behind `rt ci`, with no other `rt` on the machine: it looks once a second, or as often as is said, which
-checks are running, and tells them all when no `rt ci` is left, the dearest crate first. The last second or so of each
-check is missed. What is tried of a crate over work that was kept, as its edits but for the first, counts as edits too.
+checks are running, and prints them all when no `rt ci` is left, the dearest crate first. With `--processors 0,1` it
+looks at processes alone that are bound to these, or to some of them: then others may run beside, bound to others. The
+last second or so of each check is missed. What is tried of a crate over work that was kept, as its edits but for the
+first, counts as edits too. What it prints is what tests/prover/times.txt keeps (tests/prover/tables.py).
 """
+
+from __future__ import annotations
+
+import argparse
 import collections
 import os
 import pathlib
 import sys
 import time
+from collections.abc import Iterable
 from dataclasses import dataclass
 
 TICKS = os.sysconf("SC_CLK_TCK")
+KINDS = ("proof", "tests", "edits")
 
 
 @dataclass
@@ -27,7 +35,19 @@ class Check:
     seconds: float = 0.0
 
 
+def processors(text: str) -> frozenset[int]:
+    """A list of processors, as `taskset -c` takes it: numbers, and ranges of them."""
+    parts = [[int(end) for end in part.split("-")] for part in text.split(",")]
+    return frozenset(number for ends in parts for number in range(ends[0], ends[-1] + 1))
+
+
+def is_bound(process: pathlib.Path, to: frozenset[int] | None) -> bool:
+    """Whether a process runs on no other processors than these, if any are given."""
+    return to is None or os.sched_getaffinity(int(process.name)) <= to
+
+
 def words_of(process: pathlib.Path) -> list[str]:
+    """The words of its call."""
     return (process / "cmdline").read_bytes().decode(errors="replace").split("\0")
 
 
@@ -44,45 +64,59 @@ def seconds_of(process: pathlib.Path) -> tuple[str, float]:
     return fields[19], sum(int(field) for field in fields[11:15]) / TICKS
 
 
-def look(checks: dict[tuple[str, str], Check]) -> bool:
+def is_gate(words: list[str]) -> bool:
+    """Whether these words call `rt ci`."""
+    return words[1:2] != [] and pathlib.Path(words[1]).name == "rt" and words[2:3] == ["ci"]
+
+
+def look_at(process: pathlib.Path, words: list[str], checks: dict[tuple[str, str], Check]) -> None:
+    """Brings a check up to date, if the process is one."""
+    if pathlib.Path(words[0]).name == "rattle" and "--crate-name" in words:
+        begun, seconds = seconds_of(process)
+        key = process.name, begun
+        if key not in checks:
+            checks[key] = Check(words[words.index("--crate-name") + 1], kind_of(process, words))
+        checks[key].seconds = seconds
+
+
+def look(checks: dict[tuple[str, str], Check], bound_to: frozenset[int] | None) -> bool:
     """Brings the checks up to date, and says whether an `rt ci` is running."""
     is_running = False
     for process in pathlib.Path("/proc").glob("[0-9]*"):
         try:
             words = words_of(process)
-            is_running = is_running or (
-                words[1:2] != [] and pathlib.Path(words[1]).name == "rt" and words[2:3] == ["ci"]
-            )
-            if pathlib.Path(words[0]).name == "rattle" and "--crate-name" in words:
-                begun, seconds = seconds_of(process)
-                key = process.name, begun
-                if key not in checks:
-                    checks[key] = Check(words[words.index("--crate-name") + 1], kind_of(process, words))
-                checks[key].seconds = seconds
+            if is_bound(process, bound_to):
+                is_running = is_running or is_gate(words)
+                look_at(process, words, checks)
         except (OSError, IndexError):
             # It has ended meanwhile.
             continue
     return is_running
 
 
+def line(name: str, cells: Iterable[str]) -> str:
+    return f"{name:20}" + "".join(f"{cell:>8}" for cell in cells)
+
+
 def show(checks: list[Check]) -> None:
-    crates = collections.defaultdict(collections.Counter)
+    """Prints a line for each crate, the dearest first, and their sums."""
+    crates: dict[str, collections.Counter[str]] = collections.defaultdict(collections.Counter)
     for check in checks:
         crates[check.crate][check.kind] += check.seconds
-    print(f"{'crate':20}{'proof':>8}{'tests':>8}{'edits':>8}")
+    print(line("crate", KINDS))
     for crate, kinds in sorted(crates.items(), key=lambda it: -sum(it[1].values())):
-        print(f"{crate:20}" + "".join(f"{kinds[kind]:8.0f}" for kind in ("proof", "tests", "edits")))
-    print(
-        f"{'in all':20}"
-        + "".join(f"{sum(kinds[kind] for kinds in crates.values()):8.0f}" for kind in ("proof", "tests", "edits"))
-    )
+        print(line(crate, (f"{kinds[kind]:.0f}" for kind in KINDS)))
+    print(line("in all", (f"{sum(kinds[kind] for kinds in crates.values()):.0f}" for kind in KINDS)))
 
 
 def main() -> int:
-    pause = float(sys.argv[1]) if len(sys.argv) > 1 else 1.0
+    parser = argparse.ArgumentParser(description=__doc__, formatter_class=argparse.RawDescriptionHelpFormatter)
+    parser.add_argument("seconds", nargs="?", type=float, default=1.0)
+    parser.add_argument("--processors", type=processors, metavar="LIST")
+    given = parser.parse_args()
     checks: dict[tuple[str, str], Check] = {}
-    while look(checks):
-        time.sleep(pause)
+    while look(checks, given.processors):
+        time.sleep(given.seconds)
     show([*checks.values()])
     return 0
 
