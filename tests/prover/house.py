@@ -35,7 +35,8 @@ MOST = {
     "clauses": 0,
     "code": 267,
     "proofs": 6749,
-    "docs": 74,
+    "docs": 72,
+    "scripts": 0,
     "files": 3,
 }
 TESTS = {"xk_tests", "xk_tests_memory"}
@@ -327,6 +328,7 @@ def rows_of_lines(top: Path) -> Rows:
     rt = sorted((top / "crates").glob("*/src/**/*.rt"))
     antt = [p for kind in ("specs", "proofs") for p in sorted((top / "crates").glob(f"*/{kind}/**/*.antt"))]
     docs = [*sorted(top.glob("*.md")), *sorted((top / "docs").glob("*.md"))]
+    scripts = [p for folder in ("bench", "dist", "tests") for p in sorted((top / folder).rglob("*.py"))]
     sizes = [(p, p.read_text(encoding="utf-8").count("\n")) for p in rt + antt]
     pages = [(p, i) for p in docs for i, _ in enumerate(p.open(encoding="utf-8"))]
     return {
@@ -334,6 +336,7 @@ def rows_of_lines(top: Path) -> Rows:
         "code": (f"lines of code over {CODE} columns", long_lines(rt, CODE)),
         "proofs": (f"lines of specs and proofs over {CODE} columns", long_lines(antt, CODE)),
         "docs": (f"lines of pages over {DOC} columns", long_lines(docs, DOC)),
+        "scripts": (f"lines of scripts over {DOC} columns", long_lines(scripts, DOC)),
         "files": (f"files over {FILE} lines", [Place(p, 0, str(n)) for p, n in sizes if n > FILE]),
         "pages": ("lines of pages", [Place(p, i + 1, "") for p, i in pages]),
     }
