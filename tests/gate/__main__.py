@@ -23,6 +23,7 @@ STATIC = (
     "python3 tests/prover/wrong_bodies.py",
     "python3 tests/prover/tables.py --check",
     "python3 -m tests.gate.links",
+    "python3 -m tests.gate.scripts",
     "python3 -m compileall -q bench dist tests",
     "python3 -m tests.gate.python_style",
     "python3 -m tests.reference.meaning 20 1 --alone",

@@ -2,14 +2,17 @@
 
     python3 -m tests.gate.links [PAGE ..]
 
-Of each page of the repository: each relative link, with the heading that it goes to; and each word in backquotes that
-has a slash and looks like a file or a folder of the repository. Such a path may begin at the top, at the page's folder,
-at `crates/` or within a crate, at `tests/` or within a folder of it. `NAME` and `CRATE` are any name, and the file
-behind them is any of its kind; `*` is any part of a name. What is built, in a folder `out/`, needn't be there.
+Of each page of the repository: each relative link, with the heading that it goes to; each word in backquotes that has a
+slash and looks like a file or a folder of the repository; each that looks like a file's name, of code, of proofs or of
+a script; and each call of a script, `python3 -m tests.FOLDER.NAME`. A path may begin at the top, at the page's folder,
+at `crates/` or within a crate, at `tests/` or within a folder of it; a name may be that of any file. `NAME` and `CRATE`
+are any name, as is one with `Subject`, and the file behind them is any of its kind; `*` is any part of a name. What is
+built, in a folder `out/`, needn't be there.
 """
 
 from __future__ import annotations
 
+import fnmatch
 import pathlib
 import re
 import sys
@@ -24,16 +27,39 @@ LINK = re.compile(r"\]\(([^()\s]+)\)")
 QUOTED = re.compile(r"`([^`\n]+)`")
 SUFFIXES = "antt bugs c edit h html in json log md pml py rows rt sh svg toml txt vim x10".split()
 PATH = re.compile(r"[\w.*-]+(?:/[\w.*-]+)*/?")
+# The name of a file that a page means as one of the repository, also where no folder stands before it.
+FILE = re.compile(r"[\w.*-]*\w\.(?:antt|bugs|c|edit|py|rt|sh)")
+CALL = re.compile(r"python3 -m ((?:bench|tests)(?:\.\w+)+)")
 ANY = ("NAME", "CRATE")
 # Where a path may begin, beside the top and the page's folder.
 ROOTS = ("crates", "crates/*", "crates/*/src", "crates/*/specs", "crates/*/proofs", "tests", "tests/*")
 
 
+@cache
+def files() -> list[pathlib.Path]:
+    """All files of the repository, but for what is built; those too that nobody has committed yet."""
+    words = ["git", "ls-files", "--cached", "--others", "--exclude-standard"]
+    status, out, _ = harness.call(words, cwd=TOP).texts()
+    listed = [TOP / line for line in out.splitlines()] if status == 0 else TOP.rglob("*")
+    return sorted(path for path in listed if "out" not in path.parts and path.is_file())
+
+
 def pages() -> list[pathlib.Path]:
-    """All pages, but for what is built."""
-    status, out, _ = harness.call(["git", "ls-files", "*.md"], cwd=TOP).texts()
-    listed = [TOP / line for line in out.splitlines()] if status == 0 else TOP.rglob("*.md")
-    return sorted(path for path in listed if path.exists() and "out" not in path.parts)
+    """All pages."""
+    return [path for path in files() if path.suffix == ".md"]
+
+
+@cache
+def is_file_name(name: str) -> bool:
+    """Whether a file somewhere has this name."""
+    is_any = "Subject" in name or name.partition(".")[0] in ANY
+    return is_any or any(fnmatch.fnmatchcase(path.name, name) for path in files())
+
+
+def is_script(module: str) -> bool:
+    """Whether `python3 -m` finds this one."""
+    path = TOP.joinpath(*module.split("."))
+    return path.with_suffix(".py").exists() or (path / "__main__.py").exists()
 
 
 @cache
@@ -101,8 +127,11 @@ def looked_at(page: pathlib.Path) -> Iterator[tuple[str, bool]]:
     for number, line in enumerate(plain.split("\n"), 1):
         where = f"{page.relative_to(TOP)}:{number}"
         yield from ((f"{where}: no {target}", is_linked(page, target)) for target in LINK.findall(line))
-        found = (path for quoted in QUOTED.findall(line) for path in paths(quoted))
-        yield from ((f"{where}: no {path}", is_known(page, path)) for path in found)
+        yield from ((f"{where}: no {module}", is_script(module)) for module in CALL.findall(line))
+        for quoted in QUOTED.findall(line):
+            yield from ((f"{where}: no {path}", is_known(page, path)) for path in paths(quoted))
+            named = (word for word in quoted.split() if FILE.fullmatch(word))
+            yield from ((f"{where}: no {name}", is_file_name(name)) for name in named)
 
 
 def main() -> int:
