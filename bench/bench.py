@@ -92,6 +92,7 @@ class Timer:
         return took.passed
 
     def runs(self) -> None:
+        """Runs of many steps, calls, finishes and activities."""
         seconds = self.timed("run of 100,010,002 steps", "run", counting(9999))
         print(f"steps a second: {100_010_002 / seconds:,.0f}")
         seconds = self.timed("run of 24,995,000 calls", "run", calling(4999))
@@ -106,6 +107,7 @@ class Timer:
             self.timed(f"{many}, a finish round them, order {order}", "run", starting_in_finish(99_999), words)
 
     def checks(self) -> None:
+        """Checks of many great units."""
         for count in (50, 100, 200):
             what = f"check of {count} units of 4,096 instructions over 64 slots"
             self.timed(what, "check", chain(great_unit, count))

@@ -33,7 +33,9 @@ def ran(words: list[object]) -> tuple[bytes, float, float]:
     return took.out + took.err, took.seconds, took.megabytes
 
 
-def in_turn(ours: list[object], machine: str, path: str, order: str, rounds: int) -> tuple:
+def in_turn(
+    ours: list[object], machine: str, path: str, order: str, rounds: int
+) -> tuple[bytes, list[float], list[float]]:
     """Runs of ours and by hand, in turn: what they print, the least seconds of each, and the least memory of each."""
     runs = [(ran(ours), ran([machine, path, order])) for _ in range(rounds)]
     if runs[0][0][0] != runs[0][1][0]:
@@ -43,6 +45,7 @@ def in_turn(ours: list[object], machine: str, path: str, order: str, rounds: int
 
 
 def row(name: str, order: str, program: pathlib.Path, machines: list[str], path: str, rounds: int) -> None:
+    """Prints the row of a module in an order."""
     ours = [program, "run", "--order", order, "--module", path]
     printed, seconds, memory = zip(*(in_turn(ours, machine, path, order, rounds) for machine in machines))
     ratios = [own / max(other, 1e-6) for own, other in seconds]

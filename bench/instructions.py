@@ -12,10 +12,12 @@ from __future__ import annotations
 
 import argparse
 import concurrent.futures
+import pathlib
 import re
 import subprocess
 import tempfile
 from collections.abc import Callable
+from dataclasses import dataclass
 
 from bench import modules
 from bench.by_hand import ORDERS, built
@@ -62,38 +64,71 @@ def collected(words: list[object]) -> int:
     )
 
 
-def more(make: Make, words: list[object]) -> int:
-    """What twice as much work takes more, of a call of these words with the module's path where they have None."""
-    counts = []
-    for work in (1, 2):
-        with tempfile.NamedTemporaryFile("w", suffix=".json") as file:
-            file.write(make(work))
-            file.flush()
-            counts.append(collected([file.name if word is None else word for word in words]))
-    return counts[1] - counts[0]
+@dataclass(frozen=True)
+class Side:
+    """One side of a row: a module for so much work, and the words of a call, None in the place of the module's path."""
+
+    make: Make
+    words: tuple[object, ...]
+
+    def instructions(self) -> int:
+        """What twice as much work takes more."""
+        counts = []
+        for work in (1, 2):
+            with tempfile.NamedTemporaryFile("w", suffix=".json") as file:
+                file.write(self.make(work))
+                file.flush()
+                counts.append(collected([file.name if word is None else word for word in self.words]))
+        return counts[1] - counts[0]
 
 
-def row(job: tuple) -> str:
-    name, make, order, program, machine = job
-    ours = more(make, [program, "run", "--order", order, "--module", None])
-    plain = more(make, [machine, None, order])
-    return f"| {name} | {order} | {ours:,} | {plain:,} | {ours / plain:.2f} |"
+@dataclass(frozen=True)
+class Row:
+    """A row of a table: what is counted, in which order, and the two sides that are compared."""
+
+    name: str
+    order: str
+    left: Side
+    right: Side
+
+    def line(self) -> str:
+        left, right = self.left.instructions(), self.right.instructions()
+        return f"| {self.name} | {self.order} | {left:,} | {right:,} | {left / right:.2f} |"
 
 
-def limited_row(job: tuple) -> str:
-    name, limited, plain, order, program = job
-    words = [program, "run", "--order", order, "--module", None]
-    with_limits, without = more(limited, words), more(plain, words)
-    return f"| {name} | {order} | {with_limits:,} | {without:,} | {with_limits / without:.2f} |"
+def run_of(program: pathlib.Path, order: str) -> tuple[object, ...]:
+    """The words by which the program runs a module in an order."""
+    return program, "run", "--order", order, "--module", None
 
 
-def print_table(head: str, row: Callable[[tuple], str], jobs: list[tuple]) -> None:
-    """A table of rows, in the order of their jobs; nothing where there are none."""
-    if not jobs:
+def rows_by_hand(program: pathlib.Path, only: str) -> list[Row]:
+    """The rows beside the machine written by hand, which is built where there are some."""
+    asked = [row for row in ROWS if only in row[0]]
+    machine = built() if asked else ""
+    return [
+        Row(name, order, Side(make, run_of(program, order)), Side(make, (machine, None, order)))
+        for name, make, orders in asked
+        for order in orders
+    ]
+
+
+def rows_of_limits(program: pathlib.Path, only: str) -> list[Row]:
+    """The rows of loops with a limit, beside the same without."""
+    return [
+        Row(name, order, Side(limited, run_of(program, order)), Side(plain, run_of(program, order)))
+        for name, limited, plain in LIMITED
+        if only in name
+        for order in ORDERS
+    ]
+
+
+def print_table(head: str, rows: list[Row]) -> None:
+    """A table of rows, in their order; nothing where there are none."""
+    if not rows:
         return
     print(f"| What | Order | {head} | Ratio |\n|---|---|---|---|---|")
     with concurrent.futures.ThreadPoolExecutor(2) as pool:
-        for line in pool.map(row, jobs):
+        for line in pool.map(Row.line, rows):
             print(line, flush=True)
 
 
@@ -102,17 +137,8 @@ def main() -> None:
     harness.add_program(parser)
     parser.add_argument("--only", default="")
     given = parser.parse_args()
-    rows = [row for row in ROWS if given.only in row[0]]
-    machine = built() if rows else ""
-    print_table(
-        "Ours | By hand",
-        row,
-        [(name, make, order, given.program, machine) for name, make, orders in rows for order in orders],
-    )
-    limited = [row for row in LIMITED if given.only in row[0]]
-    print_table(
-        "With a limit | Without", limited_row, [(*one, order, given.program) for one in limited for order in ORDERS]
-    )
+    print_table("Ours | By hand", rows_by_hand(given.program, given.only))
+    print_table("With a limit | Without", rows_of_limits(given.program, given.only))
 
 
 if __name__ == "__main__":

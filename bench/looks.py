@@ -60,6 +60,7 @@ class Looker:
         return spent(["sh", "-c", 'exec "$@"', "sh", self.program, *words])
 
     def timed(self, name: str, *words: object) -> None:
+        """Prints what a call takes, the least of some."""
         least = min((self.once(words) for _ in range(TIMES)), key=lambda took: took.seconds)
         told = f"{int(least.megabytes)} MB, {len(least.out):,} bytes told, status {least.status}"
         print(f"{name}: {least.seconds:.2f} s, {told}", flush=True)

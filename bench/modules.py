@@ -11,10 +11,12 @@ Unit = dict[str, Any]
 
 
 def module(units: list[Unit], shared: Iterable[int] = (), version: int = 1) -> str:
+    """The text of a module."""
     return json.dumps({"version": version, "shared": list(shared), "units": units}, separators=(",", ":"))
 
 
-def unit(kind: str, slots: int, code: list[list], params: str = "") -> Unit:
+def unit(kind: str, slots: int, code: list[list[Any]], params: str = "") -> Unit:
+    """A unit, with its code instruction by instruction: a name and operands."""
     return {"kind": kind, "params": params, "slots": slots, "code": code}
 
 

@@ -24,7 +24,6 @@ from tests import harness
 from tests.generated import generated, mutations
 from tests.reference import modules
 
-
 MOST_STEPS, MOST_WORK = 20_000, 2_000_000
 
 
@@ -36,6 +35,7 @@ def row_texts() -> Iterator[bytes]:
 
 
 def texts(cases: int, seed: int) -> Iterator[bytes]:
+    """All modules that are looked at: the written ones, and so many by chance."""
     seeds = mutations.seed_texts(False)
     yield from seeds
     yield from row_texts()
@@ -44,6 +44,7 @@ def texts(cases: int, seed: int) -> Iterator[bytes]:
 
 
 def told(program: pathlib.Path | None, judged: modules.Accepted, path: str, order: str) -> str:
+    """What a run prints, by the program, or by the reference where there is none."""
     if program is None:
         return modules.run(judged.module, modules.Order(order)).text()
     words = [program, "run", "--order", order, "--module", path]
@@ -57,6 +58,7 @@ def is_known(module: modules.Module) -> bool:
 
 
 def is_small(bounds: modules.Bounds) -> bool:
+    """Whether a run is soon at its end."""
     return bounds.steps <= MOST_STEPS and bounds.steps * (bounds.activities + bounds.clocks) <= MOST_WORK
 
 

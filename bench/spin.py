@@ -21,6 +21,7 @@ MODELS = pathlib.Path(__file__).resolve().parent / "spin"
 
 
 def spent() -> float:
+    """The processor time of all calls so far."""
     usage = resource.getrusage(resource.RUSAGE_CHILDREN)
     return usage.ru_utime + usage.ru_stime
 
