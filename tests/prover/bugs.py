@@ -32,6 +32,9 @@ doesn't stand once in it.
 It changes the files of the crate while it runs and puts them back: run it on a copy of the repository. The status is 0
 where each bug is refused by its own function, or passes as said.
 """
+
+from __future__ import annotations
+
 import argparse
 import os
 import re
@@ -39,11 +42,19 @@ import signal
 import subprocess
 import sys
 import time
+from collections.abc import Iterable
 from dataclasses import dataclass, field
+
+# A function: its first and last line, the impl or trait that it stands in, and its name.
+Function = tuple[int, int, str, str]
+# What a bug changes: a file, and the function there; without a name a line outside of functions.
+Place = tuple[str, int, int, str, str]
 
 
 @dataclass
 class Change:
+    """A text of a file, and what stands in its place."""
+
     file: str
     old: str
     new: str = ""
@@ -51,14 +62,18 @@ class Change:
 
 @dataclass
 class Bug:
+    """A bug: what is wrong, why no contract refuses it where none does, and what it changes."""
+
     name: str
     why: str = ""
     passes: str = ""
-    changes: list = field(default_factory=list)
+    changes: list[Change] = field(default_factory=list)
 
 
-def read_bugs(path):
-    bugs, file = [], ""
+def read_bugs(path: str) -> list[Bug]:
+    """The bugs of a file; ends the run where they aren't written as they have to be."""
+    bugs: list[Bug] = []
+    file = ""
     for number, line in enumerate(open(path, encoding="utf-8"), 1):
         line = line.rstrip("\n")
         word, _, rest = line.partition(":")
@@ -87,7 +102,7 @@ def read_bugs(path):
     return bugs
 
 
-def function_end(lines, first, indent):
+def function_end(lines: list[str], first: int, indent: str) -> int:
     """The number of the last line of the function whose head begins in line `first`; lines are counted from 1. A method
     of a trait may have no body: it ends where its head does."""
     in_head = True
@@ -106,16 +121,17 @@ def function_end(lines, first, indent):
     return len(lines)
 
 
-def owner_of(head):
+def owner_of(head: str) -> str:
     """What the functions of an impl or a trait stand under in the names of the prover: the type, with the trait that it
     implements."""
     words = [re.sub(r"[<:].*", "", word) for word in head.split(" for ")]
     return "".join(reversed(words))
 
 
-def functions(text):
-    """First and last line of each function, the impl or trait that it stands in, and its name."""
-    lines, found, owner = text.split("\n"), [], ""
+def functions(text: str) -> list[Function]:
+    """The functions of a file."""
+    lines, owner = text.split("\n"), ""
+    found: list[Function] = []
     for first, line in enumerate(lines, 1):
         if line == "}":
             owner = ""
@@ -127,19 +143,22 @@ def functions(text):
 
 
 class Crate:
-    def __init__(self, top, name):
+    """A crate in which bugs are planted: its files as they are without any."""
+
+    def __init__(self, top: str, name: str) -> None:
         self.path = os.path.join(top, "crates", name)
         self.name = name
-        self.texts = {}
+        self.texts: dict[str, str] = {}
 
-    def text(self, file):
+    def text(self, file: str) -> str:
+        """The text of a file, as it was when it was first read."""
         if file not in self.texts:
             self.texts[file] = open(os.path.join(self.path, file), encoding="utf-8").read()
         return self.texts[file]
 
-    def places(self, bug):
+    def places(self, bug: Bug) -> set[Place]:
         """The functions that a bug changes, or the lines, where it changes something outside of functions."""
-        hit = set()
+        hit: set[Place] = set()
         for change in bug.changes:
             text = self.text(change.file)
             line = text.count("\n", 0, text.find(change.old)) + 1
@@ -147,7 +166,8 @@ class Crate:
             hit.add((change.file, *f) if f else (change.file, line, line, "", ""))
         return hit
 
-    def stale(self, bug):
+    def stale(self, bug: Bug) -> str:
+        """Why a bug can't be planted, if it can't."""
         for change in bug.changes:
             if not os.path.exists(os.path.join(self.path, change.file)):
                 return f"{change.file} isn't there"
@@ -155,11 +175,13 @@ class Crate:
                 return f"not once in {change.file}: {change.old}"
         return ""
 
-    def batches(self, bugs):
+    def batches(self, bugs: Iterable[Bug]) -> list[list[Bug]]:
         """Bugs that change different functions; what changes no function is tried alone."""
-        left, done = list(bugs), []
+        left = list(bugs)
+        done: list[list[Bug]] = []
         while left:
-            used, taken = set(), []
+            used: set[Place] = set()
+            taken: list[Bug] = []
             for bug in left:
                 places = self.places(bug)
                 alone = any(not name for *_, name in places)
@@ -173,8 +195,9 @@ class Crate:
             left = [b for b in left if b not in taken]
         return done
 
-    def planted(self, bugs):
-        cuts = {}
+    def planted(self, bugs: Iterable[Bug]) -> dict[str, str]:
+        """The texts of the files that bugs change, with these."""
+        cuts: dict[str, list[tuple[int, int, str]]] = {}
         for bug in bugs:
             for change in bug.changes:
                 at = self.text(change.file).find(change.old)
@@ -187,12 +210,14 @@ class Crate:
             texts[file] = text
         return texts
 
-    def write(self, texts):
+    def write(self, texts: dict[str, str]) -> None:
+        """Writes files of the crate."""
         for file, text in texts.items():
             with open(os.path.join(self.path, file), "w", encoding="utf-8") as f:
                 f.write(text)
 
-    def check(self, bugs):
+    def check(self, bugs: Iterable[Bug]) -> str:
+        """What the prover says of the crate with bugs; the files are as before then."""
         texts = self.planted(bugs)
         call = ["rt", "check", "--jobs", "1"]
         try:
@@ -225,27 +250,29 @@ SAID = re.compile(r"(?:note: )?(?:\./)?(\S+?):(\d+):\d+: (.*)")
 class Said:
     """What the prover says of the functions that a bug changes."""
 
-    program: list = field(default_factory=list)
-    goals: list = field(default_factory=list)
-    answers: list = field(default_factory=list)
-    names: list = field(default_factory=list)
+    program: list[str] = field(default_factory=list)
+    goals: list[str] = field(default_factory=list)
+    answers: list[str] = field(default_factory=list)
+    names: list[str] = field(default_factory=list)
     lost_invariant: bool = False
-    without_proof: list = field(default_factory=list)
+    without_proof: list[str] = field(default_factory=list)
 
-    def add_proof_line(self, path, text):
+    def add_proof_line(self, path: str, text: str) -> None:
+        """Takes a line on a proof file in."""
         if GONE.search(text):
             self.names.append(text)
             self.lost_invariant |= path.endswith("Invariants.antt")
         elif text.startswith("error"):
             self.answers.append(text)
 
-    def add_source_line(self, text):
+    def add_source_line(self, text: str) -> None:
+        """Takes a line on a source file in."""
         if OPEN.search(text):
             self.goals.append(text)
         elif text.startswith("error"):
             self.program.append(text)
 
-    def own_goals(self):
+    def own_goals(self) -> list[str]:
         """The open goals, but for those that stay open because a name is gone: all where that is an invariant's; else
         those that an answer may have been for, which is lost with the name of its goal."""
         if self.lost_invariant:
@@ -256,7 +283,7 @@ class Said:
         stems = [(m[1].split("-")[0] if (m := re.search(r"\(`([\w-]+)`\)", goal)) else "", goal) for goal in self.goals]
         return [goal for stem, goal in stems if stem not in lost]
 
-    def verdict(self):
+    def verdict(self) -> tuple[str, str]:
         """What becomes of the bug, and a line that says so."""
         if self.program:
             return "no program", self.program[0]
@@ -272,7 +299,7 @@ class Said:
         return ("not tried", self.without_proof[0]) if self.without_proof else ("passes", "")
 
 
-def said(crate, bug, lines):
+def said(crate: Crate, bug: Bug, lines: list[str]) -> Said:
     """What is said of places in the bug's functions, or in the proofs that belong to them; of any, where it changes no
     function."""
     found = Said()
@@ -295,7 +322,7 @@ def said(crate, bug, lines):
     return found
 
 
-def told(crate, bug, lines):
+def told(crate: Crate, bug: Bug, lines: list[str]) -> tuple[str, str]:
     """What becomes of a bug, and a line that says so."""
     word, line = said(crate, bug, lines).verdict()
     if not any(line.startswith("logic=") for line in lines) and word != "no program":
@@ -303,12 +330,13 @@ def told(crate, bug, lines):
     return word, line
 
 
-def try_all(crate, bugs, keep):
+def try_all(crate: Crate, bugs: list[Bug], keep: str | None) -> dict[str, str]:
     """What becomes of each bug, by its name. One that another keeps from being tried is tried again, three times at
     most."""
-    answers, number, left = {}, 0, bugs
+    answers: dict[str, str] = {}
+    number, left = 0, bugs
     for _ in range(3):
-        later = []
+        later: list[Bug] = []
         for batch in crate.batches(left):
             began = time.time()
             out = crate.check(batch)
@@ -325,14 +353,16 @@ def try_all(crate, bugs, keep):
     return answers
 
 
-def bugs_of(top, name):
+def bugs_of(top: str, name: str) -> list[Bug]:
+    """The bugs of a crate."""
     return read_bugs(os.path.join(top, "tests", "prover", "bugs", name + ".bugs"))
 
 
-def apply_all(top, names):
+def apply_all(top: str, names: list[str]) -> bool:
     """Says which bugs of these crates, or of all, can't be planted; whether all can."""
     files = sorted(os.listdir(os.path.join(top, "tests", "prover", "bugs")))
-    count, wrong = 0, []
+    count = 0
+    wrong: list[str] = []
     for name in names or [file.removesuffix(".bugs") for file in files if file.endswith(".bugs")]:
         crate, bugs = Crate(top, name), bugs_of(top, name)
         count += len(bugs)
@@ -341,7 +371,7 @@ def apply_all(top, names):
     return not wrong
 
 
-def main():
+def main() -> None:
     p = argparse.ArgumentParser()
     p.add_argument("--top", default=os.path.join(os.path.dirname(__file__), "../.."))
     p.add_argument("--plan", action="store_true", help="say what would be tried together")
@@ -360,10 +390,10 @@ def main():
     bugs = [b for b in bugs if not a.bugs or b.name in a.bugs]
     stale = {b.name: crate.stale(b) for b in bugs if crate.stale(b)}
     fresh = [b for b in bugs if b.name not in stale]
+    answers: dict[str, str] = {}
     if a.plan:
         for batch in crate.batches(fresh):
             print(len(batch), *(b.name for b in batch))
-        answers = {}
     else:
         answers = try_all(crate, fresh, a.keep)
     wanted = {b.name: ["passes"] if b.passes else ["refused", "refused at answer"] for b in bugs}

@@ -3,13 +3,16 @@
 
     tests/prover/wrong_code.py [BUG ..]
 
-They stand in tests/prover/bugs/xk_law_compiler.bugs, in the form that tests/prover/bugs.py tells; each changes the
-definition of the code of statements (crates/xk_emit/specs) or of what a text means (crates/xk_source_semantics/specs),
-which the law is about. The functions of `xk_emit` would be refused first, by the contract that names the definition; so
-in a copy of the crates below that one is left with its definitions and what the law's proof cites of its lemmas, and
+They stand in tests/prover/bugs/xk_law_compiler.bugs, in the form of tests/prover/bugs.py; each changes the definition
+of the code of statements (crates/xk_emit/specs) or of what a text means (crates/xk_source_semantics/specs), which the
+law is about. The functions of `xk_emit` would be refused first, by the contract that names the definition; so in a copy
+of the crates below that one is left with its definitions and what the law's proof cites of its lemmas, and
 `xk_law_compiler`, which has the law, is checked over it and `xk_source_semantics`, both without their examples: as it
 is, where it has to be proved, and with each change, where it must not be.
 """
+
+from __future__ import annotations
+
 import os
 import re
 import shutil
@@ -27,7 +30,7 @@ KEPT_PROOFS = ["ScopeLemmas", "CoverageLemmas", "CoverageLaw"]
 OF_ANSWERS = ["Room", "EmittedCode"]
 
 
-def with_definitions_alone(folder):
+def with_definitions_alone(folder: str) -> None:
     """Leaves the definitions of xk_emit in this folder, and the lemmas that the law's proof cites."""
     shutil.rmtree(os.path.join(folder, "out"), ignore_errors=True)
     for file in os.listdir(os.path.join(folder, "src")):
@@ -49,7 +52,7 @@ def with_definitions_alone(folder):
             f.write("".join(f"pub mod {name}\n" for name in names))
 
 
-def without_examples(folder, name):
+def without_examples(folder: str, name: str) -> None:
     """Leaves the crate in this folder without its file of examples, which would refuse what the law is asked about."""
     shutil.rmtree(os.path.join(folder, "out"), ignore_errors=True)
     os.remove(os.path.join(folder, "proofs", f"{name}.antt"))
@@ -59,7 +62,7 @@ def without_examples(folder, name):
         f.writelines(kept)
 
 
-def copied(folder):
+def copied(folder: str) -> None:
     """Makes a copy of the crates that the law needs."""
     crates = os.path.join(folder, "crates")
     for name in BELOW + LAW:
@@ -74,7 +77,7 @@ def copied(folder):
     without_examples(os.path.join(crates, "xk_law_compiler"), "PremiseExample")
 
 
-def says(folder):
+def says(folder: str) -> tuple[str, str]:
     """What the check of xk_law_compiler comes to: proved, refused, or a word on what went wrong before; and a line that
     says so."""
     call = ["rt", "check", "--jobs", "1"]
@@ -101,10 +104,10 @@ def says(folder):
     return "not tried", lines[-1] if lines else ""
 
 
-def main():
+def main() -> None:
     bugs = read_bugs(os.path.join(TOP, "tests", "prover", "bugs", "xk_law_compiler.bugs"))
     bugs = [b for b in bugs if not sys.argv[1:] or b.name in sys.argv[1:]]
-    wrong = []
+    wrong: list[str] = []
     with tempfile.TemporaryDirectory() as folder:
         copied(folder)
         first, line = says(folder)
