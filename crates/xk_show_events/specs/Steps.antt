@@ -55,12 +55,16 @@ run_step a w v e = record {
   event = e;
 }
 
+-- who tells of a step by the world that it led to
+abbrev pub tell_by : {X : Type 0} → (World → RunStep → List X) → Teller X
+tell_by describe a w v e = describe v (run_step a w v e)
+
 -- the step, if other activities can see it
 abbrev pub if_seen : RunStep → List RunStep
 if_seen s = if is_local s.event then [] else s ∷ []
 
 abbrev pub tell_seen : Teller RunStep
-tell_seen a w v e = if_seen (run_step a w v e)
+tell_seen = tell_by (λ v s. if_seen s)
 
 -- the steps of a run that other activities can see
 abbrev pub seen_steps : ModuleValue → List ℤ → List Entry → List RunStep

@@ -41,9 +41,10 @@ fn events(alloc: Global, places: &Places<'_>, ended: &Ended<'_>) -> Result<Strin
     event_lines(alloc, places, &steps)
 }
 
-/// The steps of a run of a source text's module that other activities can see, in their order, a line each, as `step 4 act 0 at 6:5 print 10`:
-/// which step of the run it was, counted from 1; whose; the line and column that its instruction comes from, of a pass those of the
-/// `advance`; and what was seen. Where no origin says the line, it is told as of a module. Err where memory was refused.
+/// The steps of a run of a source text's module that other activities can see, in their order, a line each, as `step 4
+/// act 0 at 6:5 print 10`: which step of the run it was, counted from 1; whose; the line and column that its
+/// instruction comes from, of a pass those of the `advance`; and what was seen. Where no origin says the line, it is
+/// told as of a module. Err where memory was refused.
 pub fn source_events(
     alloc: Global,
     text: &[u8],

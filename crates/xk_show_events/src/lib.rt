@@ -3,6 +3,7 @@
 
 mod advances;
 mod events;
+mod pairs;
 mod places;
 mod steps;
 mod walk;
@@ -10,7 +11,8 @@ mod words;
 
 pub use advances::advanced;
 pub use events::{module_events, source_events};
+pub use pairs::{Both, describe_run_by_both};
 pub use places::Places;
 pub use steps::{RunStep, seen_steps, take_step};
-pub use walk::{Tell, tell_run};
+pub use walk::{Describe, Tell, describe_run, tell_run};
 pub use words::{event_line, event_words, is_seen, place_words};

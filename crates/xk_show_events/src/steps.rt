@@ -3,9 +3,9 @@
 ghost use Rattle.std.specs.Prelude.{◌≡◌, true, ◌++◌, IfOk, OnErr, OnOk};
 ghost use Rattle.xk_types.specs.Schedule.{is_enabled};
 ghost use Rattle.xk_core.specs.Core.{StepsTo, WantsMemory};
-ghost use Rattle.xk_show_events.specs.Steps.{if_seen, run_step, seen_steps, tell_seen};
+ghost use Rattle.xk_show_events.specs.Steps.{if_seen, run_step, seen_steps};
 
-use crate::walk::{Tell, tell_run};
+use crate::walk::{Describe, describe_run};
 use crate::words::is_seen;
 use std::alloc::{AllocError, Global};
 use xk_core::Core;
@@ -31,8 +31,8 @@ pub struct RunStep {
     pub event: Event,
 }
 
-/// Takes a step of an activity that can take one, and says what is told of it. Only the start of an activity wants memory; where that is refused
-/// the core is as before.
+/// Takes a step of an activity that can take one, and says what is told of it. Only the start of an activity wants
+/// memory; where that is refused the core is as before.
 #[tactic(auto, using(crate::proofs::StepLemmas::enabled_there))]
 pub fn take_step(core: &mut Core<'_>, act: Act) -> Result<RunStep, AllocError>
     requires { is_enabled core.old.module_run core.old.world act ≡ true }
@@ -60,32 +60,23 @@ pub fn take_step(core: &mut Core<'_>, act: Act) -> Result<RunStep, AllocError>
     })
 }
 
-/// Adds a step, if other activities can see it.
-fn push_if_seen(list: &mut Vec<RunStep>, step: RunStep) -> Result<(), AllocError>
-    ensures { OnOk result (list.new.items ≡ list.old.items ++ if_seen step) }
-{
-    if is_seen(step.event) {
-        list.push(step)?;
-    }
-    Ok(())
-}
-
 /// Tells of the steps that other activities can see.
 struct SeenSteps;
 
-impl Tell<RunStep> for SeenSteps {
-    ghost tell = { λ teller m. tell_seen };
+impl Describe<RunStep> for SeenSteps {
+    ghost describe = { λ describer m v s. if_seen s };
 
-    fn push_step(
+    fn push(
         &self,
         _alloc: Global,
         out: &mut Vec<RunStep>,
-        core: &mut Core<'_>,
-        act: Act,
-    ) -> Result<Event, AllocError> {
-        let step = take_step(core, act)?;
-        push_if_seen(out, step)?;
-        Ok(step.event)
+        _core: &Core<'_>,
+        step: &RunStep,
+    ) -> Result<(), AllocError> {
+        if is_seen(step.event) {
+            out.push(*step)?;
+        }
+        Ok(())
     }
 }
 
@@ -95,6 +86,6 @@ pub fn seen_steps(alloc: Global, ended: &Ended<'_>) -> Result<Vec<RunStep>, Allo
         ended.now.module.now ended.now.core.world.arguments ended.now.log.items) }
 {
     let mut list = Vec::new(alloc);
-    tell_run(&SeenSteps, alloc, &mut list, ended)?;
+    describe_run(&SeenSteps, alloc, &mut list, ended)?;
     Ok(list)
 }

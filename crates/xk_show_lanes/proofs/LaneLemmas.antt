@@ -15,10 +15,10 @@ use Rattle.xk_types.specs.Logs.{schedule_of}
 use Rattle.xk_core.specs.Core.{advanced_now, has_advanced}
 use Rattle.xk_collections.proofs.RisingListLemmas.{member_passes}
 use Rattle.xk_show_events.specs.declared.steps.RunStep.{RunStep}
-use Rattle.xk_show_events.specs.Steps.{run_step, tell_seen, told, told_on, told_of_run}
+use Rattle.xk_show_events.specs.Steps.{Teller, run_step, tell_by, tell_seen, told, told_on, told_of_run}
 use Rattle.xk_show_lanes.specs.declared.window.Window.{Window}
 use Rattle.xk_show_lanes.specs.Fields.{longest}
-use Rattle.xk_show_lanes.specs.Lanes.{is_asked, steps_asked, tell_asked}
+use Rattle.xk_show_lanes.specs.Lanes.{if_asked, is_asked, steps_asked}
 
 longest_append : (xs : List (List ℕ)) (x : List ℕ) → longest (xs ++ x ∷ []) ≡ max (longest xs) (length x)
 longest_append [] x = omega arith
@@ -42,6 +42,9 @@ none_asked window k behind = grind (arith, nat_tests)
 
 kept : (p : RunStep → Bool) (s : RunStep) (b : Bool) → (if p s && not b then s ∷ [] else []) ≡ filter p (if b then [] else s ∷ [])
 kept p s b = grind arith
+
+abbrev tell_asked : Window → Teller RunStep
+tell_asked window = tell_by (λ v s. if_asked window s)
 
 asked_from : (window : Window) (m : ModuleValue) (list : List ℕ) (w : World)
     → told (tell_asked window) m list w ≡ filter (λ (s : RunStep). is_asked window s.number) (told tell_seen m list w)

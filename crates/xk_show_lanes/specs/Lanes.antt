@@ -9,7 +9,7 @@ use Rattle.xk_lines.specs.declared.lines.Position.{Position}
 use Rattle.xk_core.specs.Core.{advanced_now, is_living, is_registered_on}
 use Rattle.xk_show_events.specs.declared.steps.RunStep.{RunStep}
 use Rattle.xk_show_events.specs.Worlds.{each_below, phase_of}
-use Rattle.xk_show_events.specs.Steps.{Teller, run_step, seen_steps, told_of_run}
+use Rattle.xk_show_events.specs.Steps.{seen_steps, tell_by, told_of_run}
 use Rattle.xk_show_events.specs.Events.{PlacesValue, event_words, origin_of}
 use Rattle.xk_show_lanes.specs.declared.grid.Grid.{Grid}
 use Rattle.xk_show_lanes.specs.declared.window.Window.{Window}
@@ -29,9 +29,9 @@ whole_run = record { first = 0; last = 2 ^ 64 - 1 }
 abbrev pub steps_asked : Window → ModuleValue → List Entry → World → List RunStep
 steps_asked w m log last = filter (λ s. is_asked w s.number) (seen_steps m last.arguments log)
 
--- such a step
-abbrev pub tell_asked : Window → Teller RunStep
-tell_asked w a u v e = if is_asked w v.steps && not (is_local e) then run_step a u v e ∷ [] else []
+-- the step, if it is one of them
+abbrev pub if_asked : Window → RunStep → List RunStep
+if_asked w s = if is_asked w s.number && not (is_local s.event) then s ∷ [] else []
 
 -- ---- columns
 
@@ -132,8 +132,8 @@ abbrev pub row_and_bars : Grid → PlacesValue → ModuleValue → World → Run
 row_and_bars g p m v s = row_if_seen g p m v s ++ flat_map (bar g v s.act) (advanced_now v)
 
 -- of a step that is asked for
-abbrev pub tell_lanes : Grid → PlacesValue → ModuleValue → Teller ℕ
-tell_lanes g p m a w v e = if is_asked g.window v.steps then row_and_bars g p m v (run_step a w v e) else []
+abbrev pub lanes_of_step : Grid → PlacesValue → ModuleValue → World → RunStep → List ℕ
+lanes_of_step g p m v s = if is_asked g.window s.number then row_and_bars g p m v s else []
 
 -- how many of so many activities have no lane
 abbrev pub left_out_by : ℕ → List ℕ
@@ -145,7 +145,7 @@ are_lanes_whole last = nat_le (length last.activities) most_lanes
 
 abbrev pub lanes_in : Grid → PlacesValue → ModuleValue → List Entry → World → List ℕ
 lanes_in g p m log last =
-    (head_line g ++ told_of_run (tell_lanes g p m) m last.arguments log) ++ left_out_by (length last.activities - most_lanes)
+    (head_line g ++ told_of_run (tell_by (lanes_of_step g p m)) m last.arguments log) ++ left_out_by (length last.activities - most_lanes)
 
 -- the columns for these steps of the run that a log stands for, which ends in this world
 abbrev pub grid_for : PlacesValue → Window → ModuleValue → List Entry → World → Grid

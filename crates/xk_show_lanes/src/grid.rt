@@ -88,7 +88,7 @@ fn longest_words(alloc: Global, steps: &[RunStep]) -> Result<usize, AllocError>
 }
 
 /// The columns for these steps of so many activities.
-pub(crate) fn grid_of(
+pub fn grid_of(
     alloc: Global,
     places: &Places<'_>,
     window: Window,

@@ -2,7 +2,7 @@
 
 ghost use Rattle.std.specs.Prelude.{◌≡◌, ◌++◌, IfOk, OnOk};
 ghost use Rattle.xk_show_events.specs.Events.{no_text, places_of};
-ghost use Rattle.xk_show_lanes.specs.Lanes.{are_lanes_whole, grid_for, lanes_in, lanes_text, left_out_by, row_and_bars, steps_asked, tell_asked, tell_lanes};
+ghost use Rattle.xk_show_lanes.specs.Lanes.{are_lanes_whole, grid_for, if_asked, lanes_in, lanes_of_step, lanes_text, left_out_by, row_and_bars, steps_asked};
 
 use crate::bars::push_bars;
 use crate::fields::push_text;
@@ -13,8 +13,7 @@ use std::alloc::{AllocError, Global};
 use xk_core::Core;
 use xk_origins::UnitOrigins;
 use xk_scheduler::Ended;
-use xk_show_events::{Places, RunStep, Tell, is_seen, take_step, tell_run};
-use xk_types::{Act, Event};
+use xk_show_events::{Describe, Places, RunStep, describe_run, is_seen};
 
 /// What is drawn, and whether it is whole: no lane is left out. (A step that wasn't asked for isn't left out.)
 #[derive(Debug, Drop)]
@@ -46,21 +45,20 @@ struct LaneTeller<'a, 't> {
     places: &'a Places<'t>,
 }
 
-impl Tell<u8> for LaneTeller<'_, '_> {
-    ghost tell = { λ teller m. tell_lanes teller.grid teller.places.now m };
+impl Describe<u8> for LaneTeller<'_, '_> {
+    ghost describe = { λ teller m v s. lanes_of_step teller.grid teller.places.now m v s };
 
-    fn push_step(
+    fn push(
         &self,
         alloc: Global,
         out: &mut Vec<u8>,
-        core: &mut Core<'_>,
-        act: Act,
-    ) -> Result<Event, AllocError> {
-        let step = take_step(core, act)?;
+        core: &Core<'_>,
+        step: &RunStep,
+    ) -> Result<(), AllocError> {
         if self.grid.window.asks(step.number) {
-            push_row_and_bars(alloc, out, core, self.grid, self.places, &step)?;
+            push_row_and_bars(alloc, out, core, self.grid, self.places, step)?;
         }
-        Ok(step.event)
+        Ok(())
     }
 
     #[tactic(auto, using(crate::proofs::LaneLemmas::none_asked))]
@@ -94,7 +92,7 @@ fn lanes_in(
 {
     let mut out = Vec::new(alloc);
     push_head(alloc, &mut out, grid)?;
-    tell_run(&LaneTeller { grid, places }, alloc, &mut out, ended)?;
+    describe_run(&LaneTeller { grid, places }, alloc, &mut out, ended)?;
     push_left_out(
         alloc,
         &mut out,
@@ -105,25 +103,24 @@ fn lanes_in(
 
 /// Tells of the steps that are asked for, and that others can see.
 #[derive(Drop)]
-struct AskedSteps {
-    window: Window,
+pub struct AskedSteps {
+    pub window: Window,
 }
 
-impl Tell<RunStep> for AskedSteps {
-    ghost tell = { λ teller m. tell_asked teller.window };
+impl Describe<RunStep> for AskedSteps {
+    ghost describe = { λ asked m v s. if_asked asked.window s };
 
-    fn push_step(
+    fn push(
         &self,
         _alloc: Global,
         out: &mut Vec<RunStep>,
-        core: &mut Core<'_>,
-        act: Act,
-    ) -> Result<Event, AllocError> {
-        let step = take_step(core, act)?;
+        _core: &Core<'_>,
+        step: &RunStep,
+    ) -> Result<(), AllocError> {
         if self.window.asks(step.number) && is_seen(step.event) {
-            out.push(step)?;
+            out.push(*step)?;
         }
-        Ok(step.event)
+        Ok(())
     }
 
     #[tactic(auto, using(crate::proofs::LaneLemmas::none_asked))]
@@ -133,18 +130,17 @@ impl Tell<RunStep> for AskedSteps {
 }
 
 /// The steps of a run that are asked for, and that others can see. The log is played again for it.
-#[tactic(auto, using(crate::proofs::LaneLemmas::asked_told))]
 fn steps_asked(alloc: Global, ended: &Ended<'_>, window: Window) -> Result<Vec<RunStep>, AllocError>
     ensures { IfOk result (λ v. v.items ≡ steps_asked window ended.now.module.now
         ended.now.log.items ended.now.core.world) }
 {
     let mut steps = Vec::new(alloc);
-    tell_run(&AskedSteps { window }, alloc, &mut steps, ended)?;
+    describe_run(&AskedSteps { window }, alloc, &mut steps, ended)?;
     Ok(steps)
 }
 
 /// The columns for these steps of a run.
-pub fn grid_for(
+fn grid_for(
     alloc: Global,
     places: &Places<'_>,
     ended: &Ended<'_>,
@@ -174,10 +170,11 @@ fn lanes(
     Ok(Drawing { text, whole })
 }
 
-/// The lanes of these steps of a run of a source text's module: a column for each activity, and a row for each step that others can see, with its
-/// number, where it was taken, and what was done in the lane of who did it. Behind a step an activity that could go on shows `|`, one that is held
-/// back `:`, and one that hasn't started or has ended nothing. Where a clock advanced, a bar joins the lanes of those who are registered on it, and
-/// says in whose step that was. It is whole where each activity has a lane. Err where memory was refused.
+/// The lanes of these steps of a run of a source text's module: a column for each activity, and a row for each step
+/// that others can see, with its number, where it was taken, and what was done in the lane of who did it. Behind a step
+/// an activity that could go on shows `|`, one that is held back `:`, and one that hasn't started or has ended nothing.
+/// Where a clock advanced, a bar joins the lanes of those who are registered on it, and says in whose step that was. It
+/// is whole where each activity has a lane. Err where memory was refused.
 pub fn source_lanes(
     alloc: Global,
     text: &[u8],

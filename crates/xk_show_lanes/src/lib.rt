@@ -9,7 +9,7 @@ mod rows;
 mod window;
 
 pub use bars::{any_behind, any_below, bar_label, is_on};
-pub use grid::{Grid, spot};
-pub use lanes::{Drawing, grid_for, module_lanes, source_lanes};
+pub use grid::{Grid, grid_of, spot};
+pub use lanes::{AskedSteps, Drawing, module_lanes, source_lanes};
 pub use rows::title;
 pub use window::Window;

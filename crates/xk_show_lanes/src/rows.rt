@@ -64,7 +64,8 @@ pub(crate) fn push_head(alloc: Global, out: &mut Vec<u8>, grid: Grid) -> Result<
     push_line(out, &line)
 }
 
-/// What an activity shows where another took a step: nothing, if it hasn't started or has ended; `|`, if it can take a step; `:`, if it can't.
+/// What an activity shows where another took a step: nothing, if it hasn't started or has ended; `|`, if it can take a
+/// step; `:`, if it can't.
 fn mark(core: &Core<'_>, act: Act) -> &'static str
     ensures { result.now ≡ mark core.now.module_run core.now.world act }
 {

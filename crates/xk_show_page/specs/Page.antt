@@ -9,7 +9,7 @@ use Rattle.xk_types.specs.Code.{ModuleValue}
 use Rattle.xk_types.specs.World.{World, opening}
 use Rattle.xk_types.specs.Schedule.{is_local}
 use Rattle.xk_show_events.specs.declared.steps.RunStep.{RunStep}
-use Rattle.xk_show_events.specs.Steps.{Teller, run_step, told_of_run}
+use Rattle.xk_show_events.specs.Steps.{tell_by, told_of_run}
 use Rattle.xk_show_events.specs.Events.{PlacesValue, event_line}
 use Rattle.xk_show_lanes.specs.declared.window.Window.{Window}
 use Rattle.xk_show_lanes.specs.Lanes.{is_asked}
@@ -63,13 +63,10 @@ print_by p r _ = []
 abbrev pub told_step : Window → PlacesValue → ModuleValue → World → RunStep → List ℕ
 told_step window p m v r = if is_moment window r then moment p m v r else print_by p r r.event
 
-abbrev pub tell_moment : Window → PlacesValue → ModuleValue → Teller ℕ
-tell_moment window p m a w v e = told_step window p m v (run_step a w v e)
-
 -- how things stand before the first step, and what is told of each
 abbrev pub moments : Window → PlacesValue → ModuleValue → List Entry → World → List ℕ
 moments window p m log last =
-    standings_text p m (opening m last.arguments) None ++ told_of_run (tell_moment window p m) m last.arguments log
+    standings_text p m (opening m last.arguments) None ++ told_of_run (tell_by (told_step window p m)) m last.arguments log
 
 -- ---- the page
 

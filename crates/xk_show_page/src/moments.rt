@@ -4,16 +4,16 @@ ghost use Rattle.std.specs.Prelude.{◌≡◌, None, ◌++◌, OnOk};
 ghost use Rattle.xk_types.specs.World.{opening};
 ghost use Rattle.xk_show_events.specs.Events.{event_line};
 ghost use Rattle.xk_show_where.specs.Where.{standings_text};
-ghost use Rattle.xk_show_page.specs.Page.{is_moment, moment, moments, print_by, tell_moment, told_step};
+ghost use Rattle.xk_show_page.specs.Page.{is_moment, moment, print_by, told_step};
 
 use crate::texts::put;
 use std::alloc::{AllocError, Global};
 use xk_core::Core;
 use xk_scheduler::Ended;
-use xk_show_events::{Places, RunStep, Tell, event_line, is_seen, take_step, tell_run};
+use xk_show_events::{Describe, Places, RunStep, event_line, is_seen};
 use xk_show_lanes::Window;
 use xk_show_where::standings_text;
-use xk_types::{Act, Event};
+use xk_types::Event;
 
 /// Whether others can see a step, and it is asked for.
 fn is_moment(window: Window, step: &RunStep) -> bool
@@ -81,49 +81,32 @@ fn push_print(
     }
 }
 
-/// Adds what is told of a step that led to the core.
-fn push_told(
-    alloc: Global,
-    out: &mut Vec<u8>,
-    core: &Core<'_>,
-    window: Window,
-    places: &Places<'_>,
-    step: &RunStep,
-) -> Result<(), AllocError>
-    ensures { OnOk result (out.new.items ≡ out.old.items
-        ++ told_step window places.now core.now.module_run core.now.world step.now) }
-{
-    if is_moment(window, step) {
-        return push_moment(alloc, out, core, places, step);
-    }
-    push_print(alloc, out, places, step, step.event)
-}
-
 /// Tells of steps by how things stand behind them, and of those that aren't asked for that they printed.
 #[derive(Drop)]
-struct MomentTeller<'a, 't> {
-    window: Window,
-    places: &'a Places<'t>,
+pub(crate) struct MomentTeller<'a, 't> {
+    pub window: Window,
+    pub places: &'a Places<'t>,
 }
 
-impl Tell<u8> for MomentTeller<'_, '_> {
-    ghost tell = { λ teller m. tell_moment teller.window teller.places.now m };
+impl Describe<u8> for MomentTeller<'_, '_> {
+    ghost describe = { λ teller m v s. told_step teller.window teller.places.now m v s };
 
-    fn push_step(
+    fn push(
         &self,
         alloc: Global,
         out: &mut Vec<u8>,
-        core: &mut Core<'_>,
-        act: Act,
-    ) -> Result<Event, AllocError> {
-        let step = take_step(core, act)?;
-        push_told(alloc, out, core, self.window, self.places, &step)?;
-        Ok(step.event)
+        core: &Core<'_>,
+        step: &RunStep,
+    ) -> Result<(), AllocError> {
+        if is_moment(self.window, step) {
+            return push_moment(alloc, out, core, self.places, step);
+        }
+        push_print(alloc, out, self.places, step, step.event)
     }
 }
 
 /// Adds how things stand before the first step of a run.
-fn push_opening(
+pub(crate) fn push_opening(
     alloc: Global,
     out: &mut Vec<u8>,
     places: &Places<'_>,
@@ -135,20 +118,4 @@ fn push_opening(
 {
     let core = Core::open(alloc, ended.module, ended.core.arguments())?;
     push_standings(alloc, out, places, &core)
-}
-
-/// Adds how things stand before the first step of a run, and what is told of each.
-pub(crate) fn push_moments(
-    alloc: Global,
-    out: &mut Vec<u8>,
-    window: Window,
-    places: &Places<'_>,
-    ended: &Ended<'_>,
-) -> Result<(), AllocError>
-    ensures { OnOk result (out.new.items ≡ out.old.items
-        ++ moments window places.now ended.now.module.now ended.now.log.items
-        ended.now.core.world) }
-{
-    push_opening(alloc, out, places, ended)?;
-    tell_run(&MomentTeller { window, places }, alloc, out, ended)
 }

@@ -1,7 +1,7 @@
 -- The picture of a run: what its lanes tell (`xk_show_lanes`), drawn. Time goes down. A row for each step that others can see, and below it one for each
 -- clock that advanced in it; a column for each activity. Who can take a step and when clocks advance, `xk_types` says in `Step.antt`; that it is
 -- drawn so is this project's own.
-use Rattle.std.specs.Prelude.{ℕ, ◌+◌, ◌-◌, ◌*◌, ◌%◌, min, nat_eq, nat_lt, nat_le, Bool, not, ◌&&◌, ◌||◌, ℤ, List, [], ◌∷◌, ◌++◌, length, count_by, flat_map, replicate, codes, if◌then◌else◌}
+use Rattle.std.specs.Prelude.{◌≡◌, ℕ, ◌+◌, ◌-◌, ◌*◌, ◌%◌, min, nat_eq, nat_lt, nat_le, Bool, true, false, not, ◌&&◌, ◌||◌, ℤ, List, [], ◌∷◌, ◌++◌, length, count_by, flat_map, replicate, codes, if◌then◌else◌}
 use Rattle.xk_types.specs.declared.world.Entry.{Entry}
 use Rattle.xk_types.specs.declared.world.Event.{Event}
 use Rattle.xk_types.specs.declared.world.Event.TheVariants as event
@@ -10,11 +10,13 @@ use Rattle.xk_types.specs.World.{World}
 use Rattle.xk_types.specs.Schedule.{is_enabled, is_local}
 use Rattle.xk_core.specs.Core.{advanced_now, is_living, is_quiet}
 use Rattle.xk_show_events.specs.declared.steps.RunStep.{RunStep}
-use Rattle.xk_show_events.specs.Steps.{Teller, run_step, told_of_run}
+use Rattle.xk_show_events.specs.Steps.{tell_by, told_of_run}
 use Rattle.xk_show_events.specs.Events.{PlacesValue, event_words}
 use Rattle.xk_show_lanes.specs.declared.window.Window.{Window}
 use Rattle.xk_show_events.specs.Worlds.{each_below, phase_of}
 use Rattle.xk_show_lanes.specs.Lanes.{any_behind, any_below, bar_label, grid_for, is_asked, is_on, most_lanes, spot, title}
+use Rattle.xk_show_picture.specs.declared.picture.Planned.{Planned}
+use Rattle.xk_show_picture.specs.declared.picture.Planned.TheVariants as planned
 use Rattle.xk_show_picture.specs.declared.sheet.Sheet.{Sheet}
 use Rattle.xk_show_picture.specs.Sheet.{band_left, labels, lane_left, middle, sheet_of, wide}
 use Rattle.xk_show_picture.specs.Shapes.{arrow, box_frame, box_head, box_words, described, front, label, lane_title, shape, stroke, svg_head, too_large, top}
@@ -30,12 +32,9 @@ is_shown window v e = is_asked window v.steps && (not (is_local e) || not (is_qu
 abbrev pub rows_told : Window → World → Event → List ℕ
 rows_told window v e = if is_shown window v e then v.steps ∷ replicate (length (advanced_now v)) v.steps else []
 
-abbrev pub tell_rows : Window → Teller ℕ
-tell_rows window a w v e = rows_told window v e
-
 -- the rows of a run, from the top: for each the number of its step
 abbrev pub rows_of : Window → ModuleValue → List ℤ → List Entry → List ℕ
-rows_of window m args log = told_of_run (tell_rows window) m args log
+rows_of window m args log = told_of_run (tell_by (λ v s. rows_told window v s.event)) m args log
 
 -- How many rows are drawn at most: where there are more there is no picture (`fits`), and so no row of one stands further down.
 abbrev pub most_rows : ℕ
@@ -138,8 +137,8 @@ abbrev pub rows_of_step : Sheet → List ℕ → PlacesValue → ModuleValue →
 rows_of_step s rows p m v r = step_row s rows p m v r ++ flat_map (clock_bar s rows m v r.act) (advanced_now v)
 
 -- of a step that is shown: its row, and below it the bars
-abbrev pub tell_picture : Sheet → List ℕ → PlacesValue → ModuleValue → Teller ℕ
-tell_picture s rows p m a w v e = if is_shown s.window v e then rows_of_step s rows p m v (run_step a w v e) else []
+abbrev pub drawn_step : Sheet → List ℕ → PlacesValue → ModuleValue → World → RunStep → List ℕ
+drawn_step s rows p m v r = if is_shown s.window v r.event then rows_of_step s rows p m v r else []
 
 abbrev pub lane_head : Sheet → ℕ → List ℕ
 lane_head s b = lane_title (middle s b) (title b)
@@ -160,9 +159,13 @@ head s activities rows =
 abbrev pub fits : ℕ → ℕ → Bool
 fits rows activities = nat_le rows most_rows && nat_le activities most_lanes
 
+-- behind the last row
+abbrev pub picture_end : List ℕ
+picture_end = codes "</svg>\n"
+
 abbrev pub picture_in : Sheet → List ℕ → PlacesValue → ModuleValue → List Entry → World → List ℕ
 picture_in s rows p m log last =
-    (head s (length last.activities) (length rows) ++ told_of_run (tell_picture s rows p m) m last.arguments log) ++ codes "</svg>\n"
+    (head s (length last.activities) (length rows) ++ told_of_run (tell_by (drawn_step s rows p m)) m last.arguments log) ++ picture_end
 
 -- it isn't too large to be drawn
 abbrev pub is_drawn : Window → ModuleValue → List Entry → World → Bool
@@ -180,3 +183,14 @@ picture_by drawn p w rows m log last =
 -- the picture of these steps of that run
 abbrev pub picture_text : PlacesValue → Window → ModuleValue → List Entry → World → List ℕ
 picture_text p w m log last = picture_by (is_drawn w m log last) p w (rows_of w m last.arguments log) m log last
+
+-- ---- its plan
+
+-- a picture is drawn so, or isn't, and this is told in its place
+abbrev pub IsPlanned : PlacesValue → Window → ModuleValue → List Entry → World → Planned → Type 0
+IsPlanned p w m log last (planned.Drawn plan) =
+    (is_drawn w m log last ≡ true)
+    × ((plan.sheet ≡ sheet_for p w m log last)
+    × ((plan.rows.items ≡ rows_of w m last.arguments log) × (plan.activities ≡ length last.activities)))
+IsPlanned p w m log last (planned.TooLarge text) =
+    (is_drawn w m log last ≡ false) × (text.items ≡ too_large (length (rows_of w m last.arguments log)) (length last.activities))

@@ -2,14 +2,15 @@
 
 ghost use Rattle.std.specs.Prelude.{◌≡◌, ◌∷◌, ◌++◌, length, replicate, IfOk, OnOk};
 ghost use Rattle.xk_core.specs.Core.{advanced_now};
-ghost use Rattle.xk_show_picture.specs.Picture.{bar_row, is_shown, row_of, rows_of, rows_told, tell_rows};
+ghost use Rattle.xk_show_lanes.specs.Lanes.{steps_asked};
+ghost use Rattle.xk_show_picture.specs.Picture.{bar_row, is_shown, row_of, rows_of, rows_told};
 
 use std::alloc::{AllocError, Global};
 use xk_core::Core;
 use xk_scheduler::Ended;
-use xk_show_events::{Tell, advanced, is_seen, tell_run};
-use xk_show_lanes::Window;
-use xk_types::{Act, Event};
+use xk_show_events::{Both, Describe, RunStep, advanced, describe_run_by_both, is_seen};
+use xk_show_lanes::{AskedSteps, Window};
+use xk_types::Event;
 
 /// Whether the step that led to the core, and was seen to do this, is shown.
 pub(crate) fn is_shown(core: &Core<'_>, window: Window, event: Event) -> bool
@@ -37,43 +38,27 @@ fn push_number(list: &mut Vec<u64>, number: u64, clocks: &[u32]) -> Result<(), A
     push_times(list, number, clocks.len())
 }
 
-/// Adds the rows of the step that led to the core.
-fn push_rows(
-    alloc: Global,
-    rows: &mut Vec<u64>,
-    core: &Core<'_>,
-    window: Window,
-    event: Event,
-) -> Result<(), AllocError>
-    ensures { OnOk result (rows.new.items ≡ rows.old.items
-        ++ rows_told window core.now.world event) }
-{
-    if !is_shown(core, window, event) {
-        return Ok(());
-    }
-    let clocks = advanced(alloc, core)?;
-    push_number(rows, core.steps_done(), &clocks)
-}
-
 /// Tells of the steps that are shown, by the numbers of their rows.
 #[derive(Drop)]
 struct RowTeller {
     window: Window,
 }
 
-impl Tell<u64> for RowTeller {
-    ghost tell = { λ teller m. tell_rows teller.window };
+impl Describe<u64> for RowTeller {
+    ghost describe = { λ teller m v s. rows_told teller.window v s.event };
 
-    fn push_step(
+    fn push(
         &self,
         alloc: Global,
         out: &mut Vec<u64>,
-        core: &mut Core<'_>,
-        act: Act,
-    ) -> Result<Event, AllocError> {
-        let event = core.step(act)?;
-        push_rows(alloc, out, core, self.window, event)?;
-        Ok(event)
+        core: &Core<'_>,
+        step: &RunStep,
+    ) -> Result<(), AllocError> {
+        if !is_shown(core, self.window, step.event) {
+            return Ok(());
+        }
+        let clocks = advanced(alloc, core)?;
+        push_number(out, core.steps_done(), &clocks)
     }
 
     #[tactic(auto, using(xk_show_lanes::proofs::LaneLemmas::none_asked))]
@@ -82,18 +67,32 @@ impl Tell<u64> for RowTeller {
     }
 }
 
-/// The rows of a run. The log is played again for it.
-pub(crate) fn rows_of(
+/// What a picture is laid out by: the numbers of its rows, and the steps whose words its columns hold.
+#[derive(Drop)]
+pub(crate) struct Layout {
+    pub rows: Vec<u64>,
+    pub steps: Vec<RunStep>,
+}
+
+/// The layout of a run's picture. The log is played again for it.
+pub(crate) fn layout_of(
     alloc: Global,
     ended: &Ended<'_>,
     window: Window,
-) -> Result<Vec<u64>, AllocError>
-    ensures { IfOk result (λ v. v.items ≡ rows_of window ended.now.module.now
+) -> Result<Layout, AllocError>
+    ensures rows { IfOk result (λ l. l.rows.items ≡ rows_of window ended.now.module.now
         ended.now.core.world.arguments ended.now.log.items) }
+    ensures steps { IfOk result (λ l. l.steps.items ≡ steps_asked window ended.now.module.now
+        ended.now.log.items ended.now.core.world) }
 {
     let mut rows = Vec::new(alloc);
-    tell_run(&RowTeller { window }, alloc, &mut rows, ended)?;
-    Ok(rows)
+    let mut steps = Vec::new(alloc);
+    let both = Both {
+        first: &RowTeller { window },
+        second: &AskedSteps { window },
+    };
+    describe_run_by_both(&both, alloc, &mut rows, &mut steps, ended)?;
+    Ok(Layout { rows, steps })
 }
 
 /// In which row a step is drawn.

@@ -10,4 +10,5 @@ mod rows;
 mod shapes;
 mod sheet;
 
-pub use picture::{module_picture, source_picture};
+pub use picture::{PictureTeller, Plan, Planned, module_picture, plan_for, source_picture};
+pub use sheet::Sheet;

@@ -3,11 +3,12 @@
 ghost use Rattle.std.specs.Prelude.{◌≡◌, ◌++◌, length, IfOk, OnOk};
 ghost use Rattle.xk_show_events.specs.Events.{no_text, places_of};
 ghost use Rattle.xk_show_events.specs.Worlds.{each_below};
-ghost use Rattle.xk_show_picture.specs.Picture.{fits, furniture, head, high, is_drawn, lane_head, picture_by, picture_in, picture_text, rows_of_step, sheet_for, tell_picture};
+ghost use Rattle.xk_show_lanes.specs.Lanes.{steps_asked};
+ghost use Rattle.xk_show_picture.specs.Picture.{IsPlanned, drawn_step, fits, furniture, head, high, is_drawn, lane_head, picture_end, picture_in, picture_text, rows_of_step, sheet_for};
 
 use crate::bars::push_bars;
 use crate::furniture::{legend, shapes, style};
-use crate::layout::{is_shown, rows_of};
+use crate::layout::{is_shown, layout_of};
 use crate::lines::put;
 use crate::rows::push_row;
 use crate::shapes::{described, lane_title, svg_head, too_large, top};
@@ -16,9 +17,8 @@ use std::alloc::{AllocError, Global};
 use xk_core::Core;
 use xk_origins::UnitOrigins;
 use xk_scheduler::Ended;
-use xk_show_events::{Places, RunStep, Tell, take_step, tell_run};
-use xk_show_lanes::{Drawing, Window, grid_for, title};
-use xk_types::{Act, Event};
+use xk_show_events::{Describe, Places, RunStep, describe_run};
+use xk_show_lanes::{Drawing, Window, grid_of, title};
 
 /// The most rows that are drawn.
 const ROWS: usize = 2000;
@@ -45,32 +45,32 @@ fn push_row_and_bars(
 
 /// Tells of the steps that are shown, by their rows.
 #[derive(Drop)]
-struct PictureTeller<'a, 't> {
-    sheet: Sheet,
-    rows: &'a [u64],
-    places: &'a Places<'t>,
+pub struct PictureTeller<'a, 't> {
+    pub plan: &'a Plan,
+    pub places: &'a Places<'t>,
 }
 
-impl Tell<u8> for PictureTeller<'_, '_> {
-    ghost tell = { λ teller m. tell_picture teller.sheet teller.rows.now teller.places.now m };
+impl Describe<u8> for PictureTeller<'_, '_> {
+    ghost describe = { λ teller m v s. drawn_step
+        teller.plan.now.sheet teller.plan.now.rows.items teller.places.now m v s };
 
-    fn push_step(
+    fn push(
         &self,
         alloc: Global,
         out: &mut Vec<u8>,
-        core: &mut Core<'_>,
-        act: Act,
-    ) -> Result<Event, AllocError> {
-        let step = take_step(core, act)?;
-        if is_shown(core, self.sheet.window, step.event) {
-            push_row_and_bars(alloc, out, core, self.sheet, self.rows, self.places, &step)?;
+        core: &Core<'_>,
+        step: &RunStep,
+    ) -> Result<(), AllocError> {
+        let plan = self.plan;
+        if is_shown(core, plan.sheet.window, step.event) {
+            push_row_and_bars(alloc, out, core, plan.sheet, &plan.rows, self.places, step)?;
         }
-        Ok(step.event)
+        Ok(())
     }
 
     #[tactic(auto, using(xk_show_lanes::proofs::LaneLemmas::none_asked))]
     fn is_silent_after(&self, steps: u64) -> bool {
-        self.sheet.window.last <= steps
+        self.plan.sheet.window.last <= steps
     }
 }
 
@@ -122,41 +122,36 @@ fn push_head(
     push_titles(alloc, out, sheet)
 }
 
-/// The picture of a run, on this sheet.
-fn picture_in(
-    alloc: Global,
-    sheet: Sheet,
-    rows: &[u64],
-    places: &Places<'_>,
-    ended: &Ended<'_>,
-) -> Result<Vec<u8>, AllocError>
-    ensures { IfOk result (λ v. v.items ≡ picture_in sheet rows.now places.now
-        ended.now.module.now ended.now.log.items ended.now.core.world) }
-{
-    let mut out = Vec::new(alloc);
-    push_head(alloc, &mut out, sheet, ended.core.activities(), rows.len())?;
-    let teller = PictureTeller {
-        sheet,
-        rows,
-        places,
-    };
-    tell_run(&teller, alloc, &mut out, ended)?;
-    put(&mut out, "</svg>\n")?;
-    Ok(out)
+/// How the picture of a run is drawn: where its columns stand, the numbers of its rows, and how many activities there were.
+#[derive(Drop)]
+pub struct Plan {
+    pub sheet: Sheet,
+    pub rows: Vec<u64>,
+    pub activities: u32,
 }
 
-/// Where the columns stand.
-fn sheet_for(
-    alloc: Global,
-    places: &Places<'_>,
-    ended: &Ended<'_>,
-    window: Window,
-) -> Result<Sheet, AllocError>
-    ensures { IfOk result (λ s. s ≡ sheet_for places.now window ended.now.module.now
-        ended.now.log.items ended.now.core.world) }
-{
-    let grid = grid_for(alloc, places, ended, window)?;
-    Ok(sheet_of(grid, ended.core.clocks()))
+impl Plan {
+    /// Adds what stands before the first step. Err where memory was refused.
+    pub fn push_front(&self, alloc: Global, out: &mut Vec<u8>) -> Result<(), AllocError>
+        ensures { OnOk result (out.new.items ≡ out.old.items
+            ++ head self.now.sheet self.now.activities (length self.now.rows.items)) }
+    {
+        push_head(alloc, out, self.sheet, self.activities, self.rows.len())
+    }
+
+    /// Adds what stands behind the last one. Err where memory was refused.
+    pub fn push_end(&self, out: &mut Vec<u8>) -> Result<(), AllocError>
+        ensures { OnOk result (out.new.items ≡ out.old.items ++ picture_end) }
+    {
+        put(out, "</svg>\n")
+    }
+}
+
+/// The plan of a picture, or the line that is told in its place.
+#[derive(Drop)]
+pub enum Planned {
+    Drawn(Plan),
+    TooLarge(Vec<u8>),
 }
 
 /// Whether there are no more rows and activities than are drawn.
@@ -166,24 +161,63 @@ fn fits(rows: &[u64], activities: u32) -> bool
     rows.len() <= ROWS && activities <= LANES
 }
 
-/// The picture, or what is told in its place, which has these rows.
-fn picture_by(
+/// Where the columns stand.
+fn sheet_for(
     alloc: Global,
-    whole: bool,
     places: &Places<'_>,
     ended: &Ended<'_>,
     window: Window,
-    rows: &[u64],
+    steps: &[RunStep],
+) -> Result<Sheet, AllocError>
+    requires { steps.now ≡ steps_asked window ended.now.module.now
+        ended.now.log.items ended.now.core.world }
+    ensures { IfOk result (λ s. s ≡ sheet_for places.now window ended.now.module.now
+        ended.now.log.items ended.now.core.world) }
+{
+    let grid = grid_of(alloc, places, window, steps, ended.core.activities())?;
+    Ok(sheet_of(grid, ended.core.clocks()))
+}
+
+/// How the picture of these steps of a run is drawn, if it is. Err where memory was refused.
+pub fn plan_for(
+    alloc: Global,
+    places: &Places<'_>,
+    ended: &Ended<'_>,
+    window: Window,
+) -> Result<Planned, AllocError>
+    ensures { IfOk result (IsPlanned places.now window ended.now.module.now
+        ended.now.log.items ended.now.core.world) }
+{
+    let layout = layout_of(alloc, ended, window)?;
+    let activities = ended.core.activities();
+    if !fits(&layout.rows, activities) {
+        let told = too_large(alloc, layout.rows.len(), activities)?;
+        return Ok(Planned::TooLarge(told.into_bytes()));
+    }
+    let sheet = sheet_for(alloc, places, ended, window, &layout.steps)?;
+    Ok(Planned::Drawn(Plan {
+        sheet,
+        rows: layout.rows,
+        activities,
+    }))
+}
+
+/// The picture of a run, by its plan.
+fn picture_in(
+    alloc: Global,
+    plan: &Plan,
+    places: &Places<'_>,
+    ended: &Ended<'_>,
 ) -> Result<Vec<u8>, AllocError>
-    ensures { IfOk result (λ v. v.items ≡ picture_by whole places.now window rows.now
+    requires { plan.now.activities ≡ length ended.now.core.world.activities }
+    ensures { IfOk result (λ v. v.items ≡ picture_in plan.now.sheet plan.now.rows.items places.now
         ended.now.module.now ended.now.log.items ended.now.core.world) }
 {
-    if whole {
-        let sheet = sheet_for(alloc, places, ended, window)?;
-        return picture_in(alloc, sheet, rows, places, ended);
-    }
-    let told = too_large(alloc, rows.len(), ended.core.activities())?;
-    Ok(told.into_bytes())
+    let mut out = Vec::new(alloc);
+    plan.push_front(alloc, &mut out)?;
+    describe_run(&PictureTeller { plan, places }, alloc, &mut out, ended)?;
+    plan.push_end(&mut out)?;
+    Ok(out)
 }
 
 /// The picture of these steps of a run.
@@ -198,15 +232,18 @@ fn picture(
     ensures whole { IfOk result (λ d. d.whole ≡ is_drawn window
         ended.now.module.now ended.now.log.items ended.now.core.world) }
 {
-    let rows = rows_of(alloc, ended, window)?;
-    let whole = fits(&rows, ended.core.activities());
-    let text = picture_by(alloc, whole, places, ended, window, &rows)?;
-    Ok(Drawing { text, whole })
+    match plan_for(alloc, places, ended, window)? {
+        Planned::Drawn(plan) => {
+            let text = picture_in(alloc, &plan, places, ended)?;
+            Ok(Drawing { text, whole: true })
+        }
+        Planned::TooLarge(text) => Ok(Drawing { text, whole: false }),
+    }
 }
 
-/// The picture of these steps of a run of a source text's module, in SVG: a column for each activity, and from the top a row for each step that others
-/// can see, and for each advance of a clock. One of more than 2,000 rows or 64 activities isn't drawn: a line says so, and it isn't whole. Err where
-/// memory was refused.
+/// The picture of these steps of a run of a source text's module, in SVG: a column for each activity, and from the top
+/// a row for each step that others can see, and for each advance of a clock. One of more than 2,000 rows or 64
+/// activities isn't drawn: a line says so, and it isn't whole. Err where memory was refused.
 pub fn source_picture(
     alloc: Global,
     text: &[u8],
