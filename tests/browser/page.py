@@ -4,10 +4,10 @@
     python3 -m tests.browser.page [--program PATH] [--shots FOLDER]
     python3 -m tests.browser.page [--program PATH] --picture    # makes the picture of the pages, and tries nothing
 
-At each moment of some runs: what the page says was done with `events`, how things stand, and which lines are marked,
-with `where` behind the log cut to so many steps, the printed numbers and the framed box with the events up to there.
-Then the keys and the buttons, and whether all fits into a wide window and a phone's. Into the folder go screenshots of
-these, in light and dark. Where no browser is found it says so, and ends with status 0.
+The runs are those of tests/answers/html_pages.py. At each moment: what the page says was done with `events`, how things
+stand, and which lines are marked, with `where` behind the log cut to so many steps, the printed numbers and the framed
+box with the events up to there. Then the keys and the buttons, and whether all fits into a wide window and a phone's.
+Into the folder go screenshots of these, in light and dark. Where no browser is found it says so, and the status is 0.
 """
 
 from __future__ import annotations
@@ -23,27 +23,13 @@ import shutil
 import subprocess
 import sys
 import tempfile
-from typing import Any, NamedTuple
+from typing import Any
 
 from tests import harness
+from tests.answers.html_pages import RUNS, Run, Wrong, made, same
 from tests.harness import TOP
 
 BROWSERS = ("chromium", "chromium-browser", "google-chrome", "chrome")
-# A program whose text has what HTML takes for something else.
-SIGNS = """// </pre><script>alert(1)</script> &lt; & &amp; \u00e9\r
-def main() {\r
-\tif (1 < 2) Console.OUT.println(-1); // <!--\r
-}
-"""
-# The runs: a program of examples/ or SIGNS, who takes the steps, and which steps are asked for.
-RUNS = (
-    ("held-back.x10", "last", ()),
-    ("stencil.x10", "first", ()),
-    ("stencil.x10", "random", (40, 60)),
-    ("tree-of-finishes.x10", "last", ()),
-    ("ring.json", "first", ()),
-    ("signs.x10", "first", ()),
-)
 # Screenshots: a name, and how wide and high the window is.
 SIZES = {"wide": (1200, 900), "phone": (390, 844)}
 # The picture of the pages: where it is, and of which run and moment, in a window how wide and high.
@@ -151,62 +137,6 @@ class Browser:
         self.process.wait()
 
 
-def answered(words: list[object]) -> str:
-    """What a call of the program tells, which has to be done."""
-    status, out, err = harness.call(words).texts()
-    if status:
-        raise Wrong(f"status {status}: {err}")
-    return out
-
-
-class Run(NamedTuple):
-    """A program, its log, and which steps are asked for."""
-
-    program: pathlib.Path
-    file: pathlib.Path
-    log: pathlib.Path
-    part: tuple[int, ...]
-
-    @property
-    def is_module(self) -> bool:
-        return self.file.suffix == ".json"
-
-    @property
-    def flags(self) -> list[str]:
-        return ["--module"] if self.is_module else []
-
-    def ask(self, command: str, log: pathlib.Path, *more: str) -> str:
-        return answered([self.program, command, *self.flags, *more, self.file, log])
-
-    def standings(self, steps: int) -> list[str]:
-        """How things stand behind so many steps of the log, which has an entry for each."""
-        entries = self.log.read_text().splitlines()[1 : steps + 1]
-        cut = self.log.with_suffix(".cut")
-        cut.write_text("".join(f"{line}\n" for line in ["x10log 1", *entries, f"end {steps}"]))
-        return self.ask("where", cut).splitlines()
-
-    def page(self) -> str:
-        return self.ask("page", self.log, *(f"{flag}={step}" for flag, step in zip(("--from", "--to"), self.part)))
-
-    def events(self) -> dict[int, str]:
-        """The lines of the steps that others see, by their numbers."""
-        return {int(line.split()[1]): line for line in self.ask("events", self.log).splitlines()}
-
-    def asked(self) -> list[int]:
-        """The steps behind which the page shows how things stand; 0 is before the first."""
-        first, last = self.part or (0, sys.maxsize)
-        return [0, *(step for step in self.events() if first <= step <= last)]
-
-
-class Wrong(Exception):
-    """The page says something else than the program."""
-
-
-def same(what: str, said: Any, wanted: Any) -> None:
-    if said != wanted:
-        raise Wrong(f"{what}: the page says {said!r}, and not {wanted!r}")
-
-
 def wanted_badges(standings: list[str]) -> list[list[Any]]:
     """The lines of the source text where activities stand, whose they are, and whether they wait."""
     found = [re.match(r"act (\d+) at (\d+):\d+ (can|waits)", line) for line in standings]
@@ -215,7 +145,7 @@ def wanted_badges(standings: list[str]) -> list[list[Any]]:
 
 def compare(shown: dict[str, Any], run: Run, events: dict[int, str], steps: int) -> None:
     """What a page shows behind so many steps, with what the program says of it."""
-    standings = run.standings(steps)
+    standings = run.where(steps).splitlines()
     prints = [re.search(r" print (-?\d+)$", line) for step, line in events.items() if step <= steps]
     same("steps", f"steps {steps}", standings[0])
     same(f"standings {steps}", shown["standings"], standings[1:])
@@ -227,7 +157,7 @@ def compare(shown: dict[str, Any], run: Run, events: dict[int, str], steps: int)
         [re.split(" at | unit ", events[steps])[0]] if steps else [],
     )
     same(f"badges {steps}", sorted(shown["badges"]), [] if run.is_module else wanted_badges(standings))
-    same(f"source {steps}", shown["source"], "" if run.is_module else run.file.read_bytes().decode().removesuffix("\n"))
+    same(f"source {steps}", shown["source"], run.source().removesuffix("\n"))
 
 
 def try_moments(browser: Browser, run: Run, page: pathlib.Path) -> int:
@@ -275,24 +205,19 @@ def try_looks(browser: Browser, page: pathlib.Path, steps: int, shots: pathlib.P
             browser.shoot(shots / f"{page.stem}-{size}-{scheme}.png")
 
 
-def made(
+def paged(
     program: pathlib.Path, name: str, order: str, part: tuple[int, ...], folder: pathlib.Path
 ) -> tuple[Run, pathlib.Path]:
     """A run of a program, and its page."""
-    file = TOP / "examples" / name
-    if not file.exists():
-        file = folder / name
-        file.write_bytes(SIGNS.encode())
-    run = Run(program, file, folder / f"{name}.log", part)
-    answered([program, "run", *run.flags, "--order", order, "--log", run.log, run.file])
-    page = folder / f"{file.stem}{'-part' if part else ''}.html"
+    run = made(program, name, order, part, folder)
+    page = folder / f"{run.file.stem}{'-part' if part else ''}.html"
     page.write_bytes(run.page().encode())
     return run, page
 
 
 def picture(browser: Browser, program: pathlib.Path, folder: pathlib.Path) -> None:
     """Makes the picture of the pages anew."""
-    _, page = made(program, *PICTURED, folder)
+    _, page = paged(program, *PICTURED, folder)
     browser.look("light", *PICTURED_SIZE)
     browser.ask("Emulation.setScrollbarsHidden", hidden=True)
     browser.open(page, f"#{PICTURED_STEP}")
@@ -319,7 +244,7 @@ def main() -> int:
             if asked.picture:
                 picture(browser, asked.program, folder)
             for name, order, part in () if asked.picture else RUNS:
-                run, page = made(asked.program, name, order, part, folder)
+                run, page = paged(asked.program, name, order, part, folder)
                 print(page.name, try_moments(browser, run, page), "moments", flush=True)
                 steps = run.asked()
                 try_looks(browser, page, steps[len(steps) // 2], asked.shots)
