@@ -47,6 +47,7 @@ ASK = (
     "python3 -m tests.generated.words 500 1",
     "python3 -m tests.generated.outcomes 300 1",
     "python3 -m tests.generated.asked",
+    "python3 -m tests.generated.by_chance",
     "python3 -m tests.generated.split_phases",
     "python3 -m tests.generated.operands",
     "python3 -m tests.answers.failing_devices",
