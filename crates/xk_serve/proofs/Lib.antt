@@ -1,3 +1,4 @@
+pub mod CommandLemmas
 pub mod LongTextLemmas
 pub mod AnswerUniquenessLemmas
 pub mod LogUniquenessLemmas

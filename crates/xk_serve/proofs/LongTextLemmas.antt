@@ -206,8 +206,9 @@ stands t (Some k) logged bytes n f said s l e h is =
     ((s, l), of_each _ _ (read_of t logged) (λ log p. (kept_fails t bytes k log f e p, said_kept t bytes k log said f e p is)) h)
 
 -- a fault with the bytes kept is one with those that are known
-told_stands : (t : Task) (known logged : Option (List ℕ)) (bytes : List ℕ) (n : Reads) (f : Fault) (said : List ℕ) → n.program_new ≡ n.program_old
-    → IfSome known (λ k. bytes ≡ kept t.form k) → AgainstLog t bytes logged n.log_old n.log_new f → IsSaidOf t bytes f said → StandsAgainst t known logged n f said
+pub told_stands : (t : Task) (known logged : Option (List ℕ)) (bytes : List ℕ) (n : Reads) (f : Fault) (said : List ℕ)
+    → n.program_new ≡ n.program_old → IfSome known (λ k. bytes ≡ kept t.form k) → AgainstLog t bytes logged n.log_old n.log_new f
+    → IsSaidOf t bytes f said → StandsAgainst t known logged n f said
 told_stands t known logged bytes n (fault.Text f) said s e h is = stands t known logged bytes n (fault.Text f) said s h.0 e h.1 is
 told_stands t known logged bytes n (fault.Front f) said s e h is = stands t known logged bytes n (fault.Front f) said s h.0 e h.1 is
 told_stands t known logged bytes n (fault.Refused r) said s e h is = stands t known logged bytes n (fault.Refused r) said s h.0 e h.1 is

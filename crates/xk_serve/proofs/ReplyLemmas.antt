@@ -178,3 +178,37 @@ pub device_begins : (err_old err_new : Option (List ℕ)) (faults_old faults_new
     → Reports fault.Device err_old err_new faults_old faults_new result → AppendsBeginning err_old err_new device_line
 device_begins err_old err_new faults_old faults_new result (inl p) = tells_begins device_line _ err_old err_new _ _ _ p
 device_begins err_old err_new faults_old faults_new result (inr p) = absurd (p.0 refl)
+
+-- ---- want of memory for the ending of a success
+
+memory_told : (err_old err_new : Option (List ℕ)) (faults_old faults_new result : ℕ)
+    → Reports fault.OutOfMemory err_old err_new faults_old faults_new result
+    → Tells memory_line 4 err_old err_new faults_old faults_new result
+memory_told err_old err_new faults_old faults_new result (inl p) = p
+memory_told err_old err_new faults_old faults_new result (inr p) = p.1
+
+no_other_status : (err_old err_new : Option (List ℕ)) (faults_old faults_new result : ℕ)
+    → Tells memory_line 4 err_old err_new faults_old faults_new result → result ≢ 4 → result ≢ 5 → ⊥
+no_other_status err_old err_new faults_old faults_new result (inl p) not4 not5 = not4 p.0
+no_other_status err_old err_new faults_old faults_new result (inr p) not4 not5 = not5 p.0
+
+-- nothing was written to standard output and to the log
+pub none_begins : (t : Task) (program known out log : Option (List ℕ))
+    → IfKnown t program known (λ bytes logged. OutBegins t bytes logged out out log log)
+none_begins t program known out log = of_known t program known (λ bytes logged. OutBegins t bytes logged out out log log)
+    (λ bytes logged. inl (appends_none out, appends_none log))
+
+module _ (t : Task) (program known err_old err_new : Option (List ℕ)) (faults_old faults_new result : ℕ)
+    (reports : Reports fault.OutOfMemory err_old err_new faults_old faults_new result) where
+  told : Tells memory_line 4 err_old err_new faults_old faults_new result
+  told = memory_told err_old err_new faults_old faults_new result reports
+
+  pub memory_answers : (out_old out_new log_old log_new : Option (List ℕ)) → IfKnown t program known
+      (λ bytes logged. result ≢ 4 → result ≢ 5 → Answered t bytes logged result out_old out_new err_old err_new log_old log_new)
+  memory_answers out_old out_new log_old log_new = of_known t program known
+      (λ bytes logged. result ≢ 4 → result ≢ 5 → Answered t bytes logged result out_old out_new err_old err_new log_old log_new)
+      (λ bytes logged not4 not5. absurd (no_other_status err_old err_new faults_old faults_new result told not4 not5))
+
+  pub memory_begins : IfKnown t program known (λ bytes logged. ErrBegins t bytes logged err_old err_new)
+  memory_begins = of_known t program known (λ bytes logged. ErrBegins t bytes logged err_old err_new)
+      (λ bytes logged. (fault.OutOfMemory, inr tt, tells_begins memory_line 4 err_old err_new faults_old faults_new result told))

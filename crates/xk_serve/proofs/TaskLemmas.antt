@@ -135,7 +135,8 @@ against_memory t bytes known n (Ok d) h = tt
 against_memory t bytes known n (Err f) h =
     subst (AgainstLog t bytes known n n) (sym h) (against_any t bytes known n n fault.OutOfMemory refl (λ logged. tt))
 
-refusal_fails : (t : Task) (bytes logged : List ℕ) (m : ModuleValue) (f : Fault) → asks_verifier t.doing ≡ true → Gives t.form bytes m → IsRefusal m f → FailsBy t bytes logged f
+pub refusal_fails : (t : Task) (bytes logged : List ℕ) (m : ModuleValue) (f : Fault) → asks_verifier t.doing ≡ true
+    → Gives t.form bytes m → IsRefusal m f → FailsBy t bytes logged f
 refusal_fails t bytes logged m (fault.Text f) asks given h = absurd h
 refusal_fails t bytes logged m (fault.Front f) asks given h = absurd h
 refusal_fails t bytes logged m (fault.Refused (refusal.Shape r)) asks given h = (asks, (m, given, h))

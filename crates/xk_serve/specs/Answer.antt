@@ -36,16 +36,6 @@ asks_verifier Compile = false
 asks_verifier Listing = false
 asks_verifier _ = true
 
--- whether what is printed has the lines of a source text
-abbrev pub shows_origins : Command → Bool
-shows_origins command.Listing = true
-shows_origins (command.Events log) = true
-shows_origins (command.Lanes log from to svg) = true
-shows_origins (command.Page log from to) = true
-shows_origins (command.Where log) = true
-shows_origins (command.Races path) = true
-shows_origins _ = false
-
 -- whether a log is read
 abbrev pub reads_log : Doing → Bool
 reads_log Replay = true

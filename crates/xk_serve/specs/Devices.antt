@@ -45,6 +45,10 @@ pub record Reads : Type 0 where
   pub log_old : ℕ
   pub log_new : ℕ
 
+abbrev pub reads : ℕ → ℕ → ℕ → ℕ → Reads
+reads program_old program_new log_old log_new =
+    record { program_old = program_old; program_new = program_new; log_old = log_old; log_new = log_new }
+
 -- neither failed
 abbrev pub IsRead : Reads → Type 0
 IsRead n = (n.program_new ≡ n.program_old) × (n.log_new ≡ n.log_old)

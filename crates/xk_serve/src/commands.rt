@@ -1,10 +1,11 @@
 //! The answer to a job, over values.
 
-ghost use Rattle.std.specs.Prelude.{◌≡◌, ◌≢◌, ℕ, ℤ, Bool, List, false, true, IfOk, IfErr, IfSome, OnOk};
-ghost use Rattle.xk_answers.specs.Results.{Check, ComesTo, Compile, Explain, IsTelling, IsText, Listing, Run, way_given};
+ghost use Rattle.std.specs.Prelude.{◌≡◌, ℕ, ℤ, List, None, false, true, IfOk, IfErr, IfSome, OnOk};
+ghost use Rattle.xk_answers.specs.Results.{Check, ComesTo, Compile, IsTelling, IsText, Listing, Run, way_given};
 ghost use Rattle.xk_program.specs.Refusals.{IsNotRun, IsRefusal};
-ghost use Rattle.xk_serve.specs.Answer.{Succeeds, reads_more, shows_origins, task_of};
+ghost use Rattle.xk_serve.specs.Answer.{Succeeds, reads_more, task_of};
 ghost use Rattle.xk_program.specs.Origins.{IsFrom};
+ghost use Rattle.xk_cli.specs.CommandAnswers.{explanation};
 ghost use Rattle.xk_cli.specs.declared.job.Form.{Form as FormValue};
 ghost use Rattle.xk_cli.specs.Status.{status_program};
 ghost use Rattle.xk_program.specs.Lines.{status_of};
@@ -33,7 +34,7 @@ pub(crate) fn answer<R: Threads + Wait + Sync, L: Source>(
     bytes: &[u8],
     log_in: &mut L,
 ) -> Result<Done, Fault>
-    requires by_line { (json : Bool) → (task_of job.now).doing ≢ Explain json }
+    requires by_line { explanation job.now.command ≡ None }
     ensures done { IfOk result (λ d. IfSome (read_of (task_of job.now) (L.remaining log_in.old))
         (λ logged. Succeeds (task_of job.now) bytes.now logged d)) }
     ensures no_fault { OnOk result (L.fault_count log_in.new ≡ L.fault_count log_in.old) }
@@ -46,8 +47,7 @@ pub(crate) fn answer<R: Threads + Wait + Sync, L: Source>(
     ensures list_no_further { IsListReadToLimit (task_of job.now).doing
         (L.remaining log_in.old) (L.remaining log_in.new) }
 {
-    let shows_origins = shows_origins(&job.command);
-    let program = program_by(alloc, job.form, shows_origins, bytes)?;
+    let program = program_by(alloc, job.form, job.command.shows_origins(), bytes)?;
     let arguments = job.arguments.as_slice();
     match job.command {
         Command::Compile => compiled(alloc, &program.module),
@@ -101,29 +101,6 @@ pub(crate) fn answer<R: Threads + Wait + Sync, L: Source>(
         Command::Expected { limit, sets, .. } => {
             held(alloc, sets, limit, program.module, arguments, log_in)
         }
-    }
-}
-
-/// Whether what the command prints has the lines of a source text.
-fn shows_origins(command: &Command<'_>) -> bool
-    ensures { result ≡ shows_origins command.now }
-{
-    match command {
-        Command::Listing
-        | Command::Events { .. }
-        | Command::Lanes { .. }
-        | Command::Page { .. }
-        | Command::Where { .. }
-        | Command::Races { .. } => true,
-        Command::Check
-        | Command::Compile
-        | Command::Explain { .. }
-        | Command::Run { .. }
-        | Command::Replay { .. }
-        | Command::Chart { .. }
-        | Command::Tally { .. }
-        | Command::Outcomes { .. }
-        | Command::Expected { .. } => false,
     }
 }
 

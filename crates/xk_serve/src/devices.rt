@@ -1,24 +1,24 @@
 //! The program between its devices.
 
-ghost use Rattle.std.specs.Prelude.{◌≡◌, ◌≢◌, ◌⊎◌, false, [], IfOk, IfErr, IfSome, OnOk, OnErr, string_bytes};
+ghost use Rattle.std.specs.Prelude.{◌≡◌, ◌≢◌, ◌⊎◌, false, [], IfOk, IfErr, OnOk, OnErr};
 ghost use Rattle.std.specs.Io.KnownBytes.{Appends};
 ghost use Rattle.xk_types.specs.Device.{Rose};
 ghost use Rattle.xk_log.specs.Writing.{AppendsBeginning};
 ghost use Rattle.xk_cli.specs.Status.{status_device, status_done, status_memory, status_partial, status_program};
-ghost use Rattle.xk_serve.specs.Answer.{IsSaidOf, Succeeds, reads_more, task_of};
+ghost use Rattle.xk_serve.specs.Answer.{Succeeds, reads_more, task_of};
 ghost use Rattle.xk_answers.specs.Printed.{done_status};
 ghost use Rattle.xk_program.specs.Bytes.{IsReadToLimit};
 ghost use Rattle.xk_program.specs.Lines.{device_line, status_of};
 ghost use Rattle.xk_answers.specs.Printed.{done_ending, done_log};
 ghost use Rattle.xk_messages.specs.Lines.{memory_line};
-ghost use Rattle.xk_serve.specs.Devices.{AgainstLog, Answered, ErrBegins, Explained, IfKnown, IsBegun, IsListReadToLimit, IsQuiet, IsWritten, OutBegins, Reports, StandsAgainst, Tells, TellsWords, read_of};
+ghost use Rattle.xk_serve.specs.Devices.{Answered, ErrBegins, Explained, IfKnown, IsBegun, IsListReadToLimit, IsQuiet, IsWritten, OutBegins, Reports, StandsAgainst, Tells, TellsWords, reads};
 
 use crate::commands::answer;
 use std::alloc::Global;
 use std::sync::Wait;
 use std::thread::Threads;
 use xk_answers::{Done, Refused, explained, unsaid};
-use xk_cli::{Command, Job, WordsFault, status};
+use xk_cli::{Job, WordsFault, status};
 use xk_log::{Device, write_all, write_entries};
 use xk_messages::MEMORY_LINE;
 use xk_program::{DEVICE_LINE, Fault, read_program};
@@ -100,34 +100,31 @@ pub fn serve<R: Threads + Wait + Sync, P: Source, L: Source, O: Sink, E: Sink, K
         (L.remaining log_in.old) (L.remaining log_in.new) }
 {
     match outcome(rt, alloc, job, program, log_in) {
-        Ok((done, ending)) => print(alloc, &done, ending.as_str(), out, err, log_out),
+        Ok(done) => match done.ending(alloc) {
+            Ok(ending) => print(alloc, &done, ending.as_str(), out, err, log_out),
+            Err(_) => report(alloc, &Fault::OutOfMemory, err),
+        },
         Err(refused) => refuse(alloc, &refused, out, err),
     }
 }
 
-/// What the job comes to, and what is printed behind the numbers or the text that it has: no more memory is wanted to print it. Else what
-/// stands against it, with what is said of that.
+/// What the job comes to, or what stands against it, with what is said of that: only `explain` says more than the line.
 fn outcome<R: Threads + Wait + Sync, P: Source, L: Source>(
     rt: &R,
     alloc: Global,
     job: &Job<'_>,
     program: &mut P,
     log_in: &mut L,
-) -> Result<(Done, String), Refused>
-    ensures done { IfOk result (λ r.
+) -> Result<Done, Refused>
+    ensures done { IfOk result (λ d.
         IfKnown (task_of job.now) (P.remaining program.old) (L.remaining log_in.old)
-        (λ bytes logged. Succeeds (task_of job.now) bytes logged r.0)) }
-    ensures ending { IfOk result (λ r. string_bytes r.1 ≡ done_ending r.0) }
+        (λ bytes logged. Succeeds (task_of job.now) bytes logged d)) }
     ensures no_fault { OnOk result ((P.fault_count program.new ≡ P.fault_count program.old)
         × (L.fault_count log_in.new ≡ L.fault_count log_in.old)) }
     ensures fault { IfErr result (λ r.
         StandsAgainst (task_of job.now) (P.remaining program.old) (L.remaining log_in.old)
-        (record {
-          program_old = P.fault_count program.old;
-          program_new = P.fault_count program.new;
-          log_old = L.fault_count log_in.old;
-          log_new = L.fault_count log_in.new;
-        }) r.fault r.said.items) }
+        (reads (P.fault_count program.old) (P.fault_count program.new)
+        (L.fault_count log_in.old) (L.fault_count log_in.new)) r.fault r.said.items) }
     ensures quiet { IfErr result (λ r. IsQuiet r.fault r.said.items) }
     ensures unread { reads_more (task_of job.now).doing ≡ false → log_in.new ≡ log_in.old }
     ensures refused { IfErr result
@@ -137,80 +134,13 @@ fn outcome<R: Threads + Wait + Sync, P: Source, L: Source>(
     ensures list_no_further { IsListReadToLimit (task_of job.now).doing
         (L.remaining log_in.old) (L.remaining log_in.new) }
 {
-    match read_program(alloc, job.form, program) {
-        Ok(bytes) => done_on(rt, alloc, job, &bytes, log_in),
-        Err(fault) => Err(unsaid(alloc, fault)),
-    }
-}
-
-/// What the job on a file of these bytes comes to, and what is printed behind it; or what stands against it, with what is said of that.
-fn done_on<R: Threads + Wait + Sync, L: Source>(
-    rt: &R,
-    alloc: Global,
-    job: &Job<'_>,
-    bytes: &[u8],
-    log_in: &mut L,
-) -> Result<(Done, String), Refused>
-    ensures done { IfOk result (λ r. IfSome (read_of (task_of job.now) (L.remaining log_in.old))
-        (λ logged. Succeeds (task_of job.now) bytes.now logged r.0)) }
-    ensures ending { IfOk result (λ r. string_bytes r.1 ≡ done_ending r.0) }
-    ensures no_fault { OnOk result (L.fault_count log_in.new ≡ L.fault_count log_in.old) }
-    ensures fault { IfErr result (λ r. AgainstLog (task_of job.now) bytes.now
-        (L.remaining log_in.old) (L.fault_count log_in.old) (L.fault_count log_in.new) r.fault) }
-    ensures said { IfErr result
-        (λ r. IsSaidOf (task_of job.now) bytes.now r.fault r.said.items) }
-    ensures unread { reads_more (task_of job.now).doing ≡ false → log_in.new ≡ log_in.old }
-    ensures refused { IfErr result
-        (λ r. status_of r.fault ≡ status_program → log_in.new ≡ log_in.old) }
-    ensures list_no_further { IsListReadToLimit (task_of job.now).doing
-        (L.remaining log_in.old) (L.remaining log_in.new) }
-{
-    match done_or_refused(rt, alloc, job, bytes, log_in) {
-        Ok(done) => match done.ending(alloc) {
-            Ok(ending) => Ok((done, ending)),
-            Err(_) => Err(unsaid(alloc, Fault::OutOfMemory)),
-        },
-        Err(refused) => Err(refused),
-    }
-}
-
-/// What the job on a file of these bytes comes to, or what stands against it, with what is said of that: only `explain` says more than the line.
-fn done_or_refused<R: Threads + Wait + Sync, L: Source>(
-    rt: &R,
-    alloc: Global,
-    job: &Job<'_>,
-    bytes: &[u8],
-    log_in: &mut L,
-) -> Result<Done, Refused>
-    ensures done { IfOk result (λ d. IfSome (read_of (task_of job.now) (L.remaining log_in.old))
-        (λ logged. Succeeds (task_of job.now) bytes.now logged d)) }
-    ensures no_fault { OnOk result (L.fault_count log_in.new ≡ L.fault_count log_in.old) }
-    ensures fault { IfErr result (λ r. AgainstLog (task_of job.now) bytes.now
-        (L.remaining log_in.old) (L.fault_count log_in.old) (L.fault_count log_in.new) r.fault) }
-    ensures said { IfErr result
-        (λ r. IsSaidOf (task_of job.now) bytes.now r.fault r.said.items) }
-    ensures unread { reads_more (task_of job.now).doing ≡ false → log_in.new ≡ log_in.old }
-    ensures refused { IfErr result
-        (λ r. status_of r.fault ≡ status_program → log_in.new ≡ log_in.old) }
-    ensures list_no_further { IsListReadToLimit (task_of job.now).doing
-        (L.remaining log_in.old) (L.remaining log_in.new) }
-{
-    match job.command {
-        Command::Explain { json } => explained(alloc, json, job.form, job.file, bytes),
-        Command::Check
-        | Command::Compile
-        | Command::Listing
-        | Command::Run { .. }
-        | Command::Replay { .. }
-        | Command::Chart { .. }
-        | Command::Events { .. }
-        | Command::Lanes { .. }
-        | Command::Page { .. }
-        | Command::Where { .. }
-        | Command::Races { .. }
-        | Command::Tally { .. }
-        | Command::Outcomes { .. }
-        | Command::Expected { .. } => match answer(rt, alloc, job, bytes, log_in) {
+    let bytes = match read_program(alloc, job.form, program) {
+        Ok(bytes) => bytes,
+        Err(fault) => return Err(unsaid(alloc, fault)),
+    };
+    match job.command.explanation() {
+        Some(json) => explained(alloc, json, job.form, job.file, &bytes),
+        None => match answer(rt, alloc, job, &bytes, log_in) {
             Ok(done) => Ok(done),
             Err(fault) => Err(unsaid(alloc, fault)),
         },

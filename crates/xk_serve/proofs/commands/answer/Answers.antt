@@ -4,7 +4,8 @@ use Rattle.xk_answers.specs.declared.picture.Picture.TheVariants as picture
 use Rattle.std.proofs.lemmas.Bool.{false≢true}
 use Rattle.std.proofs.lemmas.Result.{err_from_is_err_and}
 use Rattle.xk_answers.specs.Results.{Check, Compile, Draw, Expected, Outcomes, Races, Replay, Run, Where, way_given}
-use Rattle.xk_serve.specs.Answer.{doing_of, races_by, shows_origins, task_of}
+use Rattle.xk_cli.specs.CommandAnswers.{explanation, shows_origins}
+use Rattle.xk_serve.specs.Answer.{doing_of, races_by, task_of}
 use Rattle.xk_serve.proofs.TaskLemmas.{against_any, against_list, against_log, against_memory, against_refused, against_run_of, against_text, done_of_any, done_of_list, done_of_log, done_of_none, done_of_run, done_of_text, done_of_told}
 use Rattle.xk_serve.proofs.TaskLemmas.{no_module_fails}
 use Rattle.xk_serve.proofs.commands.answer.Goals as goal
@@ -32,11 +33,13 @@ returns-in-Check-clause-fault g c =
     against_refused (task_of c.args.job.now) c.args.bytes.now (g.L.Source.remaining c.args.log_in.now) _ _ Check c.checked.result (ap doing_of c.in-Check.is) refl c.in_ok-program.ensures.module c.checked.ensures.fault
 
 pub unreachable-requires : goal.unreachable-requires
-unreachable-requires g c = c.requires.by_line c.in-Explain.json (ap doing_of c.in-Explain.is)
+unreachable-requires g c =
+    let explains = ap explanation c.in-Explain.is in
+    cc
 
 pub returns-in-Listing-clause-done : goal.returns-in-Listing-clause-done
 returns-in-Listing-clause-done g c =
-    done_of_text (task_of c.args.job.now) c.args.bytes.now (g.L.Source.remaining c.args.log_in.now) _ _ c.listed.result (ap doing_of c.in-Listing.is) c.in_ok-program.ensures.module (λ logged. c.listed.ensures.done c.args.job.now.form c.args.job.now.file.now c.args.bytes.now c.args.job.now.arguments.items logged (c.in_ok-program.ensures.from.0, λ _. c.in_ok-program.ensures.from.1 (c.shows_origins-shows_origins.ensures ∙ ap shows_origins c.in-Listing.is)))
+    done_of_text (task_of c.args.job.now) c.args.bytes.now (g.L.Source.remaining c.args.log_in.now) _ _ c.listed.result (ap doing_of c.in-Listing.is) c.in_ok-program.ensures.module (λ logged. c.listed.ensures.done c.args.job.now.form c.args.job.now.file.now c.args.bytes.now c.args.job.now.arguments.items logged (c.in_ok-program.ensures.from.0, λ _. c.in_ok-program.ensures.from.1 (c.shows_origins.ensures ∙ ap shows_origins c.in-Listing.is)))
 
 pub returns-in-Listing-clause-fault : goal.returns-in-Listing-clause-fault
 returns-in-Listing-clause-fault g c =
@@ -70,7 +73,7 @@ returns-in-Chart-clause-fault g c =
 
 pub returns-in-Events-clause-done : goal.returns-in-Events-clause-done
 returns-in-Events-clause-done g c =
-    done_of_run (task_of c.args.job.now) c.args.bytes.now (g.L.Source.remaining c.args.log_in.now) _ (Draw picture.Events) c.as_slice-arguments.result.now c.drawn-in-Events.result (ap doing_of c.in-Events.is) c.as_slice-arguments.ensures.value refl c.in_ok-program.ensures.module (c.drawn-in-Events.ensures.done c.args.job.now.form c.args.job.now.file.now c.args.bytes.now (c.in_ok-program.ensures.from.0, λ _. c.in_ok-program.ensures.from.1 (c.shows_origins-shows_origins.ensures ∙ ap shows_origins c.in-Events.is)))
+    done_of_run (task_of c.args.job.now) c.args.bytes.now (g.L.Source.remaining c.args.log_in.now) _ (Draw picture.Events) c.as_slice-arguments.result.now c.drawn-in-Events.result (ap doing_of c.in-Events.is) c.as_slice-arguments.ensures.value refl c.in_ok-program.ensures.module (c.drawn-in-Events.ensures.done c.args.job.now.form c.args.job.now.file.now c.args.bytes.now (c.in_ok-program.ensures.from.0, λ _. c.in_ok-program.ensures.from.1 (c.shows_origins.ensures ∙ ap shows_origins c.in-Events.is)))
 
 pub returns-in-Events-clause-fault : goal.returns-in-Events-clause-fault
 returns-in-Events-clause-fault g c =
@@ -79,7 +82,7 @@ returns-in-Events-clause-fault g c =
 pub returns-in-Lanes-clause-done : goal.returns-in-Lanes-clause-done
 returns-in-Lanes-clause-done g c =
     let is = ap doing_of c.in-Lanes.is ∙ ap (λ p. Draw p) (sym c.lanes_given-lanes.ensures) in
-    done_of_run (task_of c.args.job.now) c.args.bytes.now (g.L.Source.remaining c.args.log_in.now) _ (Draw c.lanes_given-lanes.result) c.as_slice-arguments.result.now c.drawn-in-Lanes.result is c.as_slice-arguments.ensures.value refl c.in_ok-program.ensures.module (c.drawn-in-Lanes.ensures.done c.args.job.now.form c.args.job.now.file.now c.args.bytes.now (c.in_ok-program.ensures.from.0, λ _. c.in_ok-program.ensures.from.1 (c.shows_origins-shows_origins.ensures ∙ ap shows_origins c.in-Lanes.is)))
+    done_of_run (task_of c.args.job.now) c.args.bytes.now (g.L.Source.remaining c.args.log_in.now) _ (Draw c.lanes_given-lanes.result) c.as_slice-arguments.result.now c.drawn-in-Lanes.result is c.as_slice-arguments.ensures.value refl c.in_ok-program.ensures.module (c.drawn-in-Lanes.ensures.done c.args.job.now.form c.args.job.now.file.now c.args.bytes.now (c.in_ok-program.ensures.from.0, λ _. c.in_ok-program.ensures.from.1 (c.shows_origins.ensures ∙ ap shows_origins c.in-Lanes.is)))
 
 pub returns-in-Lanes-clause-fault : goal.returns-in-Lanes-clause-fault
 returns-in-Lanes-clause-fault g c =
@@ -90,7 +93,7 @@ pub returns-in-Page-clause-done : goal.returns-in-Page-clause-done
 returns-in-Page-clause-done g c =
     let what = Draw (picture.Page c.window_given.result) in
     let is = ap doing_of c.in-Page.is ∙ ap (λ window. Draw (picture.Page window)) (sym c.window_given.ensures) in
-    done_of_run (task_of c.args.job.now) c.args.bytes.now (g.L.Source.remaining c.args.log_in.now) _ what c.as_slice-arguments.result.now c.drawn-in-Page.result is c.as_slice-arguments.ensures.value refl c.in_ok-program.ensures.module (c.drawn-in-Page.ensures.done c.args.job.now.form c.args.job.now.file.now c.args.bytes.now (c.in_ok-program.ensures.from.0, λ _. c.in_ok-program.ensures.from.1 (c.shows_origins-shows_origins.ensures ∙ ap shows_origins c.in-Page.is)))
+    done_of_run (task_of c.args.job.now) c.args.bytes.now (g.L.Source.remaining c.args.log_in.now) _ what c.as_slice-arguments.result.now c.drawn-in-Page.result is c.as_slice-arguments.ensures.value refl c.in_ok-program.ensures.module (c.drawn-in-Page.ensures.done c.args.job.now.form c.args.job.now.file.now c.args.bytes.now (c.in_ok-program.ensures.from.0, λ _. c.in_ok-program.ensures.from.1 (c.shows_origins.ensures ∙ ap shows_origins c.in-Page.is)))
 
 pub returns-in-Page-clause-fault : goal.returns-in-Page-clause-fault
 returns-in-Page-clause-fault g c =
@@ -100,7 +103,7 @@ returns-in-Page-clause-fault g c =
 
 pub returns-in-Where-clause-done : goal.returns-in-Where-clause-done
 returns-in-Where-clause-done g c =
-    done_of_run (task_of c.args.job.now) c.args.bytes.now (g.L.Source.remaining c.args.log_in.now) _ Where c.as_slice-arguments.result.now c.stood.result (ap doing_of c.in-Where.is) c.as_slice-arguments.ensures.value refl c.in_ok-program.ensures.module (c.stood.ensures.done c.args.job.now.form c.args.job.now.file.now c.args.bytes.now (c.in_ok-program.ensures.from.0, λ _. c.in_ok-program.ensures.from.1 (c.shows_origins-shows_origins.ensures ∙ ap shows_origins c.in-Where.is)))
+    done_of_run (task_of c.args.job.now) c.args.bytes.now (g.L.Source.remaining c.args.log_in.now) _ Where c.as_slice-arguments.result.now c.stood.result (ap doing_of c.in-Where.is) c.as_slice-arguments.ensures.value refl c.in_ok-program.ensures.module (c.stood.ensures.done c.args.job.now.form c.args.job.now.file.now c.args.bytes.now (c.in_ok-program.ensures.from.0, λ _. c.in_ok-program.ensures.from.1 (c.shows_origins.ensures ∙ ap shows_origins c.in-Where.is)))
 
 pub returns-in-Where-clause-fault : goal.returns-in-Where-clause-fault
 returns-in-Where-clause-fault g c =
@@ -109,12 +112,12 @@ returns-in-Where-clause-fault g c =
 pub returns-then-given-clause-done : goal.returns-then-given-clause-done
 returns-then-given-clause-done g c =
     let is = ap doing_of c.in-Races.is ∙ ap races_by (sym c.is_some-given.ensures ∙ c.if-given.true) in
-    done_of_run (task_of c.args.job.now) c.args.bytes.now (g.L.Source.remaining c.args.log_in.now) _ (Draw picture.Races) c.as_slice-arguments.result.now c.drawn-then-given.result is c.as_slice-arguments.ensures.value refl c.in_ok-program.ensures.module (c.drawn-then-given.ensures.done c.args.job.now.form c.args.job.now.file.now c.args.bytes.now (c.in_ok-program.ensures.from.0, λ _. c.in_ok-program.ensures.from.1 (c.shows_origins-shows_origins.ensures ∙ ap shows_origins c.in-Races.is)))
+    done_of_run (task_of c.args.job.now) c.args.bytes.now (g.L.Source.remaining c.args.log_in.now) _ (Draw picture.Races) c.as_slice-arguments.result.now c.drawn-then-given.result is c.as_slice-arguments.ensures.value refl c.in_ok-program.ensures.module (c.drawn-then-given.ensures.done c.args.job.now.form c.args.job.now.file.now c.args.bytes.now (c.in_ok-program.ensures.from.0, λ _. c.in_ok-program.ensures.from.1 (c.shows_origins.ensures ∙ ap shows_origins c.in-Races.is)))
 
 pub returns-else-given-clause-done : goal.returns-else-given-clause-done
 returns-else-given-clause-done g c =
     let is = ap doing_of c.in-Races.is ∙ ap races_by (sym c.is_some-given.ensures ∙ c.if-given.false) in
-    done_of_told (task_of c.args.job.now) c.args.bytes.now (g.L.Source.remaining c.args.log_in.now) _ Races c.as_slice-arguments.result.now c.raced.result is c.as_slice-arguments.ensures.value c.in_ok-program.ensures.module (λ logged. c.raced.ensures.done c.args.job.now.form c.args.job.now.file.now c.args.bytes.now logged (c.in_ok-program.ensures.from.0, λ _. c.in_ok-program.ensures.from.1 (c.shows_origins-shows_origins.ensures ∙ ap shows_origins c.in-Races.is)))
+    done_of_told (task_of c.args.job.now) c.args.bytes.now (g.L.Source.remaining c.args.log_in.now) _ Races c.as_slice-arguments.result.now c.raced.result is c.as_slice-arguments.ensures.value c.in_ok-program.ensures.module (λ logged. c.raced.ensures.done c.args.job.now.form c.args.job.now.file.now c.args.bytes.now logged (c.in_ok-program.ensures.from.0, λ _. c.in_ok-program.ensures.from.1 (c.shows_origins.ensures ∙ ap shows_origins c.in-Races.is)))
 
 pub returns-then-given-clause-fault : goal.returns-then-given-clause-fault
 returns-then-given-clause-fault g c =

@@ -1,20 +1,64 @@
+use Rattle.std.proofs.Common.{◌∙◌, sym}
 use Rattle.std.proofs.lemmas.Result.{IfOk-weaker}
 use Rattle.xk_serve.specs.Answer.{task_of}
+use Rattle.xk_serve.proofs.CommandLemmas.{explains, unexplained}
 use Rattle.xk_serve.proofs.ExplanationLemmas.{quiet_of}
-use Rattle.xk_serve.proofs.LongTextLemmas.{kept_done, kept_stands}
+use Rattle.xk_serve.proofs.LongTextLemmas.{kept_done, kept_stands, told_stands}
+use Rattle.xk_serve.proofs.VerdictLemmas.{against_verdict, done_of_verdict, said_of_verdict}
 use Rattle.xk_serve.proofs.devices.outcome.Goals as goal
 
-pub returns-in-Ok-clause-done : goal.returns-in-Ok-clause-done
-returns-in-Ok-clause-done g c =
-    IfOk-weaker c.done_on.result _ _
-    (λ r h. kept_done (task_of c.args.job.now) (g.P.Source.remaining c.args.program.now) (g.L.Source.remaining c.args.log_in.now) c.in-Ok.bytes.items r.0 c.in-Ok.ensures.kept h)
-    (rw c.deref.ensures.value at c.done_on.ensures.done)
+-- ---- of `explain`
 
-pub returns-in-Ok-clause-fault : goal.returns-in-Ok-clause-fault
-returns-in-Ok-clause-fault g c =
-    kept_stands (task_of c.args.job.now) (g.P.Source.remaining c.args.program.now) (g.L.Source.remaining c.args.log_in.now)
-    c.in-Ok.bytes.items _ c.done_on.result c.in-Ok.ensures.no_fault c.in-Ok.ensures.kept
-    (rw c.deref.ensures.value at c.done_on.ensures.fault) (rw c.deref.ensures.value at c.done_on.ensures.said)
+pub returns-in-Some-clause-done : goal.returns-in-Some-clause-done
+returns-in-Some-clause-done g c =
+    let t = task_of c.args.job.now in
+    let program = g.P.Source.remaining c.args.program.now in
+    let known = g.L.Source.remaining c.args.log_in.now in
+    let bytes = c.in-Ok.bytes.items in
+    let is = explains c.args.job.now.command c.in-Some.json (sym c.explanation.ensures ∙ c.in-Some.is) in
+    let done = done_of_verdict t c.deref.result.now known c.in-Some.json c.explained.result is (c.explained.ensures.done t.arguments) in
+    IfOk-weaker c.explained.result _ _ (λ d h. kept_done t program known bytes d c.in-Ok.ensures.kept h)
+    (rw c.deref.ensures.value at done)
 
-pub returns-in-Ok-clause-quiet : goal.returns-in-Ok-clause-quiet
-returns-in-Ok-clause-quiet g c = quiet_of (task_of c.args.job.now) _ c.done_on.result c.done_on.ensures.said
+pub returns-in-Some-clause-fault : goal.returns-in-Some-clause-fault
+returns-in-Some-clause-fault g c =
+    let t = task_of c.args.job.now in
+    let program = g.P.Source.remaining c.args.program.now in
+    let known = g.L.Source.remaining c.args.log_in.now in
+    let faults = g.L.Source.fault_count c.args.log_in.now in
+    let bytes = c.deref.result.now in
+    let json = c.in-Some.json in
+    let is = explains c.args.job.now.command json (sym c.explanation.ensures ∙ c.in-Some.is) in
+    let against = against_verdict t bytes known faults json c.explained.result is c.explained.ensures.fault in
+    let said = said_of_verdict t bytes json c.explained.result is c.explained.ensures.said in
+    kept_stands t program known c.in-Ok.bytes.items _ c.explained.result c.in-Ok.ensures.no_fault c.in-Ok.ensures.kept
+    (rw c.deref.ensures.value at against) (rw c.deref.ensures.value at said)
+
+pub returns-in-Some-clause-quiet : goal.returns-in-Some-clause-quiet
+returns-in-Some-clause-quiet g c =
+    let t = task_of c.args.job.now in
+    let json = c.in-Some.json in
+    let is = explains c.args.job.now.command json (sym c.explanation.ensures ∙ c.in-Some.is) in
+    quiet_of t c.deref.result.now c.explained.result (said_of_verdict t c.deref.result.now json c.explained.result is c.explained.ensures.said)
+
+-- ---- of any other
+
+pub returns-in-Ok-answer-clause-done : goal.returns-in-Ok-answer-clause-done
+returns-in-Ok-answer-clause-done g c =
+    let program = g.P.Source.remaining c.args.program.now in
+    let known = g.L.Source.remaining c.args.log_in.now in
+    kept_done (task_of c.args.job.now) program known c.in-Ok.bytes.items c.in-Ok-answer.done c.in-Ok.ensures.kept
+    (rw c.deref-in-None.ensures.value at c.in-Ok-answer.ensures.done)
+
+pub returns-clause-fault : goal.returns-clause-fault
+returns-clause-fault g c =
+    let t = task_of c.args.job.now in
+    let program = g.P.Source.remaining c.args.program.now in
+    let known = g.L.Source.remaining c.args.log_in.now in
+    let bytes = c.in-Ok.bytes.items in
+    let refused = c.unsaid-in-Err-answer.result in
+    let against = rw c.deref-in-None.ensures.value at c.in-Err-answer.ensures.fault in
+    let none = sym c.explanation.ensures ∙ c.in-None.is in
+    told_stands t program known bytes _ refused.fault refused.said.items c.in-Ok.ensures.no_fault c.in-Ok.ensures.kept
+    (rw c.unsaid-in-Err-answer.ensures.fault against)
+    (unexplained c.args.job.now.command t.form t.file bytes refused.said.items refused.fault none c.unsaid-in-Err-answer.ensures.said)

@@ -3,35 +3,53 @@ use Rattle.xk_serve.specs.Devices.{ErrBegins}
 use Rattle.xk_program.specs.declared.fault.Fault.TheVariants as fault
 use Rattle.std.proofs.Common.{inl, refl}
 use Rattle.xk_serve.proofs.ReplyLemmas.{begun_known, line_begins, of_known, said_begins, told_answers, written_answers}
+use Rattle.xk_serve.proofs.ReplyLemmas.{memory_answers, memory_begins, none_begins}
 use Rattle.xk_serve.proofs.devices.serve.Goals as goal
 
-pub returns-in-Ok-clause-answered : goal.returns-in-Ok-clause-answered
-returns-in-Ok-clause-answered g c =
+pub returns-in-Ok-ending-clause-answered : goal.returns-in-Ok-ending-clause-answered
+returns-in-Ok-ending-clause-answered g c =
     written_answers (task_of c.args.job.now) (g.P.Source.remaining c.args.program.now) (g.L.Source.remaining c.args.log_in.now) c.in-Ok.done _ _ _ _ _ _
     c.print.result _ c.in-Ok.ensures.done c.print.ensures.printed
 
-pub returns-in-Ok-clause-out_begins : goal.returns-in-Ok-clause-out_begins
-returns-in-Ok-clause-out_begins g c =
+pub returns-in-Ok-ending-clause-out_begins : goal.returns-in-Ok-ending-clause-out_begins
+returns-in-Ok-ending-clause-out_begins g c =
     begun_known (task_of c.args.job.now) (g.P.Source.remaining c.args.program.now) (g.L.Source.remaining c.args.log_in.now) c.in-Ok.done _ _ _ _ c.in-Ok.ensures.done c.print.ensures.begun
 
-pub returns-in-Err-clause-answered : goal.returns-in-Err-clause-answered
-returns-in-Err-clause-answered g c =
+pub returns-clause-answered : goal.returns-clause-answered
+returns-clause-answered g c =
     told_answers _ _ _ _ _ _ _ _ _ _ _ (task_of c.args.job.now) (g.P.Source.remaining c.args.program.now) (g.L.Source.remaining c.args.log_in.now) _
     c.in-Err.ensures.fault c.refuse.ensures (g.K.Sink.contents c.args.log_out.now)
 
-pub returns-in-Err-clause-out_begins : goal.returns-in-Err-clause-out_begins
-returns-in-Err-clause-out_begins g c =
+pub returns-clause-out_begins : goal.returns-clause-out_begins
+returns-clause-out_begins g c =
     said_begins _ _ _ _ _ _ _ _ _ _ _ (task_of c.args.job.now) (g.P.Source.remaining c.args.program.now) (g.L.Source.remaining c.args.log_in.now) _
     c.in-Err.ensures.fault c.refuse.ensures (g.K.Sink.contents c.args.log_out.now)
 
-pub returns-in-Err-clause-err_begins : goal.returns-in-Err-clause-err_begins
-returns-in-Err-clause-err_begins g c =
+pub returns-clause-err_begins : goal.returns-clause-err_begins
+returns-clause-err_begins g c =
     line_begins _ _ _ _ _ _ _ _ _ _ _ (task_of c.args.job.now) (g.P.Source.remaining c.args.program.now) (g.L.Source.remaining c.args.log_in.now) _
     c.in-Err.ensures.fault c.refuse.ensures (g.K.Sink.contents c.args.log_out.now)
 
-pub returns-in-Ok-clause-err_begins : goal.returns-in-Ok-clause-err_begins
-returns-in-Ok-clause-err_begins g c =
+pub returns-in-Ok-ending-clause-err_begins : goal.returns-in-Ok-ending-clause-err_begins
+returns-in-Ok-ending-clause-err_begins g c =
     let was = g.E.Sink.contents c.args.err.now in
     let is = g.E.Sink.contents c.print.new.err in
     of_known (task_of c.args.job.now) (g.P.Source.remaining c.args.program.now) (g.L.Source.remaining c.args.log_in.now)
     (λ bytes logged. ErrBegins (task_of c.args.job.now) bytes logged was is) (λ bytes logged. (fault.Device, inl refl, c.print.ensures.err_beginning))
+
+-- ---- where there is no memory for the ending
+
+pub returns-in-Ok-clause-answered : goal.returns-in-Ok-clause-answered
+returns-in-Ok-clause-answered g c =
+    memory_answers (task_of c.args.job.now) (g.P.Source.remaining c.args.program.now) (g.L.Source.remaining c.args.log_in.now)
+    _ _ _ _ c.report.result c.report.ensures _ _ _ _
+
+pub returns-in-Ok-clause-out_begins : goal.returns-in-Ok-clause-out_begins
+returns-in-Ok-clause-out_begins g c =
+    none_begins (task_of c.args.job.now) (g.P.Source.remaining c.args.program.now) (g.L.Source.remaining c.args.log_in.now)
+    (g.O.Sink.contents c.args.out.now) (g.K.Sink.contents c.args.log_out.now)
+
+pub returns-in-Ok-clause-err_begins : goal.returns-in-Ok-clause-err_begins
+returns-in-Ok-clause-err_begins g c =
+    memory_begins (task_of c.args.job.now) (g.P.Source.remaining c.args.program.now) (g.L.Source.remaining c.args.log_in.now)
+    _ _ _ _ c.report.result c.report.ensures

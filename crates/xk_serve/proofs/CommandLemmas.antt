@@ -1,0 +1,47 @@
+-- Which command explains: what its task does then, and what it says of a fault else.
+use Rattle.std.proofs.Common.{◌≡◌, ℕ, Bool, List, [], Some, None}
+use Rattle.xk_cli.specs.CommandAnswers.{explanation}
+use Rattle.xk_cli.specs.declared.job.Command.{Command}
+use Rattle.xk_cli.specs.declared.job.Command.TheVariants as command
+use Rattle.xk_cli.specs.declared.job.Form.{Form}
+use Rattle.xk_program.specs.declared.fault.Fault.{Fault}
+use Rattle.xk_answers.specs.Results.{Explain}
+use Rattle.xk_serve.specs.Answer.{IsSaidBy, doing_of}
+
+-- a command that explains does so
+pub explains : (c : Command) (json : Bool) → explanation c ≡ Some json → doing_of c ≡ Explain json
+explains command.Check json e = cc
+explains command.Compile json e = cc
+explains (command.Explain asked) json e = cc
+explains command.Listing json e = cc
+explains (command.Run drive log) json e = cc
+explains (command.Tally seed runs) json e = cc
+explains (command.Replay log) json e = cc
+explains (command.Chart log) json e = cc
+explains (command.Events log) json e = cc
+explains (command.Lanes log from to svg) json e = cc
+explains (command.Page log from to) json e = cc
+explains (command.Where log) json e = cc
+explains (command.Races log) json e = cc
+explains (command.Outcomes limit pick log sets) json e = cc
+explains (command.Expected list limit sets) json e = cc
+
+-- any other says nothing of a fault beside its line
+pub unexplained : (c : Command) (kind : Form) (file bytes said : List ℕ) (f : Fault) → explanation c ≡ None → said ≡ []
+    → IsSaidBy (doing_of c) kind file bytes f said
+unexplained command.Check kind file bytes said f e h = h
+unexplained command.Compile kind file bytes said f e h = h
+unexplained (command.Explain json) kind file bytes said f e h = cc
+unexplained command.Listing kind file bytes said f e h = h
+unexplained (command.Run drive log) kind file bytes said f e h = h
+unexplained (command.Tally seed runs) kind file bytes said f e h = h
+unexplained (command.Replay log) kind file bytes said f e h = h
+unexplained (command.Chart log) kind file bytes said f e h = h
+unexplained (command.Events log) kind file bytes said f e h = h
+unexplained (command.Lanes log from to svg) kind file bytes said f e h = h
+unexplained (command.Page log from to) kind file bytes said f e h = h
+unexplained (command.Where log) kind file bytes said f e h = h
+unexplained (command.Races None) kind file bytes said f e h = h
+unexplained (command.Races (Some log)) kind file bytes said f e h = h
+unexplained (command.Outcomes limit pick log sets) kind file bytes said f e h = h
+unexplained (command.Expected list limit sets) kind file bytes said f e h = h
