@@ -2,11 +2,11 @@
 """Whether the program gets along with the memory that docs/RELIABILITY.md says it can want at most, on the worst
 programs that are known.
 
-    python3 -m tests.answers.wants [--program PATH] [--least]
+    python3 -m tests.answers.wants [--program PATH] [--least] [--only WORD]
 
 crates/x10clock/out/x10clock where nothing else is said. Each call has an address space of no more than what the formula
 says of it, and has to be answered as with ample memory. With `--least` the least address space in which it is answered
-so is told beside it, found by halving.
+so is told beside it, found by halving; with `--only` these are the calls of one command.
 """
 
 from __future__ import annotations
@@ -28,17 +28,24 @@ MEGABYTE = 1_000_000
 # What the program takes before it looks at anything.
 START = 6 * MEGABYTE
 LONGEST_TEXT = 1 << 20
+# The status of an answer that isn't whole, or is a no.
+NOT_WHOLE = 6
 # How long a call may take: these are the largest.
 SECONDS = 2 * harness.SECONDS
 
 
 @dataclass(frozen=True)
 class Call:
-    """A call of the program, and how many bytes it can want."""
+    """A call of the program, and how many bytes it can want: so many, and so many for each byte that it prints."""
 
     name: str
     words: list[object]
-    most: int
+    least: int
+    times: int = 0
+
+    def most(self, whole: Ended) -> int:
+        """What it can want, by what it prints with ample memory."""
+        return self.least + self.times * len(whole.out)
 
 
 # The formulas.
@@ -93,6 +100,22 @@ def to_lanes(steps: int) -> int:
 def to_list(text: str) -> int:
     """Three times the text of a list of outcomes, as it grows, and three times 16 for each of its lines."""
     return 3 * len(text) + 48 * text.count("\n")
+
+
+def to_draw(steps: int) -> int:
+    """The lists of the steps that others see, and of their rows."""
+    return 128 * steps
+
+
+def to_tally(lists: int, numbers: int) -> int:
+    """A list has its numbers, their length and room, a seed, and how often it was printed."""
+    return 160 * lists + to_print(numbers)
+
+
+def to_order(activities: int, deeds: int, races: int) -> int:
+    """What each activity knows of each other one, and of so many clocks, finishes, accesses and prints; these and the
+    advances; the races."""
+    return 8 * activities * (activities + deeds) + 450 * deeds + 300 * races
 
 
 # The programs.
@@ -261,6 +284,103 @@ class Calls:
             "chart, 900,000 advances", ["chart", self.file(text), log], small + to_log(45_062) + to_chart(900_000)
         )
 
+    def small(self, text: str) -> int:
+        """What reading a text and running its program can want."""
+        found = judged(text)
+        return to_read(text.encode()) + to_verify(found.module) + to_run(found)
+
+    def logged(self, name: str, text: str, numbers: int = 0) -> Call:
+        """A call that leaves the log of a run of this text, which has as many entries as steps, and prints so many
+        numbers."""
+        words = ["run", "--log", self.folder / "log", self.file(text)]
+        most = self.small(text) + to_log(judged(text).bounds.steps) + to_print(numbers)
+        return Call(f"run --log, {name}", words, most)
+
+    def on_log(self, words: list[object], name: str, text: str, most: int) -> Call:
+        """A call on this text and that log, which can want so much and four times what it prints."""
+        path, entries = self.file(text), to_log(judged(text).bounds.steps)
+        told = " ".join(str(word) for word in words)
+        return Call(f"{told}, {name}", [*words, path, self.folder / "log"], self.small(text) + entries + most, 4)
+
+    def of_where(self) -> Iterator[Call]:
+        """How things are where there are many clocks; where many wait for one; where many are registered on many; after
+        many entries."""
+        makes, clocks = "".join(f"val c{k}=Clock.make();" for k in range(60)), ",".join(f"c{k}" for k in range(60))
+        last = "Clock.advanceAll();"
+        every = "".join(f"{who} 1\n" for who in range(1, 60_001))
+        for name, text, log in (
+            (
+                "100,000 clocks",
+                "def main(){val d=Clock.make();for(i in 1..99999){val c=Clock.make();c.drop();}"
+                f"async clocked(d){last}{last}}}",
+                f"x10log 1\n0 {3 * 99_999 + 3}\n1 1\nend 2\n",
+            ),
+            (
+                "60,000 activities on a clock",
+                f"def main(){{val c=Clock.make();for(i in 1..60000)async clocked(c){last}{last}}}",
+                f"x10log 1\n0 {2 * 60_000 + 2}\n{every}end 60001\n",
+            ),
+            (
+                "20,000 activities on 60 clocks",
+                f"def main(){{{makes}for(i in 1..20000)async clocked({clocks}){last}}}",
+                f"x10log 1\n0 {2 * 20_000 + 61}\nend 1\n",
+            ),
+            (
+                "2,200,000 entries",
+                "def main(){for(i in 1..2200000);}",
+                "x10log 1\n" + "0 1\n" * 2_200_000 + "end 2200000\n",
+            ),
+        ):
+            (self.folder / "log").write_text(log)
+            yield self.on_log(["where"], name, text, 0)
+
+    def of_tallies(self) -> Iterator[Call]:
+        """One long list, a list again and again, and many lists."""
+        for runs, lists, numbers, body in (
+            (1, 1, 1_050_000, "for(i in 1..1050000)Console.OUT.println(0-9223372036854775807);"),
+            (100, 1, 50_000, "for(i in 1..50000)Console.OUT.println(i);"),
+            (9_000, 9_000, 81_000, "for(i in 1..9)async Console.OUT.println(i);"),
+        ):
+            text = f"def main(){{{body}}}"
+            words = ["run", "--order", "random", "--runs", runs, self.file(text)]
+            yield Call(f"run --runs {runs}", words, self.small(text) + to_tally(lists, numbers), 5)
+
+    def of_pictures(self) -> Iterator[Call]:
+        """Runs of more steps than are drawn, and a part of one; of as many lanes and rows as are; of many clocks; of a
+        text that gets longer on a page."""
+        drawn = (["lanes", "--svg"], ["page"])
+        text = "def main(){for(i in 1..300000)Console.OUT.println(i);}"
+        yield self.logged("300,000 prints", text, 300_000)
+        for words in drawn:
+            yield self.on_log(words, "300,000 prints", text, to_draw(300_001))
+            yield self.on_log([*words, "--from=598000"], "300,000 prints", text, to_draw(300_001))
+        makes, clocks = "".join(f"val c{k}=Clock.make();" for k in range(9)), ",".join(f"c{k}" for k in range(9))
+        phases = "{for(k in 1..8){Console.OUT.println(k);Clock.advanceAll();}}"
+        for name, text in (
+            ("64 lanes", f"def main(){{clocked finish for(i in 1..63)clocked async{phases}}}"),
+            ("64 lanes, 9 clocks", f"def main(){{{makes}for(i in 1..63)async clocked({clocks}){phases}}}"),
+            ("900 clocks", "def main(){for(i in 1..900){val c=Clock.make();c.drop();}}"),
+            ("a text of references", f"/*{'&' * 1_000_000}*/def main(){{Console.OUT.println(1);}}"),
+        ):
+            yield self.logged(name, text)
+            for words in drawn:
+                yield self.on_log(words, name, text, to_draw(2_000))
+
+    def of_races(self) -> Iterator[Call]:
+        """Many activities; somewhat more accesses and advances than a power of two, of two activities; many races."""
+        adds = "shared s=0;def main(){for(i in 1..1500)async atomic s=s+1;}"
+        accesses = "shared s=0;def main(){async for(i in 1..66500)atomic s=s+1;for(i in 1..66500)atomic s=s+1;}"
+        phases = "for(i in 1..66500)Clock.advanceAll();"
+        advances = f"def main(){{clocked finish{{clocked async {phases}{phases}}}}}"
+        places = "shared s=0;def main(){" + ("async{" + "s=1;" * 20 + "}") * 20 + "}"
+        for name, text, most in (
+            ("1,500 activities", adds, to_order(1_501, 1_500, 0)),
+            ("133,000 accesses", accesses, to_order(2, 133_000, 0)),
+            ("133,000 advances", advances, to_order(2, 133_000, 0)),
+            ("76,000 races", places, to_order(21, 400, 76_000)),
+        ):
+            yield self.logged(name, text)
+            yield self.on_log(["races"], name, text, most)
 
     def of_lists(self) -> Iterator[Call]:
         text, path = "def main(){Console.OUT.println(7);}", self.folder / "list"
@@ -283,7 +403,7 @@ def ask(program: pathlib.Path, call: Call, most: int | None) -> Ended:
 
 def least(program: pathlib.Path, call: Call, whole: Ended) -> int:
     """The least address space in which the call is answered, to a hundredth."""
-    low, high = 0, 4 * call.most
+    low, high = 0, 4 * call.most(whole)
     while high - low > max(high // 100, 10_000):
         middle = (low + high) // 2
         low, high = (low, middle) if ask(program, call, middle) == whole else (middle, high)
@@ -294,6 +414,7 @@ def main() -> int:
     parser = argparse.ArgumentParser(description="Tries x10clock in the memory that it can want at most.")
     harness.add_program(parser)
     parser.add_argument("--least", action="store_true")
+    parser.add_argument("--only", metavar="WORD", default="")
     given = parser.parse_args()
     program, wrong, count = given.program, [], 0
     with tempfile.TemporaryDirectory() as folder:
@@ -304,20 +425,27 @@ def main() -> int:
             calls.of_modules,
             calls.of_runs,
             calls.of_logs,
+            calls.of_where,
+            calls.of_tallies,
+            calls.of_pictures,
+            calls.of_races,
             calls.of_lists,
         ):
             for call in kind():
-                count += 1
                 whole = ask(program, call, None)
-                if whole.status not in (0, 1):
+                if given.only not in ("", call.words[0]):
+                    continue
+                count += 1
+                most = call.most(whole)
+                if whole.status not in (0, 1, NOT_WHOLE):
                     wrong.append(f"{call.name}: {whole.status} {whole.err!r} with ample memory")
                 if given.least:
                     needed = least(program, call, whole)
                     ask(program, call, None)
-                    part = f"{needed / MEGABYTE:8.1f} of {call.most / MEGABYTE:8.1f} MB, {needed / call.most:5.2f}"
+                    part = f"{needed / MEGABYTE:8.1f} of {most / MEGABYTE:8.1f} MB, {needed / most:5.2f}"
                     print(f"{part}: {call.name}", flush=True)
-                elif (limited := ask(program, call, call.most)) != whole:
-                    wrong.append(f"{call.name} in {call.most / MEGABYTE:.1f} MB: {limited.status} {limited.err!r}")
+                elif (limited := ask(program, call, most)) != whole:
+                    wrong.append(f"{call.name} in {most / MEGABYTE:.1f} MB: {limited.status} {limited.err!r}")
     print(*wrong, sep="\n", end="\n" if wrong else "", file=sys.stderr)
     print(f"wants: {count} calls, {len(wrong)} that want more")
     return 1 if wrong or not count else 0
