@@ -35,7 +35,7 @@ MOST = {
     "clauses": 0,
     "code": 256,
     "proofs": 6744,
-    "docs": 72,
+    "docs": 71,
     "scripts": 0,
     "files": 3,
 }
