@@ -4,8 +4,8 @@ ghost use Rattle.std.specs.Prelude.{◌≡◌, [], IfOk, OnErr, OnOk, string_byt
 ghost use Rattle.std.specs.Io.KnownBytes.{Appends};
 ghost use Rattle.std.specs.Option.{option_map_or};
 ghost use Rattle.xk_types.specs.Device.{Rose};
+ghost use Rattle.xk_io.specs.Writing.{AppendsBeginning};
 ghost use Rattle.xk_log.specs.LogText.{log_text};
-ghost use Rattle.xk_log.specs.Writing.{AppendsBeginning};
 ghost use Rattle.xk_answers.specs.Printed.{done_status};
 ghost use Rattle.xk_answers.specs.Printed.{done_ending, done_front, done_log, done_text};
 ghost use Rattle.xk_answers.specs.declared.job_result.Done.TheVariants.{Ended};
@@ -14,8 +14,7 @@ ghost use Rattle.xk_messages.specs.Lines.{accepted_line, ended_line};
 use crate::runs::Finished;
 use std::alloc::{AllocError, Global};
 use xk_cli::status;
-use xk_io::write_numbers;
-use xk_log::{Device, write_all};
+use xk_io::{Device, write_all, write_numbers};
 use xk_messages::{accepted_line, ended_line};
 use xk_types::{Entry, Sink};
 

@@ -14,8 +14,8 @@ use Rattle.xk_types.specs.Schedule.{is_enabled, all_ended}
 use Rattle.xk_types.specs.Logs.{one_step_of}
 use Rattle.xk_core.specs.Core.{CoreValue, opening_core}
 use Rattle.xk_scheduler.proofs.EnabledSetLemmas.{going}
-use Rattle.xk_log.specs.Writing.{AppendsBeginning}
-use Rattle.xk_log.proofs.DeviceLemmas.{appends_then, beginning_more, beginning_then}
+use Rattle.xk_io.specs.Writing.{AppendsBeginning}
+use Rattle.xk_io.proofs.DeviceLemmas.{appends_then, beginning_more, beginning_then}
 use Rattle.xk_show_events.specs.Events.{PlacesValue}
 use Rattle.xk_ask.specs.Answers.{answers, answers_read, behind_lines, most_bytes}
 use Rattle.xk_ask.specs.Asking.{BeginsByAnswers, BeginsSome, EndAlike, FollowsSome, IsByAnswers, Leaves, TakesAnswer, TakesLine, to_come}

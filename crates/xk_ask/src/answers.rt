@@ -7,7 +7,7 @@ ghost use Rattle.xk_ask.specs.Answers.{answers};
 ghost use Rattle.xk_ask.specs.Asking.{Leaves, TakesAnswer, TakesLine, to_come};
 
 use crate::line::Line;
-use xk_log::Device;
+use xk_io::Device;
 use xk_types::Source;
 
 /// The next byte, if one is to come, where so many may still be read. No other is read.

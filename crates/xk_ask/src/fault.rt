@@ -2,7 +2,7 @@
 
 use std::alloc::AllocError;
 use thiserror::Error;
-use xk_log::Device;
+use xk_io::Device;
 use xk_types::Failed;
 
 /// Why a run couldn't be asked for.

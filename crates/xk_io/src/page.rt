@@ -1,76 +1,63 @@
 //! A text of some lines, before it is written.
 
-ghost use Rattle.std.specs.Prelude.{◌≡◌, ◌+◌, ◌≤◌, ◌++◌, [], length, codes};
-ghost use Rattle.std.specs.Fmt.{signed_decimal};
+ghost use Rattle.std.specs.Prelude.{◌≡◌, ◌+◌, ◌≤◌, ◌++◌, [], length};
 
-use itoa::Buffer;
+use itoa::{Buffer, Integer};
 use std::marker::Model;
 
-/// How many bytes a page has room for.
-pub(crate) const PAGE: usize = 8192;
-
-/// Some bytes of a text, one after another, for which no memory is taken.
+/// At most `SIZE` bytes of a text, one after another, for which no memory is taken.
 #[derive(Drop)]
-pub(crate) struct Page {
-    bytes: [u8; PAGE],
+pub struct Page<const SIZE: usize> {
+    bytes: [u8; SIZE],
     filled: usize,
 }
 
-impl Model for Page {
+impl<const SIZE: usize> Model for Page<SIZE> {
     ghost use Rattle.std.specs.Prelude.{◌≤◌, ℕ, List, take};
 
     ghost Value = { List ℕ };
 
     ghost view = { λ p. take p.filled p.bytes };
 
-    ghost invariant = { λ p. p.filled ≤ 8192 };
+    ghost invariant = { λ p. p.filled ≤ SIZE };
 }
 
-impl Page {
+impl<const SIZE: usize> Page<SIZE> {
     /// No bytes.
-    pub(crate) fn new() -> Page
+    pub fn new() -> Page<SIZE>
         ensures { result ≡ [] }
     {
         Page {
-            bytes: [0; PAGE],
+            bytes: [0; SIZE],
             filled: 0,
         }
     }
 
     /// The bytes.
-    pub(crate) fn text(&self) -> &[u8]
+    pub fn text(&self) -> &[u8]
         ensures { result.now ≡ self.now }
     {
         &self.bytes[..self.filled]
     }
 
     /// Puts a text behind the bytes.
-    fn put(&mut self, text: &[u8])
-        requires { length self.old + length text.now ≤ 8192 }
+    pub fn put(&mut self, text: &[u8])
+        requires { length self.old + length text.now ≤ SIZE }
         ensures { self.new ≡ self.old ++ text.now }
     {
         let end = self.filled + text.len();
-        self.bytes[self.filled..end].copy_from_slice(text);
+        let bytes = &mut self.bytes[..];
+        bytes[self.filled..end].copy_from_slice(text);
         self.filled = end;
     }
 
     /// Puts the digits of a number, and its sign where it has one, behind them.
-    fn put_number(&mut self, number: i64)
-        requires { length self.old + 20 ≤ 8192 }
-        ensures text { self.new ≡ self.old ++ signed_decimal number }
-        ensures grown { length self.new ≤ length self.old + 20 }
+    pub fn put_number<I: Integer>(&mut self, number: I)
+        requires { length self.old + I.MAX_STR_LEN ≤ SIZE }
+        ensures text { self.new ≡ self.old ++ I.text number }
+        ensures grown { length self.new ≤ length self.old + I.MAX_STR_LEN }
     {
         let mut digits = Buffer::new();
         self.put(digits.format(number).as_bytes());
-    }
-
-    /// Puts the line of a number behind them.
-    pub(crate) fn put_line(&mut self, number: i64)
-        requires { length self.old + 21 ≤ 8192 }
-        ensures text { self.new ≡ self.old ++ (signed_decimal number ++ codes "\n") }
-        ensures grown { length self.new ≤ length self.old + 21 }
-    {
-        self.put_number(number);
-        self.put(b"\n");
     }
 }

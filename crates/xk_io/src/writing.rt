@@ -1,14 +1,18 @@
 //! Writing numbers.
 
-ghost use Rattle.std.specs.Prelude.{◌≡◌, ◌≤◌, OnOk, OnErr, length};
+ghost use Rattle.std.specs.Prelude.{◌≡◌, ◌+◌, ◌≤◌, ◌++◌, OnOk, OnErr, length, codes};
+ghost use Rattle.std.specs.Fmt.{signed_decimal};
 ghost use Rattle.std.specs.Io.KnownBytes.{Appends};
 ghost use Rattle.xk_types.specs.Device.{Rose};
-ghost use Rattle.xk_log.specs.Writing.{AppendsBeginning};
+ghost use Rattle.xk_io.specs.Writing.{AppendsBeginning};
 ghost use Rattle.xk_io.specs.Lines.{number_lines};
 
+use crate::device::{Device, write_all};
 use crate::page::Page;
-use xk_log::{Device, write_all};
 use xk_types::Sink;
+
+/// How many bytes a page of numbers has room for.
+const PAGE: usize = 8192;
 
 /// How many numbers are written at a time: their lines fit a page.
 const AT_A_TIME: usize = 390;
@@ -44,7 +48,17 @@ fn write_some<W: Sink>(sink: &mut W, numbers: &[i64]) -> Result<(), Device>
 {
     let mut page = Page::new();
     for number in numbers {
-        page.put_line(*number);
+        put_line(&mut page, *number);
     }
     write_all(sink, page.text())
+}
+
+/// Puts the line of a number behind the bytes of a page.
+fn put_line(page: &mut Page<PAGE>, number: i64)
+    requires { length page.old + 21 ≤ 8192 }
+    ensures text { page.new ≡ page.old ++ (signed_decimal number ++ codes "\n") }
+    ensures grown { length page.new ≤ length page.old + 21 }
+{
+    page.put_number(number);
+    page.put(b"\n");
 }

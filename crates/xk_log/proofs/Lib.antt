@@ -1,4 +1,3 @@
-pub mod DeviceLemmas
 pub mod TextLemmas
 pub mod LineLemmas
 pub mod NumberLemmas

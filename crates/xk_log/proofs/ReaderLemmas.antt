@@ -1,11 +1,10 @@
 -- What taking lines one after another says of a text.
-use Rattle.std.proofs.Common.{◌≡◌, ℕ, ◌+◌, ◌-◌, ◌*◌, ◌<◌, ◌≤◌, List, [], ◌∷◌, ◌++◌, length, take, drop, Option, Some, None, Result, Ok, Err, IfSome, ap, sym, ◌∙◌, arith, refl, subst, append_assoc, append-nil, length-append, length-drop, length-take, lit≤, inl, inr}
+use Rattle.std.proofs.Common.{◌≡◌, ℕ, ◌+◌, ◌-◌, ◌*◌, ◌<◌, ◌≤◌, List, [], ◌∷◌, ◌++◌, length, take, drop, Option, Some, None, Result, Ok, Err, IfSome, ap, sym, ◌∙◌, arith, refl, subst, append_assoc, append-nil, length-append, length-drop, length-take, lit≤}
 use Rattle.std.specs.List.{AllByRecursion, prefix_len, copy_within}
 use Rattle.std.specs.Io.KnownBytes.{Consumes, IsAtEnd}
 use borrow.Rule.Slice.PartMut.{put_mid, post_of}
 use Rattle.std.proofs.KnownBytes.{Consumes-trans}
 use Rattle.std.proofs.Math.Seq.{take-append-add}
-use Rattle.std.proofs.lemmas.Bool.{cases_lt}
 use Rattle.std.proofs.lemmas.List.{drop-take, take_at, take_all, take-append-le, take-append-drop}
 use Rattle.xk_types.specs.declared.world.Entry.{Entry}
 use Rattle.xk_log.specs.declared.fault.LogFault.{LogFault}

@@ -1,5 +1,4 @@
 pub mod LogText
 pub mod Verdicts
-pub mod Writing
 pub mod Numbers
 pub mod Reading

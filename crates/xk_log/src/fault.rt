@@ -1,22 +1,8 @@
-//! Why a log couldn't be read or written.
+//! Why a log couldn't be read.
 
 use std::alloc::{AllocError, AllocFailed};
 use thiserror::Error;
 use xk_types::Failed;
-
-/// A device failed.
-#[derive(Clone, Copy, Debug, PartialEq, Eq, Error)]
-#[error("a device failed")]
-pub struct Device;
-
-impl From<Failed> for Device {
-    ghost from_gives = { λ _ _. Unit {0} };
-
-    /// There is one way to fail, so nothing is lost.
-    fn from(_e: Failed) -> Device {
-        Device
-    }
-}
 
 /// Why a log couldn't be read.
 #[derive(Clone, Copy, Debug, PartialEq, Eq, Error)]

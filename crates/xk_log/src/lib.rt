@@ -5,12 +5,11 @@ mod fault;
 pub mod laws;
 mod lines;
 mod log;
-mod page;
 mod progress;
 mod reading;
 mod writing;
 
-pub use fault::{Device, LogFault};
+pub use fault::LogFault;
 pub use log::Log;
 pub use reading::read_log;
-pub use writing::{write_all, write_entries};
+pub use writing::write_entries;

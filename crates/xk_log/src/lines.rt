@@ -6,8 +6,11 @@ ghost use Rattle.xk_types.specs.declared.world.Entry.{Entry as AnEntry};
 ghost use Rattle.xk_log.specs.LogText.{isnt, blank, Lacks, entry_line, end_line, FitsEntry};
 ghost use Rattle.xk_log.specs.Numbers.{value_from};
 
-use crate::page::Page;
+use xk_io::Page;
 use xk_types::Entry;
+
+/// How many bytes the last line has at most, whatever its number.
+const LONGEST_END: usize = 24;
 
 /// How many bytes stand before the first one of this value: all where there is none.
 pub(crate) fn until(byte: u8, text: &[u8]) -> usize
@@ -80,7 +83,7 @@ pub(crate) fn entry_of(line: &[u8]) -> Option<Entry>
 pub(crate) fn is_end(line: &[u8], entries: u64) -> bool
     ensures { IsTrue result ↔ (line.now ≡ end_line entries) }
 {
-    let mut page = Page::new();
+    let mut page: Page<LONGEST_END> = Page::new();
     page.put(b"end ");
     page.put_number(entries);
     line == page.text()

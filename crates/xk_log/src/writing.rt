@@ -1,14 +1,16 @@
 //! Writing a log.
 
-ghost use Rattle.std.specs.Prelude.{◌≡◌, ◌≤◌, OnOk, OnErr, length};
+ghost use Rattle.std.specs.Prelude.{◌≡◌, ◌+◌, ◌≤◌, ◌++◌, OnOk, OnErr, length};
 ghost use Rattle.std.specs.Io.KnownBytes.{Appends};
 ghost use Rattle.xk_types.specs.Device.{Rose};
-ghost use Rattle.xk_log.specs.LogText.{ended, end_line, entry_lines, log_text};
-ghost use Rattle.xk_log.specs.Writing.{AppendsBeginning};
+ghost use Rattle.xk_io.specs.Writing.{AppendsBeginning};
+ghost use Rattle.xk_log.specs.LogText.{ended, entry_line, end_line, entry_lines, log_text};
 
-use crate::fault::Device;
-use crate::page::Page;
+use xk_io::{Device, Page, write_all};
 use xk_types::{Entry, Sink};
+
+/// How many bytes a page of a log has room for.
+const PAGE: usize = 4096;
 
 /// How many entries are written at a time: their lines fit a page.
 const AT_A_TIME: usize = 90;
@@ -44,7 +46,7 @@ fn write_some<W: Sink>(sink: &mut W, entries: &[Entry]) -> Result<(), Device>
 {
     let mut page = Page::new();
     for entry in entries {
-        page.put_entry(*entry);
+        put_entry(&mut page, *entry);
     }
     write_all(sink, page.text())
 }
@@ -59,20 +61,28 @@ fn write_end<W: Sink>(sink: &mut W, entries: u64) -> Result<(), Device>
     ensures failed { OnErr result (Rose (W.fault_count sink.old) (W.fault_count sink.new)) }
 {
     let mut page = Page::new();
-    page.put_end(entries);
+    put_end(&mut page, entries);
     write_all(sink, page.text())
 }
 
-/// Writes the whole text, or, where a write fails, a beginning of it.
-pub fn write_all<W: Sink>(sink: &mut W, text: &[u8]) -> Result<(), Device>
-    ensures all { OnOk result (Appends (W.contents sink.old) (W.contents sink.new) text.now) }
-    ensures beginning { AppendsBeginning (W.contents sink.old) (W.contents sink.new) text.now }
-    ensures no_fault { OnOk result (W.fault_count sink.new ≡ W.fault_count sink.old) }
-    ensures failed { OnErr result (Rose (W.fault_count sink.old) (W.fault_count sink.new)) }
+/// Puts the line of an entry behind the bytes of a page.
+fn put_entry(page: &mut Page<PAGE>, entry: Entry)
+    requires { length page.old + 42 ≤ 4096 }
+    ensures text { page.new ≡ page.old ++ ended (entry_line entry) }
+    ensures grown { length page.new ≤ length page.old + 42 }
 {
-    let mut written = 0;
-    while written < text.len() {
-        written += sink.write(&text[written..])?;
-    }
-    Ok(())
+    page.put_number(u64::from(entry.act));
+    page.put(b" ");
+    page.put_number(u64::from(entry.steps));
+    page.put(b"\n");
+}
+
+/// Puts the last line of a log of so many entries behind them.
+fn put_end(page: &mut Page<PAGE>, entries: u64)
+    requires { length page.old + 25 ≤ 4096 }
+    ensures { page.new ≡ page.old ++ ended (end_line entries) }
+{
+    page.put(b"end ");
+    page.put_number(entries);
+    page.put(b"\n");
 }

@@ -4,10 +4,11 @@ ghost use Rattle.std.specs.Prelude.{◌≡◌, ◌++◌, ℕ, List, OnOk, OnErr}
 ghost use Rattle.std.specs.Io.KnownBytes.{Appends};
 ghost use Rattle.xk_types.specs.declared.world.Entry.{Entry};
 ghost use Rattle.xk_types.specs.Device.{Rose};
+ghost use Rattle.xk_io.specs.Writing.{AppendsBeginning};
 ghost use Rattle.xk_log.specs.LogText.{log_text, IsLog};
-ghost use Rattle.xk_log.specs.Writing.{AppendsBeginning};
 
-use xk_log::{Device, write_entries};
+use xk_io::Device;
+use xk_log::write_entries;
 use xk_scheduler::Ended;
 use xk_types::Sink;
 

@@ -9,7 +9,7 @@ use Rattle.xk_program.specs.declared.fault.Fault.{Fault}
 use Rattle.xk_program.specs.declared.fault.Fault.TheVariants as fault
 use Rattle.xk_serve.specs.Answer.{FailsBy, IsSaidOf, Succeeds, Task, done_reply, fault_reply}
 use Rattle.xk_answers.specs.Printed.{done_status}
-use Rattle.xk_log.specs.Writing.{AppendsBeginning}
+use Rattle.xk_io.specs.Writing.{AppendsBeginning}
 use Rattle.xk_program.specs.Lines.{device_line, fault_line, status_of}
 use Rattle.xk_messages.specs.Lines.{memory_line}
 use Rattle.xk_serve.specs.Devices.{Answered, ErrBegins, Explained, IfKnown, IsBegun, IsTold, IsWritten, OutBegins, Reads, Reports, StandsAgainst, Tells, read_of}

@@ -8,7 +8,7 @@ use Rattle.xk_cli.specs.declared.words_fault.WordsFault.TheVariants as words
 use Rattle.xk_answers.specs.declared.job_result.Done.{Done}
 use Rattle.xk_program.specs.declared.fault.Fault.{Fault}
 use Rattle.xk_program.specs.declared.fault.Fault.TheVariants as fault
-use Rattle.xk_log.specs.Writing.{AppendsBeginning}
+use Rattle.xk_io.specs.Writing.{AppendsBeginning}
 use Rattle.xk_serve.specs.Answer.{Answers, FailsBy, Reply, Succeeds, Task, IsSaidOf, reads_list, reads_more}
 use Rattle.xk_answers.specs.Results.{Doing, longest_list}
 use Rattle.xk_program.specs.Bytes.{LosesAtMost}

@@ -3,7 +3,7 @@
 ghost use Rattle.std.specs.Prelude.{◌≡◌, ◌≢◌, ◌⊎◌, false, [], IfOk, IfErr, OnOk, OnErr};
 ghost use Rattle.std.specs.Io.KnownBytes.{Appends};
 ghost use Rattle.xk_types.specs.Device.{Rose};
-ghost use Rattle.xk_log.specs.Writing.{AppendsBeginning};
+ghost use Rattle.xk_io.specs.Writing.{AppendsBeginning};
 ghost use Rattle.xk_cli.specs.Status.{status_device, status_done, status_memory, status_partial, status_program};
 ghost use Rattle.xk_serve.specs.Answer.{Succeeds, reads_more, task_of};
 ghost use Rattle.xk_answers.specs.Printed.{done_status};
@@ -19,7 +19,8 @@ use std::sync::Wait;
 use std::thread::Threads;
 use xk_answers::{Done, Refused, explained, unsaid};
 use xk_cli::{Job, WordsFault, status};
-use xk_log::{Device, write_all, write_entries};
+use xk_io::{Device, write_all};
+use xk_log::write_entries;
 use xk_messages::MEMORY_LINE;
 use xk_program::{DEVICE_LINE, Fault, read_program};
 use xk_types::{Sink, Source};

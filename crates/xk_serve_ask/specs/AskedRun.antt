@@ -7,10 +7,10 @@ use Rattle.xk_types.specs.Code.{ModuleValue}
 use Rattle.xk_types.specs.Device.{Rose}
 use Rattle.xk_types.specs.World.{AreArguments}
 use Rattle.xk_cli.specs.declared.job.Form.{Form}
-use Rattle.xk_log.specs.LogText.{log_text}
 use Rattle.xk_io.specs.Lines.{number_lines}
+use Rattle.xk_log.specs.LogText.{log_text}
 use Rattle.xk_messages.specs.Lines.{ended_line}
-use Rattle.xk_log.specs.Writing.{AppendsBeginning}
+use Rattle.xk_io.specs.Writing.{AppendsBeginning}
 use Rattle.xk_ask.specs.Answers.{AreAnswers}
 use Rattle.xk_ask.specs.Asking.{Leaves}
 use Rattle.xk_ask.specs.Play.{IsPlayed, log_by, told_by, unread}

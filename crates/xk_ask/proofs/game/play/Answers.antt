@@ -1,6 +1,6 @@
 use Rattle.std.proofs.Common.{subst}
 use Rattle.std.specs.Io.KnownBytes.{Appends}
-use Rattle.xk_log.specs.Writing.{AppendsBeginning}
+use Rattle.xk_io.specs.Writing.{AppendsBeginning}
 use Rattle.xk_core.specs.Core.{CoreValue}
 use Rattle.xk_ask.specs.Answers.{answers, most_bytes}
 use Rattle.xk_ask.specs.Asking.{to_come}

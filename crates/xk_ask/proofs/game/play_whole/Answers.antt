@@ -1,6 +1,6 @@
 use Rattle.std.proofs.Common.{◌∙◌}
 use Rattle.std.specs.Io.KnownBytes.{Appends}
-use Rattle.xk_log.specs.Writing.{AppendsBeginning}
+use Rattle.xk_io.specs.Writing.{AppendsBeginning}
 use Rattle.xk_ask.specs.Play.{told_text}
 use Rattle.xk_ask.proofs.PlayLemmas.{nothing_begun, nothing_begun_by, opened_begins, opened_by, opened_log, opened_text, opened_unread}
 use Rattle.xk_ask.proofs.game.play_whole.Goals as goal

@@ -2,8 +2,8 @@ use Rattle.std.proofs.Common.{◌≡◌, ◌-◌, ◌≤◌, ◌++◌, List, ℕ
 use Rattle.std.proofs.Math.Seq.{take-length}
 use Rattle.std.proofs.lemmas.List.{take_all}
 use Rattle.std.specs.Io.KnownBytes.{Appends}
-use Rattle.xk_log.specs.Writing.{AppendsBeginning}
-use Rattle.xk_log.proofs.DeviceLemmas.{appends_then, beginning_more, beginning_then}
+use Rattle.xk_io.specs.Writing.{AppendsBeginning}
+use Rattle.xk_io.proofs.DeviceLemmas.{appends_then, beginning_more, beginning_then}
 use Rattle.xk_io.specs.Lines.{number_lines}
 use Rattle.xk_io.proofs.LineLemmas.{lines_at, lines_then}
 use Rattle.xk_io.proofs.writing.write_numbers.Goals as goal

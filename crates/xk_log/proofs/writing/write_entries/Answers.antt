@@ -1,9 +1,9 @@
 use Rattle.std.proofs.Common.{◌≡◌, ◌-◌, ◌≤◌, ◌++◌, List, ℕ, length, take, drop, subst, ap, ◌∙◌, arith, append_assoc}
 use Rattle.std.proofs.lemmas.List.{take_all}
 use Rattle.std.specs.Io.KnownBytes.{Appends}
+use Rattle.xk_io.specs.Writing.{AppendsBeginning}
+use Rattle.xk_io.proofs.DeviceLemmas.{appends_then, beginning_more, beginning_then}
 use Rattle.xk_log.specs.LogText.{head_line, ended, end_line, entry_lines, log_text}
-use Rattle.xk_log.specs.Writing.{AppendsBeginning}
-use Rattle.xk_log.proofs.DeviceLemmas.{appends_then, beginning_more, beginning_then}
 use Rattle.xk_log.proofs.TextLemmas.{lines_then, log_at}
 use Rattle.xk_log.proofs.writing.write_entries.Goals as goal
 

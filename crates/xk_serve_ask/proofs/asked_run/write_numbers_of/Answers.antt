@@ -1,5 +1,5 @@
 use Rattle.std.specs.Prelude.{string_bytes}
-use Rattle.xk_log.proofs.DeviceLemmas.{beginning_more, beginning_then}
+use Rattle.xk_io.proofs.DeviceLemmas.{beginning_more, beginning_then}
 use Rattle.xk_io.specs.Lines.{number_lines}
 use Rattle.xk_serve_ask.proofs.asked_run.write_numbers_of.Goals as goal
 

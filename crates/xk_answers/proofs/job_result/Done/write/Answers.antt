@@ -1,6 +1,6 @@
 use Rattle.std.proofs.Common.{◌≡◌, subst, ◌∙◌}
-use Rattle.xk_log.specs.Writing.{AppendsBeginning}
-use Rattle.xk_log.proofs.DeviceLemmas.{beginning_more, beginning_then}
+use Rattle.xk_io.specs.Writing.{AppendsBeginning}
+use Rattle.xk_io.proofs.DeviceLemmas.{beginning_more, beginning_then}
 use Rattle.xk_answers.specs.Printed.{done_ending, done_front}
 use Rattle.xk_answers.proofs.PrintedLemmas.{parts_of_text}
 use Rattle.xk_answers.proofs.job_result.Done.write.Goals as goal

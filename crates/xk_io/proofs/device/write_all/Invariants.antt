@@ -1,6 +1,6 @@
 use Rattle.std.proofs.Common.{◌≡◌, ◌-◌, ◌≤◌, length, take}
 use Rattle.std.specs.Io.KnownBytes.{Appends}
-use Rattle.xk_log.proofs.writing.write_all.Given as goal
+use Rattle.xk_io.proofs.device.write_all.Given as goal
 
 -- so many bytes of the text were written, and no write failed
 abbrev pub invariant-loop-written : goal.invariant-loop-written

@@ -1,8 +1,8 @@
 use Rattle.std.proofs.Common.{◌≡◌, ◌-◌, ◌≤◌, length, take, drop, ◌∙◌, arith}
 use Rattle.std.proofs.Math.Seq.{take-length, take-add}
 use Rattle.std.proofs.lemmas.List.{length-drop}
-use Rattle.xk_log.proofs.DeviceLemmas.{appends_then}
-use Rattle.xk_log.proofs.writing.write_all.Goals as goal
+use Rattle.xk_io.proofs.DeviceLemmas.{appends_then}
+use Rattle.xk_io.proofs.device.write_all.Goals as goal
 
 pub loop-written-preserved : goal.loop-written-preserved
 loop-written-preserved g c =

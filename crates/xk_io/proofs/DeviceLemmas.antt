@@ -3,7 +3,7 @@ use Rattle.std.proofs.Common.{◌≡◌, ℕ, ◌+◌, ◌≤◌, min, List, ◌
 use Rattle.std.proofs.Math.Seq.{take-append-add}
 use Rattle.std.proofs.lemmas.List.{take-append-le, take_min}
 use Rattle.std.specs.Io.KnownBytes.{Appends}
-use Rattle.xk_log.specs.Writing.{AppendsBeginning}
+use Rattle.xk_io.specs.Writing.{AppendsBeginning}
 
 -- two texts, one after the other
 pub appends_then : (a b c : Option (List ℕ)) (xs ys : List ℕ) → Appends a b xs → Appends b c ys → Appends a c (xs ++ ys)
