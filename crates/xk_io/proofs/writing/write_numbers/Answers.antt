@@ -17,7 +17,7 @@ returns-in_err-write_some-clause-beginning g c =
     let part = number_lines (take (n - d) (drop d ns)) in
     let rest = number_lines (drop n ns) in
     let order : d ≤ n = omega arith in
-    let whole : (first ++ part) ++ rest ≡ number_lines ns = ap (λ l. l ++ rest) (lines_then d n ns order) ∙ lines_at n ns in
+    let whole : (first ++ part) ++ rest ≡ number_lines ns = ap (λ l. l ++ rest) (lines_then _ d n ns order) ∙ lines_at _ n ns in
     let P : List ℕ → Type 0 = AppendsBeginning (g.W.Sink.contents c.args.sink.now) (g.W.Sink.contents c.write_some.new.sink) in
     subst P whole (beginning_more _ _ (first ++ part) rest
     (beginning_then _ _ _ first part c.loop-done.invariant.appended c.write_some.ensures.beginning))
@@ -33,7 +33,7 @@ loop-done-preserved g c =
     let P : List ℕ → Type 0 = Appends (g.W.Sink.contents c.args.sink.now) (g.W.Sink.contents c.write_some.new.sink) in
     record {
       within = omega arith;
-      appended = subst P (lines_then d n ns order) (appends_then _ _ _ first part c.loop-done.invariant.appended c.in_ok-write_some.ensures.all);
+      appended = subst P (lines_then _ d n ns order) (appends_then _ _ _ first part c.loop-done.invariant.appended c.in_ok-write_some.ensures.all);
       no_fault = c.in_ok-write_some.ensures.no_fault ∙ c.loop-done.invariant.no_fault;
     }
 

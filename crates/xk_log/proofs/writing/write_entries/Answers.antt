@@ -3,8 +3,9 @@ use Rattle.std.proofs.lemmas.List.{take_all}
 use Rattle.std.specs.Io.KnownBytes.{Appends}
 use Rattle.xk_io.specs.Writing.{AppendsBeginning}
 use Rattle.xk_io.proofs.DeviceLemmas.{appends_then, beginning_more, beginning_then}
+use Rattle.xk_io.proofs.LineLemmas.{lines_then}
 use Rattle.xk_log.specs.LogText.{head_line, ended, end_line, entry_lines, log_text}
-use Rattle.xk_log.proofs.TextLemmas.{lines_then, log_at}
+use Rattle.xk_log.proofs.TextLemmas.{log_at}
 use Rattle.xk_log.proofs.writing.write_entries.Goals as goal
 
 pub returns-in_err-write_all-clause-beginning : goal.returns-in_err-write_all-clause-beginning
@@ -22,7 +23,7 @@ returns-in_err-write_some-clause-beginning g c =
     let rest = entry_lines (drop n es) ++ ended (end_line (length es)) in
     let order : d ≤ n = omega arith in
     let joined : first ++ part ≡ ended head_line ++ entry_lines (take n es) =
-    append_assoc (ended head_line) (entry_lines (take d es)) part ∙ ap (λ l. ended head_line ++ l) (lines_then d n es order) in
+    append_assoc (ended head_line) (entry_lines (take d es)) part ∙ ap (λ l. ended head_line ++ l) (lines_then _ d n es order) in
     let whole : (first ++ part) ++ rest ≡ log_text es = ap (λ l. l ++ rest) joined ∙ log_at n es in
     let P : List ℕ → Type 0 = AppendsBeginning (g.W.Sink.contents c.args.sink.now) (g.W.Sink.contents c.write_some.new.sink) in
     subst P whole (beginning_more _ _ (first ++ part) rest
@@ -37,7 +38,7 @@ loop-done-preserved g c =
     let part = entry_lines (take (n - d) (drop d es)) in
     let order : d ≤ n = omega arith in
     let joined : first ++ part ≡ ended head_line ++ entry_lines (take n es) =
-    append_assoc (ended head_line) (entry_lines (take d es)) part ∙ ap (λ l. ended head_line ++ l) (lines_then d n es order) in
+    append_assoc (ended head_line) (entry_lines (take d es)) part ∙ ap (λ l. ended head_line ++ l) (lines_then _ d n es order) in
     let P : List ℕ → Type 0 = Appends (g.W.Sink.contents c.args.sink.now) (g.W.Sink.contents c.write_some.new.sink) in
     record {
       within = omega arith;
