@@ -15,6 +15,14 @@ use crate::slots::declare;
 use xk_tree::{Bound, Name, Number};
 use xk_types::Instr;
 
+/// The turns of a loop: the name that counts them, its first number, and the bound.
+#[derive(Clone, Copy)]
+pub(crate) struct Turns<'e, 't> {
+    pub(crate) name: Name<'t>,
+    pub(crate) lo: Number,
+    pub(crate) limit: &'e Bound<'t>,
+}
+
 /// The slot behind those of a loop's names, where n is the next.
 pub(crate) fn behind_names(n: u16, limit: &Bound<'_>) -> Result<u16, CodeError>
     ensures next { IfOk result (λ m. m ≡ n + loop_slots (bound limit.now)) }
@@ -52,17 +60,17 @@ pub(crate) fn emit_limit<'t>(
 pub(crate) fn declare_loop<'t>(
     scope: &mut Scope<'t>,
     n: u16,
-    i: Name<'t>,
-    limit: &Bound<'t>,
+    turns: Turns<'_, 't>,
 ) -> Result<(), CodeError>
     requires low { n < 64 }
     ensures scope { OnOk result
-        (scope.new ≡ within_loop scope.old n (word i.entry) (bound limit.now)) }
+        (scope.new ≡ within_loop scope.old n (word turns.entry.name)
+        (bound turns.entry.limit.now)) }
     ensures refused { IfErr result (λ e. Denies e
-        (IsLoopNew scope.old n (word i.entry) (bound limit.now)) ⊤) }
+        (IsLoopNew scope.old n (word turns.entry.name) (bound turns.entry.limit.now)) ⊤) }
 {
-    declare(scope, i.text, n)?;
-    match limit {
+    declare(scope, turns.name.text, n)?;
+    match turns.limit {
         Bound::UpTo(_) => Ok(()),
         Bound::Least(x, _, _, _) => declare(scope, x.text, n + 1),
     }
@@ -95,19 +103,18 @@ pub(crate) fn close_loop(
     code: &mut Vec<Instr>,
     at: u16,
     n: u16,
-    lo: Number,
-    limit: &Bound<'_>,
+    turns: Turns<'_, '_>,
 ) -> Result<(), CodeError>
     requires low { n < 64 }
     ensures code { OnOk result ((front body : List Instruction) (old : Instruction)
         → code.old.items ≡ front ++ old ∷ body → at ≡ length front
         → code.new.items
-        ≡ front ++ head_of n lo.value (bound limit.now) (length front + 1 + length body)
-        ∷ (body ++ instr.Next (length front) ∷ [])) }
+        ≡ front ++ head_of n turns.entry.lo.value (bound turns.entry.limit.now)
+        (length front + 1 + length body) ∷ (body ++ instr.Next (length front) ∷ [])) }
     ensures refused { IfErr result (λ e. Denies e ⊤ (length code.old.items < 4096)) }
 {
     let end = place(code)?;
     push(code, Instr::Next(at))?;
-    patch(code, at as usize, head(n, lo, limit, end));
+    patch(code, at as usize, head(n, turns.lo, turns.limit, end));
     Ok(())
 }

@@ -12,11 +12,11 @@ ghost use Rattle.xk_emit.specs.EmittedCode.{DeniesCode, Emits};
 use crate::error::CodeError;
 use crate::expressions::{Scope, after, emit_both};
 use crate::gaps::{Test, begin_else, close_else, close_finish, close_test, gap};
-use crate::loops::{behind_names, close_loop, declare_loop, emit_limit};
+use crate::loops::{Turns, behind_names, close_loop, declare_loop, emit_limit};
 use crate::setting::Setting;
 use crate::slots::cut;
 use std::alloc::Global;
-use xk_tree::{Bound, Expr, Name, Number, Stmt};
+use xk_tree::{Expr, Stmt};
 use xk_types::{Comparison, Instr};
 
 /// Makes the code of one unit.
@@ -28,35 +28,48 @@ pub(crate) struct Emitter<'a, 't> {
     pub(crate) free: u16,
 }
 
+/// What an `if` compares.
+#[derive(Clone, Copy)]
+struct Condition<'e, 't> {
+    l: &'e Expr<'t>,
+    op: Comparison,
+    r: &'e Expr<'t>,
+}
+
 impl<'a, 't> Emitter<'a, 't> {
     /// The code of what a comparison compares, and a gap for it.
     fn open_test(
         &self,
         code: &mut Vec<Instr>,
         scope: &Scope<'t>,
-        l: &Expr<'t>,
-        op: Comparison,
-        r: &Expr<'t>,
+        condition: Condition<'_, 't>,
     ) -> Result<Test, CodeError>
         ensures code { OnOk result (code.new.items ≡ code.old.items
-            ++ (both scope.now self.now.free (expression l.now) (expression r.now)
-            ++ instr.Jump 0 ∷ [])) }
+            ++ (both scope.now self.now.free (expression condition.entry.l.now)
+            (expression condition.entry.r.now) ++ instr.Jump 0 ∷ [])) }
         ensures place { IfOk result (λ test. test.at ≡ length code.old.items
-            + length (both scope.now self.now.free (expression l.now) (expression r.now))) }
-        ensures comparison { IfOk result (λ test. test.op ≡ op) }
+            + length (both scope.now self.now.free (expression condition.entry.l.now)
+            (expression condition.entry.r.now))) }
+        ensures comparison { IfOk result (λ test. test.op ≡ condition.entry.op) }
         ensures first { IfOk result
-            (λ test. test.x ≡ slot_for scope.now self.now.free (expression l.now)) }
-        ensures second { IfOk result (λ test. test.y
-            ≡ second scope.now self.now.free (expression l.now) (expression r.now)) }
+            (λ test. test.x ≡ slot_for scope.now self.now.free (expression condition.entry.l.now)) }
+        ensures second { IfOk result (λ test. test.y ≡ second scope.now self.now.free
+            (expression condition.entry.l.now) (expression condition.entry.r.now)) }
         ensures refused { IfErr result (λ err. Denies err
-            (IsKnown scope.now (expression l.now) × IsKnown scope.now (expression r.now))
+            (IsKnown scope.now (expression condition.entry.l.now)
+            × IsKnown scope.now (expression condition.entry.r.now))
             (HasRoom scope.now (length code.old.items)
-            (both scope.now self.now.free (expression l.now) (expression r.now)
-            ++ instr.Jump 0 ∷ []))) }
+            (both scope.now self.now.free (expression condition.entry.l.now)
+            (expression condition.entry.r.now) ++ instr.Jump 0 ∷ []))) }
     {
-        let (x, y) = emit_both(code, scope, self.free, l, r)?;
+        let (x, y) = emit_both(code, scope, self.free, condition.l, condition.r)?;
         let at = gap(code)?;
-        Ok(Test { at, op, x, y })
+        Ok(Test {
+            at,
+            op: condition.op,
+            x,
+            y,
+        })
     }
 
     /// The code of a block, and the slot behind those of its names, which end with it.
@@ -84,17 +97,16 @@ impl<'a, 't> Emitter<'a, 't> {
         code: &mut Vec<Instr>,
         scope: &mut Scope<'t>,
         n: u16,
+        condition: Condition<'_, 't>,
         s: &Stmt<'t>,
-        l: &Expr<'t>,
-        op: Comparison,
-        r: &Expr<'t>,
     ) -> Result<u16, CodeError>
         ensures { Emits self.now.setting.now self.now.free scope.old n
-            (If 0 (expression l.now) op (expression r.now) (statement s.now))
+            (If 0 (expression condition.entry.l.now) condition.entry.op
+            (expression condition.entry.r.now) (statement s.now))
             code.old.items code.new.items scope.new result }
     {
         let visible = scope.len();
-        let test = self.open_test(code, scope, l, op, r)?;
+        let test = self.open_test(code, scope, condition)?;
         let m = self.emit(code, scope, n, s)?;
         cut(scope, visible);
         close_test(code, test)?;
@@ -108,27 +120,28 @@ impl<'a, 't> Emitter<'a, 't> {
         code: &mut Vec<Instr>,
         scope: &mut Scope<'t>,
         n: u16,
+        condition: Condition<'_, 't>,
         s: &Stmt<'t>,
-        l: &Expr<'t>,
-        op: Comparison,
-        r: &Expr<'t>,
     ) -> Result<(u16, u16), CodeError>
         ensures code { OnOk result (code.new.items ≡ code.old.items
             ++ code_of_then self.now.setting.now self.now.free scope.old n (length code.old.items)
-            (expression l.now) op (expression r.now) (statement s.now)) }
+            (expression condition.entry.l.now) condition.entry.op
+            (expression condition.entry.r.now) (statement s.now)) }
         ensures scope { OnOk result (scope.new ≡ scope.old) }
         ensures slots { IfOk result (λ begun. begun.0 ≡ n + count (statement s.now)) }
         ensures place { IfOk result (λ begun. length code.new.items ≡ begun.1 + 1) }
         ensures refused { IfErr result (λ err. Denies err
-            (IsKnown scope.old (expression l.now) × IsKnown scope.old (expression r.now)
+            (IsKnown scope.old (expression condition.entry.l.now)
+            × IsKnown scope.old (expression condition.entry.r.now)
             × IsCovered self.now.setting.now scope.old n (statement s.now))
             (HasRoom scope.old (length code.old.items)
             (code_of_then self.now.setting.now self.now.free scope.old n (length code.old.items)
-            (expression l.now) op (expression r.now) (statement s.now))
+            (expression condition.entry.l.now) condition.entry.op
+            (expression condition.entry.r.now) (statement s.now))
             × (n + count (statement s.now) ≤ 64))) }
     {
         let visible = scope.len();
-        let test = self.open_test(code, scope, l, op, r)?;
+        let test = self.open_test(code, scope, condition)?;
         let m = self.emit(code, scope, n, s)?;
         cut(scope, visible);
         let jump = begin_else(code, test)?;
@@ -170,28 +183,30 @@ impl<'a, 't> Emitter<'a, 't> {
         code: &mut Vec<Instr>,
         scope: &mut Scope<'t>,
         n: u16,
-        i: Name<'t>,
-        limit: &Bound<'t>,
+        turns: Turns<'_, 't>,
     ) -> Result<(u16, u16), CodeError>
         ensures code { OnOk result (code.new.items ≡ code.old.items
-            ++ (before_bound scope.old self.now.free n (bound limit.now) ++ instr.Jump 0 ∷ [])) }
+            ++ (before_bound scope.old self.now.free n (bound turns.entry.limit.now)
+            ++ instr.Jump 0 ∷ [])) }
         ensures place { IfOk result (λ begun. begun.0 ≡ length code.old.items
-            + length (before_bound scope.old self.now.free n (bound limit.now))) }
-        ensures next { IfOk result (λ begun. begun.1 ≡ n + loop_slots (bound limit.now)) }
+            + length (before_bound scope.old self.now.free n (bound turns.entry.limit.now))) }
+        ensures next { IfOk result (λ begun. begun.1 ≡ n + loop_slots (bound turns.entry.limit.now)) }
         ensures low { OnOk result (n < 64) }
         ensures scope { OnOk result
-            (scope.new ≡ within_loop scope.old n (word i.entry) (bound limit.now)) }
+            (scope.new ≡ within_loop scope.old n (word turns.entry.name)
+            (bound turns.entry.limit.now)) }
         ensures refused { IfErr result (λ e. Denies e
-            (IsBoundKnown scope.old (bound limit.now)
-            × IsLoopNew scope.old n (word i.entry) (bound limit.now))
+            (IsBoundKnown scope.old (bound turns.entry.limit.now)
+            × IsLoopNew scope.old n (word turns.entry.name) (bound turns.entry.limit.now))
             (HasRoom scope.old (length code.old.items)
-            (before_bound scope.old self.now.free n (bound limit.now) ++ instr.Jump 0 ∷ [])
-            × (n + loop_slots (bound limit.now) ≤ 64))) }
+            (before_bound scope.old self.now.free n (bound turns.entry.limit.now)
+            ++ instr.Jump 0 ∷ [])
+            × (n + loop_slots (bound turns.entry.limit.now) ≤ 64))) }
     {
-        let inner = behind_names(n, limit)?;
-        emit_limit(code, scope, self.free, n, limit)?;
+        let inner = behind_names(n, turns.limit)?;
+        emit_limit(code, scope, self.free, n, turns.limit)?;
         let first = gap(code)?;
-        declare_loop(scope, n, i, limit)?;
+        declare_loop(scope, n, turns)?;
         Ok((first, inner))
     }
 
@@ -202,23 +217,22 @@ impl<'a, 't> Emitter<'a, 't> {
         code: &mut Vec<Instr>,
         scope: &mut Scope<'t>,
         n: u16,
-        i: Name<'t>,
-        lo: Number,
-        limit: &Bound<'t>,
+        turns: Turns<'_, 't>,
         s: &Stmt<'t>,
     ) -> Result<u16, CodeError>
         ensures { Emits self.now.setting.now self.now.free scope.old n
-            (For 0 (word i.entry) lo (bound limit.now) (statement s.now))
+            (For 0 (word turns.entry.name) turns.entry.lo (bound turns.entry.limit.now)
+            (statement s.now))
             code.old.items code.new.items scope.new result }
     {
-        if lo.value > limit.top() {
-            return slots_behind(behind_names(n, limit)?, s);
+        if turns.lo.value > turns.limit.top() {
+            return slots_behind(behind_names(n, turns.limit)?, s);
         }
         let visible = scope.len();
-        let (first, inner) = self.open_loop(code, scope, n, i, limit)?;
+        let (first, inner) = self.open_loop(code, scope, n, turns)?;
         let m = self.emit(code, scope, inner, s)?;
         cut(scope, visible);
-        close_loop(code, first, n, lo, limit)?;
+        close_loop(code, first, n, turns)?;
         Ok(m)
     }
 
@@ -256,12 +270,23 @@ impl<'a, 't> Emitter<'a, 't> {
     {
         match s {
             Stmt::Block(_, ss) => self.emit_block(code, scope, n, ss),
-            Stmt::If(_, l, op, r, s) => self.emit_if(code, scope, n, s, l, *op, r),
+            Stmt::If(_, l, op, r, s) => {
+                let condition = Condition { l, op: *op, r };
+                self.emit_if(code, scope, n, condition, s)
+            }
             Stmt::IfElse(_, l, op, r, s, u) => {
-                let (m, jump) = self.emit_then(code, scope, n, s, l, *op, r)?;
+                let condition = Condition { l, op: *op, r };
+                let (m, jump) = self.emit_then(code, scope, n, condition, s)?;
                 self.emit_else(code, scope, m, u, jump)
             }
-            Stmt::For(_, i, lo, limit, s) => self.emit_for(code, scope, n, *i, *lo, limit, s),
+            Stmt::For(_, i, lo, limit, s) => {
+                let turns = Turns {
+                    name: *i,
+                    lo: *lo,
+                    limit,
+                };
+                self.emit_for(code, scope, n, turns, s)
+            }
             Stmt::Finish(_, s) => self.emit_finish(code, scope, n, s),
             Stmt::Empty
             | Stmt::Declare(..)
