@@ -3,7 +3,11 @@
 
 mod error;
 mod expressions;
+mod gaps;
+mod loops;
 mod setting;
+mod simple_statements;
+mod slots;
 mod statements;
 mod units;
 

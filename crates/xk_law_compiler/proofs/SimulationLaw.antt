@@ -17,7 +17,8 @@ use Rattle.xk_source_semantics.specs.Meaning.{Means, moments}
 use Rattle.xk_law_compiler.proofs.WorldLemmas.{AreRelated}
 use Rattle.xk_law_compiler.proofs.RelationLemmas.{Whole}
 use Rattle.xk_law_compiler.proofs.UnitEntryLemmas.{IsBuilt, AreBuilt, matched_known, known_named, unit_rest}
-use Rattle.xk_law_compiler.proofs.StepLemmas.{Between, IsAs, step_follows}
+use Rattle.xk_law_compiler.proofs.StepLemmas.{step_follows}
+use Rattle.xk_law_compiler.proofs.StepLemmas.ActivityLemmas.{Between, IsAs}
 use Rattle.xk_law_compiler.proofs.RunLemmas.{GoesOn, run_follows}
 
 -- the module has a unit for `main`, which is the first, and for what is called and started, and the program's shared numbers

@@ -16,8 +16,8 @@ emit_if-returns t c =
     let e = c.in_ok-test.ensures in
     record {
       code =
-          test_filled _ _ _ _ 0 _ c.args.op _ (expression c.args.l.now) (expression c.args.r.now) _ _ (statement s) base _ _ _ _
-          e.code e.place e.comparison e.first e.second c.in_ok-m.ensures.code c.in_ok-close_test.ensures.code;
+          test_filled _ _ _ _ 0 _ c.args.condition.op _ (expression c.args.condition.l.now) (expression c.args.condition.r.now) _ _ (statement s)
+          base _ _ _ _ e.code e.place e.comparison e.first e.second c.in_ok-m.ensures.code c.in_ok-close_test.ensures.code;
       scope = search rules;
       slots = search rules;
       refused = tt;
@@ -27,10 +27,10 @@ pub emit_for-returns : goal.emit_for-returns
 emit_for-returns t c =
     let base = c.args.code.now.items in
     let s = c.args.s.now in
-    let turns : int_le c.args.lo.value (top (bound c.args.limit.now)) ≡ true = search rules in
+    let turns : int_le c.args.turns.lo.value (top (bound c.args.turns.limit.now)) ≡ true = search rules in
     record {
       code =
-          loop_filled _ _ _ _ _ 0 _ _ (word c.args.i) c.args.lo (bound c.args.limit.now) (statement s) base _ _ _ _ turns
+          loop_filled _ _ _ _ _ 0 _ _ (word c.args.turns.name) c.args.turns.lo (bound c.args.turns.limit.now) (statement s) base _ _ _ _ turns
           c.in_ok-first.ensures.code c.in_ok-first.ensures.place c.in_ok-first.ensures.scope c.in_ok-first.ensures.next c.in_ok-m.ensures.code
           c.in_ok-close_loop.ensures.code;
       scope = search rules;
@@ -61,10 +61,10 @@ emit_if-returns-in_err-test t c =
     let n = c.args.n in
     let base = c.args.code.now.items in
     let refused = c.in_err-test.ensures.refused in
-    let l = expression c.args.l.now in
-    let r = expression c.args.r.now in
+    let l = expression c.args.condition.l.now in
+    let r = expression c.args.condition.r.now in
     let s = statement c.args.s.now in
-    rw (p.1, p.2) (emits_not (if_tested err cx free scope n (length base) 0 l c.args.op r s refused))
+    rw (p.1, p.2) (emits_not (if_tested err cx free scope n (length base) 0 l c.args.condition.op r s refused))
 
 pub emit_if-returns-in_err-m : goal.emit_if-returns-in_err-m
 emit_if-returns-in_err-m t c =
@@ -76,11 +76,11 @@ emit_if-returns-in_err-m t c =
     let n = c.args.n in
     let base = c.args.code.now.items in
     let refused = c.in_err-m.ensures.refused in
-    let l = expression c.args.l.now in
-    let r = expression c.args.r.now in
+    let l = expression c.args.condition.l.now in
+    let r = expression c.args.condition.r.now in
     let s = statement c.args.s.now in
     let opened = ap length c.in_ok-test.ensures.code ∙ length_gap base _ _ in
-    rw (p.1, p.2) (emits_not (if_inner err cx free scope n (length base) _ 0 l c.args.op r s refused opened))
+    rw (p.1, p.2) (emits_not (if_inner err cx free scope n (length base) _ 0 l c.args.condition.op r s refused opened))
 
 pub emit_if-returns-in_err-close_test : goal.emit_if-returns-in_err-close_test
 emit_if-returns-in_err-close_test t c =
@@ -92,12 +92,12 @@ emit_if-returns-in_err-close_test t c =
     let n = c.args.n in
     let base = c.args.code.now.items in
     let refused = c.in_err-close_test.ensures.refused in
-    let l = expression c.args.l.now in
-    let r = expression c.args.r.now in
+    let l = expression c.args.condition.l.now in
+    let r = expression c.args.condition.r.now in
     let s = statement c.args.s.now in
     let opened = ap length c.in_ok-test.ensures.code ∙ length_gap base _ _ in
     let made = ap length c.in_ok-m.ensures.code ∙ length-append _ _ in
-    rw (p.1, p.2) (emits_not (if_end err cx free scope n (length base) _ _ 0 l c.args.op r s refused opened made))
+    rw (p.1, p.2) (emits_not (if_end err cx free scope n (length base) _ _ 0 l c.args.condition.op r s refused opened made))
 
 -- ---- an `if` with an `else`
 
@@ -106,8 +106,8 @@ emit_then-returns-clause-code t c =
     let base = c.args.code.now.items in
     let s = c.args.s.now in
     let e = c.in_ok-test.ensures in
-    then_filled _ _ _ _ _ c.args.op _ (expression c.args.l.now) (expression c.args.r.now) _ _ (statement s) base _ _ _ _
-    e.code e.place e.comparison e.first e.second c.in_ok-m.ensures.code c.in_ok-jump.ensures.code
+    then_filled _ _ _ _ _ c.args.condition.op _ (expression c.args.condition.l.now) (expression c.args.condition.r.now) _ _ (statement s)
+    base _ _ _ _ e.code e.place e.comparison e.first e.second c.in_ok-m.ensures.code c.in_ok-jump.ensures.code
 
 pub emit_then-returns-in_err-test-clause-refused : goal.emit_then-returns-in_err-test-clause-refused
 emit_then-returns-in_err-test-clause-refused t c =
@@ -119,10 +119,10 @@ emit_then-returns-in_err-test-clause-refused t c =
     let n = c.args.n in
     let base = c.args.code.now.items in
     let refused = c.in_err-test.ensures.refused in
-    let l = expression c.args.l.now in
-    let r = expression c.args.r.now in
+    let l = expression c.args.condition.l.now in
+    let r = expression c.args.condition.r.now in
     let s = statement c.args.s.now in
-    rw (p.1, p.2) (then_tested err cx free scope n (length base) l c.args.op r s refused)
+    rw (p.1, p.2) (then_tested err cx free scope n (length base) l c.args.condition.op r s refused)
 
 pub emit_then-returns-in_err-m-clause-refused : goal.emit_then-returns-in_err-m-clause-refused
 emit_then-returns-in_err-m-clause-refused t c =
@@ -134,11 +134,11 @@ emit_then-returns-in_err-m-clause-refused t c =
     let n = c.args.n in
     let base = c.args.code.now.items in
     let refused = c.in_err-m.ensures.refused in
-    let l = expression c.args.l.now in
-    let r = expression c.args.r.now in
+    let l = expression c.args.condition.l.now in
+    let r = expression c.args.condition.r.now in
     let s = statement c.args.s.now in
     let opened = ap length c.in_ok-test.ensures.code ∙ length_gap base _ _ in
-    rw (p.1, p.2) (then_inner err cx free scope n (length base) _ l c.args.op r s refused opened)
+    rw (p.1, p.2) (then_inner err cx free scope n (length base) _ l c.args.condition.op r s refused opened)
 
 pub emit_then-returns-in_err-jump-clause-refused : goal.emit_then-returns-in_err-jump-clause-refused
 emit_then-returns-in_err-jump-clause-refused t c =
@@ -150,12 +150,12 @@ emit_then-returns-in_err-jump-clause-refused t c =
     let n = c.args.n in
     let base = c.args.code.now.items in
     let refused = c.in_err-jump.ensures.refused in
-    let l = expression c.args.l.now in
-    let r = expression c.args.r.now in
+    let l = expression c.args.condition.l.now in
+    let r = expression c.args.condition.r.now in
     let s = statement c.args.s.now in
     let opened = ap length c.in_ok-test.ensures.code ∙ length_gap base _ _ in
     let made = ap length c.in_ok-m.ensures.code ∙ length-append _ _ in
-    rw (p.1, p.2) (then_end err cx free scope n (length base) _ _ l c.args.op r s refused opened made)
+    rw (p.1, p.2) (then_end err cx free scope n (length base) _ _ l c.args.condition.op r s refused opened made)
 
 pub emit_else-returns-clause-code : goal.emit_else-returns-clause-code
 emit_else-returns-clause-code t c =
@@ -232,10 +232,11 @@ emit_for-returns-in_err-first t c =
     let free = c.args.self.now.free in
     let scope = c.args.scope.now in
     let base = c.args.code.now.items in
-    let b = bound c.args.limit.now in
-    let turns : int_le c.args.lo.value (top b) ≡ true = search rules in
+    let b = bound c.args.turns.limit.now in
+    let turns : int_le c.args.turns.lo.value (top b) ≡ true = search rules in
     let s = statement c.args.s.now in
-    rw (p.1, p.2) (emits_not (loop_opened err cx free scope c.args.n (length base) 0 (word c.args.i) c.args.lo b s turns c.in_err-first.ensures.refused))
+    rw (p.1, p.2) (emits_not (loop_opened err cx free scope c.args.n (length base) 0 (word c.args.turns.name) c.args.turns.lo
+    b s turns c.in_err-first.ensures.refused))
 
 pub emit_for-returns-in_err-m : goal.emit_for-returns-in_err-m
 emit_for-returns-in_err-m t c =
@@ -248,11 +249,12 @@ emit_for-returns-in_err-m t c =
     let base = c.args.code.now.items in
     let refused = c.in_err-m.ensures.refused in
     let s = statement c.args.s.now in
-    let b = bound c.args.limit.now in
-    let turns : int_le c.args.lo.value (top b) ≡ true = search rules in
+    let b = bound c.args.turns.limit.now in
+    let turns : int_le c.args.turns.lo.value (top b) ≡ true = search rules in
     let e = c.in_ok-first.ensures in
     let opened = ap length e.code ∙ length_gap base (before_bound scope free n b) _ in
-    rw (p.1, p.2) (emits_not (loop_inner err cx free scope _ n _ (length base) _ 0 (word c.args.i) c.args.lo b s turns refused e.scope e.next opened))
+    rw (p.1, p.2) (emits_not (loop_inner err cx free scope _ n _ (length base) _ 0 (word c.args.turns.name) c.args.turns.lo
+    b s turns refused e.scope e.next opened))
 
 pub emit_for-returns-in_err-close_loop : goal.emit_for-returns-in_err-close_loop
 emit_for-returns-in_err-close_loop t c =
@@ -265,12 +267,13 @@ emit_for-returns-in_err-close_loop t c =
     let base = c.args.code.now.items in
     let refused = c.in_err-close_loop.ensures.refused in
     let s = statement c.args.s.now in
-    let b = bound c.args.limit.now in
-    let turns : int_le c.args.lo.value (top b) ≡ true = search rules in
+    let b = bound c.args.turns.limit.now in
+    let turns : int_le c.args.turns.lo.value (top b) ≡ true = search rules in
     let e = c.in_ok-first.ensures in
     let opened = ap length e.code ∙ length_gap base (before_bound scope free n b) _ in
     let made = ap length c.in_ok-m.ensures.code ∙ length-append _ _ in
-    rw (p.1, p.2) (emits_not (loop_end err cx free scope _ n _ (length base) _ _ 0 (word c.args.i) c.args.lo b s turns refused e.scope e.next opened made))
+    rw (p.1, p.2) (emits_not (loop_end err cx free scope _ n _ (length base) _ _ 0 (word c.args.turns.name) c.args.turns.lo
+    b s turns refused e.scope e.next opened made))
 
 pub emit_finish-returns-in_err-m : goal.emit_finish-returns-in_err-m
 emit_finish-returns-in_err-m t c =

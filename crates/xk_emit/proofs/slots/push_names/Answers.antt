@@ -3,7 +3,7 @@ use Rattle.std.proofs.lemmas.Result.{err_from_is_err_and}
 use Rattle.xk_tree.specs.Tree.{word}
 use Rattle.xk_emit.specs.NameCoverage.{IsFound}
 use Rattle.xk_emit.proofs.CodeErrorLemmas.{all_read_two, denies}
-use Rattle.xk_emit.proofs.statements.push_names.Goals as goal
+use Rattle.xk_emit.proofs.slots.push_names.Goals as goal
 
 pub returns-in_err-number-clause-refused : goal.returns-in_err-number-clause-refused
 returns-in_err-number-clause-refused c =

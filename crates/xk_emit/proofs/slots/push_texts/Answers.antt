@@ -2,7 +2,7 @@ use Rattle.std.proofs.Common.{arith}
 use Rattle.std.proofs.lemmas.Result.{err_from_is_err_and}
 use Rattle.xk_emit.specs.NameCoverage.{IsFound}
 use Rattle.xk_emit.proofs.CodeErrorLemmas.{all_read, denies}
-use Rattle.xk_emit.proofs.statements.push_texts.Goals as goal
+use Rattle.xk_emit.proofs.slots.push_texts.Goals as goal
 
 pub returns-in_err-slot-clause-refused : goal.returns-in_err-slot-clause-refused
 returns-in_err-slot-clause-refused c =

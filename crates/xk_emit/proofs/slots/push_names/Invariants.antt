@@ -2,7 +2,7 @@ use Rattle.std.proofs.Common.{◌≡◌, ◌++◌, drop}
 use Rattle.xk_tree.specs.Tree.{words}
 use Rattle.xk_names.specs.Scope.{texts}
 use Rattle.xk_emit.specs.CodeOf.{slots_of}
-use Rattle.xk_emit.proofs.statements.push_names.Given as goal
+use Rattle.xk_emit.proofs.slots.push_names.Given as goal
 
 -- the slots so far and those of the names that are left are those of all
 abbrev pub invariant-loop-name : goal.invariant-loop-name

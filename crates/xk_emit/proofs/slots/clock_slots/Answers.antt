@@ -5,7 +5,7 @@ use Rattle.xk_names.specs.Scope.{texts}
 use Rattle.xk_names.specs.Uses.{clocks_listed}
 use Rattle.xk_emit.specs.NameCoverage.{IsFound}
 use Rattle.xk_emit.proofs.CodeErrorLemmas.{denies}
-use Rattle.xk_emit.proofs.statements.clock_slots.Goals as goal
+use Rattle.xk_emit.proofs.slots.clock_slots.Goals as goal
 
 pub returns-in_err-push_names-clause-refused : goal.returns-in_err-push_names-clause-refused
 returns-in_err-push_names-clause-refused c =
