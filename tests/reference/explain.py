@@ -70,7 +70,8 @@ def is_character(piece: bytes) -> bool:
 
 def shown(sign: bytes) -> str:
     if len(sign) > 1:
-        return sign.decode()
+        text = sign.decode()
+        return f"\\u{{{ord(text):x}}}" if "\u2028" <= text <= "\u202e" or "\u2066" <= text <= "\u2069" else text
     if sign == b"\t":
         return " "
     return sign.decode() if b" " <= sign <= b"~" else f"\\x{sign[0]:02x}"

@@ -78,6 +78,22 @@ control_sign_of_two_bytes : shown_signs (signs (194 ∷ 155 ∷ [])) ≡ 92 ∷ 
 unfolding signs is_utf8 chars encode
 control_sign_of_two_bytes = refl
 
+-- U+202E turns the order of letters, U+2028 ends a line
+marks : shown_signs (signs (codes "a" ++ 0xE2 ∷ 0x80 ∷ 0xAE ∷ codes "b" ++ 0xE2 ∷ 0x80 ∷ 0xA8 ∷ []))
+    ≡ codes "a" ++ 92 ∷ codes "u{202e}b" ++ 92 ∷ codes "u{2028}"
+unfolding signs is_utf8 chars encode
+marks = refl
+
+isolates : shown_signs (signs (0xE2 ∷ 0x81 ∷ 0xA6 ∷ 0xE2 ∷ 0x81 ∷ 0xA9 ∷ [])) ≡ 92 ∷ codes "u{2066}" ++ 92 ∷ codes "u{2069}"
+unfolding signs is_utf8 chars encode
+isolates = refl
+
+-- their neighbours: U+2027, U+202F, U+2065, U+206A, and U+10AE, which ends as U+202E does
+no_marks : shown_signs (signs (0xE2 ∷ 0x80 ∷ 0xA7 ∷ 0xE2 ∷ 0x80 ∷ 0xAF ∷ 0xE2 ∷ 0x81 ∷ 0xA5 ∷ 0xE2 ∷ 0x81 ∷ 0xAA ∷ 0xE1 ∷ 0x82 ∷ 0xAE ∷ []))
+    ≡ 0xE2 ∷ 0x80 ∷ 0xA7 ∷ 0xE2 ∷ 0x80 ∷ 0xAF ∷ 0xE2 ∷ 0x81 ∷ 0xA5 ∷ 0xE2 ∷ 0x81 ∷ 0xAA ∷ 0xE1 ∷ 0x82 ∷ 0xAE ∷ []
+unfolding signs is_utf8 chars encode
+no_marks = refl
+
 -- ---- excerpts
 
 a_byte : excerpt (codes "a\nb = c;\nd") 6 1 ≡ codes "   |\n 2 | b = c;\n   |     ^"
@@ -106,6 +122,11 @@ behind_wide_signs = refl
 an_escape : excerpt (codes "a" ++ 0 ∷ codes "b") 1 1 ≡ codes "   |\n 1 | a" ++ 92 ∷ codes "x00b\n   |  ^^^^"
 unfolding signs is_utf8 chars encode digits
 an_escape = refl
+
+-- and behind a mark the caret stands under the right sign
+behind_a_mark : excerpt (0xE2 ∷ 0x80 ∷ 0xAE ∷ codes "a") 3 1 ≡ codes "   |\n 1 | " ++ 92 ∷ codes "u{202e}a\n   |         ^"
+unfolding signs is_utf8 chars encode digits
+behind_a_mark = refl
 
 -- the margin is as wide as the number
 tenth_line : excerpt (replicate 9 10 ++ codes "ab") 10 1 ≡ codes "    |\n 10 | ab\n    |  ^"

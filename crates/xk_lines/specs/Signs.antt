@@ -1,5 +1,5 @@
--- A line as it is shown: character by character, and each byte that can't be shown by its number. This project's own.
-use Rattle.std.specs.Prelude.{ℕ, zero, suc, ◌+◌, ◌-◌, ◌/◌, ◌%◌, ◌==◌, nat_lt, nat_le, Bool, false, not, ◌&&◌, List, [], ◌∷◌, length, take, flat_map, slice_index, if◌then◌else◌}
+-- A line as it is shown: character by character, and each byte or mark that can't be shown by its number. This project's own.
+use Rattle.std.specs.Prelude.{ℕ, zero, suc, ◌+◌, ◌-◌, ◌*◌, ◌/◌, ◌%◌, ◌==◌, nat_lt, nat_le, Bool, false, not, ◌&&◌, ◌||◌, List, [], ◌∷◌, length, take, flat_map, slice_index, if◌then◌else◌}
 use Rattle.std.specs.Str.{continuation_len, is_utf8}
 
 -- ---- signs: the bytes of a character, or a single byte that belongs to none
@@ -45,11 +45,27 @@ told b = 92 ∷ 120 ∷ hex_digit (b / 16) ∷ hex_digit (b % 16) ∷ []
 abbrev pub shown_byte : ℕ → List ℕ
 shown_byte b = if b == 9 then 32 ∷ [] else if nat_le 32 b && nat_lt b 127 then b ∷ [] else told b
 
--- a sign: a character of several bytes is shown as it is
+-- U+2028 to U+202E and U+2066 to U+2069: where they are shown as they are, a line ends, or letters stand in another order
+abbrev pub is_layout_mark : ℕ → ℕ → ℕ → Bool
+is_layout_mark a b c = a == 0xE2 && ((b == 0x80 && (nat_le 0xA8 c && nat_le c 0xAE)) || (b == 0x81 && (nat_le 0xA6 c && nat_le c 0xA9)))
+
+-- how far its number is above U+2000
+abbrev pub mark_number : ℕ → ℕ → ℕ
+mark_number b c = (b % 2) * 64 + c % 64
+
+-- a mark by its number, as `\u{202e}`
+abbrev pub told_mark : ℕ → ℕ → List ℕ
+told_mark b c = let n = mark_number b c in 92 ∷ 117 ∷ 123 ∷ 50 ∷ 48 ∷ hex_digit (n / 16) ∷ hex_digit (n % 16) ∷ 125 ∷ []
+
+-- a character of three bytes: such marks are told
+abbrev pub shown_three : ℕ → ℕ → ℕ → List ℕ
+shown_three a b c = if is_layout_mark a b c then told_mark b c else a ∷ b ∷ c ∷ []
+
+-- a sign: another character of several bytes is shown as it is
 abbrev pub shown_sign : List ℕ → List ℕ
-shown_sign [] = []
 shown_sign (b ∷ []) = shown_byte b
-shown_sign (a ∷ b ∷ bs) = a ∷ b ∷ bs
+shown_sign (a ∷ b ∷ c ∷ []) = shown_three a b c
+shown_sign sign = sign
 
 abbrev pub shown_signs : List (List ℕ) → List ℕ
 shown_signs ss = flat_map shown_sign ss

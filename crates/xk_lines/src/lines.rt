@@ -205,7 +205,7 @@ impl<'t> LineStarts<'t> {
     ///
     /// Of the line no more is shown than 80 signs before the offset and 80 from it on, with `..` for what is left out. A sign is a
     /// character, or a byte that belongs to none. A tab is one blank, and control signs and such bytes are told by their numbers, as
-    /// `\x1b`. The carets stand under so many signs from the offset on, under one column at least: where a terminal makes each
+    /// `\x1b`, and marks of layout as `\u{202e}`. The carets stand under so many signs from the offset on, under one column at least: where a terminal makes each
     /// character one column wide, so not where it makes two of one. No line feed is behind the last caret, so words may follow.
     /// Err where memory was refused.
     pub fn excerpt(

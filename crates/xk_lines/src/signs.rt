@@ -1,8 +1,8 @@
-//! Signs, and how they are shown: characters as they are, other bytes by their number.
+//! Signs, and how they are shown: characters as they are, other bytes and marks of layout by their number.
 
 ghost use Rattle.std.specs.Prelude.{◌≡◌, ◌<◌, ◌≤◌, ◌++◌, [], ◌∷◌, length, take, drop, IfOk, OnOk, IfSome, MatchOption};
 ghost use Rattle.std.specs.Str.{continuation_len, is_utf8};
-ghost use Rattle.xk_lines.specs.Signs.{hex_digit, is_character, is_control_pair, shown_byte, shown_sign, shown_signs, sign_len, signs, told};
+ghost use Rattle.xk_lines.specs.Signs.{hex_digit, is_character, is_control_pair, is_layout_mark, mark_number, shown_byte, shown_sign, shown_signs, shown_three, sign_len, signs, told, told_mark};
 
 use std::alloc::{AllocError, Global};
 
@@ -125,12 +125,57 @@ fn push_byte(shown: &mut Vec<u8>, byte: u8) -> Result<(), AllocError>
     }
 }
 
+/// Whether it is a mark that ends a line or changes in which order letters stand, where it is shown as it is.
+fn is_layout_mark(first: u8, second: u8, third: u8) -> bool
+    ensures { result ≡ is_layout_mark first second third }
+{
+    let breaks_or_turns = second == 0x80 && (0xA8 <= third && third <= 0xAE);
+    let isolates = second == 0x81 && (0xA6 <= third && third <= 0xA9);
+    first == 0xE2 && (breaks_or_turns || isolates)
+}
+
+/// How far the number of such a mark is above U+2000.
+fn mark_number(second: u8, third: u8) -> u8
+    ensures { result ≡ mark_number second third }
+{
+    second % 2 * 64 + third % 64
+}
+
+/// How such a mark is shown: `\u{202e}`.
+fn told_mark(second: u8, third: u8) -> [u8; 8]
+    ensures { result ≡ told_mark second third }
+{
+    let n = mark_number(second, third);
+    [
+        b'\\',
+        b'u',
+        b'{',
+        b'2',
+        b'0',
+        hex_digit(n / 16),
+        hex_digit(n % 16),
+        b'}',
+    ]
+}
+
+/// Adds a character of three bytes as it is shown.
+fn push_three(shown: &mut Vec<u8>, first: u8, second: u8, third: u8) -> Result<(), AllocError>
+    ensures { OnOk result
+        (shown.new.items ≡ shown.old.items ++ shown_three first second third) }
+{
+    if is_layout_mark(first, second, third) {
+        return shown.extend_from_slice(&told_mark(second, third));
+    }
+    shown.extend_from_slice(&[first, second, third])
+}
+
 /// Adds a sign as it is shown.
 fn push_sign(shown: &mut Vec<u8>, sign: &[u8]) -> Result<(), AllocError>
     ensures { OnOk result (shown.new.items ≡ shown.old.items ++ shown_sign sign.now) }
 {
     match sign {
         [byte] => push_byte(shown, *byte),
+        [first, second, third] => push_three(shown, *first, *second, *third),
         _ => shown.extend_from_slice(sign),
     }
 }
@@ -160,8 +205,9 @@ pub fn shown_front(alloc: Global, text: &[u8], count: usize) -> Result<Vec<u8>, 
     Ok(shown)
 }
 
-/// A text of one line as it is shown. A tab is a blank; control signs, and bytes that aren't UTF-8, are told by their numbers, as `\x1b`.
-/// Err where memory was refused.
+/// A text of one line as it is shown. A tab is a blank; control signs, and bytes that aren't UTF-8, are told by their numbers, as `\x1b`,
+/// and so are U+2028 to U+202E and U+2066 to U+2069, as `\u{202e}`: nothing that is shown moves a terminal, or turns the order of
+/// letters. Err where memory was refused.
 pub fn shown(alloc: Global, text: &[u8]) -> Result<Vec<u8>, AllocError>
     ensures { IfOk result (λ v. v.items ≡ shown_signs (signs text.now)) }
 {
