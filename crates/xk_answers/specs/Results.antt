@@ -28,7 +28,7 @@ use Rattle.xk_outcomes.specs.Text.{outcomes_text}
 use Rattle.xk_outcomes.specs.declared.all_outcomes.Limit.{Limit}
 use Rattle.xk_outcomes.specs.Limits.{GoesFar, limit_of}
 use Rattle.xk_outcomes.specs.Expected.{AreExpected}
-use Rattle.xk_tally.specs.Runs.{IsTallyText}
+use Rattle.xk_random.specs.Runs.{IsTallyText}
 use Rattle.xk_replay.specs.Replay.{IsStoppedAt, IsUnfinished}
 use Rattle.xk_answers.specs.OrderedRun.{IsLoggedRun, IsOrderedRun, IsReplay, IsSomeRun, IsWholeRun}
 use Rattle.xk_program.specs.Origins.{IsByOrigins}

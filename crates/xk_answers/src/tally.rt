@@ -8,7 +8,7 @@ ghost use Rattle.xk_cli.specs.declared.job.Form.{Form as FormValue};
 use crate::job_result::Done;
 use std::alloc::Global;
 use xk_program::{Fault, runnable};
-use xk_tally::tally;
+use xk_random::tally;
 use xk_types::Module;
 
 /// How often so many runs by chance, from this seed on, with these arguments, print what, if the module is accepted and main takes as many.

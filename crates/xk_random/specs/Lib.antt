@@ -1,1 +1,4 @@
 pub mod Chance
+pub mod Tally
+pub mod Shares
+pub mod Runs

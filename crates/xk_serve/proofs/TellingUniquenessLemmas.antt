@@ -7,7 +7,7 @@ use Rattle.xk_law_compiler.proofs.CompiledOnceLaw.{one_units}
 use Rattle.xk_origins.specs.UnitOrigins.{UnitOrigins, unit_origins}
 use Rattle.xk_origins.specs.Laws.{AreOrigins}
 use Rattle.xk_listing.proofs.ListingLemmas.{one_listing}
-use Rattle.xk_tally.proofs.RunLemmas.{tally_once}
+use Rattle.xk_random.proofs.RunLemmas.{tally_once}
 use Rattle.xk_cli.specs.declared.job.Form.{Form}
 use Rattle.xk_cli.specs.declared.job.Form.TheVariants as form
 use Rattle.xk_types.specs.declared.world.Entry.{Entry}

@@ -1,3 +1,0 @@
-pub mod Tally
-pub mod Shares
-pub mod Runs
