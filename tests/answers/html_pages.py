@@ -153,14 +153,15 @@ class Run(NamedTuple):
         return [0, *(step for step in self.events() if first <= step <= last)]
 
     def moments(self) -> Iterator[str]:
-        """What the page has of the steps: of one that is asked for its line and how things stand, of another its line
-        where it printed."""
+        """What the page has of the steps: of one that is asked for its line and how things stand, of another before them
+        its line where it printed."""
         asked = set(self.asked())
+        last = self.part[1] if self.part else sys.maxsize
         yield self.where(0)
         for step, line in self.events().items():
             if step in asked:
                 yield f"{line}\n{self.where(step)}"
-            elif " print " in line:
+            elif " print " in line and step <= last:
                 yield f"{line}\n"
 
 

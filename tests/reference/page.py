@@ -66,8 +66,8 @@ def source(program: Program) -> str:
 
 
 def moments(program: Program, played: Played, window: Window) -> Iterator[str]:
-    """How things stand before the first step, and behind each that is asked for and that others see; of another one
-    that it printed, if it did."""
+    """How things stand before the first step, and behind each that is asked for and that others see; of another one,
+    but behind all of these, that it printed, if it did."""
     behind = Played(played.module, played.taken[0].before)
     yield Place(program, behind, None).text()
     for taken in played.taken:
@@ -76,7 +76,7 @@ def moments(program: Program, played: Played, window: Window) -> Iterator[str]:
         behind.phases.update({advance.clock: advance.phase for advance in taken.advances})
         if taken.step.event and taken.number in window:
             yield events.line(program, taken) + Place(program, behind, None).text()
-        elif taken.step.printed is not None:
+        elif taken.step.printed is not None and taken.number <= window.last:
             yield events.line(program, taken)
 
 

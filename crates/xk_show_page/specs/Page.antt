@@ -1,7 +1,7 @@
 -- A run on a page of HTML: its source text, the picture of its lanes (`xk_show_picture`), and how things stand behind each step (`xk_show_where`). These are
 -- the run's. The elements that hold them are spelled here, and so is the policy. What stands in each page besides, the script that shows them too, means
 -- nothing to a run: `src/furniture.rt` has these texts. That it is told so is this project's own.
-use Rattle.std.specs.Prelude.{ℕ, ◌==◌, Bool, not, ◌&&◌, List, [], ◌∷◌, ◌++◌, flat_map, None, codes, if◌then◌else◌}
+use Rattle.std.specs.Prelude.{ℕ, ◌==◌, nat_le, Bool, not, ◌&&◌, List, [], ◌∷◌, ◌++◌, flat_map, None, codes, if◌then◌else◌}
 use Rattle.xk_types.specs.declared.world.Entry.{Entry}
 use Rattle.xk_types.specs.declared.world.Event.{Event}
 use Rattle.xk_types.specs.declared.world.Event.TheVariants as event
@@ -71,13 +71,13 @@ is_moment window r = not (is_local r.event) && is_asked window r.number
 abbrev pub moment : PlacesValue → ModuleValue → World → RunStep → List ℕ
 moment p m v r = event_line p r ++ standings_text p m v None
 
--- of a step that isn't told so: that it printed, if it did
-abbrev pub print_by : PlacesValue → RunStep → Event → List ℕ
-print_by p r (event.Printed n) = event_line p r
-print_by p r _ = []
+-- of a step that isn't told so: that it printed, if it did, and the last step that is asked for isn't behind
+abbrev pub print_by : Window → PlacesValue → RunStep → Event → List ℕ
+print_by window p r (event.Printed n) = if nat_le r.number window.last then event_line p r else []
+print_by window p r _ = []
 
 abbrev pub told_step : Window → PlacesValue → ModuleValue → World → RunStep → List ℕ
-told_step window p m v r = if is_moment window r then moment p m v r else print_by p r r.event
+told_step window p m v r = if is_moment window r then moment p m v r else print_by window p r r.event
 
 -- how things stand before the first step, and what is told of each
 abbrev pub moments : Window → PlacesValue → ModuleValue → List Entry → World → List ℕ
