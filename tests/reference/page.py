@@ -76,7 +76,7 @@ def moments(program: Program, played: Played, window: Window) -> Iterator[str]:
         behind.phases.update({advance.clock: advance.phase for advance in taken.advances})
         if taken.step.event and taken.number in window:
             yield events.line(program, taken) + Place(program, behind, None).text()
-        elif taken.step.printed is not None and taken.number <= window.last:
+        elif taken.step.printed is not None and taken.number < window.stop:
             yield events.line(program, taken)
 
 
