@@ -14,13 +14,15 @@ are closed, in order. Then a page is made wrong on purpose, in several ways, eac
 from __future__ import annotations
 
 import argparse
+import base64
+import hashlib
 import html.parser
 import itertools
 import pathlib
 import re
 import sys
 import tempfile
-from collections.abc import Callable, Iterator
+from collections.abc import Callable, Iterable, Iterator
 from dataclasses import dataclass, field
 from typing import Any, NamedTuple
 
@@ -53,7 +55,6 @@ RUNS: tuple[tuple[str, str, tuple[int, ...]], ...] = (
     ("ends-of-lines.x10", "first", ()),
     ("tags.x10", "first", ()),
 )
-POLICY = "default-src 'none'; style-src 'unsafe-inline'; script-src 'unsafe-inline'"
 # Elements that have no end, elements that fetch something, and attributes that say what is fetched; `href` is for parts
 # of the page alone.
 WITHOUT_END = {"meta", "input"}
@@ -67,9 +68,11 @@ WRONG = (
     ("a reference of the source text is one of the page", "&amp;lt;", "&lt;"),
     ("a carriage return stands as it is", "&#13;", "\r"),
     ("the source text begins behind `<pre>`", '<pre id="source">\n', '<pre id="source">'),
-    ("the policy isn't there", f'<meta http-equiv="Content-Security-Policy" content="{POLICY}">\n', ""),
+    ("the policy is none", '<meta http-equiv="Content-Security-Policy"', '<meta name="policy"'),
     ("the policy lets the page fetch", "default-src 'none'", "default-src *"),
-    ("the policy comes behind the head", f'content="{POLICY}">\n', f'content="{POLICY}">\n</head><head>\n'),
+    ("the policy lets any script run", "script-src 'sha256-", "script-src 'unsafe-inline' 'sha256-"),
+    ("the policy comes behind the head", '<meta http-equiv="Content', '</head><head>\n<meta http-equiv="Content'),
+    ("the script is another one", '"use strict"', '"use strict";alert(1)'),
     ("a script comes from elsewhere", '<script>\n"use strict"', '<script src="//x"></script>\n<script>\n"use strict"'),
     ("a colour comes from elsewhere", "margin:0;", "margin:0;background:url(//x);"),
     ("an activity stands elsewhere", "act 0 at 4:1 can step\n", "act 0 at 4:2 can step\n"),
@@ -150,14 +153,15 @@ class Run(NamedTuple):
         return [0, *(step for step in self.events() if first <= step <= last)]
 
     def moments(self) -> Iterator[str]:
-        """What the page has of the steps: of one that is asked for its line and how things stand, of another its line
-        where it printed."""
+        """What the page has of the steps: of one that is asked for its line and how things stand, of another before them
+        its line where it printed."""
         asked = set(self.asked())
+        last = self.part[1] if self.part else sys.maxsize
         yield self.where(0)
         for step, line in self.events().items():
             if step in asked:
                 yield f"{line}\n{self.where(step)}"
-            elif " print " in line:
+            elif " print " in line and step <= last:
                 yield f"{line}\n"
 
 
@@ -285,15 +289,27 @@ def try_moments(page: Page, run: Run) -> None:
     same("moments", behind_first_line(moments, moments.text), "".join(run.moments()))
 
 
+def policy(page: Page) -> str:
+    """The policy by which the page's one script runs, its styles count, and nothing is fetched."""
+
+    def sums(elements: Iterable[Element]) -> str:
+        made = (hashlib.sha256(element.text.encode()).digest() for element in elements)
+        return " ".join(f"'sha256-{base64.b64encode(each).decode()}'" for each in made)
+
+    scripts = [script for script in page.named("script") if "type" not in script.attributes]
+    return f"default-src 'none'; style-src {sums(page.named('style'))}; script-src {sums(scripts)}"
+
+
 def try_policy(page: Page) -> None:
-    """The policy is one, and stands in the head before all that it could forbid."""
+    """The policy is one, and stands in the head before all that it could forbid. No element has a style of its own."""
     tops = [element for element in page.all if element.name in ("html", "head", "body")]
     same("the largest elements", [element.name for element in tops], ["html", "head", "body"])
     policies = [element for element in page.all if "http-equiv" in element.attributes]
-    wanted = {"http-equiv": "Content-Security-Policy", "content": POLICY}
+    wanted = {"http-equiv": "Content-Security-Policy", "content": policy(page)}
     same("policies", [element.attributes for element in policies], [wanted])
     before = [element.name for element in itertools.takewhile(lambda it: it is not policies[0], tops[1].inside)]
     same("what stands before the policy", before, ["meta", "meta"])
+    same("elements with a style", [element.name for element in page.all if "style" in element.attributes], [])
 
 
 def try_fetches(page: Page) -> None:

@@ -1,9 +1,12 @@
-"""The reference for `page`: the source text, the picture, and how things stand behind each step. What stands in each
-page besides, with its script, means nothing to a run: it is taken from where the program has it."""
+"""The reference for `page`: the source text, the picture, and how things stand behind each step, in their elements, and
+the policy. What stands in each page besides, with its script, means nothing to a run: it is taken from where the
+program has it."""
 
 from __future__ import annotations
 
+import base64
 import functools
+import hashlib
 import re
 from collections.abc import Iterator
 
@@ -16,11 +19,10 @@ from tests.reference.where import Place
 
 FURNITURE = TOP / "crates/xk_show_page/src/furniture.rt"
 TEXT = re.compile(r'^pub(?:\(crate\))? const (\w+): &str = r(#+)"(.*?)"\2;$', re.MULTILINE | re.DOTALL)
-# Which of its texts stand before the source text, between it and the picture, between that and the moments, and behind
-# these.
-HEAD, BEHIND_SOURCE, BEHIND_PICTURE, TAIL = (
-    ("TOP", "COLOURS", "PLACES", "MARKS", "BEGINNING"), ("LISTS",), ("BEHIND",), ("READER", "SHOWER", "MOVER")
-)
+STYLE, SCRIPT = ("COLOURS", "PLACES", "MARKS"), ("READER", "SHOWER", "MOVER")
+# The elements that hold the source text, the picture and the moments.
+SOURCE, PICTURE = '<pre id="source">\n', '<div id="picture" tabindex="0" role="group" aria-label="Lanes of the run">\n'
+MOMENTS = '<script type="text/plain" id="moments">\n'
 
 
 @functools.cache
@@ -33,6 +35,30 @@ def piece(names: tuple[str, ...]) -> str:
     return "".join(furniture()[name] for name in names)
 
 
+def allowed(text: str) -> str:
+    """What a policy calls a script or a style of these bytes."""
+    return f"'sha256-{base64.b64encode(hashlib.sha256(text.encode()).digest()).decode()}'"
+
+
+def head() -> str:
+    """What stands before the source text: a policy by which nothing is fetched, and one script and two styles count."""
+    styles = (f"\n{piece(STYLE)}", picture.STYLE.removeprefix("<style>").removesuffix("</style>\n"))
+    policy = (
+        f"default-src 'none'; style-src {' '.join(map(allowed, styles))}; script-src {allowed(chr(10) + piece(SCRIPT))}"
+    )
+    return f"""<!DOCTYPE html>
+<html lang="en">
+<head>
+<meta charset="utf-8">
+<meta name="viewport" content="width=device-width, initial-scale=1">
+<meta http-equiv="Content-Security-Policy" content="{policy}">
+<title>A run, step by step</title>
+<style>
+{piece(STYLE)}</style>
+</head>
+{piece(("CONTROLS",))}{SOURCE}"""
+
+
 def source(program: Program) -> str:
     """The source text, as HTML has it; a module has none."""
     text = "" if program.is_module else program.data.decode("utf-8")
@@ -40,8 +66,8 @@ def source(program: Program) -> str:
 
 
 def moments(program: Program, played: Played, window: Window) -> Iterator[str]:
-    """How things stand before the first step, and behind each that is asked for and that others see; of another one
-    that it printed, if it did."""
+    """How things stand before the first step, and behind each that is asked for and that others see; of another one,
+    but behind all of these, that it printed, if it did."""
     behind = Played(played.module, played.taken[0].before)
     yield Place(program, behind, None).text()
     for taken in played.taken:
@@ -50,7 +76,7 @@ def moments(program: Program, played: Played, window: Window) -> Iterator[str]:
         behind.phases.update({advance.clock: advance.phase for advance in taken.advances})
         if taken.step.event and taken.number in window:
             yield events.line(program, taken) + Place(program, behind, None).text()
-        elif taken.step.printed is not None:
+        elif taken.step.printed is not None and taken.number < window.stop:
             yield events.line(program, taken)
 
 
@@ -62,6 +88,7 @@ def drawing(program: Program, played: Played, window: Window = WHOLE) -> tuple[s
         return drawn, False
     told = "".join(moments(program, played, window))
     return (
-        piece(HEAD) + source(program) + piece(BEHIND_SOURCE) + drawn + piece(BEHIND_PICTURE) + told + piece(TAIL),
+        f"{head()}{source(program)}</pre>\n{piece(('LISTS',))}{PICTURE}{drawn}</div>\n</section>\n</main>\n"
+        f"{MOMENTS}{told}</script>\n<script>\n{piece(SCRIPT)}</script>\n</body>\n</html>\n",
         True,
     )

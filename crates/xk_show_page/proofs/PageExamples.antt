@@ -33,15 +33,14 @@ last : (w : World) × (run held_back (schedule_of log) (opening held_back []) �
 last = (_, refl)
 
 abbrev middle : Window
-middle = record { first = 5; last = 6 }
+middle = record { first = 6; last = 6 }
 
--- steps 5 and 6; of step 9, which isn't asked for, that it printed
+-- step 6; of step 5, which stands before it, that it printed; of step 9, which prints too, nothing
 told_middle : moments middle no_text held_back log last.0
     ≡ codes "steps 0\nact 0 unit 0 place 0 can step\n"
-    ++ (codes "step 5 act 0 unit 0 place 3 print 1\nsteps 5\nact 0 unit 0 place 4 can step, clock 0 open\n"
-    ++ (codes "act 1 unit 1 place 0 waits for clocks, clock 0 signalled held by 0\nclock 0 phase 0\n"
+    ++ (codes "step 5 act 0 unit 0 place 3 print 1\n"
     ++ (codes "step 6 act 0 unit 0 place 4 arrive\nsteps 6\nact 0 unit 0 place 4 can step, clock 0 ahead\n"
-    ++ (codes "act 1 unit 1 place 0 can step, clock 0 ahead\nclock 0 phase 1\n" ++ codes "step 9 act 1 unit 1 place 2 print 2\n"))))
+    ++ codes "act 1 unit 1 place 0 can step, clock 0 ahead\nclock 0 phase 1\n"))
 unfolding last event_line event_words digits act_line clock_line clock_words held_words listed place_of registration steps_line
 told_middle = refl
 

@@ -1,7 +1,7 @@
 -- A run on a page of HTML: its source text, the picture of its lanes (`xk_show_picture`), and how things stand behind each step (`xk_show_where`). These are
--- the run's. What stands in each page besides, the script that shows them too, means nothing to a run: `src/furniture.rt` has these texts. That it is
--- told so is this project's own.
-use Rattle.std.specs.Prelude.{ℕ, ◌==◌, Bool, not, ◌&&◌, List, [], ◌∷◌, ◌++◌, flat_map, None, codes, if◌then◌else◌}
+-- the run's. The elements that hold them are spelled here, and so is the policy. What stands in each page besides, the script that shows them too, means
+-- nothing to a run: `src/furniture.rt` has these texts. That it is told so is this project's own.
+use Rattle.std.specs.Prelude.{ℕ, ◌==◌, nat_le, Bool, not, ◌&&◌, List, [], ◌∷◌, ◌++◌, flat_map, None, codes, if◌then◌else◌}
 use Rattle.xk_types.specs.declared.world.Entry.{Entry}
 use Rattle.xk_types.specs.declared.world.Event.{Event}
 use Rattle.xk_types.specs.declared.world.Event.TheVariants as event
@@ -15,25 +15,41 @@ use Rattle.xk_show_lanes.specs.declared.window.Window.{Window}
 use Rattle.xk_show_lanes.specs.Lanes.{is_asked}
 use Rattle.xk_show_picture.specs.Picture.{is_drawn, picture_text}
 use Rattle.xk_show_where.specs.Where.{standings_text}
-use Rattle.xk_show_page.specs.declared.furniture.TheConstants.{TOP, COLOURS, PLACES, MARKS, BEGINNING, LISTS, BEHIND, READER, SHOWER, MOVER}
+use Rattle.xk_show_page.specs.declared.furniture.TheConstants.{COLOURS, PLACES, MARKS, CONTROLS, LISTS, READER, SHOWER, MOVER}
 
 -- ---- what stands in each page
 
--- before the source text
+-- The page's first lines. The policy forbids it to fetch anything. It lets one script run, and two styles count, by the sums of their bytes: the
+-- page's own, and the picture's style (Content Security Policy, level 2).
+unfoldable pub page_top : List ℕ
+page_top =
+    codes "<!DOCTYPE html>\n"
+    ++ (codes "<html lang=\"en\">\n"
+    ++ (codes "<head>\n"
+    ++ (codes "<meta charset=\"utf-8\">\n"
+    ++ (codes "<meta name=\"viewport\" content=\"width=device-width, initial-scale=1\">\n"
+    ++ (codes "<meta http-equiv=\"Content-Security-Policy\" content=\"default-src 'none'; "
+    ++ (codes "style-src 'sha256-rqDgg6Gohj15oatNQVa5x4nb+K1EYRUrQ0bAL6oBY4I=' "
+    ++ (codes "'sha256-1Mhn6nywKkLaXR5W9I5AIbKxhh5lqmYSXkp8j1iVKwY='; "
+    ++ (codes "script-src 'sha256-fBcH5/Pwr1itfiMf+3bU2CB/fcDG5ilunBXqbLlij8Q='\">\n"
+    ++ (codes "<title>A run, step by step</title>\n")))))))))
+
+-- before the source text, whose element HTML begins behind the line feed
 unfoldable pub page_head : List ℕ
-page_head = (((TOP.now ++ COLOURS.now) ++ PLACES.now) ++ MARKS.now) ++ BEGINNING.now
+page_head = ((((((page_top ++ codes "<style>\n") ++ COLOURS.now) ++ PLACES.now) ++ MARKS.now) ++ codes "</style>\n</head>\n") ++ CONTROLS.now)
+    ++ codes "<pre id=\"source\">\n"
 
 -- between it and the picture
 unfoldable pub behind_source : List ℕ
-behind_source = LISTS.now
+behind_source = (codes "</pre>\n" ++ LISTS.now) ++ codes "<div id=\"picture\" tabindex=\"0\" role=\"group\" aria-label=\"Lanes of the run\">\n"
 
--- between the picture and the moments
+-- between the picture and the moments, which no browser runs
 unfoldable pub behind_picture : List ℕ
-behind_picture = BEHIND.now
+behind_picture = codes "</div>\n</section>\n</main>\n<script type=\"text/plain\" id=\"moments\">\n"
 
 -- behind the moments: the script that shows them
 unfoldable pub page_tail : List ℕ
-page_tail = (READER.now ++ SHOWER.now) ++ MOVER.now
+page_tail = (((codes "</script>\n<script>\n" ++ READER.now) ++ SHOWER.now) ++ MOVER.now) ++ codes "</script>\n</body>\n</html>\n"
 
 -- ---- the source text
 
@@ -55,13 +71,13 @@ is_moment window r = not (is_local r.event) && is_asked window r.number
 abbrev pub moment : PlacesValue → ModuleValue → World → RunStep → List ℕ
 moment p m v r = event_line p r ++ standings_text p m v None
 
--- of a step that isn't told so: that it printed, if it did
-abbrev pub print_by : PlacesValue → RunStep → Event → List ℕ
-print_by p r (event.Printed n) = event_line p r
-print_by p r _ = []
+-- of a step that isn't told so: that it printed, if it did, and the last step that is asked for isn't behind
+abbrev pub print_by : Window → PlacesValue → RunStep → Event → List ℕ
+print_by window p r (event.Printed n) = if nat_le r.number window.last then event_line p r else []
+print_by window p r _ = []
 
 abbrev pub told_step : Window → PlacesValue → ModuleValue → World → RunStep → List ℕ
-told_step window p m v r = if is_moment window r then moment p m v r else print_by p r r.event
+told_step window p m v r = if is_moment window r then moment p m v r else print_by window p r r.event
 
 -- how things stand before the first step, and what is told of each
 abbrev pub moments : Window → PlacesValue → ModuleValue → List Entry → World → List ℕ

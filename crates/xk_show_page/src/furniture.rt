@@ -1,18 +1,30 @@
-//! What stands in each page: how things look, what they are called, and the script that shows moments. The definitions name these texts.
+//! What stands in each page between the elements that hold a run: how things look, what they are called, and the script that shows moments. The
+//! definitions name these texts, and spell those elements, and the policy.
 
-/// What stands before the colours. The page fetches nothing: its policy forbids it.
-pub(crate) const TOP: &str = r#"<!DOCTYPE html>
-<html lang="en">
-<head>
-<meta charset="utf-8">
-<meta name="viewport" content="width=device-width, initial-scale=1">
-<meta http-equiv="Content-Security-Policy" content="default-src 'none'; style-src 'unsafe-inline'; script-src 'unsafe-inline'">
-<title>A run, step by step</title>
-"#;
+ghost use Rattle.std.specs.Prelude.{◌≡◌};
+ghost use Rattle.xk_show_page.specs.Page.{page_top};
+
+/// The page's first lines. Its policy has the sums of its script and of both styles: whoever changes one of these is told
+/// the new sum by tests/answers/html_pages.py.
+#[tactic(auto, unfolding(crate::specs::Page::page_top))]
+pub(crate) fn top() -> &'static str
+    ensures { result.now ≡ page_top }
+{
+    "\
+<!DOCTYPE html>\n\
+<html lang=\"en\">\n\
+<head>\n\
+<meta charset=\"utf-8\">\n\
+<meta name=\"viewport\" content=\"width=device-width, initial-scale=1\">\n\
+<meta http-equiv=\"Content-Security-Policy\" content=\"default-src 'none'; \
+style-src 'sha256-rqDgg6Gohj15oatNQVa5x4nb+K1EYRUrQ0bAL6oBY4I=' \
+'sha256-1Mhn6nywKkLaXR5W9I5AIbKxhh5lqmYSXkp8j1iVKwY='; \
+script-src 'sha256-fBcH5/Pwr1itfiMf+3bU2CB/fcDG5ilunBXqbLlij8Q='\">\n\
+<title>A run, step by step</title>\n"
+}
 
 /// Colours and letters, in light and in dark.
-pub(crate) const COLOURS: &str = r#"<style>
-/* In light, and in dark. */
+pub(crate) const COLOURS: &str = r#"/* In light, and in dark. */
 :root{
   color-scheme:light dark;
   --page:#ffffff; --panel:#f6f8fa; --ink:#1f2328; --faint:#59636e; --edge:#d0d7de;
@@ -84,12 +96,10 @@ li.moved{font-weight:bold}
 #printed{margin:0;overflow-wrap:anywhere}
 /* The picture: the box of the step. */
 #picture .now rect{stroke:var(--seen);stroke-width:3}
-</style>
-</head>
 "#;
 
-/// The page's beginning, up to the source text, which begins in a line of its own.
-pub(crate) const BEGINNING: &str = r#"<body class="still">
+/// What stands between the colours and the element of the source text.
+pub(crate) const CONTROLS: &str = r#"<body class="still">
 <header>
 <h1>A run, step by step</h1>
 <output id="event" for="slider"></output>
@@ -104,12 +114,10 @@ pub(crate) const BEGINNING: &str = r#"<body class="still">
 <main>
 <section class="text">
 <h2>Source text</h2>
-<pre id="source">
 "#;
 
-/// What stands between the source text and the picture.
-pub(crate) const LISTS: &str = r#"</pre>
-<p class="help"><span class="badge can">0</span> can step, <span class="badge waits">1</span> waits. Activity 0 is main.</p>
+/// What stands between the elements of the source text and of the picture.
+pub(crate) const LISTS: &str = r#"<p class="help"><span class="badge can">0</span> can step, <span class="badge waits">1</span> waits. Activity 0 is main.</p>
 </section>
 <section class="state">
 <h2>Activities</h2>
@@ -123,20 +131,10 @@ pub(crate) const LISTS: &str = r#"</pre>
 </section>
 <section class="lanes">
 <h2>Lanes</h2>
-<div id="picture" tabindex="0" role="group" aria-label="Lanes of the run">
-"#;
-
-/// What stands between the picture and the moments.
-pub(crate) const BEHIND: &str = r#"</div>
-</section>
-</main>
-<script type="text/plain" id="moments">
 "#;
 
 /// The script's first part: it reads the moments, the source text and the picture.
-pub(crate) const READER: &str = r##"</script>
-<script>
-"use strict";
+pub(crate) const READER: &str = r##""use strict";
 const byId = id => document.getElementById(id);
 
 // The moments. Each begins at a line "steps 5"; the line "step 5 act 0 at 8:13 print 1" before it says what was done.
@@ -273,7 +271,4 @@ window.addEventListener("hashchange", () => go(named()));
 slider.max = moments.length - 1;
 document.body.classList.remove("still");
 go(named());
-</script>
-</body>
-</html>
 "#;

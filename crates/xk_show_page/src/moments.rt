@@ -64,24 +64,30 @@ fn push_moment(
     push_standings(alloc, out, places, core)
 }
 
-/// Adds the line of a step, if it printed.
+/// Adds the line of a step, if it printed and isn't behind the last step that is asked for.
 fn push_print(
     alloc: Global,
     out: &mut Vec<u8>,
+    window: Window,
     places: &Places<'_>,
     step: &RunStep,
     event: Event,
 ) -> Result<(), AllocError>
     ensures { OnOk result (out.new.items ≡ out.old.items
-        ++ print_by places.now step.now event) }
+        ++ print_by window places.now step.now event) }
 {
     match event {
-        Event::Printed(_) => push_line(alloc, out, places, step),
+        Event::Printed(_) => {
+            if step.number <= window.last {
+                return push_line(alloc, out, places, step);
+            }
+            Ok(())
+        }
         _ => Ok(()),
     }
 }
 
-/// Tells of steps by how things stand behind them, and of those that aren't asked for that they printed.
+/// Tells of steps by how things stand behind them, and of those before the first that is asked for that they printed.
 #[derive(Drop)]
 pub(crate) struct MomentTeller<'a, 't> {
     pub window: Window,
@@ -101,7 +107,14 @@ impl Describe<u8> for MomentTeller<'_, '_> {
         if is_moment(self.window, step) {
             return push_moment(alloc, out, core, self.places, step);
         }
-        push_print(alloc, out, self.places, step, step.event)
+        push_print(
+            alloc,
+            out,
+            self.window,
+            self.places,
+            step,
+            step.event,
+        )
     }
 }
 

@@ -5,9 +5,8 @@ ghost use Rattle.xk_show_events.specs.Events.{no_text, places_of};
 ghost use Rattle.xk_show_picture.specs.Picture.{is_drawn, picture_in, picture_text};
 ghost use Rattle.xk_show_page.specs.Page.{behind_picture, behind_source, escaped, moments, page_by, page_head, page_of, page_tail, page_text};
 
-use crate::furniture::{BEHIND, LISTS};
 use crate::moments::{MomentTeller, push_opening};
-use crate::texts::{push_escaped, push_head, push_tail, put};
+use crate::texts::{push_escaped, push_head, push_lists, push_moments_begin, push_tail};
 use std::alloc::{AllocError, Global};
 use xk_origins::UnitOrigins;
 use xk_scheduler::Ended;
@@ -16,23 +15,21 @@ use xk_show_lanes::{Drawing, Window};
 use xk_show_picture::{PictureTeller, Plan, Planned, plan_for};
 
 /// Adds all that stands before the picture.
-#[tactic(auto, unfolding(crate::specs::Page::behind_source))]
 fn push_front(out: &mut Vec<u8>, text: &[u8]) -> Result<(), AllocError>
     ensures { OnOk result (out.new.items
         ≡ ((out.old.items ++ page_head) ++ escaped text.now) ++ behind_source) }
 {
     push_head(out)?;
     push_escaped(out, text)?;
-    put(out, LISTS)
+    push_lists(out)
 }
 
 /// Adds what stands between the picture and the moments, and all that comes then.
-#[tactic(auto, unfolding(crate::specs::Page::behind_picture))]
 fn push_rest(out: &mut Vec<u8>, moments: &[u8]) -> Result<(), AllocError>
     ensures { OnOk result (out.new.items
         ≡ ((out.old.items ++ behind_picture) ++ moments.now) ++ page_tail) }
 {
-    put(out, BEHIND)?;
+    push_moments_begin(out)?;
     out.extend_from_slice(moments)?;
     push_tail(out)
 }

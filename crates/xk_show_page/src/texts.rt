@@ -1,9 +1,9 @@
 //! Pieces of the page.
 
 ghost use Rattle.std.specs.Prelude.{◌≡◌, ◌++◌, OnOk};
-ghost use Rattle.xk_show_page.specs.Page.{escaped, escaped_byte, page_head, page_tail};
+ghost use Rattle.xk_show_page.specs.Page.{behind_picture, behind_source, escaped, escaped_byte, page_head, page_tail};
 
-use crate::furniture::{BEGINNING, COLOURS, MARKS, MOVER, PLACES, READER, SHOWER, TOP};
+use crate::furniture::{COLOURS, CONTROLS, LISTS, MARKS, MOVER, PLACES, READER, SHOWER, top};
 use std::alloc::AllocError;
 
 /// Adds a text.
@@ -18,11 +18,38 @@ pub(crate) fn put(out: &mut Vec<u8>, text: &str) -> Result<(), AllocError>
 pub(crate) fn push_head(out: &mut Vec<u8>) -> Result<(), AllocError>
     ensures { OnOk result (out.new.items ≡ out.old.items ++ page_head) }
 {
-    put(out, TOP)?;
+    put(out, top())?;
+    put(out, "<style>\n")?;
     put(out, COLOURS)?;
     put(out, PLACES)?;
     put(out, MARKS)?;
-    put(out, BEGINNING)
+    put(out, "</style>\n</head>\n")?;
+    put(out, CONTROLS)?;
+    put(out, "<pre id=\"source\">\n")
+}
+
+/// Adds what stands between the source text and the picture.
+#[tactic(auto, unfolding(crate::specs::Page::behind_source))]
+pub(crate) fn push_lists(out: &mut Vec<u8>) -> Result<(), AllocError>
+    ensures { OnOk result (out.new.items ≡ out.old.items ++ behind_source) }
+{
+    put(out, "</pre>\n")?;
+    put(out, LISTS)?;
+    put(
+        out,
+        "<div id=\"picture\" tabindex=\"0\" role=\"group\" aria-label=\"Lanes of the run\">\n",
+    )
+}
+
+/// Adds what stands between the picture and the moments.
+#[tactic(auto, unfolding(crate::specs::Page::behind_picture))]
+pub(crate) fn push_moments_begin(out: &mut Vec<u8>) -> Result<(), AllocError>
+    ensures { OnOk result (out.new.items ≡ out.old.items ++ behind_picture) }
+{
+    put(
+        out,
+        "</div>\n</section>\n</main>\n<script type=\"text/plain\" id=\"moments\">\n",
+    )
 }
 
 /// Adds what stands behind the moments.
@@ -30,9 +57,11 @@ pub(crate) fn push_head(out: &mut Vec<u8>) -> Result<(), AllocError>
 pub(crate) fn push_tail(out: &mut Vec<u8>) -> Result<(), AllocError>
     ensures { OnOk result (out.new.items ≡ out.old.items ++ page_tail) }
 {
+    put(out, "</script>\n<script>\n")?;
     put(out, READER)?;
     put(out, SHOWER)?;
-    put(out, MOVER)
+    put(out, MOVER)?;
+    put(out, "</script>\n</body>\n</html>\n")
 }
 
 /// Adds a byte of a source text, or what stands for it in HTML.

@@ -19,7 +19,7 @@ use Rattle.xk_scheduler.proofs.IndependenceLemmas.{grows_by_start, keeps_width}
 use Rattle.xk_scheduler.proofs.LocalRunLemmas.{enabled_within}
 use Rattle.xk_workers.specs.declared.lock_table.Take.TheVariants as take
 use Rattle.xk_workers.specs.Claims.{is_claimed, claims_after, AreClaims}
-use Rattle.xk_workers.specs.LockTable.{SharedValue, AreAllClaimed, Tells, ActsVisibly, IsShort, given_up, told_to_stop, in_room_of}
+use Rattle.xk_workers.specs.LockTable.{SharedValue, AreAllClaimed, AreLesserClaimed, Tells, ActsVisibly, IsShort, given_up, told_to_stop, in_room_of}
 use Rattle.xk_workers.specs.WorkerTurn.{IsRefusedAStep, IsRefusedACopy}
 use Rattle.xk_workers.proofs.CommitLemmas.{put_back}
 use Rattle.xk_workers.proofs.LocalStepLemmas.{stays_local}
@@ -95,6 +95,12 @@ all_from P p a (suc n) all b from below h =
     tested true t all (inr ne) go = go (All-tail P a rest all) (omega arith)
     tested false t all (inl s) go = absurd (true≢false (sym h ∙ sym (ap p s) ∙ t))
     tested false t all (inr ne) go = go all (omega arith)
+
+-- what holds of the list of those that can step holds of each who can
+pub least_claimed : (c : CoreValue) (claims : List Bool) (a : ℕ) → All (λ b. b < a → is_claimed claims b ≡ true) (enabled_in c.module_run c.world)
+    → AreLesserClaimed claims c a
+least_claimed c claims a all b less able = all_from (λ k. k < a → is_claimed claims k ≡ true) (is_enabled c.module_run c.world) 0 (length c.world.activities)
+    all b (omega arith) (omega (arith, enabled_within c.module_run c.world b able)) able less
 
 some_first : (P : ℕ → Type 0) (xs : List ℕ) (x : ℕ) → Some x ≡ slice_get xs 0 → All P xs → (a : ℕ) × P a
 some_first P [] x e all = absurd (none-some x (sym e))

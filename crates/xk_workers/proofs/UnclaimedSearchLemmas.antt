@@ -1,10 +1,11 @@
 -- The search for one who can take a step and isn't claimed.
 use Rattle.std.proofs.Common.{◌≡◌, ◌∙◌, ℕ, suc, ◌-◌, ◌<◌, ◌≤◌, Bool, true, List, length, get_or, All, Option, Some, None, slice_get, ◌⊎◌, inl, inr, sym, ap, arith}
-use Rattle.std.proofs.lemmas.Bool.{cases_eq}
+use Rattle.std.proofs.lemmas.Bool.{cases_eq, cases_lt}
 use Rattle.std.proofs.lemmas.Option.{same_Some, slice_get-get_or, slice_get_within}
 use Rattle.std.proofs.lemmas.List.Elements.{All-from_get_or}
 use Rattle.xk_collections.specs.NumberSets.{IsRising, place_above}
-use Rattle.xk_collections.proofs.MemberListLemmas.{nobody, place_behind}
+use Rattle.xk_collections.proofs.MemberListLemmas.{at, nobody, place_behind}
+use Rattle.xk_collections.proofs.RisingListLemmas.{rising_up}
 use Rattle.xk_workers.specs.Claims.{is_claimed}
 
 -- the next to look at stands at a place of the list, and all before it are claimed
@@ -31,6 +32,18 @@ seeks_no_more claims list h =
     let end : length list ≤ h.place = nobody list h.place (sym h.next_is) in
     All-from_get_or (λ a. is_claimed claims a ≡ true) list 0
     (λ i inside. h.behind i (get_or list i 0) (omega arith) (slice_get-get_or list i 0 inside))
+
+-- where it ends with one, each lesser one is claimed
+pub seeks_least : (claims : List Bool) (list : List ℕ) (a : ℕ) → IsRising list → IsSeeking claims list (Some a)
+    → All (λ b. b < a → is_claimed claims b ≡ true) list
+seeks_least claims list a up h = All-from_get_or (λ b. b < a → is_claimed claims b ≡ true) list 0 (λ i inside less. by_place i inside less (cases_lt i h.place))
+  where
+    by_place : (i : ℕ) → i < length list → get_or list i 0 < a → (i < h.place) ⊎ (h.place ≤ i) → is_claimed claims (get_or list i 0) ≡ true
+    by_place i inside less (inl before) = h.behind i (get_or list i 0) before (slice_get-get_or list i 0 inside)
+    by_place i inside less (inr there) =
+        let rises : get_or list h.place 0 ≤ get_or list i 0 = rising_up list up h.place i there inside in
+        let here : get_or list h.place 0 ≡ a = at list h.place a (sym h.next_is) in
+        absurd (omega arith)
 
 -- how many are still to be looked at
 abbrev pub left_of : Option ℕ → List ℕ → ℕ

@@ -1,5 +1,5 @@
 -- The machine that workers share, as each sees it who has the lock. This project's own.
-use Rattle.std.specs.Prelude.{◌≡◌, ◌⊎◌, ℕ, Bool, true, false, List, length, Result, Ok, Err, IfOk, IfErr, slice_set}
+use Rattle.std.specs.Prelude.{◌≡◌, ◌<◌, ◌⊎◌, ℕ, Bool, true, false, List, length, Result, Ok, Err, IfOk, IfErr, slice_set}
 use Rattle.xk_types.specs.Schedule.{is_enabled, all_ended}
 use Rattle.xk_scheduler.specs.LoggedRuns.{IsCommitted, IsChosen, IsChosenSoFar}
 use Rattle.xk_scheduler.specs.declared.chooser.First.{First}
@@ -56,6 +56,18 @@ in_room_of t s = record s { run = in_room t.run.room s.run; claims_room = t.clai
 -- what a step of activity a may want memory for: a claim of whom it starts, or what its run wants it for
 abbrev pub IsShort : SharedValue → ℕ → Type 0
 IsShort s a = (length s.claims ≡ s.claims_room) ⊎ IsShortOf s.run a
+
+-- each activity below a that can take a step is claimed
+abbrev pub AreLesserClaimed : List Bool → CoreValue → ℕ → Type 0
+AreLesserClaimed claims c a = (b : ℕ) → b < a → is_enabled c.module_run c.world b ≡ true → is_claimed claims b ≡ true
+
+-- who is told to step is the least that can and isn't claimed
+abbrev pub IsLeast : SharedValue → Take → Type 0
+IsLeast s (take.Work a) = AreLesserClaimed s.claims s.run.core a
+IsLeast s (take.Act a) = AreLesserClaimed s.claims s.run.core a
+IsLeast s take.Idle = Unit {0}
+IsLeast s take.Done = Unit {0}
+IsLeast s take.Stopped = Unit {0}
 
 -- What a worker is told to do, before s and then t: the local steps of an activity, which it has claimed now; one step of an activity; to wait
 -- until others have done something; or nothing more, since all have ended, or since the workers were told to stop.

@@ -11,7 +11,7 @@ ghost use Rattle.xk_core.specs.Core.{StepsTo, is_next_local};
 ghost use Rattle.xk_scheduler.specs.Choosers.{enabled_in};
 ghost use Rattle.xk_workers.specs.Claims.{claims_in, is_claimed, claims_after};
 ghost use Rattle.xk_workers.specs.Run.{fresh_run, IsLegalRun};
-ghost use Rattle.xk_workers.specs.LockTable.{IsFree, Tells, ActsVisibly, Commits, GoesOn, IsShort, given_up, in_room_of, told_to_stop, without_claim};
+ghost use Rattle.xk_workers.specs.LockTable.{AreLesserClaimed, IsFree, IsLeast, Tells, ActsVisibly, Commits, GoesOn, IsShort, given_up, in_room_of, told_to_stop, without_claim};
 
 use crate::claims::Claims;
 use crate::run::Run;
@@ -80,6 +80,7 @@ fn first_unclaimed(run: &Run<'_>, claims: &Claims, first: Act) -> Option<Act>
     ensures some { IfSome result (λ a.
         (is_enabled run.now.core.module_run run.now.core.world a ≡ true)
         × (is_claimed (claims_in claims.now) a ≡ false)) }
+    ensures least { IfSome result (AreLesserClaimed (claims_in claims.now) run.now.core) }
     ensures none { IfNone result (All (λ a. is_claimed (claims_in claims.now) a ≡ true)
         (enabled_in run.now.core.module_run run.now.core.world)) }
 {
@@ -128,6 +129,7 @@ impl<'m> Shared<'m> {
     /// Takes no memory.
     pub fn take(&mut self) -> Take
         ensures told { Tells self.old result self.new }
+        ensures least { IsLeast self.old result }
         // Steps that nobody else can see are computed outside the lock.
         ensures visible { ActsVisibly self.old result }
     {
