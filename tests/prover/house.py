@@ -26,7 +26,7 @@ MOST = {
     "full": 0,
     "long": 15,
     "bodies": 3,
-    "forwarders": 74,
+    "forwarders": 73,
     "uncommented": 9,
     "prover": 0,
     "uncited": 0,

@@ -1,9 +1,10 @@
 -- Frames on one stack: what a write, a call and a return leave.
 use Rattle.std.specs.Prelude.{reverse, nat_eq, slice_set, max}
+use Rattle.std.specs.List.{refill}
 use Rattle.std.specs.Option.{option_map_or, option_and_then}
 use Rattle.std.proofs.Common.{◌≡◌, Bool, not, replicate, ℕ, zero, suc, ℤ, pos, ◌+◌, ◌-◌, ◌≤◌, ◌<◌, ◌^◌, List, [], ◌∷◌, ◌++◌, length, take, drop, refl, sym, ap, subst, ◌∙◌, arith, Option, Some, None, slice_get, All}
 use Rattle.std.proofs.lemmas.Grind.{common_steps}
-use Rattle.std.proofs.lemmas.List.{reverse-append, length-reverse, length-map, length-drop}
+use Rattle.std.proofs.lemmas.List.{reverse-append, length-reverse, length-map, length-drop, drop-take}
 use Rattle.std.proofs.lemmas.Option.{slice_get_within, get_or_from_slice_get}
 use Rattle.xk_types.specs.declared.world.Value.{Value}
 use Rattle.xk_types.specs.declared.world.Value.TheVariants as value
@@ -292,6 +293,30 @@ kept m a b unit place marks base marked old new cs now view h below above =
     ap (λ ws. record { module_run = m; frame = record { unit = unit; place = place; slots = values_of marked (drop base new) }; callers = ws }) (waiting_same m a b new old base cs h below)
     ∙ ap (λ xs. record { module_run = m; frame = record { unit = unit; place = place; slots = xs }; callers = waiting old base cs }) above
     ∙ view
+
+-- the words on top of a stack, as they are lent to be changed
+pub lent_top : (old words : List ℤ) (base : ℕ) → words ≡ old → take (length words - base) (drop base words) ≡ drop base old
+lent_top old words base is = rw is (grind (arith, common_steps))
+
+-- as many others lie there when they are given back
+pub back_on_top : (old words new rest : List ℤ) (base : ℕ) → words ≡ old → base ≤ length old → length new ≡ length (drop base old)
+    → drop base (refill (length old) old (take base words ++ (new ++ rest))) ≡ new
+back_on_top old words new rest base is le long =
+    let past = drop (length (take base old ++ (new ++ rest))) old in
+    let below : length (take base old) ≡ base = grind (arith, common_steps) in
+    let whole : length old ≡ base + length new = grind (arith, common_steps) in
+    let flat : (take base old ++ (new ++ rest)) ++ past ≡ take base old ++ (new ++ (rest ++ past)) = grind (arith, common_steps) in
+    let all = (take base old ++ (new ++ rest)) ++ past in
+    let above : drop base (take base old ++ (new ++ (rest ++ past))) ≡ new ++ (rest ++ past) =
+    subst (λ n. drop n (take base old ++ (new ++ (rest ++ past))) ≡ new ++ (rest ++ past)) below
+    (drop_front (take base old) (new ++ (rest ++ past))) in
+    rw is (ap (λ n. drop base (take n all)) whole ∙ drop-take base (length new) all ∙ ap (take (length new)) (ap (drop base) flat ∙ above)
+    ∙ take_front new (rest ++ past))
+
+-- and what lies below them is the same
+pub back_below : (old words new rest : List ℤ) (base : ℕ) → words ≡ old → base ≤ length old
+    → take base (refill (length old) old (take base words ++ (new ++ rest))) ≡ take base old
+back_below old words new rest base is le = rw is (grind (arith, common_steps))
 
 -- another value in one of its slots
 pub set_gives : (m : ModuleValue) (a b unit place : ℕ) (marks : Marks) (base : ℕ) (marked : Marks) (s : ℕ) (v : Value) (old new : List ℤ) (cs : List Caller) (now : FramesValue)

@@ -236,7 +236,7 @@ impl<'m> Activities<'m> {
         ensures most { result ≤ max }
     {
         let act = &mut self.list[a];
-        act.run(max)
+        act.frames.run(max)
     }
 
     /// Whether nobody else can see the next step of it.

@@ -4,9 +4,9 @@ ghost use Rattle.std.specs.Prelude.{◌≡◌, ℤ, ℕ, ◌<◌, ◌≤◌, len
 ghost use Rattle.xk_types.specs.declared.world.Value.TheVariants as value;
 ghost use Rattle.xk_types.specs.World.{is_ended, root};
 ghost use Rattle.xk_types.specs.Step.{governing, slot_at, onward, with_slots, arrived, ended, past};
-ghost use Rattle.xk_activity.specs.Local.{IsRight, IsSafe, local};
+ghost use Rattle.xk_activity.specs.Local.{IsRight, local};
 ghost use Rattle.xk_activity.specs.StepAgreement.{frames_in, with_frames};
-ghost use Rattle.xk_activity.specs.Activities.{fresh, with_act, Stands, Takes, Runs};
+ghost use Rattle.xk_activity.specs.Activities.{fresh, with_act, Stands, Takes};
 
 use crate::frames::{Frames, Next};
 use std::marker::Model;
@@ -16,7 +16,7 @@ use xk_types::{ClockId, Status, Value};
 /// has none open, and is governed by main's.
 #[derive(Drop)]
 pub struct Activity<'m> {
-    frames: Frames<'m>,
+    pub(crate) frames: Frames<'m>,
     status: Status,
     since: u64,
 }
@@ -164,15 +164,5 @@ impl<'m> Activity<'m> {
         ensures same { self.new.module_run ≡ self.old.module_run }
     {
         self.frames.local()
-    }
-
-    /// Up to max steps that nobody else can see, and how many they were.
-    pub(crate) fn run(&mut self, max: u32) -> u32
-        requires { IsSafe local (frames_in self.old.module_run self.old.act) }
-        ensures runs { Runs self.old.module_run self.old.act max result self.new.act }
-        ensures most { result ≤ max }
-        ensures same { self.new.module_run ≡ self.old.module_run }
-    {
-        self.frames.run(max)
     }
 }

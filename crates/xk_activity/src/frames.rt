@@ -9,13 +9,13 @@ ghost use Rattle.xk_types.specs.Shape.{HasShape};
 ghost use Rattle.xk_types.specs.World.{instruction_at, slots_of};
 ghost use Rattle.xk_types.specs.Bound.{stack_of, frames_of};
 ghost use Rattle.xk_activity.specs.Local.{Beyond, Stepped, IsRight, IsSafe, local, ran, turn, code_of, spot_of, spot_at, begun, called, returning, is_stepped};
-ghost use Rattle.xk_activity.specs.Interpreter.{Answers};
+ghost use Rattle.xk_activity.specs.Interpreter.{Answers, IsNear};
 ghost use Rattle.xk_activity.specs.FrameStack.{CanCall, Does, values_at, placed, with_slot};
 ghost use Rattle.xk_activity.specs.Slots.{values_of};
 
 use crate::caller::Caller;
 use crate::equality::are_same_waiting;
-use crate::interpreter::{execute_at, is_frame_local, run_instructions};
+use crate::interpreter::{execute, is_frame_local, run_instructions};
 use crate::marks::Marks;
 use crate::slots::{are_same_slots, part, set, value};
 use crate::stack::{Stack, copy_callers, copy_words, empty, fill, hand, put};
@@ -73,7 +73,7 @@ fn step_top(
     marks: &mut Marks,
     stack: &mut Stack,
     base: usize,
-) -> Option<u32>
+) -> Option<usize>
     requires short { length code.now < 2 ^ 16 }
     requires base { base ≤ length stack.old.items }
     requires few { length (drop base stack.old.items) ≤ 64 }
@@ -83,45 +83,15 @@ fn step_top(
         (spot_at place (values_of marks.old (drop base stack.old.items))))
         (values_of marks.old (drop base stack.old.items)) result
         (values_of marks.new (drop base stack.new.items)) }
+    ensures near { IsNear result }
     ensures below { take base stack.new.items ≡ take base stack.old.items }
     ensures length { length stack.new.items ≡ length stack.old.items }
     ensures capacity { stack.new.capacity ≡ stack.old.capacity }
 {
     let words = stack.as_mut_slice();
     let slots = &mut words[base..];
-    let next = execute_at(code, place as usize, slots, marks)?;
-    Some(next as u32)
-}
-
-/// Up to max next instructions of the frame that lies on a stack from base on, while they concern that frame alone: the place then,
-/// and how many they were.
-#[inline(always)]
-fn run_on_top(
-    code: &[Instr],
-    start: u32,
-    marks: &mut Marks,
-    stack: &mut Stack,
-    base: usize,
-    max: u32,
-) -> (u32, u32)
-    requires short { length code.now < 2 ^ 16 }
-    requires base { base ≤ length stack.old.items }
-    requires few { length (drop base stack.old.items) ≤ 64 }
-    requires safe { IsSafe (turn code.now)
-        (spot_at start (values_of marks.old (drop base stack.old.items))) }
-    ensures ran { ran (turn code.now)
-        (spot_at start (values_of marks.old (drop base stack.old.items))) result.1
-        ≡ Stepped (spot_at result.0 (values_of marks.new (drop base stack.new.items))) }
-    ensures most { result.1 ≤ max }
-    ensures stops { (result.1 ≡ max) ⊎ (turn code.now
-        (spot_at result.0 (values_of marks.new (drop base stack.new.items))) ≡ Beyond) }
-    ensures below { take base stack.new.items ≡ take base stack.old.items }
-    ensures length { length stack.new.items ≡ length stack.old.items }
-    ensures capacity { stack.new.capacity ≡ stack.old.capacity }
-{
-    let words = stack.as_mut_slice();
-    let slots = &mut words[base..];
-    run_instructions(code, start, slots, marks, max)
+    let at = place as usize;
+    execute(code, at, slots, marks, &code[at])
 }
 
 /// Another value in a slot of the frame that lies on a stack from base on.
@@ -392,7 +362,7 @@ impl<'m> Frames<'m> {
             self.base,
         ) {
             Some(place) => {
-                self.place = place;
+                self.place = place as u32;
                 Next::Stepped
             }
             None => self.across(),
@@ -410,14 +380,9 @@ impl<'m> Frames<'m> {
         ensures same { self.new.module_run ≡ self.old.module_run }
     {
         let code = self.code();
-        let (place, steps) = run_on_top(
-            code,
-            self.place,
-            &mut self.marks,
-            &mut self.stack,
-            self.base,
-            max,
-        );
+        let words = self.stack.as_mut_slice();
+        let slots = &mut words[self.base..];
+        let (place, steps) = run_instructions(code, self.place, slots, &mut self.marks, max);
         self.place = place;
         steps
     }

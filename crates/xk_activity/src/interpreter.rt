@@ -87,7 +87,7 @@ fn begin(
 /// Carries out an instruction, and gives the next place; nothing where it concerns more than the frame.
 #[inline(always)]
 #[tactic(auto, using(crate::proofs::OperandLemmas::number_there, crate::proofs::OperandLemmas::number_goes, crate::proofs::OperandLemmas::slot_there, crate::proofs::OperandLemmas::begin_there))]
-fn execute(
+pub(crate) fn execute(
     code: &[Instr],
     place: usize,
     words: &mut [i64],
@@ -152,25 +152,6 @@ pub(crate) fn is_frame_local(instr: &Instr) -> bool
     }
 }
 
-/// The next instruction, if it concerns the frame alone, and the next place.
-#[inline(always)]
-pub(crate) fn execute_at(
-    code: &[Instr],
-    place: usize,
-    words: &mut [i64],
-    marks: &mut Marks,
-) -> Option<usize>
-    requires short { length code.now < 2 ^ 16 }
-    requires few { length words.old ≤ 64 }
-    requires right { IsRight (turn code.now (spot_at place (values_of marks.old words.old))) }
-    ensures answers { Answers (turn code.now (spot_at place (values_of marks.old words.old)))
-        (values_of marks.old words.old) result (values_of marks.new words.new) }
-    ensures near { IsNear result }
-    ensures length { length words.new ≡ length words.old }
-{
-    execute(code, place, words, marks, &code[place])
-}
-
 /// Up to max instructions that concern the frame alone: the place then, and how many they were.
 #[inline(never)]
 pub(crate) fn run_instructions(
@@ -195,7 +176,7 @@ pub(crate) fn run_instructions(
     // A copy, which can lie in a register while the loop runs.
     let mut now = *marks;
     while left > 0 {
-        match execute_at(code, place, words, &mut now) {
+        match execute(code, place, words, &mut now, &code[place]) {
             Some(next) => {
                 place = next;
                 left -= 1;
