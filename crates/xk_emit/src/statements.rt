@@ -30,7 +30,7 @@ pub(crate) struct Emitter<'a, 't> {
 
 /// What an `if` compares.
 #[derive(Clone, Copy)]
-struct Condition<'e, 't> {
+struct Guard<'e, 't> {
     l: &'e Expr<'t>,
     op: Comparison,
     r: &'e Expr<'t>,
@@ -42,31 +42,31 @@ impl<'a, 't> Emitter<'a, 't> {
         &self,
         code: &mut Vec<Instr>,
         scope: &Scope<'t>,
-        condition: Condition<'_, 't>,
+        guard: Guard<'_, 't>,
     ) -> Result<Test, CodeError>
         ensures code { OnOk result (code.new.items ≡ code.old.items
-            ++ (both scope.now self.now.free (expression condition.entry.l.now)
-            (expression condition.entry.r.now) ++ instr.Jump 0 ∷ [])) }
+            ++ (both scope.now self.now.free (expression guard.entry.l.now)
+            (expression guard.entry.r.now) ++ instr.Jump 0 ∷ [])) }
         ensures place { IfOk result (λ test. test.at ≡ length code.old.items
-            + length (both scope.now self.now.free (expression condition.entry.l.now)
-            (expression condition.entry.r.now))) }
-        ensures comparison { IfOk result (λ test. test.op ≡ condition.entry.op) }
+            + length (both scope.now self.now.free (expression guard.entry.l.now)
+            (expression guard.entry.r.now))) }
+        ensures comparison { IfOk result (λ test. test.op ≡ guard.entry.op) }
         ensures first { IfOk result
-            (λ test. test.x ≡ slot_for scope.now self.now.free (expression condition.entry.l.now)) }
+            (λ test. test.x ≡ slot_for scope.now self.now.free (expression guard.entry.l.now)) }
         ensures second { IfOk result (λ test. test.y ≡ second scope.now self.now.free
-            (expression condition.entry.l.now) (expression condition.entry.r.now)) }
+            (expression guard.entry.l.now) (expression guard.entry.r.now)) }
         ensures refused { IfErr result (λ err. Denies err
-            (IsKnown scope.now (expression condition.entry.l.now)
-            × IsKnown scope.now (expression condition.entry.r.now))
+            (IsKnown scope.now (expression guard.entry.l.now)
+            × IsKnown scope.now (expression guard.entry.r.now))
             (HasRoom scope.now (length code.old.items)
-            (both scope.now self.now.free (expression condition.entry.l.now)
-            (expression condition.entry.r.now) ++ instr.Jump 0 ∷ []))) }
+            (both scope.now self.now.free (expression guard.entry.l.now)
+            (expression guard.entry.r.now) ++ instr.Jump 0 ∷ []))) }
     {
-        let (x, y) = emit_both(code, scope, self.free, condition.l, condition.r)?;
+        let (x, y) = emit_both(code, scope, self.free, guard.l, guard.r)?;
         let at = gap(code)?;
         Ok(Test {
             at,
-            op: condition.op,
+            op: guard.op,
             x,
             y,
         })
@@ -97,16 +97,16 @@ impl<'a, 't> Emitter<'a, 't> {
         code: &mut Vec<Instr>,
         scope: &mut Scope<'t>,
         n: u16,
-        condition: Condition<'_, 't>,
+        guard: Guard<'_, 't>,
         s: &Stmt<'t>,
     ) -> Result<u16, CodeError>
         ensures { Emits self.now.setting.now self.now.free scope.old n
-            (If 0 (expression condition.entry.l.now) condition.entry.op
-            (expression condition.entry.r.now) (statement s.now))
+            (If 0 (expression guard.entry.l.now) guard.entry.op
+            (expression guard.entry.r.now) (statement s.now))
             code.old.items code.new.items scope.new result }
     {
         let visible = scope.len();
-        let test = self.open_test(code, scope, condition)?;
+        let test = self.open_test(code, scope, guard)?;
         let m = self.emit(code, scope, n, s)?;
         cut(scope, visible);
         close_test(code, test)?;
@@ -120,28 +120,28 @@ impl<'a, 't> Emitter<'a, 't> {
         code: &mut Vec<Instr>,
         scope: &mut Scope<'t>,
         n: u16,
-        condition: Condition<'_, 't>,
+        guard: Guard<'_, 't>,
         s: &Stmt<'t>,
     ) -> Result<(u16, u16), CodeError>
         ensures code { OnOk result (code.new.items ≡ code.old.items
             ++ code_of_then self.now.setting.now self.now.free scope.old n (length code.old.items)
-            (expression condition.entry.l.now) condition.entry.op
-            (expression condition.entry.r.now) (statement s.now)) }
+            (expression guard.entry.l.now) guard.entry.op
+            (expression guard.entry.r.now) (statement s.now)) }
         ensures scope { OnOk result (scope.new ≡ scope.old) }
         ensures slots { IfOk result (λ begun. begun.0 ≡ n + count (statement s.now)) }
         ensures place { IfOk result (λ begun. length code.new.items ≡ begun.1 + 1) }
         ensures refused { IfErr result (λ err. Denies err
-            (IsKnown scope.old (expression condition.entry.l.now)
-            × IsKnown scope.old (expression condition.entry.r.now)
+            (IsKnown scope.old (expression guard.entry.l.now)
+            × IsKnown scope.old (expression guard.entry.r.now)
             × IsCovered self.now.setting.now scope.old n (statement s.now))
             (HasRoom scope.old (length code.old.items)
             (code_of_then self.now.setting.now self.now.free scope.old n (length code.old.items)
-            (expression condition.entry.l.now) condition.entry.op
-            (expression condition.entry.r.now) (statement s.now))
+            (expression guard.entry.l.now) guard.entry.op
+            (expression guard.entry.r.now) (statement s.now))
             × (n + count (statement s.now) ≤ 64))) }
     {
         let visible = scope.len();
-        let test = self.open_test(code, scope, condition)?;
+        let test = self.open_test(code, scope, guard)?;
         let m = self.emit(code, scope, n, s)?;
         cut(scope, visible);
         let jump = begin_else(code, test)?;
@@ -190,7 +190,8 @@ impl<'a, 't> Emitter<'a, 't> {
             ++ instr.Jump 0 ∷ [])) }
         ensures place { IfOk result (λ begun. begun.0 ≡ length code.old.items
             + length (before_bound scope.old self.now.free n (bound turns.entry.limit.now))) }
-        ensures next { IfOk result (λ begun. begun.1 ≡ n + loop_slots (bound turns.entry.limit.now)) }
+        ensures next { IfOk result
+            (λ begun. begun.1 ≡ n + loop_slots (bound turns.entry.limit.now)) }
         ensures low { OnOk result (n < 64) }
         ensures scope { OnOk result
             (scope.new ≡ within_loop scope.old n (word turns.entry.name)
@@ -270,13 +271,10 @@ impl<'a, 't> Emitter<'a, 't> {
     {
         match s {
             Stmt::Block(_, ss) => self.emit_block(code, scope, n, ss),
-            Stmt::If(_, l, op, r, s) => {
-                let condition = Condition { l, op: *op, r };
-                self.emit_if(code, scope, n, condition, s)
-            }
+            Stmt::If(_, l, op, r, s) => self.emit_if(code, scope, n, Guard { l, op: *op, r }, s),
             Stmt::IfElse(_, l, op, r, s, u) => {
-                let condition = Condition { l, op: *op, r };
-                let (m, jump) = self.emit_then(code, scope, n, condition, s)?;
+                let guard = Guard { l, op: *op, r };
+                let (m, jump) = self.emit_then(code, scope, n, guard, s)?;
                 self.emit_else(code, scope, m, u, jump)
             }
             Stmt::For(_, i, lo, limit, s) => {

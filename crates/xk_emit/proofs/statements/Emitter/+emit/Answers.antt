@@ -16,7 +16,7 @@ emit_if-returns t c =
     let e = c.in_ok-test.ensures in
     record {
       code =
-          test_filled _ _ _ _ 0 _ c.args.condition.op _ (expression c.args.condition.l.now) (expression c.args.condition.r.now) _ _ (statement s)
+          test_filled _ _ _ _ 0 _ c.args.guard.op _ (expression c.args.guard.l.now) (expression c.args.guard.r.now) _ _ (statement s)
           base _ _ _ _ e.code e.place e.comparison e.first e.second c.in_ok-m.ensures.code c.in_ok-close_test.ensures.code;
       scope = search rules;
       slots = search rules;
@@ -61,10 +61,10 @@ emit_if-returns-in_err-test t c =
     let n = c.args.n in
     let base = c.args.code.now.items in
     let refused = c.in_err-test.ensures.refused in
-    let l = expression c.args.condition.l.now in
-    let r = expression c.args.condition.r.now in
+    let l = expression c.args.guard.l.now in
+    let r = expression c.args.guard.r.now in
     let s = statement c.args.s.now in
-    rw (p.1, p.2) (emits_not (if_tested err cx free scope n (length base) 0 l c.args.condition.op r s refused))
+    rw (p.1, p.2) (emits_not (if_tested err cx free scope n (length base) 0 l c.args.guard.op r s refused))
 
 pub emit_if-returns-in_err-m : goal.emit_if-returns-in_err-m
 emit_if-returns-in_err-m t c =
@@ -76,11 +76,11 @@ emit_if-returns-in_err-m t c =
     let n = c.args.n in
     let base = c.args.code.now.items in
     let refused = c.in_err-m.ensures.refused in
-    let l = expression c.args.condition.l.now in
-    let r = expression c.args.condition.r.now in
+    let l = expression c.args.guard.l.now in
+    let r = expression c.args.guard.r.now in
     let s = statement c.args.s.now in
     let opened = ap length c.in_ok-test.ensures.code ∙ length_gap base _ _ in
-    rw (p.1, p.2) (emits_not (if_inner err cx free scope n (length base) _ 0 l c.args.condition.op r s refused opened))
+    rw (p.1, p.2) (emits_not (if_inner err cx free scope n (length base) _ 0 l c.args.guard.op r s refused opened))
 
 pub emit_if-returns-in_err-close_test : goal.emit_if-returns-in_err-close_test
 emit_if-returns-in_err-close_test t c =
@@ -92,12 +92,12 @@ emit_if-returns-in_err-close_test t c =
     let n = c.args.n in
     let base = c.args.code.now.items in
     let refused = c.in_err-close_test.ensures.refused in
-    let l = expression c.args.condition.l.now in
-    let r = expression c.args.condition.r.now in
+    let l = expression c.args.guard.l.now in
+    let r = expression c.args.guard.r.now in
     let s = statement c.args.s.now in
     let opened = ap length c.in_ok-test.ensures.code ∙ length_gap base _ _ in
     let made = ap length c.in_ok-m.ensures.code ∙ length-append _ _ in
-    rw (p.1, p.2) (emits_not (if_end err cx free scope n (length base) _ _ 0 l c.args.condition.op r s refused opened made))
+    rw (p.1, p.2) (emits_not (if_end err cx free scope n (length base) _ _ 0 l c.args.guard.op r s refused opened made))
 
 -- ---- an `if` with an `else`
 
@@ -106,7 +106,7 @@ emit_then-returns-clause-code t c =
     let base = c.args.code.now.items in
     let s = c.args.s.now in
     let e = c.in_ok-test.ensures in
-    then_filled _ _ _ _ _ c.args.condition.op _ (expression c.args.condition.l.now) (expression c.args.condition.r.now) _ _ (statement s)
+    then_filled _ _ _ _ _ c.args.guard.op _ (expression c.args.guard.l.now) (expression c.args.guard.r.now) _ _ (statement s)
     base _ _ _ _ e.code e.place e.comparison e.first e.second c.in_ok-m.ensures.code c.in_ok-jump.ensures.code
 
 pub emit_then-returns-in_err-test-clause-refused : goal.emit_then-returns-in_err-test-clause-refused
@@ -119,10 +119,10 @@ emit_then-returns-in_err-test-clause-refused t c =
     let n = c.args.n in
     let base = c.args.code.now.items in
     let refused = c.in_err-test.ensures.refused in
-    let l = expression c.args.condition.l.now in
-    let r = expression c.args.condition.r.now in
+    let l = expression c.args.guard.l.now in
+    let r = expression c.args.guard.r.now in
     let s = statement c.args.s.now in
-    rw (p.1, p.2) (then_tested err cx free scope n (length base) l c.args.condition.op r s refused)
+    rw (p.1, p.2) (then_tested err cx free scope n (length base) l c.args.guard.op r s refused)
 
 pub emit_then-returns-in_err-m-clause-refused : goal.emit_then-returns-in_err-m-clause-refused
 emit_then-returns-in_err-m-clause-refused t c =
@@ -134,11 +134,11 @@ emit_then-returns-in_err-m-clause-refused t c =
     let n = c.args.n in
     let base = c.args.code.now.items in
     let refused = c.in_err-m.ensures.refused in
-    let l = expression c.args.condition.l.now in
-    let r = expression c.args.condition.r.now in
+    let l = expression c.args.guard.l.now in
+    let r = expression c.args.guard.r.now in
     let s = statement c.args.s.now in
     let opened = ap length c.in_ok-test.ensures.code ∙ length_gap base _ _ in
-    rw (p.1, p.2) (then_inner err cx free scope n (length base) _ l c.args.condition.op r s refused opened)
+    rw (p.1, p.2) (then_inner err cx free scope n (length base) _ l c.args.guard.op r s refused opened)
 
 pub emit_then-returns-in_err-jump-clause-refused : goal.emit_then-returns-in_err-jump-clause-refused
 emit_then-returns-in_err-jump-clause-refused t c =
@@ -150,12 +150,12 @@ emit_then-returns-in_err-jump-clause-refused t c =
     let n = c.args.n in
     let base = c.args.code.now.items in
     let refused = c.in_err-jump.ensures.refused in
-    let l = expression c.args.condition.l.now in
-    let r = expression c.args.condition.r.now in
+    let l = expression c.args.guard.l.now in
+    let r = expression c.args.guard.r.now in
     let s = statement c.args.s.now in
     let opened = ap length c.in_ok-test.ensures.code ∙ length_gap base _ _ in
     let made = ap length c.in_ok-m.ensures.code ∙ length-append _ _ in
-    rw (p.1, p.2) (then_end err cx free scope n (length base) _ _ l c.args.condition.op r s refused opened made)
+    rw (p.1, p.2) (then_end err cx free scope n (length base) _ _ l c.args.guard.op r s refused opened made)
 
 pub emit_else-returns-clause-code : goal.emit_else-returns-clause-code
 emit_else-returns-clause-code t c =
