@@ -1,5 +1,5 @@
-//! What stands in each page between the elements that hold a run: how things look, what they are called, and the script that shows moments. The
-//! definitions name these texts, and spell those elements, and the policy.
+//! What stands in each page between the elements that hold a run: how things look, what they are called, and the script that
+//! shows moments. The definitions name these texts, and spell those elements, and the policy.
 
 ghost use Rattle.std.specs.Prelude.{◌≡◌};
 ghost use Rattle.xk_show_page.specs.Page.{page_top};
