@@ -153,8 +153,8 @@ class Run(NamedTuple):
         return [0, *(step for step in self.events() if first <= step <= last)]
 
     def moments(self) -> Iterator[str]:
-        """What the page has of the steps: of one that is asked for its line and how things stand, of one before these its
-        line where it printed."""
+        """What the page has of the steps: of one that is asked for its line and how things stand, of one before these
+        its line where it printed."""
         asked = set(self.asked())
         last = self.part[1] if self.part else sys.maxsize
         yield self.where(0)
