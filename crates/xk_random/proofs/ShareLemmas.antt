@@ -57,8 +57,9 @@ counted (e ∷ shares) (suc k) s there = ap (λ l. share_value e ∷ l) (counted
 abbrev place_of : List ℤ → List (Vec ℤ × Declared) → ℕ
 place_of numbers shares = position_or_len (λ k. are_same numbers k.items) (keys_of shares)
 
-one : (n : ℕ) → 1 + n ≡ suc n
-one n = omega arith
+-- where the first is another one, they are one place further on
+past_first : (n : ℕ) → cond (not false) (1 + n) 0 ≡ suc n
+past_first n = let more : 1 + n ≡ suc n = omega arith in more
 
 pub noted_later : (seed : ℕ) (numbers : List ℤ) (s : Share) (shares : List Share) → are_same s.numbers numbers ≡ false
     → noted seed numbers (s ∷ shares) ≡ s ∷ noted seed numbers shares
@@ -78,7 +79,7 @@ noted_there seed numbers (e ∷ shares) less = by (noted_there seed numbers shar
         → once_more (place_of numbers (e ∷ shares)) (map share_value (e ∷ shares)) ≡ noted seed numbers (map share_value (e ∷ shares))
     by rest true same = simp (same, other_order numbers e.0.items true same)
     by rest false differs =
-        let at : place_of numbers (e ∷ shares) ≡ suc (place_of numbers shares) = ap (λ b. cond (not b) (1 + place_of numbers shares) 0) differs ∙ one (place_of numbers shares) in
+        let at : place_of numbers (e ∷ shares) ≡ suc (place_of numbers shares) = ap (λ b. cond (not b) (1 + place_of numbers shares) 0) differs ∙ past_first (place_of numbers shares) in
         let within : place_of numbers shares < length (keys_of shares) = omega (arith, less, at) in
         ap (λ k. once_more k (map share_value (e ∷ shares))) at
         ∙ ap (λ l. share_value e ∷ l) (rest within)
@@ -98,7 +99,7 @@ noted_behind seed numbers (e ∷ shares) none = by (noted_behind seed numbers sh
         absurd (omega (arith, none, at))
     by rest false differs =
         let at : place_of numbers.items (e ∷ shares) ≡ suc (place_of numbers.items shares) =
-        ap (λ b. cond (not b) (1 + place_of numbers.items shares) 0) differs ∙ one (place_of numbers.items shares) in
+        ap (λ b. cond (not b) (1 + place_of numbers.items shares) 0) differs ∙ past_first (place_of numbers.items shares) in
         let behind : length (keys_of shares) ≡ place_of numbers.items shares = omega (arith, none, at) in
         ap (map share_value) (inserted_later numbers (record { first = seed; runs = 1 }) e shares differs)
         ∙ ap (λ l. share_value e ∷ l) (rest behind)
