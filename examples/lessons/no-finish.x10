@@ -1,4 +1,4 @@
-// As ../finish-waits.x10, but without its finish.
+// As finish.x10, but without the finish.
 def main() {
     async {
         async Console.OUT.println(2);
