@@ -6,8 +6,8 @@ ghost use Rattle.xk_listing.specs.Fields.{at_left, at_right, is_first, line_text
 use std::alloc::{AllocError, Global};
 use xk_lines::{LineStarts, Position, shown_front};
 
-/// How many signs of a line are told at most.
-const TOLD: usize = 60;
+/// How many signs of a line are told at most, and of a name where it isn't declared.
+pub(crate) const TOLD: usize = 60;
 
 /// Adds a text.
 pub(crate) fn push_text(out: &mut Vec<u8>, text: &str) -> Result<(), AllocError>

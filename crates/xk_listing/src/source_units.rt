@@ -1,7 +1,7 @@
 //! Units of a source text.
 
 ghost use Rattle.std.specs.Prelude.{◌≡◌, ◌++◌, OnOk, map};
-ghost use Rattle.xk_listing.specs.Listing.{each_line, head_place, kinds_field, line_front, place_front, source_head, source_line, source_unit, unit_front, unit_name};
+ghost use Rattle.xk_listing.specs.Listing.{each_line, head_place, kinds_field, line_front, place_front, source_head, source_line, source_unit, taken, unit_front, unit_name, unit_slots};
 
 use crate::fields::{place_title, push_at_left, push_at_right, push_origin, push_text};
 use crate::slots::{clocks, push_slots};
@@ -65,6 +65,16 @@ fn push_unit_name(out: &mut Vec<u8>, head: &Head<'_>) -> Result<(), AllocError>
     }
 }
 
+/// How many of a unit's first slots it takes from outside, out of so many that are parameters.
+fn taken(head: &Head<'_>, params: usize) -> usize
+    ensures { result ≡ taken head.now params }
+{
+    match head.name {
+        Some(_) => 0,
+        None => params,
+    }
+}
+
 /// Adds `  3:5  `.
 #[tactic(auto, unfolding(crate::specs::Listing::head_place))]
 fn push_head_place(
@@ -81,6 +91,20 @@ fn push_head_place(
     push_text(out, format!(in alloc; "  {place}  ")?.as_str())
 }
 
+/// Adds the slots of a unit: `slots 0:c 1:me 2:p`.
+#[tactic(auto, unfolding(crate::specs::Listing::unit_slots))]
+fn push_unit_slots(
+    alloc: Global,
+    out: &mut Vec<u8>,
+    origins: &UnitOrigins<'_>,
+    u: &Unit,
+) -> Result<(), AllocError>
+    ensures { OnOk result (out.new.items ≡ out.old.items ++ unit_slots origins.now u.now) }
+{
+    let taken = taken(&origins.head, u.params.len());
+    push_slots(alloc, out, &origins.slots, taken, u.slots)
+}
+
 /// Adds the head of a unit: `unit 1  async  3:5  slots 0:c 1:me 2:p`.
 #[tactic(auto, unfolding(crate::specs::Listing::source_head))]
 fn push_source_head(
@@ -88,19 +112,19 @@ fn push_source_head(
     out: &mut Vec<u8>,
     lines: &LineStarts<'_>,
     text: &[u8],
-    head: &Head<'_>,
-    names: &[&[u8]],
+    origins: &UnitOrigins<'_>,
     unit: usize,
-    slots: u16,
+    u: &Unit,
 ) -> Result<(), AllocError>
     requires { lines.now ≡ text.now }
-    ensures { OnOk result (out.new.items ≡ out.old.items
-        ++ source_head text.now head.now (map (λ x. x.now) names.now) unit slots) }
+    ensures { OnOk result (out.new.items
+        ≡ out.old.items ++ source_head text.now origins.now unit u.now) }
 {
+    let head = &origins.head;
     push_unit_front(alloc, out, unit)?;
     push_unit_name(out, head)?;
     push_head_place(alloc, out, lines, text, head.at)?;
-    push_slots(alloc, out, names, slots)?;
+    push_unit_slots(alloc, out, origins, u)?;
     push_text(out, "\n")
 }
 
@@ -195,7 +219,7 @@ pub(crate) fn push_source_unit(
         ≡ out.old.items ++ source_unit text.now kinds.now unit u.now origins.now) }
 {
     let names = &origins.slots;
-    push_source_head(alloc, out, lines, text, &origins.head, names, unit, u.slots)?;
+    push_source_head(alloc, out, lines, text, origins, unit, u)?;
     push_source_lines(
         alloc,
         out,
