@@ -63,12 +63,12 @@ unfoldable pub kinds_field : List (List ℕ) → Tables → ℕ → ℕ → ℕ 
 kinds_field names kinds unit at slots = option_map_or (λ t. codes " " ++ at_left 25 (clocks_field names t unit at slots)) kinds []
 
 -- `   2  advance            c:live|resumed|out         5:26`
-unfoldable pub source_line : List ℕ → List ℕ → List (List ℕ) → Tables → ℕ → ℕ → ℕ → Instr → List ℕ
-source_line text offsets names kinds unit slots at i = (line_front at i ++ kinds_field names kinds unit at slots) ++ origin_field text offsets at
+unfoldable pub source_line : List ℕ → Tables → ℕ → UnitValue → UnitOrigins → ℕ → Instr → List ℕ
+source_line text kinds unit u o at i = (line_front at i ++ kinds_field o.slots kinds unit at u.slots) ++ origin_field text o.offsets at
 
 unfoldable pub source_unit : List ℕ → Tables → ℕ → UnitValue → UnitOrigins → List ℕ
 source_unit text kinds unit u o =
-    source_head text o unit u ++ each_line (source_line text o.offsets o.slots kinds unit u.slots) u.code
+    source_head text o unit u ++ each_line (source_line text kinds unit u o) u.code
 
 -- ---- of a module alone
 

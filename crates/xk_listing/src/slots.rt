@@ -217,38 +217,43 @@ fn push_clock_if_any(
     Ok(())
 }
 
+/// The slots of a unit: what they are called, and what they may hold.
+#[derive(Clone, Copy)]
+pub(crate) struct UnitSlots<'a, 't> {
+    pub names: &'a [&'t [u8]],
+    pub tables: &'a KindTables,
+    pub unit: usize,
+    pub count: u16,
+}
+
 /// Adds what is told of a slot before an instruction.
 #[tactic(auto, unfolding(crate::specs::Fields::clock_at))]
 fn push_clock_at(
     alloc: Global,
     out: &mut Vec<u8>,
-    names: &[&[u8]],
-    tables: &KindTables,
-    unit: usize,
+    slots: &UnitSlots<'_, '_>,
     at: usize,
     slot: usize,
 ) -> Result<(), AllocError>
-    ensures { OnOk result (out.new.items
-        ≡ out.old.items ++ clock_at (map (λ x. x.now) names.now) tables.now unit at slot) }
+    ensures { OnOk result (out.new.items ≡ out.old.items ++ clock_at
+        (map (λ x. x.now) slots.now.names.now) slots.now.tables.now slots.now.unit at slot) }
 {
-    push_clock_if_any(alloc, out, names, slot, tables.kinds(unit, at, slot))
+    let kinds = slots.tables.kinds(slots.unit, at, slot);
+    push_clock_if_any(alloc, out, slots.names, slot, kinds)
 }
 
 /// The slots of a unit that may hold clocks before an instruction.
 pub(crate) fn clocks(
     alloc: Global,
-    names: &[&[u8]],
-    tables: &KindTables,
-    unit: usize,
+    slots: &UnitSlots<'_, '_>,
     at: usize,
-    count: u16,
 ) -> Result<Vec<u8>, AllocError>
-    ensures { IfOk result (λ v. v.items
-        ≡ clocks_field (map (λ x. x.now) names.now) tables.now unit at count) }
+    ensures { IfOk result (λ v. v.items ≡ clocks_field (map (λ x. x.now) slots.now.names.now)
+        slots.now.tables.now slots.now.unit at slots.now.count) }
 {
     let mut out = Vec::new(alloc);
-    for slot in 0..count as usize {
-        push_clock_at(alloc, &mut out, names, tables, unit, at, slot)?;
+    for slot in 0..slots.count as usize {
+        push_clock_at(alloc, &mut out, slots, at, slot)?;
     }
     Ok(out)
 }
