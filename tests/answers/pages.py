@@ -33,7 +33,8 @@ from dataclasses import dataclass, field
 from tests import harness
 from tests.harness import TOP
 
-PAGES = [TOP / "README.md", TOP / "examples/README.md", *sorted((TOP / "docs").glob("*.md"))]
+EXAMPLES = [TOP / "examples/README.md", TOP / "examples/exercises/README.md"]
+PAGES = [TOP / "README.md", *EXAMPLES, *sorted((TOP / "docs").glob("*.md"))]
 REFUSALS = TOP / "docs/REFUSALS.md"
 # (L3, a read that failed, is told as `x10clock: device`.)
 NUMBERS = {"F": range(1, 16), "M": range(1, 4), "V": range(1, 18), "A": (1,), "L": (1, 2, 4, 5, 6)}

@@ -34,6 +34,7 @@ ASK = (
     "sh tests/answers/answers.sh",
     "sh tests/answers/transcripts.sh",
     "python3 -m tests.answers.pages",
+    "python3 -m tests.answers.exercises",
     "python3 -m tests.answers.html_pages",
     "python3 -m tests.answers.editors",
     "python3 -m tests.answers.refused_growths",

@@ -1,0 +1,14 @@
+// A method that main calls twice: it prints n + 2 * n + 3 * n + 4 * n.
+def sum(n: Long) {
+    var s = 0;
+    for (i in 1..4) {
+        s = s + i * n;
+    }
+    Console.OUT.println(s);
+}
+
+def main() {
+    val ten = 10;
+    sum(1);
+    sum(ten);
+}
