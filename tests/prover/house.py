@@ -37,7 +37,7 @@ MOST = {
     "proofs": 6744,
     "docs": 71,
     "scripts": 0,
-    "files": 3,
+    "files": 0,
 }
 TESTS = {"xk_tests", "xk_tests_memory"}
 FN = re.compile(r"^(\s*)((?:pub(?:\([^)]*\))? )?(?:const )?)fn (\w+)")

@@ -17,6 +17,8 @@ from tests.reference.origins import Origins
 # between fields.
 PLACE, WORDS, CLOCKS, FROM = 4, 17, 24, 7
 OF_CLOCKS = (Kind.LIVE, Kind.RESUMED, Kind.OUT)
+# So many letters of a name are shown where it isn't declared, and `..` for the others.
+NAMED = 60
 
 
 def has_shape(module: Module) -> bool:
@@ -32,13 +34,18 @@ def words(instr: Instr) -> str:
     return " ".join([instr.name, *listed])
 
 
+def cut(name: str) -> str:
+    return name[:NAMED] + ".." if len(name) > NAMED else name
+
+
 def clocks(kinds: Kinds | None, number: int, place: int, names: dict[int, str]) -> str:
     """The slots that may hold clocks before an instruction, and what they may hold."""
     said = []
     for slot, walks in enumerate(kinds.slots[number] if kinds else ()):
         found = sorted(kind for at, kind in walks.found_from if at == place)
         if any(kind in OF_CLOCKS for kind in found):
-            said.append(f"{names.get(slot, slot)}:{'|'.join(kind.name.lower() for kind in found)}")
+            name = cut(names[slot]) if slot in names else slot
+            said.append(f"{name}:{'|'.join(kind.name.lower() for kind in found)}")
     return " ".join(said)
 
 
@@ -58,9 +65,11 @@ def module_unit(number: int, unit: Unit, kinds: Kinds | None) -> str:
 
 def source_unit(text: bytes, number: int, unit: Unit, comes_from: Origins, kinds: Kinds | None) -> str:
     name = f"def {comes_from.name}" if comes_from.name else "async"
-    slots = "".join(
-        f" {slot}:{comes_from.slots[slot]}" if slot in comes_from.slots else f" {slot}" for slot in range(unit.slots)
-    )
+    names = dict(comes_from.slots)
+    if not comes_from.name:
+        # What an `async` takes from outside is declared there.
+        names.update((slot, cut(names[slot])) for slot in range(len(unit.params)) if slot in names)
+    slots = "".join(f" {slot}:{names[slot]}" if slot in names else f" {slot}" for slot in range(unit.slots))
     said = f"unit {number}  {name}  {explain.place_title(text, comes_from.at)}  slots{slots}\n"
     before = None
     for place, (instr, at) in enumerate(zip(unit.code, comes_from.offsets, strict=True)):

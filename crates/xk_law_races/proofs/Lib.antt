@@ -15,6 +15,9 @@ pub mod HeldRunLemmas
 pub mod SeenLemmas
 pub mod StepDeedLemmas
 pub mod RunWorldLemmas
+pub mod EndAndCloseLemmas
+pub mod GovernedEndLemmas
+pub mod UnderFinishLemmas
 pub mod ClosedFinishLaw
 pub mod PassedClockLaw
 pub mod AccessLemmas

@@ -1,5 +1,5 @@
 -- Small listings.
-use Rattle.std.proofs.Common.{◌≡◌, ℕ, pos, true, false, List, [], ◌∷◌, ◌++◌, Some, refl}
+use Rattle.std.proofs.Common.{◌≡◌, ℕ, pos, true, false, List, [], ◌∷◌, ◌++◌, Some, replicate, refl}
 use Rattle.std.specs.Prelude.{codes}
 use Rattle.std.specs.Fmt.{digits}
 use Rattle.std.specs.Str.{chars, is_utf8}
@@ -12,8 +12,8 @@ use Rattle.xk_typestate.specs.KindSet.{KindsValue}
 use Rattle.xk_origins.specs.UnitOrigins.{UnitOrigins}
 use Rattle.xk_lines.specs.Signs.{signs}
 use Rattle.xk_listing.specs.Words.{one, three, unless, forto_loop, next_argument, words}
-use Rattle.xk_listing.specs.Fields.{at_left, at_right, clock_at, clock_item, line_text, origin_field, place_title}
-use Rattle.xk_listing.specs.Listing.{head_place, kinds_field, line_front, listing, module_clocks, module_head, module_line, module_unit, slot_count, source_head, source_line, source_unit, unit_front, unit_name, unit_text}
+use Rattle.xk_listing.specs.Fields.{at_left, at_right, clock_at, clock_item, line_text, origin_field, place_title, slots_field}
+use Rattle.xk_listing.specs.Listing.{head_place, kinds_field, line_front, listing, module_clocks, module_head, module_line, module_unit, slot_count, source_head, source_line, source_unit, unit_front, unit_name, unit_slots, unit_text}
 
 -- ---- words
 
@@ -45,6 +45,18 @@ two_kinds : clock_item (codes "c" ∷ codes " " ∷ []) 1 (record live { resumed
 unfolding digits
 two_kinds = refl
 
+-- of a name of 61 letters 60 are told, and `..`: but as a whole in the head of the unit that declares it
+cut : clock_item (replicate 61 99 ∷ []) 0 live ≡ codes " " ++ replicate 60 99 ++ codes "..:live"
+cut = refl
+
+no_cut : clock_item (replicate 60 99 ∷ []) 0 live ≡ codes " " ++ replicate 60 99 ++ codes ":live"
+no_cut = refl
+
+taken_and_declared : slots_field (replicate 61 99 ∷ replicate 61 100 ∷ []) 1 2
+    ≡ codes "slots 0:" ++ replicate 60 99 ++ codes ".. 1:" ++ replicate 61 100
+unfolding digits
+taken_and_declared = refl
+
 -- ---- a program: `def main() { val c = Clock.make(); c.drop(); }`, in lines
 
 abbrev text : List ℕ
@@ -70,7 +82,7 @@ listed : listing text (main ∷ []) program (Some kinds) ≡ codes "unit 0  def 
     ++ (codes "   0  make 0                                       2:7      val c = Clock.make();\n"
     ++ (codes "   1  drop 0             c:live                    3:3      c.drop();\n"
     ++ (codes "   2  ret                c:out                     4:1      }\n")))
-unfolding unit_text source_unit source_head unit_front unit_name head_place source_line line_front kinds_field clock_at origin_field one at_left at_right place_title line_text signs is_utf8 chars encode digits
+unfolding unit_text source_unit source_head unit_front unit_name unit_slots head_place source_line line_front kinds_field clock_at origin_field one at_left at_right place_title line_text signs is_utf8 chars encode digits
 listed = refl
 
 of_module : listing [] [] program (Some kinds) ≡ codes "unit 0  main  slots 1\n"

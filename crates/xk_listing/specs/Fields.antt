@@ -1,5 +1,5 @@
 -- The fields of a listing's lines: slots by their names, the kinds of clocks, places and lines of a text. This project's own.
-use Rattle.std.specs.Prelude.{ℕ, zero, suc, ◌-◌, nat_eq, Bool, true, not, ◌||◌, List, [], ◌∷◌, ◌++◌, length, take, min, flat_map, replicate, slice_get, unwrap_or, codes, decimal, if◌then◌else◌}
+use Rattle.std.specs.Prelude.{ℕ, zero, suc, ◌-◌, nat_eq, nat_lt, Bool, true, not, ◌||◌, List, [], ◌∷◌, ◌++◌, length, take, min, flat_map, replicate, slice_get, unwrap_or, codes, decimal, if◌then◌else◌}
 use Rattle.std.specs.List.{list_any}
 use Rattle.xk_types.specs.declared.rules.Kind.{Kind}
 use Rattle.xk_types.specs.declared.rules.Kind.TheVariants as kind
@@ -37,17 +37,25 @@ is_name name = list_any (λ b. not (nat_eq b 32)) name
 abbrev pub slot_name : List (List ℕ) → ℕ → List ℕ
 slot_name names slot = unwrap_or (slice_get names slot) []
 
+-- a name where it isn't declared: no more than 60 letters of it, and `..` for the others
+abbrev pub cut_name : List ℕ → List ℕ
+cut_name name = take 60 name ++ (if nat_lt 60 (length name) then codes ".." else [])
+
 -- a slot by its name, or by its number where the text has no name for it
 abbrev pub slot_title : List (List ℕ) → ℕ → List ℕ
-slot_title names slot = if is_name (slot_name names slot) then slot_name names slot else decimal slot
+slot_title names slot = if is_name (slot_name names slot) then cut_name (slot_name names slot) else decimal slot
 
--- ` 0:c`, ` 3`
-abbrev pub slot_item : List (List ℕ) → ℕ → List ℕ
-slot_item names slot = (codes " " ++ decimal slot) ++ (if is_name (slot_name names slot) then codes ":" ++ slot_name names slot else [])
+-- `:c`, as a whole where the unit doesn't take it from outside, but declares it
+abbrev pub name_item : List ℕ → Bool → List ℕ
+name_item name taken = if is_name name then codes ":" ++ (if taken then cut_name name else name) else []
+
+-- ` 0:c`, ` 3`, where so many first slots are taken from outside
+abbrev pub slot_item : List (List ℕ) → ℕ → ℕ → List ℕ
+slot_item names taken slot = (codes " " ++ decimal slot) ++ name_item (slot_name names slot) (nat_lt slot taken)
 
 -- `slots 0:c 1:me 2:p 3`
-abbrev pub slots_field : List (List ℕ) → ℕ → List ℕ
-slots_field names count = codes "slots" ++ each_below (slot_item names) count
+abbrev pub slots_field : List (List ℕ) → ℕ → ℕ → List ℕ
+slots_field names taken count = codes "slots" ++ each_below (slot_item names taken) count
 
 -- ---- kinds
 

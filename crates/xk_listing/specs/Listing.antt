@@ -41,26 +41,34 @@ each_line line code = each_below (λ at. option_map_or (line at) (slice_get code
 unfoldable pub unit_name : Head → List ℕ
 unit_name h = option_map_or (λ name. codes "def " ++ name) h.name (codes "async")
 
+-- how many of a unit's first slots it takes from outside: an `async` all that are parameters, a method none
+abbrev pub taken : Head → ℕ → ℕ
+taken h params = option_map_or (λ name. 0) h.name params
+
 -- `  3:5  `
 unfoldable pub head_place : List ℕ → ℕ → List ℕ
 head_place text at = codes "  " ++ (place_title (position_of text (min at (length text))) ++ codes "  ")
 
+-- `slots 0:c 1:me 2:p`
+unfoldable pub unit_slots : UnitOrigins → UnitValue → List ℕ
+unit_slots o u = slots_field o.slots (taken o.head (length u.params)) u.slots
+
 -- `unit 1  async  3:5  slots 0:c 1:me 2:p`
-unfoldable pub source_head : List ℕ → Head → List (List ℕ) → ℕ → ℕ → List ℕ
-source_head text head names unit slots =
-    (((unit_front unit ++ unit_name head) ++ head_place text head.at) ++ slots_field names slots) ++ codes "\n"
+unfoldable pub source_head : List ℕ → UnitOrigins → ℕ → UnitValue → List ℕ
+source_head text o unit u =
+    (((unit_front unit ++ unit_name o.head) ++ head_place text o.head.at) ++ unit_slots o u) ++ codes "\n"
 
 -- the field of the clocks, where their kinds are known
 unfoldable pub kinds_field : List (List ℕ) → Tables → ℕ → ℕ → ℕ → List ℕ
 kinds_field names kinds unit at slots = option_map_or (λ t. codes " " ++ at_left 25 (clocks_field names t unit at slots)) kinds []
 
 -- `   2  advance            c:live|resumed|out         5:26`
-unfoldable pub source_line : List ℕ → List ℕ → List (List ℕ) → Tables → ℕ → ℕ → ℕ → Instr → List ℕ
-source_line text offsets names kinds unit slots at i = (line_front at i ++ kinds_field names kinds unit at slots) ++ origin_field text offsets at
+unfoldable pub source_line : List ℕ → Tables → ℕ → UnitValue → UnitOrigins → ℕ → Instr → List ℕ
+source_line text kinds unit u o at i = (line_front at i ++ kinds_field o.slots kinds unit at u.slots) ++ origin_field text o.offsets at
 
 unfoldable pub source_unit : List ℕ → Tables → ℕ → UnitValue → UnitOrigins → List ℕ
 source_unit text kinds unit u o =
-    source_head text o.head o.slots unit u.slots ++ each_line (source_line text o.offsets o.slots kinds unit u.slots) u.code
+    source_head text o unit u ++ each_line (source_line text kinds unit u o) u.code
 
 -- ---- of a module alone
 

@@ -3,11 +3,12 @@
 ghost use Rattle.std.specs.Prelude.{◌≡◌, ◌++◌, ◌≤◌, length, replicate, IfOk, OnOk, string_bytes};
 ghost use Rattle.xk_listing.specs.Fields.{at_left, at_right, is_first, line_text, origin_at, origin_field, place_field, place_title};
 
+use crate::source_text::SourceText;
 use std::alloc::{AllocError, Global};
 use xk_lines::{LineStarts, Position, shown_front};
 
-/// How many signs of a line are told at most.
-const TOLD: usize = 60;
+/// How many signs of a line are told at most, and of a name where it isn't declared.
+pub(crate) const TOLD: usize = 60;
 
 /// Adds a text.
 pub(crate) fn push_text(out: &mut Vec<u8>, text: &str) -> Result<(), AllocError>
@@ -107,18 +108,16 @@ fn push_place(
 pub(crate) fn push_origin(
     alloc: Global,
     out: &mut Vec<u8>,
-    lines: &LineStarts<'_>,
-    text: &[u8],
+    source: &SourceText<'_>,
     offsets: &[usize],
     at: usize,
 ) -> Result<(), AllocError>
-    requires { lines.now ≡ text.now }
     ensures { OnOk result (out.new.items
-        ≡ out.old.items ++ origin_field text.now offsets.now at) }
+        ≡ out.old.items ++ origin_field source.now offsets.now at) }
 {
-    let offset = origin_at(text, offsets, at);
-    let first = is_first(text, offsets, at);
+    let offset = origin_at(source.text, offsets, at);
+    let first = is_first(source.text, offsets, at);
     push_text(out, "  ")?;
-    push_place(alloc, out, lines, offset, first)?;
+    push_place(alloc, out, &source.lines, offset, first)?;
     push_text(out, "\n")
 }

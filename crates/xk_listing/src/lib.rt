@@ -5,6 +5,7 @@ mod fields;
 mod listing;
 mod module_units;
 mod slots;
+mod source_text;
 mod source_units;
 mod words;
 

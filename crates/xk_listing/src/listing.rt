@@ -6,10 +6,10 @@ ghost use Rattle.xk_shape.specs.Fault.{Refuses};
 ghost use Rattle.xk_listing.specs.Listing.{IsListing, ListsKinds, gap, listing, unit_lines, unit_text, units_text};
 
 use crate::fields::push_text;
-use crate::module_units::push_module_unit;
-use crate::source_units::push_source_unit;
+use crate::module_units::{ModuleUnit, push_module_unit};
+use crate::source_text::SourceText;
+use crate::source_units::{SourceUnit, push_source_unit};
 use std::alloc::{AllocError, Global};
-use xk_lines::LineStarts;
 use xk_origins::UnitOrigins;
 use xk_shape::{ShapeError, Shaped, shape};
 use xk_types::{Module, Unit};
@@ -25,24 +25,45 @@ fn push_gap(out: &mut Vec<u8>, unit: usize) -> Result<(), AllocError>
     }
 }
 
+/// What is known of a program beside its code: its text, the origins of its units, and the kinds of their slots.
+#[derive(Clone, Copy)]
+struct Known<'a, 't> {
+    source: &'a SourceText<'t>,
+    origins: &'a [UnitOrigins<'t>],
+    kinds: &'a Option<KindTables>,
+}
+
 /// Adds the lines of a unit, by its origins if it has some.
 fn push_unit_lines(
     alloc: Global,
     out: &mut Vec<u8>,
-    lines: &LineStarts<'_>,
-    text: &[u8],
-    origins: &[UnitOrigins<'_>],
-    kinds: &Option<KindTables>,
-    unit: usize,
-    u: &Unit,
+    known: &Known<'_, '_>,
+    number: usize,
+    unit: &Unit,
 ) -> Result<(), AllocError>
-    requires { lines.now ≡ text.now }
-    ensures { OnOk result (out.new.items
-        ≡ out.old.items ++ unit_lines text.now origins.now kinds.now unit u.now) }
+    ensures { OnOk result (out.new.items ≡ out.old.items ++ unit_lines known.now.source.now
+        known.now.origins.now known.now.kinds.now number unit.now) }
 {
-    match origins.get(unit) {
-        Some(of_unit) => push_source_unit(alloc, out, lines, text, of_unit, kinds, unit, u),
-        None => push_module_unit(alloc, out, kinds, unit, u),
+    let kinds = known.kinds;
+    match known.origins.get(number) {
+        Some(origins) => {
+            let u = SourceUnit {
+                source: known.source,
+                origins,
+                kinds,
+                number,
+                unit,
+            };
+            push_source_unit(alloc, out, &u)
+        }
+        None => {
+            let u = ModuleUnit {
+                kinds,
+                number,
+                unit,
+            };
+            push_module_unit(alloc, out, &u)
+        }
     }
 }
 
@@ -51,37 +72,29 @@ fn push_unit_lines(
 fn push_unit(
     alloc: Global,
     out: &mut Vec<u8>,
-    lines: &LineStarts<'_>,
-    text: &[u8],
-    origins: &[UnitOrigins<'_>],
-    kinds: &Option<KindTables>,
-    unit: usize,
-    u: &Unit,
+    known: &Known<'_, '_>,
+    number: usize,
+    unit: &Unit,
 ) -> Result<(), AllocError>
-    requires { lines.now ≡ text.now }
-    ensures { OnOk result (out.new.items
-        ≡ out.old.items ++ unit_text text.now origins.now kinds.now unit u.now) }
+    ensures { OnOk result (out.new.items ≡ out.old.items ++ unit_text known.now.source.now
+        known.now.origins.now known.now.kinds.now number unit.now) }
 {
-    push_gap(out, unit)?;
-    push_unit_lines(alloc, out, lines, text, origins, kinds, unit, u)
+    push_gap(out, number)?;
+    push_unit_lines(alloc, out, known, number, unit)
 }
 
-/// Adds these units, with these kinds.
+/// Adds these units.
 fn push_units(
     alloc: Global,
     out: &mut Vec<u8>,
-    lines: &LineStarts<'_>,
-    text: &[u8],
-    origins: &[UnitOrigins<'_>],
+    known: &Known<'_, '_>,
     units: &[Unit],
-    kinds: &Option<KindTables>,
 ) -> Result<(), AllocError>
-    requires { lines.now ≡ text.now }
-    ensures { OnOk result (out.new.items
-        ≡ out.old.items ++ units_text text.now origins.now units.now kinds.now) }
+    ensures { OnOk result (out.new.items ≡ out.old.items ++ units_text known.now.source.now
+        known.now.origins.now units.now known.now.kinds.now) }
 {
     for (unit, u) in units.iter().enumerate() {
-        push_unit(alloc, out, lines, text, origins, kinds, unit, u)?;
+        push_unit(alloc, out, known, unit, u)?;
     }
     Ok(())
 }
@@ -97,9 +110,14 @@ fn list_units(
     ensures { IfOk result (λ v. v.items
         ≡ listing text.now origins.now m.now kinds.now) }
 {
-    let lines = LineStarts::new(alloc, text)?;
+    let source = SourceText::new(alloc, text)?;
+    let known = Known {
+        source: &source,
+        origins,
+        kinds,
+    };
     let mut out = Vec::new(alloc);
-    push_units(alloc, &mut out, &lines, text, origins, m.units(), kinds)?;
+    push_units(alloc, &mut out, &known, m.units())?;
     Ok(out)
 }
 

@@ -4,7 +4,7 @@ ghost use Rattle.std.specs.Prelude.{◌≡◌, ◌++◌, OnOk, IfOk, map};
 ghost use Rattle.xk_listing.specs.Listing.{each_line, kind_word, module_clocks, module_head, module_line, module_unit, param_letter, params_field, slot_count, with_clocks};
 
 use crate::fields::{push_at_left, push_text};
-use crate::slots::clocks;
+use crate::slots::{UnitSlots, clocks};
 use crate::source_units::{push_place_front, push_unit_front};
 use crate::words::words;
 use std::alloc::{AllocError, Global};
@@ -66,15 +66,15 @@ fn push_slot_count(alloc: Global, out: &mut Vec<u8>, count: u16) -> Result<(), A
 fn push_module_head(
     alloc: Global,
     out: &mut Vec<u8>,
-    unit: usize,
-    u: &Unit,
+    number: usize,
+    unit: &Unit,
 ) -> Result<(), AllocError>
-    ensures { OnOk result (out.new.items ≡ out.old.items ++ module_head unit u.now) }
+    ensures { OnOk result (out.new.items ≡ out.old.items ++ module_head number unit.now) }
 {
-    push_unit_front(alloc, out, unit)?;
-    push_text(out, kind_word(u.kind))?;
-    push_params(out, &u.params)?;
-    push_slot_count(alloc, out, u.slots)
+    push_unit_front(alloc, out, number)?;
+    push_text(out, kind_word(unit.kind))?;
+    push_params(out, &unit.params)?;
+    push_slot_count(alloc, out, unit.slots)
 }
 
 /// Adds words, and clocks behind them if there are any.
@@ -89,19 +89,31 @@ fn push_with_clocks(out: &mut Vec<u8>, words: &[u8], clocks: &[u8]) -> Result<()
     out.extend_from_slice(clocks)
 }
 
+/// A unit with its number, and the kinds of the slots of all units, where they are known.
+#[derive(Clone, Copy)]
+pub(crate) struct ModuleUnit<'a> {
+    pub kinds: &'a Option<KindTables>,
+    pub number: usize,
+    pub unit: &'a Unit,
+}
+
 /// The clocks before an instruction, where their kinds are known.
 #[tactic(auto, unfolding(crate::specs::Listing::module_clocks))]
-fn module_clocks(
-    alloc: Global,
-    kinds: &Option<KindTables>,
-    unit: usize,
-    at: usize,
-    slots: u16,
-) -> Result<Vec<u8>, AllocError>
-    ensures { IfOk result (λ v. v.items ≡ module_clocks kinds.now unit at slots) }
+fn module_clocks(alloc: Global, u: &ModuleUnit<'_>, at: usize) -> Result<Vec<u8>, AllocError>
+    ensures { IfOk result (λ v. v.items
+        ≡ module_clocks u.now.kinds.now u.now.number at u.now.unit.now.slots) }
 {
-    match kinds {
-        Some(tables) => clocks(alloc, &[], tables, unit, at, slots),
+    let unit = u.unit;
+    match u.kinds {
+        Some(tables) => {
+            let slots = UnitSlots {
+                names: &[],
+                tables,
+                unit: u.number,
+                count: unit.slots,
+            };
+            clocks(alloc, &slots, at)
+        }
         None => Ok(Vec::new(alloc)),
     }
 }
@@ -111,36 +123,32 @@ fn module_clocks(
 fn push_module_line(
     alloc: Global,
     out: &mut Vec<u8>,
-    kinds: &Option<KindTables>,
-    unit: usize,
-    slots: u16,
+    u: &ModuleUnit<'_>,
     at: usize,
     instr: &Instr,
 ) -> Result<(), AllocError>
-    ensures { OnOk result (out.new.items
-        ≡ out.old.items ++ module_line kinds.now unit slots at instr.now) }
+    ensures { OnOk result (out.new.items ≡ out.old.items ++ module_line u.now.kinds.now
+        u.now.number u.now.unit.now.slots at instr.now) }
 {
     let words = words(alloc, instr)?;
-    let clocks = module_clocks(alloc, kinds, unit, at, slots)?;
+    let clocks = module_clocks(alloc, u, at)?;
     push_place_front(alloc, out, at)?;
     push_with_clocks(out, &words, &clocks)?;
     push_text(out, "\n")
 }
 
-/// Adds the lines of these instructions.
+/// Adds the lines of these instructions of a unit.
 fn push_module_lines(
     alloc: Global,
     out: &mut Vec<u8>,
-    kinds: &Option<KindTables>,
-    unit: usize,
-    slots: u16,
+    u: &ModuleUnit<'_>,
     code: &[Instr],
 ) -> Result<(), AllocError>
-    ensures { OnOk result (out.new.items
-        ≡ out.old.items ++ each_line (module_line kinds.now unit slots) code.now) }
+    ensures { OnOk result (out.new.items ≡ out.old.items ++ each_line
+        (module_line u.now.kinds.now u.now.number u.now.unit.now.slots) code.now) }
 {
     for (at, instr) in code.iter().enumerate() {
-        push_module_line(alloc, out, kinds, unit, slots, at, instr)?;
+        push_module_line(alloc, out, u, at, instr)?;
     }
     Ok(())
 }
@@ -150,12 +158,12 @@ fn push_module_lines(
 pub(crate) fn push_module_unit(
     alloc: Global,
     out: &mut Vec<u8>,
-    kinds: &Option<KindTables>,
-    unit: usize,
-    u: &Unit,
+    u: &ModuleUnit<'_>,
 ) -> Result<(), AllocError>
-    ensures { OnOk result (out.new.items ≡ out.old.items ++ module_unit kinds.now unit u.now) }
+    ensures { OnOk result (out.new.items
+        ≡ out.old.items ++ module_unit u.now.kinds.now u.now.number u.now.unit.now) }
 {
-    push_module_head(alloc, out, unit, u)?;
-    push_module_lines(alloc, out, kinds, unit, u.slots, &u.code)
+    let unit = u.unit;
+    push_module_head(alloc, out, u.number, unit)?;
+    push_module_lines(alloc, out, u, &unit.code)
 }

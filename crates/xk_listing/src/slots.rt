@@ -1,9 +1,10 @@
 //! Slots by their names, and the kinds of clocks.
 
-ghost use Rattle.std.specs.Prelude.{◌≡◌, [], ◌++◌, IfOk, OnOk, codes, decimal, flat_map, map, if◌then◌else◌};
-ghost use Rattle.xk_listing.specs.Fields.{clock_at, clock_if_any, clock_item, clocks_field, if_in, is_name, kinds_text, may_be_clock, next_kind, slot_item, slot_name, slot_title, slots_field};
+ghost use Rattle.std.specs.Prelude.{◌≡◌, ◌++◌, IfOk, OnOk, decimal, flat_map, map, take};
+ghost use Rattle.xk_listing.specs.Fields.{clock_at, clock_if_any, clock_item, clocks_field, cut_name, if_in, is_name, kinds_text};
+ghost use Rattle.xk_listing.specs.Fields.{may_be_clock, name_item, next_kind, slot_item, slot_name, slot_title, slots_field};
 
-use crate::fields::push_text;
+use crate::fields::{TOLD, push_text};
 use std::alloc::{AllocError, Global};
 use xk_types::Kind;
 use xk_typestate::{KindSet, KindTables};
@@ -41,6 +42,24 @@ fn push_number(alloc: Global, out: &mut Vec<u8>, x: usize) -> Result<(), AllocEr
     push_text(out, format!(in alloc; "{x}")?.as_str())
 }
 
+/// The first letters of a name.
+fn first_letters(name: &[u8]) -> &[u8]
+    ensures { result.now ≡ take 60 name.now }
+{
+    &name[..name.len().min(TOLD)]
+}
+
+/// Adds a name where it isn't declared: its first letters, and what stands for the others.
+fn push_cut_name(out: &mut Vec<u8>, name: &[u8]) -> Result<(), AllocError>
+    ensures { OnOk result (out.new.items ≡ out.old.items ++ cut_name name.now) }
+{
+    out.extend_from_slice(first_letters(name))?;
+    if name.len() > TOLD {
+        return push_text(out, "..");
+    }
+    Ok(())
+}
+
 /// Adds a slot by its name, or by its number where the text has no name for it.
 fn push_slot_title(
     alloc: Global,
@@ -53,51 +72,55 @@ fn push_slot_title(
 {
     let name = slot_name(names, slot);
     if is_name(name) {
-        return out.extend_from_slice(name);
+        return push_cut_name(out, name);
     }
     push_number(alloc, out, slot)
 }
 
-/// Adds a name behind a number, if it stands in the text.
-fn push_name(out: &mut Vec<u8>, name: &[u8]) -> Result<(), AllocError>
-    ensures { OnOk result (out.new.items
-        ≡ out.old.items ++ (if is_name name.now then codes ":" ++ name.now else [])) }
+/// Adds a name behind a number, if it stands in the text: cut, if it is taken from outside.
+fn push_name(out: &mut Vec<u8>, name: &[u8], taken: bool) -> Result<(), AllocError>
+    ensures { OnOk result (out.new.items ≡ out.old.items ++ name_item name.now taken) }
 {
     if !is_name(name) {
         return Ok(());
     }
     push_text(out, ":")?;
+    if taken {
+        return push_cut_name(out, name);
+    }
     out.extend_from_slice(name)
 }
 
-/// Adds ` 0:c`.
+/// Adds ` 0:c`, where so many first slots are taken from outside.
 fn push_slot_item(
     alloc: Global,
     out: &mut Vec<u8>,
     names: &[&[u8]],
+    taken: usize,
     slot: usize,
 ) -> Result<(), AllocError>
     ensures { OnOk result (out.new.items
-        ≡ out.old.items ++ slot_item (map (λ x. x.now) names.now) slot) }
+        ≡ out.old.items ++ slot_item (map (λ x. x.now) names.now) taken slot) }
 {
     push_text(out, " ")?;
     push_number(alloc, out, slot)?;
-    push_name(out, slot_name(names, slot))
+    push_name(out, slot_name(names, slot), slot < taken)
 }
 
-/// Adds `slots 0:c 1:me 2:p 3`.
+/// Adds `slots 0:c 1:me 2:p 3`, where so many first slots are taken from outside.
 pub(crate) fn push_slots(
     alloc: Global,
     out: &mut Vec<u8>,
     names: &[&[u8]],
+    taken: usize,
     count: u16,
 ) -> Result<(), AllocError>
     ensures { OnOk result (out.new.items
-        ≡ out.old.items ++ slots_field (map (λ x. x.now) names.now) count) }
+        ≡ out.old.items ++ slots_field (map (λ x. x.now) names.now) taken count) }
 {
     push_text(out, "slots")?;
     for slot in 0..count as usize {
-        push_slot_item(alloc, out, names, slot)?;
+        push_slot_item(alloc, out, names, taken, slot)?;
     }
     Ok(())
 }
@@ -194,38 +217,43 @@ fn push_clock_if_any(
     Ok(())
 }
 
+/// The slots of a unit: what they are called, and what they may hold.
+#[derive(Clone, Copy)]
+pub(crate) struct UnitSlots<'a, 't> {
+    pub names: &'a [&'t [u8]],
+    pub tables: &'a KindTables,
+    pub unit: usize,
+    pub count: u16,
+}
+
 /// Adds what is told of a slot before an instruction.
 #[tactic(auto, unfolding(crate::specs::Fields::clock_at))]
 fn push_clock_at(
     alloc: Global,
     out: &mut Vec<u8>,
-    names: &[&[u8]],
-    tables: &KindTables,
-    unit: usize,
+    slots: &UnitSlots<'_, '_>,
     at: usize,
     slot: usize,
 ) -> Result<(), AllocError>
-    ensures { OnOk result (out.new.items
-        ≡ out.old.items ++ clock_at (map (λ x. x.now) names.now) tables.now unit at slot) }
+    ensures { OnOk result (out.new.items ≡ out.old.items ++ clock_at
+        (map (λ x. x.now) slots.now.names.now) slots.now.tables.now slots.now.unit at slot) }
 {
-    push_clock_if_any(alloc, out, names, slot, tables.kinds(unit, at, slot))
+    let kinds = slots.tables.kinds(slots.unit, at, slot);
+    push_clock_if_any(alloc, out, slots.names, slot, kinds)
 }
 
 /// The slots of a unit that may hold clocks before an instruction.
 pub(crate) fn clocks(
     alloc: Global,
-    names: &[&[u8]],
-    tables: &KindTables,
-    unit: usize,
+    slots: &UnitSlots<'_, '_>,
     at: usize,
-    count: u16,
 ) -> Result<Vec<u8>, AllocError>
-    ensures { IfOk result (λ v. v.items
-        ≡ clocks_field (map (λ x. x.now) names.now) tables.now unit at count) }
+    ensures { IfOk result (λ v. v.items ≡ clocks_field (map (λ x. x.now) slots.now.names.now)
+        slots.now.tables.now slots.now.unit at slots.now.count) }
 {
     let mut out = Vec::new(alloc);
-    for slot in 0..count as usize {
-        push_clock_at(alloc, &mut out, names, tables, unit, at, slot)?;
+    for slot in 0..slots.count as usize {
+        push_clock_at(alloc, &mut out, slots, at, slot)?;
     }
     Ok(out)
 }

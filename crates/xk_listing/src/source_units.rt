@@ -1,13 +1,13 @@
 //! Units of a source text.
 
-ghost use Rattle.std.specs.Prelude.{◌≡◌, ◌++◌, OnOk, map};
-ghost use Rattle.xk_listing.specs.Listing.{each_line, head_place, kinds_field, line_front, place_front, source_head, source_line, source_unit, unit_front, unit_name};
+ghost use Rattle.std.specs.Prelude.{◌≡◌, ◌++◌, OnOk};
+ghost use Rattle.xk_listing.specs.Listing.{each_line, head_place, kinds_field, line_front, place_front, source_head, source_line, source_unit, taken, unit_front, unit_name, unit_slots};
 
 use crate::fields::{place_title, push_at_left, push_at_right, push_origin, push_text};
-use crate::slots::{clocks, push_slots};
+use crate::slots::{UnitSlots, clocks, push_slots};
+use crate::source_text::SourceText;
 use crate::words::words;
 use std::alloc::{AllocError, Global};
-use xk_lines::LineStarts;
 use xk_origins::{Head, UnitOrigins};
 use xk_types::{Instr, Unit};
 use xk_typestate::KindTables;
@@ -65,20 +65,53 @@ fn push_unit_name(out: &mut Vec<u8>, head: &Head<'_>) -> Result<(), AllocError>
     }
 }
 
+/// How many of a unit's first slots it takes from outside, out of so many that are parameters.
+fn taken(head: &Head<'_>, params: usize) -> usize
+    ensures { result ≡ taken head.now params }
+{
+    match head.name {
+        Some(_) => 0,
+        None => params,
+    }
+}
+
+/// A unit with its number and its origins in a text, and the kinds of the slots of all units, where they are known.
+#[derive(Clone, Copy)]
+pub(crate) struct SourceUnit<'a, 't> {
+    pub source: &'a SourceText<'t>,
+    pub origins: &'a UnitOrigins<'t>,
+    pub kinds: &'a Option<KindTables>,
+    pub number: usize,
+    pub unit: &'a Unit,
+}
+
 /// Adds `  3:5  `.
 #[tactic(auto, unfolding(crate::specs::Listing::head_place))]
 fn push_head_place(
     alloc: Global,
     out: &mut Vec<u8>,
-    lines: &LineStarts<'_>,
-    text: &[u8],
+    source: &SourceText<'_>,
     at: usize,
 ) -> Result<(), AllocError>
-    requires { lines.now ≡ text.now }
-    ensures { OnOk result (out.new.items ≡ out.old.items ++ head_place text.now at) }
+    ensures { OnOk result (out.new.items ≡ out.old.items ++ head_place source.now at) }
 {
-    let place = place_title(alloc, lines.position(at.min(text.len())))?;
+    let offset = at.min(source.text.len());
+    let place = place_title(alloc, source.lines.position(offset))?;
     push_text(out, format!(in alloc; "  {place}  ")?.as_str())
+}
+
+/// Adds the slots of a unit: `slots 0:c 1:me 2:p`.
+#[tactic(auto, unfolding(crate::specs::Listing::unit_slots))]
+fn push_unit_slots(
+    alloc: Global,
+    out: &mut Vec<u8>,
+    origins: &UnitOrigins<'_>,
+    u: &Unit,
+) -> Result<(), AllocError>
+    ensures { OnOk result (out.new.items ≡ out.old.items ++ unit_slots origins.now u.now) }
+{
+    let taken = taken(&origins.head, u.params.len());
+    push_slots(alloc, out, &origins.slots, taken, u.slots)
 }
 
 /// Adds the head of a unit: `unit 1  async  3:5  slots 0:c 1:me 2:p`.
@@ -86,21 +119,16 @@ fn push_head_place(
 fn push_source_head(
     alloc: Global,
     out: &mut Vec<u8>,
-    lines: &LineStarts<'_>,
-    text: &[u8],
-    head: &Head<'_>,
-    names: &[&[u8]],
-    unit: usize,
-    slots: u16,
+    u: &SourceUnit<'_, '_>,
 ) -> Result<(), AllocError>
-    requires { lines.now ≡ text.now }
     ensures { OnOk result (out.new.items ≡ out.old.items
-        ++ source_head text.now head.now (map (λ x. x.now) names.now) unit slots) }
+        ++ source_head u.now.source.now u.now.origins.now u.now.number u.now.unit.now) }
 {
-    push_unit_front(alloc, out, unit)?;
-    push_unit_name(out, head)?;
-    push_head_place(alloc, out, lines, text, head.at)?;
-    push_slots(alloc, out, names, slots)?;
+    let origins = u.origins;
+    push_unit_front(alloc, out, u.number)?;
+    push_unit_name(out, &origins.head)?;
+    push_head_place(alloc, out, u.source, origins.head.at)?;
+    push_unit_slots(alloc, out, origins, u.unit)?;
     push_text(out, "\n")
 }
 
@@ -109,18 +137,23 @@ fn push_source_head(
 fn push_kinds(
     alloc: Global,
     out: &mut Vec<u8>,
-    names: &[&[u8]],
-    kinds: &Option<KindTables>,
-    unit: usize,
+    u: &SourceUnit<'_, '_>,
     at: usize,
-    slots: u16,
 ) -> Result<(), AllocError>
-    ensures { OnOk result (out.new.items ≡ out.old.items
-        ++ kinds_field (map (λ x. x.now) names.now) kinds.now unit at slots) }
+    ensures { OnOk result (out.new.items ≡ out.old.items ++ kinds_field
+        u.now.origins.now.slots u.now.kinds.now u.now.number at u.now.unit.now.slots) }
 {
-    match kinds {
+    let origins = u.origins;
+    let unit = u.unit;
+    match u.kinds {
         Some(tables) => {
-            let field = clocks(alloc, names, tables, unit, at, slots)?;
+            let slots = UnitSlots {
+                names: &origins.slots,
+                tables,
+                unit: u.number,
+                count: unit.slots,
+            };
+            let field = clocks(alloc, &slots, at)?;
             push_text(out, " ")?;
             push_at_left(out, 25, &field)
         }
@@ -133,47 +166,32 @@ fn push_kinds(
 fn push_source_line(
     alloc: Global,
     out: &mut Vec<u8>,
-    lines: &LineStarts<'_>,
-    text: &[u8],
-    offsets: &[usize],
-    names: &[&[u8]],
-    kinds: &Option<KindTables>,
-    unit: usize,
-    slots: u16,
+    u: &SourceUnit<'_, '_>,
     at: usize,
     instr: &Instr,
 ) -> Result<(), AllocError>
-    requires { lines.now ≡ text.now }
-    ensures { OnOk result (out.new.items ≡ out.old.items ++ source_line text.now offsets.now
-        (map (λ x. x.now) names.now) kinds.now unit slots at instr.now) }
+    ensures { OnOk result (out.new.items ≡ out.old.items ++ source_line u.now.source.now
+        u.now.kinds.now u.now.number u.now.unit.now u.now.origins.now at instr.now) }
 {
+    let origins = u.origins;
     push_line_front(alloc, out, at, instr)?;
-    push_kinds(alloc, out, names, kinds, unit, at, slots)?;
-    push_origin(alloc, out, lines, text, offsets, at)
+    push_kinds(alloc, out, u, at)?;
+    push_origin(alloc, out, u.source, &origins.offsets, at)
 }
 
-/// Adds the lines of these instructions.
+/// Adds the lines of these instructions of a unit.
 fn push_source_lines(
     alloc: Global,
     out: &mut Vec<u8>,
-    lines: &LineStarts<'_>,
-    text: &[u8],
-    offsets: &[usize],
-    names: &[&[u8]],
-    kinds: &Option<KindTables>,
-    unit: usize,
-    slots: u16,
+    u: &SourceUnit<'_, '_>,
     code: &[Instr],
 ) -> Result<(), AllocError>
-    requires { lines.now ≡ text.now }
     ensures { OnOk result (out.new.items ≡ out.old.items ++ each_line
-        (source_line text.now offsets.now (map (λ x. x.now) names.now) kinds.now unit slots)
-        code.now) }
+        (source_line u.now.source.now u.now.kinds.now u.now.number u.now.unit.now
+        u.now.origins.now) code.now) }
 {
     for (at, instr) in code.iter().enumerate() {
-        push_source_line(
-            alloc, out, lines, text, offsets, names, kinds, unit, slots, at, instr,
-        )?;
+        push_source_line(alloc, out, u, at, instr)?;
     }
     Ok(())
 }
@@ -183,29 +201,12 @@ fn push_source_lines(
 pub(crate) fn push_source_unit(
     alloc: Global,
     out: &mut Vec<u8>,
-    lines: &LineStarts<'_>,
-    text: &[u8],
-    origins: &UnitOrigins<'_>,
-    kinds: &Option<KindTables>,
-    unit: usize,
-    u: &Unit,
+    u: &SourceUnit<'_, '_>,
 ) -> Result<(), AllocError>
-    requires { lines.now ≡ text.now }
-    ensures { OnOk result (out.new.items
-        ≡ out.old.items ++ source_unit text.now kinds.now unit u.now origins.now) }
+    ensures { OnOk result (out.new.items ≡ out.old.items ++ source_unit u.now.source.now
+        u.now.kinds.now u.now.number u.now.unit.now u.now.origins.now) }
 {
-    let names = &origins.slots;
-    push_source_head(alloc, out, lines, text, &origins.head, names, unit, u.slots)?;
-    push_source_lines(
-        alloc,
-        out,
-        lines,
-        text,
-        &origins.offsets,
-        names,
-        kinds,
-        unit,
-        u.slots,
-        &u.code,
-    )
+    let unit = u.unit;
+    push_source_head(alloc, out, u)?;
+    push_source_lines(alloc, out, u, &unit.code)
 }

@@ -24,7 +24,7 @@ use Rattle.xk_source_semantics.specs.Compilation.{IsCompiled, unit_of_part}
 use Rattle.xk_law_compiler.proofs.PlaceLemmas.{code_in}
 use Rattle.xk_law_compiler.proofs.PairwiseLemmas.{Pairs}
 use Rattle.xk_law_compiler.proofs.RelationLemmas.{Along, Whole, Here, limit_of}
-use Rattle.xk_law_compiler.proofs.StepLemmas.{Between, Within, RunsAs, Stage, Waits, IsAs}
+use Rattle.xk_law_compiler.proofs.StepLemmas.ActivityLemmas.{Between, Within, RunsAs, Stage, Waits, IsAs}
 use Rattle.xk_law_compiler.proofs.MeansItsSourceLaw.{whole_of}
 use Rattle.xk_law_compiler.proofs.UnitLemmas.SettingLemmas.{shared_placed}
 use Rattle.xk_origins.specs.Origin.{Origin, Does, Ends, Leaves, part_origins}

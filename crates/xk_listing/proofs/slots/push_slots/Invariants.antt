@@ -5,4 +5,4 @@ use Rattle.xk_listing.proofs.slots.push_slots.Given as goal
 
 -- the slots so far were added
 abbrev pub invariant-loop-slot : goal.invariant-loop-slot
-invariant-loop-slot l = l.out.items ≡ (l.fn.out.items ++ codes "slots") ++ each_below (slot_item (map (λ x. x.now) l.names)) l.slot
+invariant-loop-slot l = l.out.items ≡ (l.fn.out.items ++ codes "slots") ++ each_below (slot_item (map (λ x. x.now) l.names) l.taken) l.slot
