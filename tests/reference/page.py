@@ -18,7 +18,7 @@ from tests.reference.logs import Played
 from tests.reference.where import Place
 
 FURNITURE = TOP / "crates/xk_show_page/src/furniture.rt"
-TEXT = re.compile(r'^pub(?:\(crate\))? const (\w+): &str = r(#+)"(.*?)"\2;$', re.MULTILINE | re.DOTALL)
+TEXT = re.compile(r'^pub(?:\(crate\))? const (\w+): &str =\s+r(#+)"(.*?)"\2;$', re.MULTILINE | re.DOTALL)
 STYLE, SCRIPT = ("COLOURS", "PLACES", "MARKS"), ("READER", "SHOWER", "MOVER")
 # The elements that hold the source text, the picture and the moments.
 SOURCE, PICTURE = '<pre id="source">\n', '<div id="picture" tabindex="0" role="group" aria-label="Lanes of the run">\n'

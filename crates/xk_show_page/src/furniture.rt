@@ -117,7 +117,8 @@ pub(crate) const CONTROLS: &str = r#"<body class="still">
 "#;
 
 /// What stands between the elements of the source text and of the picture.
-pub(crate) const LISTS: &str = r#"<p class="help"><span class="badge can">0</span> can step, <span class="badge waits">1</span> waits. Activity 0 is main.</p>
+pub(crate) const LISTS: &str =
+    r#"<p class="help"><span class="badge can">0</span> can step, <span class="badge waits">1</span> waits. Activity 0 is main.</p>
 </section>
 <section class="state">
 <h2>Activities</h2>

@@ -107,14 +107,7 @@ impl Describe<u8> for MomentTeller<'_, '_> {
         if is_moment(self.window, step) {
             return push_moment(alloc, out, core, self.places, step);
         }
-        push_print(
-            alloc,
-            out,
-            self.window,
-            self.places,
-            step,
-            step.event,
-        )
+        push_print(alloc, out, self.window, self.places, step, step.event)
     }
 }
 
