@@ -34,7 +34,7 @@ MOST = {
     "pub": 76,
     "clauses": 0,
     "code": 256,
-    "proofs": 6744,
+    "proofs": 6718,
     "docs": 71,
     "scripts": 0,
     "files": 0,

@@ -250,7 +250,7 @@ def held_faults(walk: Walk | None, asked: Asked, told: set[bytes], given: Answer
             yield f"not in the list: {sorted(untold)}"
         if int(last[1]) > min(asked.limit, len(outcomes)) or is_whole and int(last[1]) != len(outcomes):
             yield f"there are {len(outcomes)} outcomes"
-        if not is_whole and int(last[1]) < asked.limit and SPARE * walk.entries < asked.limit:
+        if not is_whole and int(last[1]) < asked.limit and SPARE * walk.entries <= asked.limit:
             yield f"not complete, and there are {walk.entries} worlds"
 
 
@@ -300,7 +300,7 @@ def against_walk(walk: Walk, asked: Asked, told: set[Numbers], is_complete: bool
         yield f"no run prints {sorted(told - outcomes)}"
     if is_complete and outcomes - told:
         yield f"left out: {sorted(outcomes - told)}"
-    if not is_complete and len(told) < asked.limit and SPARE * walk.entries < asked.limit:
+    if not is_complete and len(told) < asked.limit and SPARE * walk.entries <= asked.limit:
         yield f"not complete, and there are {walk.entries} worlds"
 
 

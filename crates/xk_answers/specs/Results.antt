@@ -98,7 +98,7 @@ pub record AreOutcomes (m : ModuleValue) (args : List ℤ) (sets : Bool) (limit 
   pub shown : AreShownAs sets m args list
   pub distinct : AreDistinctAs sets list
   pub all : complete ≡ true → AreAllAs sets m args list
-  pub far : GoesFar m args limit list complete
+  pub far : GoesFar m args sets limit list complete
   pub text_is : text ≡ outcomes_text list complete
   pub whole_is : whole ≡ (complete && not (lacks_log keeps pick list))
   pub log_is : log ≡ kept_log keeps pick list

@@ -1,12 +1,10 @@
 -- The lines of a text, one after another.
-use Rattle.std.proofs.Common.{◌≡◌, ◌∙◌, ℕ, suc, ◌+◌, ◌-◌, ◌<◌, Bool, true, false, not, cond, if◌then◌else◌, List, [], ◌∷◌, ◌++◌, length, take, drop, length-drop, map, get_or, slice_get, append_assoc, Option, Some, None, option_map, refl, sym, ap, arith}
+use Rattle.std.proofs.Common.{◌≡◌, ◌∙◌, ℕ, suc, ◌+◌, ◌-◌, ◌<◌, Bool, true, false, not, cond, if◌then◌else◌, List, [], ◌∷◌, ◌++◌, length, take, drop, length-drop, append_assoc, Option, Some, None, refl, sym, ap, arith}
 use Rattle.std.specs.Prelude.{◌==◌, nat_lt}
-use Rattle.std.specs.Borrow.{Bor}
 use Rattle.std.specs.List.{cons_option, filter_map, prefix_len}
 use Rattle.std.specs.Option.{option_to_list}
 use Rattle.std.proofs.lemmas.Bool.{ltb-true, lt-ltb}
 use Rattle.std.proofs.lemmas.List.{drop-drop}
-use Rattle.std.proofs.lemmas.Option.{slice_get-get_or, slice_get-map}
 use Rattle.xk_outcomes.specs.declared.reading.ListFault.{ListFault}
 use Rattle.xk_outcomes.specs.declared.reading.ListFault.TheVariants as fault
 use Rattle.xk_outcomes.specs.Expected.{IsStray, IsStrayIn, in_first, line_feed, lines_of, may_stand, stray_from, stray_line, told_in}
@@ -86,13 +84,9 @@ pub stray_more : (line : List ℕ) (lines rest : List (List ℕ)) (number : ℕ)
 stray_more line lines rest number all next stands before =
     sym (ap (stray_from number) next ∙ ap (λ may. if may then stray_from (number + 1) rest else Some number) stands) ∙ before
 
-pub stray_here : (text line : List ℕ) (lines rest : List (List ℕ)) (number : ℕ) (e : ListFault) → lines ≡ line ∷ rest → stray_from number lines ≡ stray_line text
+pub stray_here : (text line : List ℕ) (lines rest : List (List ℕ)) (number : ℕ) (e : ListFault) → lines ≡ line ∷ rest
+    → stray_from number lines ≡ stray_line text
     → IsStray number line e → IsStrayIn text e
 stray_here text line lines rest number (fault.Stray n) next before stray =
     sym before ∙ ap (stray_from number) next ∙ ap (λ may. if may then stray_from (number + 1) rest else Some number) stray.1 ∙ ap Some (sym stray.0)
 stray_here text line lines rest number fault.OutOfMemory next before stray = tt
-
--- ---- texts that are told
-
-pub text_at : (told : List (Bor (List ℕ))) (i : ℕ) (d : Bor (List ℕ)) → i < length told → slice_get (map (λ t. t.now) told) i ≡ Some (get_or told i d).now
-text_at told i d within = slice_get-map (λ t. t.now) told i ∙ ap (option_map (λ t. t.now)) (slice_get-get_or told i d within)

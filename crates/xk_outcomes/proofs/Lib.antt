@@ -6,4 +6,6 @@ mod EntriesLemmas
 mod ExplorationLemmas
 mod RisingLemmas
 mod ListingLemmas
+mod ListedLemmas
 mod ExpectedLemmas
+mod TextLemmas

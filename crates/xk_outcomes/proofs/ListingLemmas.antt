@@ -1,5 +1,5 @@
 -- What one more leaves listed, and from what was found to what is listed.
-use Rattle.std.proofs.Common.{◌≡◌, ◌∙◌, ℕ, ℤ, zero, suc, ◌+◌, ◌<◌, ◌⊎◌, inl, inr, true, List, [], ◌∷◌, ◌++◌, length, Some, refl, sym, ap, subst, arith, slice_get}
+use Rattle.std.proofs.Common.{◌≡◌, ◌∙◌, ℕ, ℤ, zero, suc, ◌+◌, ◌<◌, ◌≤◌, ◌⊎◌, inl, inr, Bool, true, false, List, [], ◌∷◌, ◌++◌, length, Some, refl, sym, ap, subst, arith, slice_get}
 use Rattle.std.specs.Prelude.{count_by, map}
 use Rattle.std.specs.Ordering.{int_eq}
 use Rattle.std.proofs.lemmas.List.{length-map}
@@ -17,15 +17,17 @@ use Rattle.xk_outcomes.specs.declared.order.Order.{Order}
 use Rattle.xk_outcomes.specs.declared.order.Order.TheVariants as order
 use Rattle.xk_outcomes.specs.Search.{AreFound, AreAllFound, AreAtRest, AreDifferent}
 use Rattle.xk_outcomes.specs.Rising.{ordered}
-use Rattle.xk_outcomes.specs.Listing.{IsOf, AreOf, AreNoted, AreShownIn, AreAllIn, KeepsListed}
-use Rattle.xk_outcomes.specs.Outcomes.{IsAtRest, IsListed, IsOutcome, AreDistinct, AreShown, HasApart}
+use Rattle.xk_outcomes.specs.Listing.{IsOf, AreOf, AreNoted, AreShownIn, AreAllIn, AreEndsListedIn, HasKeptIn, KeepsListed}
+use Rattle.xk_outcomes.specs.Outcomes.{AreApart, IsAtRest, IsListed, IsOutcome, AreDistinct, AreShown}
+use Rattle.xk_outcomes.specs.Limits.{HasKept}
 use Rattle.xk_outcomes.specs.Sets.{IsRising, AreSetsShown, AreSetsDistinct, AreSetsAll}
 use Rattle.xk_outcomes.proofs.RisingLemmas.{is_rising, same_rising, one_rising}
 use Rattle.xk_outcomes.proofs.SearchLemmas.{stays, at_end, place}
 
 -- ---- one more
 
-pub distinct_push : (old new : List Outcome) (o : Outcome) → new ≡ old ++ o ∷ [] → (IsListed old o.numbers.items → ⊥) → AreDistinct old → AreDistinct new
+pub distinct_push : (old new : List Outcome) (o : Outcome) → new ≡ old ++ o ∷ [] → (IsListed old o.numbers.items → ⊥) → AreDistinct old
+    → AreDistinct new
 distinct_push old new o e fresh before i j x y hi hj same =
     by (place old o i x (subst (λ (l : List Outcome). slice_get l i ≡ Some x) e hi)) (place old o j y (subst (λ (l : List Outcome). slice_get l j ≡ Some y) e hj))
   where
@@ -47,15 +49,18 @@ keeps_same old new e numbers h = subst (λ (l : List Outcome). IsListed l number
 pub listed_push : (old new : List Outcome) (o : Outcome) → new ≡ old ++ o ∷ [] → IsListed new o.numbers.items
 listed_push old new o e = (length old, o, subst (λ (l : List Outcome). slice_get l (length old) ≡ Some o) (sym e) (at_end old o), refl)
 
-of_push : (order : Order) (all : List FoundValue) (j : ℕ) (x : FoundValue) (old new : List Outcome) (o : Outcome) → new ≡ old ++ o ∷ [] → slice_get all j ≡ Some x → IsOf order x o → AreOf order all old → AreOf order all new
+of_push : (order : Order) (all : List FoundValue) (j : ℕ) (x : FoundValue) (old new : List Outcome) (o : Outcome) → new ≡ old ++ o ∷ []
+    → slice_get all j ≡ Some x → IsOf order x o → AreOf order all old → AreOf order all new
 of_push order all j x old new o e there is before k p h = by (place old o k p (subst (λ (l : List Outcome). slice_get l k ≡ Some p) e h))
   where
-    by : (slice_get old k ≡ Some p) ⊎ ((k ≡ length old) × (o ≡ p)) → (i : ℕ) × (y : FoundValue) × (slice_get all i ≡ Some y) × IsOf order y p
+    by : (slice_get old k ≡ Some p) ⊎ ((k ≡ length old) × (o ≡ p))
+        → (i : ℕ) × (y : FoundValue) × (slice_get all i ≡ Some y) × IsOf order y p
     by (inl a) = before k p a
     by (inr b) = (j, x, there, subst (λ (q : Outcome). IsOf order x q) b.1 is)
 
 -- the same where it was listed already
-pub of_either : (order : Order) (all : List FoundValue) (j : ℕ) (x : FoundValue) (old new : List Outcome) (o : Outcome) → (new ≡ old) ⊎ (new ≡ old ++ o ∷ [])
+pub of_either : (order : Order) (all : List FoundValue) (j : ℕ) (x : FoundValue) (old new : List Outcome) (o : Outcome)
+    → (new ≡ old) ⊎ (new ≡ old ++ o ∷ [])
     → slice_get all j ≡ Some x → IsOf order x o → AreOf order all old → AreOf order all new
 of_either order all j x old new o (inl e) there is before = subst (AreOf order all) (sym e) before
 of_either order all j x old new o (inr e) there is before = of_push order all j x old new o e there is before
@@ -63,8 +68,10 @@ of_either order all j x old new o (inr e) there is before = of_push order all j 
 pub of_none : (order : Order) (all : List FoundValue) (list : List Outcome) → list ≡ [] → AreOf order all list
 of_none order all list none k o h = absurd (none-some o (subst (λ (l : List Outcome). slice_get l k ≡ Some o) none h))
 
-pub noted_more : (order : Order) (all : List FoundValue) (place : ℕ) (here : FoundValue) (old new : List Outcome) → slice_get all place ≡ Some here → KeepsListed old new
-    → (all_ended here.core.world ≡ true → IsListed new (ordered order here.printed)) → AreNoted order all place old → AreNoted order all (place + 1) new
+pub noted_more : (order : Order) (all : List FoundValue) (place : ℕ) (here : FoundValue) (old new : List Outcome)
+    → slice_get all place ≡ Some here → KeepsListed old new
+    → (all_ended here.core.world ≡ true → IsListed new (ordered order here.printed)) → AreNoted order all place old
+    → AreNoted order all (place + 1) new
 noted_more order all place here old new there kept listed before j x less at done = by (split j place less)
   where
     split : (i n : ℕ) → i < n + 1 → (i < n) ⊎ (i ≡ n)
@@ -78,7 +85,8 @@ noted_more order all place here old new there kept listed before j x less at don
 
 -- ---- from what was found to what is listed
 
-pub all_shown : (order : Order) (m : ModuleValue) (args : List ℤ) (all : List FoundValue) (list : List Outcome) → AreFound (opening_core m args) all → AreOf order all list
+pub all_shown : (order : Order) (m : ModuleValue) (args : List ℤ) (all : List FoundValue) (list : List Outcome)
+    → AreFound (opening_core m args) all → AreOf order all list
     → AreShownIn order m args list
 all_shown order m args all list found of k o there =
     let h = of k o there in
@@ -94,7 +102,8 @@ all_shown order m args all list found of k o there =
       h.3.numbers,
     )
 
-pub all_listed : (order : Order) (m : ModuleValue) (args : List ℤ) (all : List FoundValue) (list : List Outcome) → AreAllFound (opening_core m args) all
+pub all_listed : (order : Order) (m : ModuleValue) (args : List ℤ) (all : List FoundValue) (list : List Outcome)
+    → AreAllFound (opening_core m args) all
     → AreNoted order all (length all) list → AreAllIn order m args list
 all_listed order m args all list found noted schedule numbers o =
     let h = found schedule o.last o.legal o.over in
@@ -105,38 +114,63 @@ abbrev schedules : List FoundValue → List (List ℕ)
 schedules all = map (λ (x : FoundValue). x.schedule) all
 
 -- each is that of one of them
-scheduled : (all : List FoundValue) (k : ℕ) (p : List ℕ) → slice_get (schedules all) k ≡ Some p → (x : FoundValue) × (slice_get all k ≡ Some x) × (x.schedule ≡ p)
+scheduled : (all : List FoundValue) (k : ℕ) (p : List ℕ) → slice_get (schedules all) k ≡ Some p
+    → (x : FoundValue) × (slice_get all k ≡ Some x) × (x.schedule ≡ p)
 scheduled [] k p h = absurd (none-some p h)
 scheduled (x ∷ all) zero p h = (x, refl, same_Some x.schedule p h)
 scheduled (x ∷ all) (suc k) p h = scheduled all k p h
 
 -- each that was found has a schedule and is at rest, and no two have the same world and numbers
-pub all_apart : (m : ModuleValue) (args : List ℤ) (all : List FoundValue) → AreFound (opening_core m args) all → AreAtRest all → AreDifferent all
-    → HasApart m args (length all)
-all_apart m args all found rest different = (
-  schedules all,
-  length-map all (λ (x : FoundValue). x.schedule),
-  record {
-    legal = λ k p there.
-        let x = scheduled all k p there in
-        let f = found k x.0 x.1 in (
-          x.0.core.world,
-          ap (λ (l : List ℕ). run m l (opening m args)) (sym x.2) ∙ f.legal,
-          subst (λ k. IsAtRest k x.0.core.world) f.module_is (rest k x.0 x.1),
-        );
-    apart = λ i j p q w v hi hj lead_w lead_v alike same.
-        let x = scheduled all i p hi in
-        let y = scheduled all j q hj in
-        let f = found i x.0 x.1 in
-        let g = found j y.0 y.1 in
-        let to_w : w ≡ x.0.core.world = same_through w x.0.core.world (sym lead_w ∙ (ap (λ (l : List ℕ). run m l (opening m args)) (sym x.2) ∙ f.legal)) in
-        let to_v : v ≡ y.0.core.world = same_through v y.0.core.world (sym lead_v ∙ (ap (λ (l : List ℕ). run m l (opening m args)) (sym y.2) ∙ g.legal)) in
-        let worlds : AreAlike y.0.core.world x.0.core.world = ap plain (sym to_v) ∙ sym alike ∙ ap plain to_w in
-        let numbers : x.0.printed ≡ y.0.printed =
-        sym f.prints ∙ ap (λ (l : List ℕ). printed m l (opening m args)) x.2 ∙ same ∙ ap (λ (l : List ℕ). printed m l (opening m args)) (sym y.2) ∙ g.prints in
-        different i j x.0 y.0 x.1 y.1 (worlds, numbers);
-  },
-)
+all_apart : (m : ModuleValue) (args : List ℤ) (all : List FoundValue) → AreFound (opening_core m args) all → AreAtRest all
+    → AreDifferent all
+    → AreApart m args (schedules all)
+all_apart m args all found rest different = record {
+  legal = λ k p there.
+      let x = scheduled all k p there in
+      let f = found k x.0 x.1 in (
+        x.0.core.world,
+        ap (λ (l : List ℕ). run m l (opening m args)) (sym x.2) ∙ f.legal,
+        subst (λ k. IsAtRest k x.0.core.world) f.module_is (rest k x.0 x.1),
+      );
+  apart = λ i j p q w v hi hj lead_w lead_v alike same.
+      let x = scheduled all i p hi in
+      let y = scheduled all j q hj in
+      let f = found i x.0 x.1 in
+      let g = found j y.0 y.1 in
+      let to_w : w ≡ x.0.core.world = same_through w x.0.core.world (sym lead_w ∙ (ap (λ (l : List ℕ). run m l (opening m args)) (sym x.2) ∙ f.legal)) in
+      let to_v : v ≡ y.0.core.world = same_through v y.0.core.world (sym lead_v ∙ (ap (λ (l : List ℕ). run m l (opening m args)) (sym y.2) ∙ g.legal)) in
+      let worlds : AreAlike y.0.core.world x.0.core.world = ap plain (sym to_v) ∙ sym alike ∙ ap plain to_w in
+      let numbers : x.0.printed ≡ y.0.printed =
+      sym f.prints ∙ ap (λ (l : List ℕ). printed m l (opening m args)) x.2 ∙ same ∙ ap (λ (l : List ℕ). printed m l (opening m args)) (sym y.2) ∙ g.prints in
+      different i j x.0 y.0 x.1 y.1 (worlds, numbers);
+}
+
+-- where all were noted, what the ones print in which all have ended is listed
+ends_listed : (order : Order) (m : ModuleValue) (args : List ℤ) (all : List FoundValue) (list : List Outcome)
+    → AreFound (opening_core m args) all
+    → AreNoted order all (length all) list → AreEndsListedIn order m args (schedules all) list
+ends_listed order m args all list found noted k p numbers there o =
+    let x = scheduled all k p there in
+    let f = found k x.0 x.1 in
+    let same : o.last ≡ x.0.core.world = same_through o.last x.0.core.world (sym o.legal ∙ (ap (λ (l : List ℕ). run m l (opening m args)) (sym x.2) ∙ f.legal)) in
+    let prints : x.0.printed ≡ numbers = sym f.prints ∙ ap (λ (l : List ℕ). printed m l (opening m args)) x.2 ∙ o.prints in
+    subst (λ n. IsListed list (ordered order n)) prints (noted k x.0 (slice_get_within all k x.0 x.1) x.1 (sym (ap all_ended same) ∙ o.over))
+
+-- so it is unless the list is as long as its limit
+noted_unless : (all : Bool) (P : Type 0) (limit n : ℕ) → (all ≡ true → P) → (all ≡ false → limit ≤ n) → n < limit → P
+noted_unless true P limit n is full less = is refl
+noted_unless false P limit n is full less = absurd (omega (arith, full refl, less))
+
+pub all_kept : (order : Order) (m : ModuleValue) (args : List ℤ) (limit : ℕ) (all : List FoundValue) (list : List Outcome) (whole : Bool)
+    → AreFound (opening_core m args) all
+    → AreAtRest all → AreDifferent all → (whole ≡ true → AreNoted order all (length all) list) → (whole ≡ false → limit ≤ length list)
+    → HasKeptIn order m args limit list (length all)
+all_kept order m args limit all list whole found rest different noted full = record {
+  schedules = schedules all;
+  many = length-map all (λ (x : FoundValue). x.schedule);
+  apart = all_apart m args all found rest different;
+  ends = λ less. ends_listed order m args all list found (noted_unless whole (AreNoted order all (length all) list) limit (length list) noted full less);
+}
 
 -- ---- as they are printed, and rising
 
@@ -152,10 +186,27 @@ sets_shown m args list shown k x there =
       λ n. same_rising h.0 n ∙ ap (count_by (int_eq n)) (sym h.2),
     )
 
-pub sets_distinct : (m : ModuleValue) (args : List ℤ) (list : List Outcome) → AreShownIn order.Rising m args list → AreDistinct list → AreSetsDistinct list
+pub sets_distinct : (m : ModuleValue) (args : List ℤ) (list : List Outcome) → AreShownIn order.Rising m args list → AreDistinct list
+    → AreSetsDistinct list
 sets_distinct m args list shown distinct i j x y hi hj same =
     distinct i j x y hi hj (one_rising x.numbers.items y.numbers.items (sets_shown m args list shown i x hi).0 (sets_shown m args list shown j y hj).0 same)
 
 pub sets_all : (m : ModuleValue) (args : List ℤ) (list : List Outcome) → AreAllIn order.Rising m args list → AreSetsAll m args list
 sets_all m args list all schedule numbers o =
     let h = all schedule numbers o in (h.0, h.1, h.2, λ n. same_rising numbers n ∙ ap (count_by (int_eq n)) (sym h.3))
+
+pub printed_kept : (m : ModuleValue) (args : List ℤ) (limit : ℕ) (list : List Outcome) (entries : ℕ)
+    → HasKeptIn order.Printed m args limit list entries
+    → HasKept m args false limit list entries
+printed_kept m args limit list entries kept = record { schedules = kept.schedules; many = kept.many; apart = kept.apart; ends = kept.ends }
+
+pub sets_kept : (m : ModuleValue) (args : List ℤ) (limit : ℕ) (list : List Outcome) (entries : ℕ)
+    → HasKeptIn order.Rising m args limit list entries
+    → HasKept m args true limit list entries
+sets_kept m args limit list entries kept = record {
+  schedules = kept.schedules;
+  many = kept.many;
+  apart = kept.apart;
+  ends = λ less k p numbers there o.
+      let h = kept.ends less k p numbers there o in (h.0, h.1, h.2, λ n. same_rising numbers n ∙ ap (count_by (int_eq n)) (sym h.3));
+}

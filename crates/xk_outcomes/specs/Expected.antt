@@ -8,9 +8,10 @@ use Rattle.xk_outcomes.specs.Limits.{GoesFar}
 use Rattle.xk_outcomes.specs.declared.reading.ListFault.{ListFault}
 use Rattle.xk_outcomes.specs.declared.reading.ListFault.TheVariants as fault
 use Rattle.xk_outcomes.specs.declared.listing.Outcome.{Outcome}
+use Rattle.xk_io.specs.Row.{numbers_text}
 use Rattle.xk_types.specs.Code.{ModuleValue}
 use Rattle.xk_outcomes.specs.Sets.{AreAllAs, AreDistinctAs, AreShownAs}
-use Rattle.xk_outcomes.specs.Text.{completeness, numbers_text, outcome_line}
+use Rattle.xk_outcomes.specs.Text.{completeness, outcome_line}
 
 -- ---- lines
 
@@ -136,6 +137,6 @@ pub record AreExpected (m : ModuleValue) (args : List ℤ) (sets : Bool) (limit 
   pub shown : AreShownAs sets m args list
   pub distinct : AreDistinctAs sets list
   pub all : complete ≡ true → AreAllAs sets m args list
-  pub far : GoesFar m args limit list complete
+  pub far : GoesFar m args sets limit list complete
   pub may_stand : stray_line bytes ≡ None
   pub held : AreHeld (told_by bytes) list complete text whole

@@ -7,5 +7,7 @@ pub mod Search
 pub mod Entries
 pub mod Rising
 pub mod Listing
+pub mod Listed
 pub mod Text
 pub mod Expected
+pub mod Texts

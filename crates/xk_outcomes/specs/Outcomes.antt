@@ -1,6 +1,6 @@
 -- What the runs of a module print: all that a program can print, in whichever order its activities take their steps. X10 Language
 -- Specification 2.4, chapter Activities, leaves that order open, and the program ends when all have ended (Initial activity).
-use Rattle.std.specs.Prelude.{◌≡◌, ℕ, ℤ, true, false, List, length, Some, slice_get}
+use Rattle.std.specs.Prelude.{◌≡◌, ℕ, ℤ, true, false, List, Some, slice_get}
 use Rattle.xk_types.specs.Code.{ModuleValue}
 use Rattle.xk_types.specs.World.{World, opening}
 use Rattle.xk_types.specs.Schedule.{Through, run, all_ended, printed}
@@ -46,6 +46,6 @@ pub record AreApart (m : ModuleValue) (args : List ℤ) (schedules : List (List 
       → run m p (opening m args) ≡ Through w → run m q (opening m args) ≡ Through v
       → AreAlike w v → printed m p (opening m args) ≡ printed m q (opening m args) → i ≡ j
 
--- there are so many
-abbrev pub HasApart : ModuleValue → List ℤ → ℕ → Type 0
-HasApart m args n = (schedules : List (List ℕ)) × (length schedules ≡ n) × AreApart m args schedules
+-- what these schedules print after which all have ended is listed
+abbrev pub AreEndsListed : ModuleValue → List ℤ → List (List ℕ) → List Outcome → Type 0
+AreEndsListed m args schedules list = (k : ℕ) (p : List ℕ) (numbers : List ℤ) → slice_get schedules k ≡ Some p → IsOutcome m args p numbers → IsListed list numbers

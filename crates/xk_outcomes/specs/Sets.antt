@@ -4,7 +4,7 @@ use Rattle.std.specs.Ordering.{int_eq}
 use Rattle.xk_types.specs.Code.{ModuleValue}
 use Rattle.xk_types.specs.Logs.{schedule_of}
 use Rattle.xk_outcomes.specs.declared.listing.Outcome.{Outcome}
-use Rattle.xk_outcomes.specs.Outcomes.{AreAll, AreDistinct, AreShown, IsOutcome}
+use Rattle.xk_outcomes.specs.Outcomes.{AreAll, AreDistinct, AreEndsListed, AreShown, IsOutcome}
 
 -- the same numbers, each as often, in whatever order
 abbrev pub HaveSameNumbers : List ℤ → List ℤ → Type 0
@@ -29,10 +29,17 @@ AreSetsShown m args list = (k : ℕ) (x : Outcome) → slice_get list k ≡ Some
 abbrev pub AreSetsDistinct : List Outcome → Type 0
 AreSetsDistinct list = (i j : ℕ) (x y : Outcome) → slice_get list i ≡ Some x → slice_get list j ≡ Some y → HaveSameNumbers x.numbers.items y.numbers.items → i ≡ j
 
+-- these numbers are listed, in some order
+abbrev pub IsSetListed : List Outcome → List ℤ → Type 0
+IsSetListed list numbers = (k : ℕ) × (x : Outcome) × (slice_get list k ≡ Some x) × HaveSameNumbers numbers x.numbers.items
+
 -- whatever a legal schedule prints after which all have ended is listed, in some order
 abbrev pub AreSetsAll : ModuleValue → List ℤ → List Outcome → Type 0
-AreSetsAll m args list = (schedule : List ℕ) (numbers : List ℤ) → IsOutcome m args schedule numbers
-    → (k : ℕ) × (x : Outcome) × (slice_get list k ≡ Some x) × HaveSameNumbers numbers x.numbers.items
+AreSetsAll m args list = (schedule : List ℕ) (numbers : List ℤ) → IsOutcome m args schedule numbers → IsSetListed list numbers
+
+-- what these schedules print after which all have ended is listed, in some order
+abbrev pub AreEndsSetListed : ModuleValue → List ℤ → List (List ℕ) → List Outcome → Type 0
+AreEndsSetListed m args schedules list = (k : ℕ) (p : List ℕ) (numbers : List ℤ) → slice_get schedules k ≡ Some p → IsOutcome m args p numbers → IsSetListed list numbers
 
 -- ---- as lists of numbers, or without their order
 
@@ -50,3 +57,8 @@ AreDistinctAs true = AreSetsDistinct
 abbrev pub AreAllAs : Bool → ModuleValue → List ℤ → List Outcome → Type 0
 AreAllAs false = AreAll
 AreAllAs true = AreSetsAll
+
+-- what these schedules print to their end is told, in this order, or in some order
+abbrev pub AreEndsListedAs : Bool → ModuleValue → List ℤ → List (List ℕ) → List Outcome → Type 0
+AreEndsListedAs false = AreEndsListed
+AreEndsListedAs true = AreEndsSetListed

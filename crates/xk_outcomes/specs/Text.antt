@@ -1,14 +1,7 @@
 -- How outcomes are told: a line each, numbered from 1, and a last one that says whether they are all. This project's own.
-use Rattle.std.specs.Prelude.{ℕ, ℤ, ◌+◌, Bool, true, false, List, [], ◌∷◌, ◌++◌, length, flat_map, codes, decimal}
-use Rattle.std.specs.Fmt.{signed_decimal}
+use Rattle.std.specs.Prelude.{ℕ, ℤ, ◌+◌, Bool, true, false, List, [], ◌∷◌, ◌++◌, length, codes, decimal}
+use Rattle.xk_io.specs.Row.{numbers_text}
 use Rattle.xk_outcomes.specs.declared.listing.Outcome.{Outcome}
-
--- a number, after a blank
-abbrev pub number_text : ℤ → List ℕ
-number_text n = codes " " ++ signed_decimal n
-
-abbrev pub numbers_text : List ℤ → List ℕ
-numbers_text numbers = flat_map number_text numbers
 
 -- the line of outcome number k: `outcome 2 prints 10 21`
 abbrev pub outcome_line : ℕ → List ℤ → List ℕ

@@ -1,12 +1,13 @@
 //! All that a program can print.
 
-ghost use Rattle.std.specs.Prelude.{◌≡◌, ◌≤◌, ◌⊎◌, true, false, length, IfOk};
+ghost use Rattle.std.specs.Prelude.{◌≡◌, ◌<◌, ◌≤◌, ◌⊎◌, true, false, length, IfOk};
 ghost use Rattle.xk_types.specs.World.{AreArguments};
-ghost use Rattle.xk_outcomes.specs.Limits.{limit_of};
-ghost use Rattle.xk_outcomes.specs.Listing.{AreAllIn, AreShownIn};
-ghost use Rattle.xk_outcomes.specs.Outcomes.{AreAll, AreDistinct, AreShown, HasApart};
+ghost use Rattle.xk_outcomes.specs.Limits.{HasKept, limit_of};
+ghost use Rattle.xk_outcomes.specs.Listing.{AreAllIn, AreShownIn, HasKeptIn};
+ghost use Rattle.xk_outcomes.specs.Outcomes.{AreAll, AreDistinct, AreShown};
 ghost use Rattle.xk_outcomes.specs.Sets.{AreAllAs, AreDistinctAs, AreSetsAll, AreSetsDistinct, AreSetsShown, AreShownAs};
 
+use crate::listed::Listed;
 use crate::listing::{Outcomes, list_outcomes};
 use crate::order::Order;
 use crate::search::explore;
@@ -17,13 +18,14 @@ use xk_core::Core;
 /// When a search leaves off.
 #[derive(Clone, Copy, Debug)]
 pub struct Limit {
-    /// As soon as so many worlds are kept. All that one of them leads to in a step are kept before the next look: so there may be more.
+    /// As soon as more worlds are kept: so a search that comes to its end with as many is complete. All that one of them leads to in a
+    /// step are kept before the next look.
     pub entries: usize,
     /// As soon as so many lists of numbers are told: they are never more.
     pub outcomes: usize,
 }
 
-/// A search leaves off as soon as so many worlds are kept or so many outcomes are told, where nothing is said.
+/// A search leaves off as soon as more worlds are kept or so many outcomes are told, where nothing is said.
 const USUAL_LIMIT: u64 = 40_000;
 
 /// How many steps are tried then at most, as far as can be said before: one of each activity from each world.
@@ -57,13 +59,15 @@ pub fn outcomes(
     ensures distinct { IfOk result (λ r. AreDistinct r.list.items) }
     ensures all { IfOk result (λ r.
         r.complete ≡ true → AreAll verified.now arguments.now r.list.items) }
-    // A limit was met where it isn't complete: so many are kept, or so many are listed.
+    // A limit was met where it isn't complete: more are kept, or so many are listed.
     ensures limit { IfOk result (λ r. r.complete ≡ false
-        → (limit.entries ≤ r.entries) ⊎ (limit.outcomes ≤ length r.list.items)) }
+        → (limit.entries < r.entries) ⊎ (limit.outcomes ≤ length r.list.items)) }
     // No more are told than the limit says.
     ensures most { IfOk result (λ r. length r.list.items ≤ limit.outcomes) }
-    // There are as many as are kept, each at rest: no two of them are alike and have printed the same.
-    ensures kept { IfOk result (λ r. HasApart verified.now arguments.now r.entries) }
+    // As many are kept, each at rest: no two of them are alike and have printed the same. What was printed by one in which all
+    // have ended is listed, unless as many are as the limit says.
+    ensures kept { IfOk result
+        (λ r. HasKept verified.now arguments.now false limit.outcomes r.list.items r.entries) }
 {
     let found = told_in(alloc, Order::Printed, verified, arguments, limit)?;
     Ok(found)
@@ -84,9 +88,10 @@ pub fn outcome_sets(
         r.complete ≡ true → AreSetsAll verified.now arguments.now r.list.items) }
     // As for `outcomes`.
     ensures limit { IfOk result (λ r. r.complete ≡ false
-        → (limit.entries ≤ r.entries) ⊎ (limit.outcomes ≤ length r.list.items)) }
+        → (limit.entries < r.entries) ⊎ (limit.outcomes ≤ length r.list.items)) }
     ensures most { IfOk result (λ r. length r.list.items ≤ limit.outcomes) }
-    ensures kept { IfOk result (λ r. HasApart verified.now arguments.now r.entries) }
+    ensures kept { IfOk result
+        (λ r. HasKept verified.now arguments.now true limit.outcomes r.list.items r.entries) }
 {
     let found = told_in(alloc, Order::Rising, verified, arguments, limit)?;
     Ok(found)
@@ -108,9 +113,10 @@ pub fn outcomes_as(
         (λ r. r.complete ≡ true → AreAllAs sets verified.now arguments.now r.list.items) }
     // As for `outcomes`.
     ensures limit { IfOk result (λ r. r.complete ≡ false
-        → (limit.entries ≤ r.entries) ⊎ (limit.outcomes ≤ length r.list.items)) }
+        → (limit.entries < r.entries) ⊎ (limit.outcomes ≤ length r.list.items)) }
     ensures most { IfOk result (λ r. length r.list.items ≤ limit.outcomes) }
-    ensures kept { IfOk result (λ r. HasApart verified.now arguments.now r.entries) }
+    ensures kept { IfOk result
+        (λ r. HasKept verified.now arguments.now sets limit.outcomes r.list.items r.entries) }
 {
     if sets {
         return outcome_sets(alloc, verified, arguments, limit);
@@ -133,17 +139,19 @@ fn told_in(
     ensures all { IfOk result (λ r.
         r.complete ≡ true → AreAllIn order verified.now arguments.now r.list.items) }
     ensures limit { IfOk result (λ r. r.complete ≡ false
-        → (limit.entries ≤ r.entries) ⊎ (limit.outcomes ≤ length r.list.items)) }
+        → (limit.entries < r.entries) ⊎ (limit.outcomes ≤ length r.list.items)) }
     ensures most { IfOk result (λ r. length r.list.items ≤ limit.outcomes) }
-    ensures kept { IfOk result (λ r. HasApart verified.now arguments.now r.entries) }
+    ensures kept { IfOk result (λ r.
+        HasKeptIn order verified.now arguments.now limit.outcomes r.list.items r.entries) }
 {
     let start = Core::open(alloc, verified, arguments)?;
     let explored = explore(alloc, start, limit.entries)?;
-    let mut list = Vec::new(alloc);
-    let listed = list_outcomes(alloc, order, &mut list, &explored.found, limit.outcomes)?;
+    let mut listed = Listed::new(alloc);
+    let all = list_outcomes(alloc, order, &mut listed, &explored.found, limit.outcomes)?;
+    let list = listed.into_outcomes(alloc)?;
     Ok(Outcomes {
         list,
-        complete: explored.complete && listed,
+        complete: explored.complete && all,
         entries: explored.found.len(),
     })
 }

@@ -1,15 +1,14 @@
 //! Worlds that are found one from another.
 
-ghost use Rattle.std.specs.Prelude.{◌≡◌, ◌++◌, [], true, length, IfOk, IfSome, OnOk};
-ghost use Rattle.std.specs.Option.{option_to_list};
-ghost use Rattle.xk_types.specs.Schedule.{number_printed};
+ghost use Rattle.std.specs.Prelude.{◌≡◌, IfOk, OnOk};
 ghost use Rattle.xk_law_commute.specs.QuietSteps.{has_quiet_step};
 ghost use Rattle.xk_outcomes.specs.Found.{along, at_rest, first_found, least_quiet, next, one_more};
 
 use std::alloc::{AllocError, Global};
 use std::marker::Model;
 use xk_core::Core;
-use xk_types::{Act, Event};
+use xk_scheduler::keep_printed;
+use xk_types::Act;
 
 /// A world that was found: a core there, the numbers that were printed by then, and a schedule that leads there and prints them.
 #[derive(Drop)]
@@ -32,32 +31,6 @@ impl<'m> Model for Found<'m> {
       printed = x.printed.items;
       schedule = x.schedule.items;
     } };
-}
-
-/// Keeps the number that an event prints, if it does.
-fn keep_printed(printed: &mut Vec<i64>, event: Event) -> Result<(), AllocError>
-    ensures { OnOk result
-        (printed.new.items ≡ printed.old.items ++ option_to_list (number_printed event)) }
-{
-    match event {
-        Event::Printed(number) => match printed.push(number) {
-            Ok(()) => Ok(()),
-            Err(_) => Err(AllocError),
-        },
-        Event::Local
-        | Event::Made
-        | Event::Got
-        | Event::Put
-        | Event::Added
-        | Event::Opened
-        | Event::Closed
-        | Event::Spawned
-        | Event::Resumed
-        | Event::Dropped
-        | Event::Arrived
-        | Event::Passed
-        | Event::Ended => Ok(()),
-    }
 }
 
 /// The least activity that has a quiet step, if one has.

@@ -4,14 +4,16 @@ ghost use Rattle.std.specs.Prelude.{◌≡◌, ℕ, ◌<◌, ◌++◌, ◌+◌, 
 ghost use Rattle.xk_outcomes.specs.declared.listing.Outcome.{Outcome as AnOutcome};
 ghost use Rattle.xk_types.specs.World.{AreArguments};
 ghost use Rattle.xk_outcomes.specs.Expected.{AreExpected, AreHeld, AreTold, IsFirstUntold, IsStrayIn, IsTold, stray_line, told_by};
-ghost use Rattle.xk_outcomes.specs.Text.{numbers_text};
+ghost use Rattle.xk_io.specs.Row.{numbers_text};
 
 use crate::all_outcomes::{Limit, outcomes_as};
+use crate::expected::Expected;
 use crate::listing::Outcome;
-use crate::reading::{Expected, ListFault, read_expected};
-use crate::text::{last_line, numbers_text, outcome_line};
+use crate::reading::{ListFault, read_expected};
+use crate::text::{last_line, outcome_line};
 use std::alloc::{AllocError, Global};
 use xk_bounds::Verified;
+use xk_io::numbers_text;
 
 /// What is said of outcomes that are held against a list.
 #[derive(Debug, Drop)]
@@ -22,29 +24,6 @@ pub struct Held {
     pub whole: bool,
 }
 
-/// Whether a text is among these.
-fn has(told: &[&[u8]], text: &[u8]) -> bool
-    ensures yes { result ≡ true
-        → (k : ℕ) × (slice_get (map (λ t. t.now) told.now) k ≡ Some text.now) }
-    ensures no { result ≡ false → (k : ℕ)
-        → slice_get (map (λ t. t.now) told.now) k ≡ Some text.now → ⊥ }
-{
-    for t in told {
-        if is_same(t, text) {
-            return true;
-        }
-    }
-    false
-}
-
-/// Whether two texts are the same.
-fn is_same(a: &[u8], b: &[u8]) -> bool
-    ensures yes { result ≡ true → a.now ≡ b.now }
-    ensures no { result ≡ false → a.now ≡ b.now → ⊥ }
-{
-    a == b
-}
-
 /// Whether the numbers of an outcome are told.
 fn is_told(alloc: Global, expected: &Expected<'_>, x: &Outcome) -> Result<bool, AllocError>
     ensures yes { IfOk result (λ told. told ≡ true → IsTold expected.now x.now.numbers.items) }
@@ -52,7 +31,7 @@ fn is_told(alloc: Global, expected: &Expected<'_>, x: &Outcome) -> Result<bool, 
         → IsTold expected.now x.now.numbers.items → ⊥) }
 {
     let text = numbers_text(alloc, &x.numbers)?;
-    let found = has(expected.told(), text.as_str().as_bytes());
+    let found = expected.has(text.as_str().as_bytes());
     Ok(found)
 }
 

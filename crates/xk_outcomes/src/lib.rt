@@ -4,8 +4,10 @@
 mod all_outcomes;
 mod digest;
 mod entries;
+mod expected;
 mod found;
 mod holding;
+mod listed;
 mod listing;
 mod order;
 mod reading;

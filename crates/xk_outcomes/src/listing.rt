@@ -8,8 +8,9 @@ ghost use Rattle.xk_outcomes.specs.Outcomes.{AreDistinct, IsListed};
 ghost use Rattle.xk_outcomes.specs.Listing.{AreNoted, AreOf, IsOf, KeepsListed};
 ghost use Rattle.xk_outcomes.specs.Rising.{ordered};
 
-use crate::entries::{Entries, are_same};
+use crate::entries::Entries;
 use crate::found::Found;
+use crate::listed::Listed;
 use crate::order::{Order, ordered};
 use std::alloc::{AllocError, Global};
 use xk_types::Entry;
@@ -33,27 +34,6 @@ pub struct Outcomes {
     /// How many worlds were kept, with the numbers printed by then, to find it. There are at least so many worlds at
     /// rest, no two of them alike with the same numbers printed.
     pub entries: usize,
-}
-
-/// Whether these are its numbers.
-fn has(x: &Outcome, numbers: &[i64]) -> bool
-    ensures yes { result ≡ true → x.now.numbers.items ≡ numbers.now }
-    ensures no { result ≡ false → x.now.numbers.items ≡ numbers.now → ⊥ }
-{
-    are_same(&x.numbers, numbers)
-}
-
-/// Whether these numbers are listed.
-fn is_listed(list: &[Outcome], numbers: &[i64]) -> bool
-    ensures yes { result ≡ true → IsListed list.now numbers.now }
-    ensures no { result ≡ false → IsListed list.now numbers.now → ⊥ }
-{
-    for x in list {
-        if has(x, numbers) {
-            return true;
-        }
-    }
-    false
 }
 
 /// The log of a schedule, with an entry for each step.
@@ -80,40 +60,19 @@ fn outcome_of(alloc: Global, order: Order, x: &Found<'_>) -> Result<Outcome, All
     Ok(Outcome { numbers, log })
 }
 
-/// Lists it, if its numbers aren't listed yet.
-fn put(list: &mut Vec<Outcome>, new: Outcome) -> Result<(), AllocError>
-    ensures distinct { AreDistinct list.old.items → AreDistinct list.new.items }
-    ensures kept { KeepsListed list.old.items list.new.items }
-    ensures listed { OnOk result (IsListed list.new.items new.numbers.items) }
-    ensures each { (list.new.items ≡ list.old.items)
-        ⊎ (list.new.items ≡ list.old.items ++ new ∷ []) }
-    ensures one_more { length list.new.items ≤ length list.old.items + 1 }
-{
-    if is_listed(list, &new.numbers) {
-        return Ok(());
-    }
-    list.push(new)?;
-    Ok(())
-}
-
 /// Lists what one that was found printed, if all have ended in it.
-fn note(
-    alloc: Global,
-    order: Order,
-    list: &mut Vec<Outcome>,
-    x: &Found<'_>,
-) -> Result<(), AllocError>
-    ensures distinct { AreDistinct list.old.items → AreDistinct list.new.items }
-    ensures kept { KeepsListed list.old.items list.new.items }
+fn note(alloc: Global, order: Order, list: &mut Listed, x: &Found<'_>) -> Result<(), AllocError>
+    ensures distinct { AreDistinct list.old → AreDistinct list.new }
+    ensures kept { KeepsListed list.old list.new }
     ensures listed { OnOk result (all_ended x.now.core.world ≡ true
-        → IsListed list.new.items (ordered order x.now.printed)) }
+        → IsListed list.new (ordered order x.now.printed)) }
     ensures of { (all : List FoundValue) (j : ℕ) → slice_get all j ≡ Some x.now
-        → AreOf order all list.old.items → AreOf order all list.new.items }
-    ensures one_more { length list.new.items ≤ length list.old.items + 1 }
+        → AreOf order all list.old → AreOf order all list.new }
+    ensures one_more { length list.new ≤ length list.old + 1 }
 {
     if x.core.ended() {
         let new = outcome_of(alloc, order, x)?;
-        put(list, new)
+        list.put(new)
     } else {
         Ok(())
     }
@@ -123,17 +82,17 @@ fn note(
 fn note_at(
     alloc: Global,
     order: Order,
-    list: &mut Vec<Outcome>,
+    list: &mut Listed,
     all: &Entries<'_>,
     number: usize,
 ) -> Result<(), AllocError>
     requires { number < length all.now.all }
-    ensures distinct { AreDistinct list.old.items → AreDistinct list.new.items }
-    ensures noted { OnOk result (AreNoted order all.now.all number list.old.items
-        → AreNoted order all.now.all (number + 1) list.new.items) }
-    ensures of { AreOf order all.now.all list.old.items
-        → AreOf order all.now.all list.new.items }
-    ensures one_more { length list.new.items ≤ length list.old.items + 1 }
+    ensures distinct { AreDistinct list.old → AreDistinct list.new }
+    ensures noted { OnOk result (AreNoted order all.now.all number list.old
+        → AreNoted order all.now.all (number + 1) list.new) }
+    ensures of { AreOf order all.now.all list.old
+        → AreOf order all.now.all list.new }
+    ensures one_more { length list.new ≤ length list.old + 1 }
 {
     let x = all.get(alloc, number)?;
     note(alloc, order, list, &x)
@@ -144,17 +103,17 @@ fn note_at(
 pub fn list_outcomes(
     alloc: Global,
     order: Order,
-    list: &mut Vec<Outcome>,
+    list: &mut Listed,
     all: &Entries<'_>,
     limit: usize,
 ) -> Result<bool, AllocError>
-    requires { list.old.items ≡ [] }
-    ensures of { AreOf order all.now.all list.new.items }
-    ensures distinct { AreDistinct list.new.items }
+    requires { list.old ≡ [] }
+    ensures of { AreOf order all.now.all list.new }
+    ensures distinct { AreDistinct list.new }
     ensures noted { IfOk result (λ complete. complete ≡ true
-        → AreNoted order all.now.all (length all.now.all) list.new.items) }
-    ensures limit { IfOk result (λ complete. complete ≡ false → limit ≤ length list.new.items) }
-    ensures most { length list.new.items ≤ limit }
+        → AreNoted order all.now.all (length all.now.all) list.new) }
+    ensures limit { IfOk result (λ complete. complete ≡ false → limit ≤ length list.new) }
+    ensures most { length list.new ≤ limit }
 {
     for number in 0..all.len() {
         if list.len() >= limit {

@@ -1,13 +1,13 @@
 //! A list of outcomes that is read.
 
-ghost use Rattle.std.specs.Prelude.{◌≡◌, ◌≤◌, ◌++◌, ◌==◌, not, false, true, IfOk, IfErr, OnOk, Some, None, length, map, option_map};
+ghost use Rattle.std.specs.Prelude.{◌≡◌, ◌≤◌, ◌++◌, ◌==◌, not, false, true, IfOk, IfErr, OnOk, Some, None, length, option_map};
 ghost use Rattle.std.specs.Char.{is_ascii_digit};
 ghost use Rattle.std.specs.List.{prefix_len};
 ghost use Rattle.std.specs.Option.{option_to_list};
 ghost use Rattle.xk_outcomes.specs.Expected.{IsStray, IsStrayIn, are_digits_behind, are_numbers, behind, behind_digits, is_passed_over, line_feed, may_follow, may_stand, stray_line, told_by, told_in};
 
-use std::alloc::{AllocError, AllocFailed, Global};
-use std::marker::Model;
+use crate::expected::Expected;
+use std::alloc::Global;
 
 /// Why a list can't be read.
 #[derive(Clone, Copy, Debug, PartialEq, Eq)]
@@ -16,41 +16,6 @@ pub enum ListFault {
     Stray(u64),
     /// Memory ran out.
     OutOfMemory,
-}
-
-impl<T: Drop> From<AllocFailed<T>> for ListFault {
-    ghost use Rattle.std.specs.Prelude.{◌≡◌};
-    ghost use Rattle.xk_outcomes.specs.declared.reading.ListFault.TheVariants as fault;
-
-    ghost from_gives = { λ _ e. e ≡ fault.OutOfMemory };
-
-    /// Whatever was to be kept: its memory was refused.
-    fn from(_e: AllocFailed<T>) -> ListFault {
-        ListFault::OutOfMemory
-    }
-}
-
-/// What a list of outcomes tells: for each the text of its numbers, as it stands in the list.
-#[derive(Debug, Drop)]
-pub struct Expected<'a> {
-    told: Vec<&'a [u8]>,
-}
-
-impl<'a> Model for Expected<'a> {
-    ghost use Rattle.std.specs.Prelude.{ℕ, List, map};
-
-    ghost Value = { List (List ℕ) };
-
-    ghost view = { λ e. map (λ t. t.now) e.told.items };
-}
-
-impl<'a> Expected<'a> {
-    /// The texts.
-    pub(crate) fn told(&self) -> &[&'a [u8]]
-        ensures { map (λ t. t.now) result.now ≡ self.now }
-    {
-        &self.told
-    }
 }
 
 /// What stands behind this beginning.
@@ -137,9 +102,8 @@ fn is_passed_over(line: &[u8]) -> bool
 }
 
 /// Keeps what a line of this number tells, if it may stand in a list.
-fn keep<'a>(told: &mut Vec<&'a [u8]>, number: u64, line: &'a [u8]) -> Result<(), ListFault>
-    ensures kept { OnOk result (map (λ t. t.now) told.new.items
-        ≡ map (λ t. t.now) told.old.items ++ option_to_list (told_in line.entry.now)) }
+fn keep<'a>(told: &mut Expected<'a>, number: u64, line: &'a [u8]) -> Result<(), ListFault>
+    ensures kept { OnOk result (told.new ≡ told.old ++ option_to_list (told_in line.entry.now)) }
     ensures stands { OnOk result (may_stand line.entry.now ≡ true) }
     ensures stray { IfErr result (IsStray number line.entry.now) }
 {
@@ -148,8 +112,10 @@ fn keep<'a>(told: &mut Vec<&'a [u8]>, number: u64, line: &'a [u8]) -> Result<(),
             if !are_numbers(numbers) {
                 return Err(ListFault::Stray(number));
             }
-            told.push(numbers)?;
-            Ok(())
+            match told.push(numbers) {
+                Ok(()) => Ok(()),
+                Err(_) => Err(ListFault::OutOfMemory),
+            }
         }
         None => {
             if !is_passed_over(line) {
@@ -173,7 +139,7 @@ pub fn read_expected<'a>(alloc: Global, text: &'a [u8]) -> Result<Expected<'a>, 
     ensures stands { OnOk result (stray_line text.entry.now ≡ None) }
     ensures stray { IfErr result (IsStrayIn text.entry.now) }
 {
-    let mut told = Vec::new(alloc);
+    let mut told = Expected::new(alloc);
     let mut from: usize = 0;
     let mut number: u64 = 1;
     while from <= text.len() {
@@ -183,5 +149,5 @@ pub fn read_expected<'a>(alloc: Global, text: &'a [u8]) -> Result<Expected<'a>, 
         from += length + 1;
         number += 1;
     }
-    Ok(Expected { told })
+    Ok(told)
 }

@@ -72,16 +72,16 @@ fn expand(alloc: Global, all: &mut Entries<'_>, number: usize) -> Result<(), All
     look(alloc, all, number, &here)
 }
 
-/// Goes on until nothing is left to look at, or at least as many are kept as the limit says. Whether nothing is left.
+/// Goes on until nothing is left to look at, or more are kept than the limit says. Whether nothing is left.
 fn search(alloc: Global, all: &mut Entries<'_>, limit: usize) -> Result<bool, AllocError>
     ensures start { all.new.start ≡ all.old.start }
     ensures grown { IsGrown all.old.all all.new.all }
     ensures expanded { IfOk result (λ complete. complete ≡ true
         → AreExpanded all.old.start.module_run all.new.all (length all.new.all)) }
-    ensures limit { IfOk result (λ complete. complete ≡ false → limit ≤ length all.new.all) }
+    ensures limit { IfOk result (λ complete. complete ≡ false → limit < length all.new.all) }
 {
     let mut next: usize = 0;
-    while next < all.len() && all.len() < limit {
+    while next < all.len() && all.len() <= limit {
         expand(alloc, all, next)?;
         next += 1;
     }
@@ -89,12 +89,12 @@ fn search(alloc: Global, all: &mut Entries<'_>, limit: usize) -> Result<bool, Al
 }
 
 /// Finds worlds that legal schedules lead to from the start, each with the numbers that are printed by then, until nothing is left to
-/// look at, or at least as many are kept as the limit says.
+/// look at, or more are kept than the limit says.
 pub fn explore<'m>(alloc: Global, start: Core<'m>, limit: usize) -> Result<Explored<'m>, AllocError>
     requires { start.world.steps ≡ 0 }
     ensures found { IfOk result (λ r. AreFound start.entry r.found.all) }
     ensures all { IfOk result (λ r. r.complete ≡ true → AreAllFound start.entry r.found.all) }
-    ensures limit { IfOk result (λ r. r.complete ≡ false → limit ≤ length r.found.all) }
+    ensures limit { IfOk result (λ r. r.complete ≡ false → limit < length r.found.all) }
     ensures rest { IfOk result (λ r. AreAtRest r.found.all) }
     ensures different { IfOk result (λ r. AreDifferent r.found.all) }
 {

@@ -1,10 +1,11 @@
 //! How outcomes are told.
 
-ghost use Rattle.std.specs.Prelude.{◌≡◌, ◌++◌, ◌&&◌, not, codes, decimal, IfOk, OnOk, string_bytes};
-ghost use Rattle.xk_outcomes.specs.Text.{completeness, number_text, numbers_text, outcome_line, outcomes_text};
+ghost use Rattle.std.specs.Prelude.{◌≡◌, ◌++◌, ◌&&◌, not, codes, decimal, IfOk, string_bytes};
+ghost use Rattle.xk_outcomes.specs.Text.{completeness, outcome_line, outcomes_text};
 
 use crate::listing::Outcome;
 use std::alloc::{AllocError, Global};
+use xk_io::{numbers_text, put};
 
 /// A line for each outcome, numbered from 1, as `outcome 2 prints 10 21`, and a last one: `outcomes 6 complete`, or, where there may be others,
 /// `outcomes 6 and perhaps more`. Err where memory was refused.
@@ -41,25 +42,6 @@ pub(crate) fn outcome_line(
     format!(in alloc; "outcome {number} prints{numbers}\n")
 }
 
-/// Numbers, each after a blank.
-pub(crate) fn numbers_text(alloc: Global, numbers: &[i64]) -> Result<String, AllocError>
-    ensures { IfOk result (λ text. string_bytes text ≡ numbers_text numbers.now) }
-{
-    let mut text = String::new(alloc);
-    for number in numbers {
-        let piece = number_text(alloc, *number)?;
-        put(&mut text, piece)?;
-    }
-    Ok(text)
-}
-
-/// A number, after a blank.
-fn number_text(alloc: Global, number: i64) -> Result<String, AllocError>
-    ensures { IfOk result (λ text. string_bytes text ≡ number_text number) }
-{
-    format!(in alloc; " {number}")
-}
-
 /// The last line.
 pub(crate) fn last_line(alloc: Global, count: usize, complete: bool) -> Result<String, AllocError>
     ensures { IfOk result (λ text. string_bytes text
@@ -69,13 +51,4 @@ pub(crate) fn last_line(alloc: Global, count: usize, complete: bool) -> Result<S
         return format!(in alloc; "outcomes {count} complete\n");
     }
     format!(in alloc; "outcomes {count} and perhaps more\n")
-}
-
-/// Puts a piece behind a text.
-fn put(text: &mut String, piece: String) -> Result<(), AllocError>
-    ensures { OnOk result
-        (string_bytes text.new ≡ string_bytes text.old ++ string_bytes piece) }
-{
-    text.push_str(piece.as_str())?;
-    Ok(())
 }

@@ -20,7 +20,8 @@ use Rattle.xk_random.proofs.TallyLemmas.{room_left, shares_more}
 
 -- ---- one run more
 
-printed_more : (m : ModuleValue) (args : List ℤ) (seed i j : ℕ) (lists : List (List ℤ)) (x : List ℤ) → j ≡ i + length lists → ArePrinted m args seed i lists
+printed_more : (m : ModuleValue) (args : List ℤ) (seed i j : ℕ) (lists : List (List ℤ)) (x : List ℤ) → j ≡ i + length lists
+    → ArePrinted m args seed i lists
     → IsPrinted m args (seed_of seed j) x → ArePrinted m args seed i (lists ++ x ∷ [])
 printed_more m args seed i j [] x at before p =
     let here : j ≡ i = omega (arith, at) in
@@ -30,7 +31,8 @@ printed_more m args seed i j (y ∷ lists) x at before p = (before.0, printed_mo
 pub no_shares : (m : ModuleValue) (args : List ℤ) (seed : ℕ) (shares : List Share) → shares ≡ [] → AreShares m args seed 0 shares
 no_shares m args seed shares none = record { lists = []; runs_are = refl; printed = tt; shares_are = none }
 
-pub one_more : (m : ModuleValue) (args : List ℤ) (seed n : ℕ) (x : List ℤ) (old new : List Share) → AreShares m args seed n old → IsPrinted m args (seed_of seed n) x
+pub one_more : (m : ModuleValue) (args : List ℤ) (seed n : ℕ) (x : List ℤ) (old new : List Share) → AreShares m args seed n old
+    → IsPrinted m args (seed_of seed n) x
     → new ≡ noted (seed_of seed n) x old → AreShares m args seed (n + 1) new
 one_more m args seed n x old new before p is =
     let at : n ≡ 0 + length before.lists = omega (arith, before.runs_are) in
@@ -43,7 +45,8 @@ one_more m args seed n x old new before p is =
     }
 
 -- as long as there is one more run, each can be counted
-pub has_room : (m : ModuleValue) (args : List ℤ) (seed n runs : ℕ) (shares : List Share) → AreShares m args seed n shares → n < runs → runs < 2 ^ 64 → HasRoom shares
+pub has_room : (m : ModuleValue) (args : List ℤ) (seed n runs : ℕ) (shares : List Share) → AreShares m args seed n shares → n < runs
+    → runs < 2 ^ 64 → HasRoom shares
 has_room m args seed n runs shares a less fits =
     room_left seed runs a.lists shares a.shares_are (subst (λ k. k < runs) (sym a.runs_are) less) fits
 
@@ -60,7 +63,8 @@ same_step v w d e h = cc
 
 module _ {S : Type 0} (answer : S → List ℕ → ℕ) (after : S → List ℕ → S) (m : ModuleValue) where
   -- two lists that follow one chooser to an end are one
-  follows_once : (l k : List ℕ) (s : S) (w x y : World) → Follows answer after m s w l → Follows answer after m s w k → run m l w ≡ Through x → run m k w ≡ Through y
+  follows_once : (l k : List ℕ) (s : S) (w x y : World) → Follows answer after m s w l → Follows answer after m s w k
+      → run m l w ≡ Through x → run m k w ≡ Through y
       → all_ended x ≡ true → all_ended y ≡ true → l ≡ k
   follows_once [] [] s w x y p q left right over end = refl
   follows_once [] (b ∷ k) s w x y p q left right over end =
@@ -80,7 +84,8 @@ module _ {S : Type 0} (answer : S → List ℕ → ℕ) (after : S → List ℕ 
       ap (λ c. c ∷ l) same ∙ ap (λ t. b ∷ t) rest
 
   -- two runs that one chooser chooses print the same
-  chosen_once : (args : List ℤ) (s : S) (numbers others : List ℤ) (n k : ℕ) → IsRunBy answer after m args s numbers n → IsRunBy answer after m args s others k
+  chosen_once : (args : List ℤ) (s : S) (numbers others : List ℤ) (n k : ℕ) → IsRunBy answer after m args s numbers n
+      → IsRunBy answer after m args s others k
       → numbers ≡ others
   chosen_once args s numbers others n k p q =
       let here = subst (λ xs. run m p.list (opening m xs) ≡ Through p.last) p.given p.leads.1 in
@@ -91,7 +96,8 @@ module _ {S : Type 0} (answer : S → List ℕ → ℕ) (after : S → List ℕ 
 
 -- ---- a tally is one text
 
-printed_once : (m : ModuleValue) (args : List ℤ) (seed i : ℕ) (lists others : List (List ℤ)) → length lists ≡ length others → ArePrinted m args seed i lists
+printed_once : (m : ModuleValue) (args : List ℤ) (seed i : ℕ) (lists others : List (List ℤ)) → length lists ≡ length others
+    → ArePrinted m args seed i lists
     → ArePrinted m args seed i others → lists ≡ others
 printed_once m args seed i [] [] same p q = refl
 printed_once m args seed i [] (y ∷ others) same p q = absurd (omega (arith, same))
@@ -101,7 +107,8 @@ printed_once m args seed i (x ∷ lists) (y ∷ others) same p q =
     let rest = printed_once m args seed (suc i) lists others (omega (arith, same)) p.1 q.1 in
     ap₂ ◌∷◌ first rest
 
-pub tally_once : (m : ModuleValue) (args : List ℤ) (seed runs : ℕ) (text other : List ℕ) → IsTallyText m args seed runs text → IsTallyText m args seed runs other
+pub tally_once : (m : ModuleValue) (args : List ℤ) (seed runs : ℕ) (text other : List ℕ) → IsTallyText m args seed runs text
+    → IsTallyText m args seed runs other
     → text ≡ other
 tally_once m args seed runs text other t u =
     let lists = printed_once m args seed 0 t.of.lists u.of.lists (t.of.runs_are ∙ sym u.of.runs_are) t.of.printed u.of.printed in

@@ -38,7 +38,8 @@ shared [] place s there = absurd (none-some s there)
 shared (e ∷ shares) zero s there = (share_value e, refl, ap (λ (d : Declared). d.runs) (same_Some e.1 s there))
 shared (e ∷ shares) (suc k) s there = shared shares k s there
 
-pub room_at : (shares : List (Vec ℤ × Declared)) (place : ℕ) (s : Declared) → HasRoom (map share_value shares) → slice_get (values_of shares) place ≡ Some s
+pub room_at : (shares : List (Vec ℤ × Declared)) (place : ℕ) (s : Declared) → HasRoom (map share_value shares)
+    → slice_get (values_of shares) place ≡ Some s
     → s.runs + 1 < 2 ^ 64
 room_at shares place s room there =
     let v = shared shares place s there in
@@ -57,51 +58,74 @@ counted (e ∷ shares) (suc k) s there = ap (λ l. share_value e ∷ l) (counted
 abbrev place_of : List ℤ → List (Vec ℤ × Declared) → ℕ
 place_of numbers shares = position_or_len (λ k. are_same numbers k.items) (keys_of shares)
 
+<<<<<<< HEAD
 -- where the first is another one, they are one place further on
 past_first : (n : ℕ) → cond (not false) (1 + n) 0 ≡ suc n
 past_first n = let more : 1 + n ≡ suc n = omega arith in more
+=======
+place_later : (numbers : List ℤ) (e : Vec ℤ × Declared) (shares : List (Vec ℤ × Declared)) → are_same numbers e.0.items ≡ false
+    → place_of numbers (e ∷ shares) ≡ suc (place_of numbers shares)
+place_later numbers e shares differs =
+    let next : 1 + place_of numbers shares ≡ suc (place_of numbers shares) = omega arith in
+    ap (λ b. cond (not b) (1 + place_of numbers shares) 0) differs ∙ next
+
+-- the run of this seed, which printed these numbers, in shares that lie in memory
+abbrev inserted : ℕ → Vec ℤ → List (Vec ℤ × Declared) → List (Vec ℤ × Declared)
+inserted seed numbers shares = insert_entry (λ x y. are_same x.items y.items) shares numbers (record { first = seed; runs = 1 })
+>>>>>>> e0ad20cc28f84f7735fe37d2e91bb20a0150ed83
 
 pub noted_later : (seed : ℕ) (numbers : List ℤ) (s : Share) (shares : List Share) → are_same s.numbers numbers ≡ false
     → noted seed numbers (s ∷ shares) ≡ s ∷ noted seed numbers shares
 noted_later seed numbers s shares differs = rw differs refl
 
-inserted_later : (numbers : Vec ℤ) (new : Declared) (e : Vec ℤ × Declared) (shares : List (Vec ℤ × Declared)) → are_same numbers.items e.0.items ≡ false
-    → insert_entry (λ x y. are_same x.items y.items) (e ∷ shares) numbers new ≡ e ∷ insert_entry (λ x y. are_same x.items y.items) shares numbers new
-inserted_later numbers new e shares differs = rw differs refl
+inserted_later : (seed : ℕ) (numbers : Vec ℤ) (e : Vec ℤ × Declared) (shares : List (Vec ℤ × Declared))
+    → are_same numbers.items e.0.items ≡ false → inserted seed numbers (e ∷ shares) ≡ e ∷ inserted seed numbers shares
+inserted_later seed numbers e shares differs = rw differs refl
 
-noted_there : (seed : ℕ) (numbers : List ℤ) (shares : List (Vec ℤ × Declared)) → place_of numbers shares < length (keys_of shares)
+noted_there : (seed : ℕ) (numbers : List ℤ) (shares : List (Vec ℤ × Declared))
+    → place_of numbers shares < length (keys_of shares)
     → once_more (place_of numbers shares) (map share_value shares) ≡ noted seed numbers (map share_value shares)
 noted_there seed numbers [] less = absurd (omega (arith, less))
 noted_there seed numbers (e ∷ shares) less = by (noted_there seed numbers shares) (are_same numbers e.0.items) refl
   where
-    by : (place_of numbers shares < length (keys_of shares) → once_more (place_of numbers shares) (map share_value shares) ≡ noted seed numbers (map share_value shares))
+    by : (place_of numbers shares < length (keys_of shares)
+        → once_more (place_of numbers shares) (map share_value shares) ≡ noted seed numbers (map share_value shares))
         → (b : Bool) → are_same numbers e.0.items ≡ b
         → once_more (place_of numbers (e ∷ shares)) (map share_value (e ∷ shares)) ≡ noted seed numbers (map share_value (e ∷ shares))
     by rest true same = simp (same, other_order numbers e.0.items true same)
     by rest false differs =
+<<<<<<< HEAD
         let at : place_of numbers (e ∷ shares) ≡ suc (place_of numbers shares) = ap (λ b. cond (not b) (1 + place_of numbers shares) 0) differs ∙ past_first (place_of numbers shares) in
+=======
+        let at = place_later numbers e shares differs in
+>>>>>>> e0ad20cc28f84f7735fe37d2e91bb20a0150ed83
         let within : place_of numbers shares < length (keys_of shares) = omega (arith, less, at) in
         ap (λ k. once_more k (map share_value (e ∷ shares))) at
         ∙ ap (λ l. share_value e ∷ l) (rest within)
         ∙ sym (noted_later seed numbers (share_value e) (map share_value shares) (other_order numbers e.0.items false differs))
 
-noted_behind : (seed : ℕ) (numbers : Vec ℤ) (shares : List (Vec ℤ × Declared)) → length (keys_of shares) ≡ place_of numbers.items shares
-    → map share_value (insert_entry (λ x y. are_same x.items y.items) shares numbers (record { first = seed; runs = 1 })) ≡ noted seed numbers.items (map share_value shares)
+noted_behind : (seed : ℕ) (numbers : Vec ℤ) (shares : List (Vec ℤ × Declared))
+    → length (keys_of shares) ≡ place_of numbers.items shares
+    → map share_value (inserted seed numbers shares) ≡ noted seed numbers.items (map share_value shares)
 noted_behind seed numbers [] none = refl
 noted_behind seed numbers (e ∷ shares) none = by (noted_behind seed numbers shares) (are_same numbers.items e.0.items) refl
   where
     by : (length (keys_of shares) ≡ place_of numbers.items shares
-        → map share_value (insert_entry (λ x y. are_same x.items y.items) shares numbers (record { first = seed; runs = 1 })) ≡ noted seed numbers.items (map share_value shares))
+        → map share_value (inserted seed numbers shares) ≡ noted seed numbers.items (map share_value shares))
         → (b : Bool) → are_same numbers.items e.0.items ≡ b
-        → map share_value (insert_entry (λ x y. are_same x.items y.items) (e ∷ shares) numbers (record { first = seed; runs = 1 })) ≡ noted seed numbers.items (map share_value (e ∷ shares))
+        → map share_value (inserted seed numbers (e ∷ shares)) ≡ noted seed numbers.items (map share_value (e ∷ shares))
     by rest true same =
         let at : place_of numbers.items (e ∷ shares) ≡ 0 = ap (λ b. cond (not b) (1 + place_of numbers.items shares) 0) same in
         absurd (omega (arith, none, at))
     by rest false differs =
+<<<<<<< HEAD
         let at : place_of numbers.items (e ∷ shares) ≡ suc (place_of numbers.items shares) =
         ap (λ b. cond (not b) (1 + place_of numbers.items shares) 0) differs ∙ past_first (place_of numbers.items shares) in
+=======
+        let at = place_later numbers.items e shares differs in
+>>>>>>> e0ad20cc28f84f7735fe37d2e91bb20a0150ed83
         let behind : length (keys_of shares) ≡ place_of numbers.items shares = omega (arith, none, at) in
-        ap (map share_value) (inserted_later numbers (record { first = seed; runs = 1 }) e shares differs)
+        ap (map share_value) (inserted_later seed numbers e shares differs)
         ∙ ap (λ l. share_value e ∷ l) (rest behind)
         ∙ sym (noted_later seed numbers.items (share_value e) (map share_value shares) (other_order numbers.items e.0.items false differs))
 
@@ -116,7 +140,8 @@ missing k n true less at = absurd (none-some k (sym at))
 missing k n false less at = less
 
 pub noted_at : (seed : ℕ) (numbers : List ℤ) (shares : List (Vec ℤ × Declared)) (place : ℕ)
-    → position (λ k. are_same numbers k.items) (keys_of shares) ≡ Some place → once_more place (map share_value shares) ≡ noted seed numbers (map share_value shares)
+    → position (λ k. are_same numbers k.items) (keys_of shares) ≡ Some place
+    → once_more place (map share_value shares) ≡ noted seed numbers (map share_value shares)
 noted_at seed numbers shares place at =
     let f = found (place_of numbers shares) (length (keys_of shares)) place _ refl at in
     ap (λ k. once_more k (map share_value shares)) (sym f.1) ∙ noted_there seed numbers shares f.0
@@ -127,8 +152,10 @@ all_pass p xs all =
     let least : length xs ≤ position_or_len p xs = ltb-false _ _ all in
     omega (arith, most, least)
 
-pub noted_new : (seed : ℕ) (numbers : Vec ℤ) (shares : List (Vec ℤ × Declared)) → position (λ k. are_same numbers.items k.items) (keys_of shares) ≡ None
-    → map share_value (insert_entry (λ x y. are_same x.items y.items) shares numbers (record { first = seed; runs = 1 })) ≡ noted seed numbers.items (map share_value shares)
+pub noted_new : (seed : ℕ) (numbers : Vec ℤ) (shares : List (Vec ℤ × Declared))
+    → position (λ k. are_same numbers.items k.items) (keys_of shares) ≡ None
+    → map share_value (inserted seed numbers shares) ≡ noted seed numbers.items (map share_value shares)
 noted_new seed numbers shares none =
-    noted_behind seed numbers shares
-    (all_pass (λ k. are_same numbers.items k.items) (keys_of shares) (missing (place_of numbers.items shares) (length (keys_of shares)) _ refl none))
+    let keys = keys_of shares in
+    let less = missing (place_of numbers.items shares) (length keys) _ refl none in
+    noted_behind seed numbers shares (all_pass (λ k. are_same numbers.items k.items) keys less)

@@ -19,15 +19,18 @@ others_noted : (seed : ℕ) (x : List ℤ) (shares : List Share) → others x (n
 others_noted seed x [] = rw (same_here x) refl
 others_noted seed x (s ∷ shares) = by (others_noted seed x shares) (are_same s.numbers x) refl
   where
-    by : others x (noted seed x shares) ≡ others x shares → (b : Bool) → are_same s.numbers x ≡ b → others x (noted seed x (s ∷ shares)) ≡ others x (s ∷ shares)
+    by : others x (noted seed x shares) ≡ others x shares → (b : Bool) → are_same s.numbers x ≡ b
+        → others x (noted seed x (s ∷ shares)) ≡ others x (s ∷ shares)
     by rest true e = simp e
     by rest false e = simp e (ap (λ l. s ∷ l) rest)
 
-noted_others : (seed : ℕ) (x y : List ℤ) → are_same y x ≡ false → (shares : List Share) → others x (noted seed y shares) ≡ noted seed y (others x shares)
+noted_others : (seed : ℕ) (x y : List ℤ) → are_same y x ≡ false → (shares : List Share)
+    → others x (noted seed y shares) ≡ noted seed y (others x shares)
 noted_others seed x y other [] = rw other refl
 noted_others seed x y other (s ∷ shares) = by (noted_others seed x y other shares) (are_same s.numbers y) refl (are_same s.numbers x) refl
   where
-    by : others x (noted seed y shares) ≡ noted seed y (others x shares) → (b : Bool) → are_same s.numbers y ≡ b → (k : Bool) → are_same s.numbers x ≡ k
+    by : others x (noted seed y shares) ≡ noted seed y (others x shares) → (b : Bool) → are_same s.numbers y ≡ b → (k : Bool)
+        → are_same s.numbers x ≡ k
         → others x (noted seed y (s ∷ shares)) ≡ noted seed y (others x (s ∷ shares))
     by rest true e k f =
         let differs : are_same s.numbers x ≡ false = ap (λ z. are_same z x) (same_yes s.numbers y e) ∙ other in
@@ -54,7 +57,8 @@ module _ (seed i j : ℕ) (x : List ℤ) (lists : List (List ℤ)) where
       ∙ sym (noted_first (seed_of seed j) (count_of x (x ∷ lists)) (seed_of seed i) x (others x (shares_from seed (suc i) lists)))
 
   -- it printed something else
-  more_other : (y : List ℤ) → are_same x y ≡ false → shares_from seed (suc i) (lists ++ y ∷ []) ≡ noted (seed_of seed j) y (shares_from seed (suc i) lists)
+  more_other : (y : List ℤ) → are_same x y ≡ false
+      → shares_from seed (suc i) (lists ++ y ∷ []) ≡ noted (seed_of seed j) y (shares_from seed (suc i) lists)
       → shares_from seed i ((x ∷ lists) ++ y ∷ []) ≡ noted (seed_of seed j) y (shares_from seed i (x ∷ lists))
   more_other y differs rest =
       let none : count_of x (y ∷ []) ≡ 0 = rw (other_order x y false differs) refl in
@@ -64,7 +68,8 @@ module _ (seed i j : ℕ) (x : List ℤ) (lists : List (List ℤ)) where
       ∙ ap (λ l. record { numbers = x; first = seed_of seed i; runs = count_of x (x ∷ lists) } ∷ l) behind
       ∙ sym (noted_later (seed_of seed j) y (record { numbers = x; first = seed_of seed i; runs = count_of x (x ∷ lists) }) (others x (shares_from seed (suc i) lists)) differs)
 
-  more_either : (y : List ℤ) → shares_from seed (suc i) (lists ++ y ∷ []) ≡ noted (seed_of seed j) y (shares_from seed (suc i) lists) → (b : Bool) → are_same x y ≡ b
+  more_either : (y : List ℤ) → shares_from seed (suc i) (lists ++ y ∷ []) ≡ noted (seed_of seed j) y (shares_from seed (suc i) lists)
+      → (b : Bool) → are_same x y ≡ b
       → shares_from seed i ((x ∷ lists) ++ y ∷ []) ≡ noted (seed_of seed j) y (shares_from seed i (x ∷ lists))
   more_either y rest true e =
       let same = same_yes x y e in
@@ -84,11 +89,13 @@ shares_more seed i j (x ∷ lists) y at =
 
 -- ---- how many runs a share has
 
-few_others : (n : ℕ) (x : List ℤ) (shares : List Share) → AllByRecursion (λ s. s.runs ≤ n) shares → AllByRecursion (λ s. s.runs ≤ suc n) (others x shares)
+few_others : (n : ℕ) (x : List ℤ) (shares : List Share) → AllByRecursion (λ s. s.runs ≤ n) shares
+    → AllByRecursion (λ s. s.runs ≤ suc n) (others x shares)
 few_others n x [] few = tt
 few_others n x (s ∷ shares) few = by (are_same s.numbers x) refl (few_others n x shares few.1)
   where
-    by : (b : Bool) → are_same s.numbers x ≡ b → AllByRecursion (λ t. t.runs ≤ suc n) (others x shares) → AllByRecursion (λ t. t.runs ≤ suc n) (others x (s ∷ shares))
+    by : (b : Bool) → are_same s.numbers x ≡ b → AllByRecursion (λ t. t.runs ≤ suc n) (others x shares)
+        → AllByRecursion (λ t. t.runs ≤ suc n) (others x (s ∷ shares))
     by true e rest = rw e rest
     by false e rest = rw e (let fits : s.runs ≤ suc n = omega (arith, few.0) in (fits, rest))
 
@@ -98,12 +105,14 @@ shares_few seed i [] = tt
 shares_few seed i (x ∷ lists) =
     (count_by-le-length (λ other. are_same other x) (x ∷ lists), few_others (length lists) x (shares_from seed (suc i) lists) (shares_few seed (suc i) lists))
 
-few_at : (n : ℕ) (shares : List Share) → AllByRecursion (λ s. s.runs ≤ n) shares → (k : ℕ) (s : Share) → slice_get shares k ≡ Some s → s.runs ≤ n
+few_at : (n : ℕ) (shares : List Share) → AllByRecursion (λ s. s.runs ≤ n) shares → (k : ℕ) (s : Share) → slice_get shares k ≡ Some s
+    → s.runs ≤ n
 few_at n [] few k s there = absurd (none-some s there)
 few_at n (t ∷ shares) few zero s there = subst (λ (z : Share). z.runs ≤ n) (same_Some t s there) few.0
 few_at n (t ∷ shares) few (suc k) s there = few_at n shares few.1 k s there
 
-pub room_left : (seed runs : ℕ) (lists : List (List ℤ)) (shares : List Share) → shares ≡ shares_from seed 0 lists → length lists < runs → runs < 2 ^ 64 → HasRoom shares
+pub room_left : (seed runs : ℕ) (lists : List (List ℤ)) (shares : List Share) → shares ≡ shares_from seed 0 lists → length lists < runs
+    → runs < 2 ^ 64 → HasRoom shares
 room_left seed runs lists shares is less fits k s there =
     let few = few_at (length lists) shares (subst (AllByRecursion (λ t. t.runs ≤ length lists)) (sym is) (shares_few seed 0 lists)) k s there in
     omega (arith, few)

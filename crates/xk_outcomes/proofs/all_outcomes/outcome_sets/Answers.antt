@@ -1,4 +1,4 @@
-use Rattle.xk_outcomes.proofs.ListingLemmas.{sets_shown, sets_distinct, sets_all}
+use Rattle.xk_outcomes.proofs.ListingLemmas.{sets_kept, sets_shown, sets_distinct, sets_all}
 use Rattle.xk_outcomes.proofs.all_outcomes.outcome_sets.Goals as goal
 
 pub returns-clause-shown : goal.returns-clause-shown
@@ -10,3 +10,8 @@ returns-clause-distinct c =
 
 pub returns-clause-all : goal.returns-clause-all
 returns-clause-all c done = sets_all c.args.verified.now c.args.arguments.now c.in_ok-found.found.list.items (c.in_ok-found.ensures.all done)
+
+pub returns-clause-kept : goal.returns-clause-kept
+returns-clause-kept c =
+    let found = c.in_ok-found.found in
+    sets_kept c.args.verified.now c.args.arguments.now c.args.limit.outcomes found.list.items found.entries c.in_ok-found.ensures.kept

@@ -1,4 +1,5 @@
 use Rattle.std.proofs.Common.{◌≡◌, true, IfOk, subst, sym}
+use Rattle.xk_outcomes.specs.Limits.{HasKept}
 use Rattle.xk_outcomes.specs.Sets.{AreAllAs}
 use Rattle.xk_outcomes.proofs.all_outcomes.outcomes_as.Goals as goal
 
@@ -11,3 +12,17 @@ pub returns-clause-all : goal.returns-clause-all
 returns-clause-all c =
     subst (λ sets. IfOk c.outcomes.result (λ r. r.complete ≡ true → AreAllAs sets c.args.verified.now c.args.arguments.now r.list.items))
     (sym c.if-sets.false) c.outcomes.ensures.all
+
+pub returns-then-sets-clause-kept : goal.returns-then-sets-clause-kept
+returns-then-sets-clause-kept c =
+    let m = c.args.verified.now in
+    let args = c.args.arguments.now in
+    let most = c.args.limit.outcomes in
+    subst (λ sets. IfOk c.outcome_sets.result (λ r. HasKept m args sets most r.list.items r.entries)) (sym c.if-sets.true) c.outcome_sets.ensures.kept
+
+pub returns-clause-kept : goal.returns-clause-kept
+returns-clause-kept c =
+    let m = c.args.verified.now in
+    let args = c.args.arguments.now in
+    let most = c.args.limit.outcomes in
+    subst (λ sets. IfOk c.outcomes.result (λ r. HasKept m args sets most r.list.items r.entries)) (sym c.if-sets.false) c.outcomes.ensures.kept

@@ -5,8 +5,8 @@ use Rattle.xk_outcomes.proofs.listing.list_outcomes.Goals as goal
 
 pub loop-number-init : goal.loop-number-init
 loop-number-init c = record {
-  of = of_none c.args.order c.args.all.now.all c.args.list.now.items c.requires;
-  distinct = distinct_none c.args.list.now.items c.requires;
+  of = of_none c.args.order c.args.all.now.all c.args.list.now c.requires;
+  distinct = distinct_none c.args.list.now c.requires;
   noted = λ j x less. absurd (omega (arith, less));
   few = subst (λ (l : List Outcome). length l ≤ c.args.limit) (sym c.requires) (omega arith);
 }

@@ -6,8 +6,8 @@ use Rattle.xk_outcomes.proofs.listing.list_outcomes.Given as goal
 -- those before this one were listed
 abbrev pub invariant-loop-number : goal.invariant-loop-number
 invariant-loop-number l = record {
-  of : AreOf l.order l.all.all l.list.items;
-  distinct : AreDistinct l.list.items;
-  noted : AreNoted l.order l.all.all l.number l.list.items;
-  few : length l.list.items ≤ l.limit;
+  of : AreOf l.order l.all.all l.list;
+  distinct : AreDistinct l.list;
+  noted : AreNoted l.order l.all.all l.number l.list;
+  few : length l.list ≤ l.limit;
 }

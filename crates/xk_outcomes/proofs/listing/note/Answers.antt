@@ -23,11 +23,11 @@ returns-in_ok-new-clause-kept c = c.put.ensures.kept
 
 pub returns-in_ok-new-clause-listed : goal.returns-in_ok-new-clause-listed
 returns-in_ok-new-clause-listed c =
-    on_ok_weaker c.put.result (λ h done. subst (IsListed c.put.new.list.items) c.in_ok-new.ensures.numbers h) c.put.ensures.listed
+    on_ok_weaker c.put.result (λ h done. subst (IsListed c.put.new.self) c.in_ok-new.ensures.numbers h) c.put.ensures.listed
 
 pub returns-in_ok-new-clause-of : goal.returns-in_ok-new-clause-of
 returns-in_ok-new-clause-of c all j there before =
-    of_either c.args.order all j c.args.x.now c.args.list.now.items c.put.new.list.items c.in_ok-new.new c.put.ensures.each there c.in_ok-new.ensures before
+    of_either c.args.order all j c.args.x.now c.args.list.now c.put.new.self c.in_ok-new.new c.put.ensures.each there c.in_ok-new.ensures before
 
 pub returns-else-ended-clause-distinct : goal.returns-else-ended-clause-distinct
 returns-else-ended-clause-distinct c d = d

@@ -5,7 +5,7 @@ use Rattle.xk_outcomes.proofs.listing.note_at.Goals as goal
 pub returns-clause-noted : goal.returns-clause-noted
 returns-clause-noted c =
     on_ok_weaker c.note.result (λ listed before.
-    noted_more c.args.order c.args.all.now.all c.args.number c.in_ok-x.x c.args.list.now.items c.note.new.list.items c.in_ok-x.ensures c.note.ensures.kept listed before)
+    noted_more c.args.order c.args.all.now.all c.args.number c.in_ok-x.x c.args.list.now c.note.new.list c.in_ok-x.ensures c.note.ensures.kept listed before)
     c.note.ensures.listed
 
 pub returns-clause-of : goal.returns-clause-of

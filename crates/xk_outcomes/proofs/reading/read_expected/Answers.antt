@@ -1,4 +1,4 @@
-use Rattle.std.proofs.Common.{◌≡◌, ◌∙◌, ◌+◌, ◌-◌, ◌≤◌, ◌++◌, length, take, drop, map, not, ap, sym, subst, arith, length-drop}
+use Rattle.std.proofs.Common.{◌≡◌, ◌∙◌, ◌+◌, ◌-◌, ◌≤◌, ◌++◌, length, take, drop, not, ap, sym, subst, arith, length-drop}
 use Rattle.std.specs.Prelude.{◌==◌}
 use Rattle.std.specs.List.{filter_map}
 use Rattle.std.proofs.lemmas.List.{take_rest}
@@ -36,8 +36,8 @@ loop-from-preserved c =
     record {
       few = omega (arith, l.invariant.few);
       within = omega (arith, size, bound, span);
-      told = subst (λ lines. map (λ t. t.now) c.keep.new.told.items ++ filter_map told_in lines ≡ told_by text) moved
-          (told_more (take n (drop from text)) (left from text) (left (from + (n + 1)) text) (map (λ t. t.now) l.told.items) _ (told_by text) next
+      told = subst (λ lines. c.keep.new.told ++ filter_map told_in lines ≡ told_by text) moved
+          (told_more (take n (drop from text)) (left from text) (left (from + (n + 1)) text) l.told _ (told_by text) next
           (rw line at c.in_ok-keep.ensures.kept) l.invariant.told);
       stray = subst (λ lines. stray_from (l.number + 1) lines ≡ stray_line text) moved
           (stray_more (take n (drop from text)) (left from text) (left (from + (n + 1)) text) l.number (stray_line text) next

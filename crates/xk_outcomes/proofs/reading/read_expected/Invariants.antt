@@ -1,4 +1,4 @@
-use Rattle.std.proofs.Common.{◌≡◌, ◌+◌, ◌-◌, ◌≤◌, ◌++◌, length, map}
+use Rattle.std.proofs.Common.{◌≡◌, ◌+◌, ◌-◌, ◌≤◌, ◌++◌, length}
 use Rattle.std.specs.List.{filter_map}
 use Rattle.xk_outcomes.specs.Expected.{lines_of, stray_from, told_in}
 use Rattle.xk_outcomes.proofs.ExpectedLemmas.{left}
@@ -9,7 +9,7 @@ abbrev pub invariant-loop-from : goal.invariant-loop-from
 invariant-loop-from l = record {
   few : l.number ≤ l.from + 1;
   within : l.from ≤ length l.text + 1;
-  told : map (λ t. t.now) l.told.items ++ filter_map told_in (left l.from l.text) ≡ filter_map told_in (lines_of l.text);
+  told : l.told ++ filter_map told_in (left l.from l.text) ≡ filter_map told_in (lines_of l.text);
   stray : stray_from l.number (left l.from l.text) ≡ stray_from 1 (lines_of l.text);
 }
 

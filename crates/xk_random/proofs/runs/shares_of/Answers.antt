@@ -5,11 +5,14 @@ use Rattle.xk_random.proofs.RunLemmas.{has_room, no_shares, one_more}
 use Rattle.xk_random.proofs.runs.shares_of.Goals as goal
 
 pub loop-i-init : goal.loop-i-init
-loop-i-init c = no_shares c.args.verified.now c.args.arguments.now c.args.seed (map share_value c.new-shares.result.entries) (ap (map share_value) c.new-shares.ensures.empty)
+loop-i-init c =
+    let none = ap (map share_value) c.new-shares.ensures.empty in
+    no_shares c.args.verified.now c.args.arguments.now c.args.seed (map share_value c.new-shares.result.entries) none
 
 pub note-requires : goal.note-requires
 note-requires c =
-    has_room c.args.verified.now c.args.arguments.now c.args.seed c.loop-i.i c.args.runs (map share_value c.loop-i.shares.entries) c.loop-i.invariant c.loop-i-test.true (omega (arith, c.ranges.runs.fits))
+    has_room c.args.verified.now c.args.arguments.now c.args.seed c.loop-i.i c.args.runs (map share_value c.loop-i.shares.entries)
+    c.loop-i.invariant c.loop-i-test.true (omega (arith, c.ranges.runs.fits))
 
 pub loop-i-preserved : goal.loop-i-preserved
 loop-i-preserved c =

@@ -9,4 +9,5 @@ returns-in-Some c =
 
 pub returns : goal.returns
 returns c =
-    ap (map share_value) c.in_ok-insert.ensures.entries ∙ noted_new c.args.seed c.args.numbers c.args.shares.now.entries (sym c.in_default.ensures.index)
+    ap (map share_value) c.in_ok-insert.ensures.entries
+    ∙ noted_new c.args.seed c.args.numbers c.args.shares.now.entries (sym c.in_default.ensures.index)

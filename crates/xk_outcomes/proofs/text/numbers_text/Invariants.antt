@@ -1,6 +1,0 @@
-use Rattle.std.proofs.Common.{◌≡◌, take, string_bytes}
-use Rattle.xk_outcomes.specs.Text.{numbers_text}
-use Rattle.xk_outcomes.proofs.text.numbers_text.Given as goal
-
-abbrev pub invariant-loop-number : goal.invariant-loop-number
-invariant-loop-number l = string_bytes l.text ≡ numbers_text (take l.number-index l.numbers)

@@ -1,0 +1,73 @@
+//! What is listed so far: lists of numbers, each with the log of a run that prints it.
+
+ghost use Rattle.std.specs.Prelude.{◌≡◌, ◌≤◌, ◌+◌, ◌++◌, ◌∷◌, ◌⊎◌, [], length, IfOk, OnOk};
+ghost use Rattle.xk_outcomes.specs.Outcomes.{AreDistinct, IsListed};
+ghost use Rattle.xk_outcomes.specs.Listing.{KeepsListed};
+
+use crate::listing::Outcome;
+use indexmap::IndexMap;
+use std::alloc::{AllocError, Global};
+use std::marker::Model;
+use xk_types::Entry;
+
+/// What is listed so far, in the order in which it was met.
+#[derive(Drop)]
+pub struct Listed {
+    logs: IndexMap<Vec<i64>, Vec<Entry>>,
+}
+
+impl Model for Listed {
+    ghost use Rattle.std.specs.Prelude.{List};
+    ghost use Rattle.xk_outcomes.specs.declared.listing.Outcome.{Outcome as AnOutcome};
+    ghost use Rattle.xk_outcomes.specs.Listed.{outcomes_in};
+
+    ghost Value = { List AnOutcome };
+
+    ghost view = { λ l. outcomes_in l.logs.entries };
+}
+
+impl Listed {
+    /// Nothing is listed.
+    pub fn new(alloc: Global) -> Listed
+        ensures { result ≡ [] }
+    {
+        Listed {
+            logs: IndexMap::new(alloc),
+        }
+    }
+
+    /// How many are listed.
+    pub fn len(&self) -> usize
+        ensures { result ≡ length self.now }
+    {
+        self.logs.len()
+    }
+
+    /// Lists it, if its numbers aren't listed yet. Err where memory was refused: nothing more is listed then.
+    pub fn put(&mut self, new: Outcome) -> Result<(), AllocError>
+        ensures distinct { AreDistinct self.old → AreDistinct self.new }
+        ensures kept { KeepsListed self.old self.new }
+        ensures listed { OnOk result (IsListed self.new new.numbers.items) }
+        ensures each { (self.new ≡ self.old) ⊎ (self.new ≡ self.old ++ new ∷ []) }
+        ensures one_more { length self.new ≤ length self.old + 1 }
+    {
+        let Outcome { numbers, log } = new;
+        if self.logs.contains_key(&numbers) {
+            return Ok(());
+        }
+        self.logs.insert(numbers, log)?;
+        Ok(())
+    }
+
+    /// What is listed. Err where memory was refused.
+    pub fn into_outcomes(self, alloc: Global) -> Result<Vec<Outcome>, AllocError>
+        ensures { IfOk result (λ list. list.items ≡ self) }
+    {
+        let logs = self.logs;
+        let mut list = Vec::with_capacity(alloc, logs.len())?;
+        for (numbers, log) in logs {
+            list.push(Outcome { numbers, log })?;
+        }
+        Ok(list)
+    }
+}
