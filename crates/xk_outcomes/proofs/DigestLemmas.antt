@@ -37,7 +37,10 @@ plain_activities digest (x ∷ xs) = plain_activities (with_activity digest x) x
 
 pub alike_digests : (w v : World) (numbers : List ℤ) → AreAlike w v → world_digest w numbers ≡ world_digest v numbers
 alike_digests w v numbers alike =
-    sym (plain_activities (with_numbers 0 numbers) w.activities) ∙ ap (λ (z : World). world_digest z numbers) alike ∙ plain_activities (with_numbers 0 numbers) v.activities
+    let printed = with_numbers 0 numbers in
+    sym (plain_activities (with_numbers printed w.cells) w.activities)
+    ∙ ap (λ (z : World). world_digest z numbers) alike
+    ∙ plain_activities (with_numbers printed v.cells) v.activities
 
 -- ---- one more
 

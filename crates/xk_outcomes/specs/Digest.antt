@@ -32,6 +32,6 @@ with_values digest values = fold (λ d v. mixed d (word_of v)) digest values
 abbrev pub with_activity : ℕ → Activity → ℕ
 with_activity digest act = with_values (mixed (mixed digest act.frame.unit) act.frame.place) act.frame.slots
 
--- of a world, these numbers being printed by then
+-- of a world, these numbers being printed by then: of them, of its shared numbers, and of its activities
 abbrev pub world_digest : World → List ℤ → ℕ
-world_digest w numbers = fold with_activity (with_numbers 0 numbers) w.activities
+world_digest w numbers = fold with_activity (with_numbers (with_numbers 0 numbers) w.cells) w.activities

@@ -95,7 +95,7 @@ fn with_activity(core: &Core<'_>, act: Act, digest: u64) -> u64
 pub fn digest_of(core: &Core<'_>, printed: &[i64]) -> u64
     ensures { result ≡ world_digest core.now.world printed.now }
 {
-    let mut digest = with_numbers(0, printed);
+    let mut digest = with_numbers(with_numbers(0, printed), core.cells());
     for a in 0..core.activities() {
         digest = with_activity(core, Act(a), digest);
     }
