@@ -1,3 +1,5 @@
+pub mod AwaitedLemmas
+pub mod ExcerptLemmas
 pub mod HolderLaw
 pub mod PieceLemmas
 pub mod ProgressLemmas

@@ -1,3 +1,5 @@
+pub mod Awaited
+pub mod Excerpts
 pub mod Pieces
 pub mod Progress
 pub mod Where

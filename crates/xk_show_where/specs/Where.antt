@@ -1,6 +1,6 @@
 -- How things stand in a world that the steps of a log lead to. What steps, clocks and finishes are, `xk_types` says in `Step.antt`; that it is
 -- told so is this project's own.
-use Rattle.std.specs.Prelude.{ℕ, ℤ, ◌-◌, nat_eq, nat_lt, Bool, ◌&&◌, List, [], ◌++◌, length, take, flat_map, Option, Some, None, slice_get, codes, decimal, if◌then◌else◌}
+use Rattle.std.specs.Prelude.{ℕ, ℤ, ◌-◌, nat_eq, nat_lt, Bool, ◌&&◌, List, [], ◌++◌, length, flat_map, Option, Some, None, slice_get, codes, decimal, if◌then◌else◌}
 use Rattle.std.specs.Fmt.{signed_decimal}
 use Rattle.std.specs.Option.{option_map_or}
 use Rattle.xk_types.specs.declared.world.Entry.{Entry}
@@ -17,6 +17,7 @@ use Rattle.xk_show_events.specs.Events.{PlacesValue, origin_of, place_words}
 use Rattle.xk_show_where.specs.declared.condition.Condition.{Condition}
 use Rattle.xk_show_where.specs.declared.condition.Condition.TheVariants as condition
 use Rattle.xk_show_where.specs.declared.progress.Stop.{Stop}
+use Rattle.xk_show_where.specs.Excerpts.{ExcerptValue, excerpt_of}
 use Rattle.xk_show_where.specs.Progress.{course_of, is_through, reached, step_behind}
 
 -- ---- lists
@@ -28,9 +29,12 @@ act_word a = codes " " ++ decimal a
 abbrev pub more_words : ℕ → List ℕ
 more_words k = if nat_eq k 0 then [] else codes " and " ++ (decimal k ++ codes " more")
 
+abbrev pub excerpt_words : ExcerptValue → List ℕ
+excerpt_words e = flat_map act_word e.first ++ more_words (e.count - 8)
+
 -- activities: the first eight of them, and how many more
 unfoldable pub listed : List ℕ → List ℕ
-listed acts = flat_map act_word (take 8 acts) ++ more_words (length acts - 8)
+listed acts = excerpt_words (excerpt_of acts)
 
 -- ---- what an activity does
 

@@ -1,63 +1,18 @@
 //! The lines of activities.
 
-ghost use Rattle.std.specs.Prelude.{◌≡◌, ◌<◌, ◌++◌, codes, length, IfOk, OnOk};
-ghost use Rattle.xk_show_where.specs.Pieces.{pieces_below};
+ghost use Rattle.std.specs.Prelude.{◌≡◌, ◌<◌, ◌++◌, length, OnOk};
 ghost use Rattle.xk_show_events.specs.Worlds.{each_below};
-ghost use Rattle.xk_show_where.specs.Where.{act_line, act_words, awaited_by, clock_words, condition_words, held_words, holders_words, is_awaited, listed, place_of, registration, registration_by, registrations};
+ghost use Rattle.xk_show_where.specs.Awaited.{AreWaitsOf};
+ghost use Rattle.xk_show_where.specs.Where.{act_line, act_words, clock_words, condition_words, place_of, registration, registration_by, registrations};
 
 use crate::condition::{Condition, condition_of, condition_words};
-use crate::holders::{Piece, held_pieces, push_piece, standing_on};
-use crate::texts::{push_listed, push_text};
+use crate::holders::standing_on;
+use crate::texts::push_text;
+use crate::waits::Waits;
 use std::alloc::{AllocError, Global};
 use xk_core::Core;
 use xk_show_events::{Places, place_words};
 use xk_types::{Act, ClockId, Standing};
-
-/// Whether one activity awaits another at its `endfinish`.
-fn is_awaited(core: &Core<'_>, owner: Act, act: Act) -> bool
-    requires { owner < length core.now.world.activities }
-    ensures { result ≡ is_awaited core.now.world owner act }
-{
-    core.is_under(owner, act) && core.is_living(act)
-}
-
-/// Whom an activity awaits at its `endfinish`.
-fn awaited_by(alloc: Global, core: &Core<'_>, owner: Act) -> Result<Vec<u32>, AllocError>
-    requires { owner < length core.now.world.activities }
-    ensures { IfOk result (λ v. v.items ≡ awaited_by core.now.world owner) }
-{
-    let mut acts = Vec::new(alloc);
-    for act in 0..core.activities() {
-        if is_awaited(core, owner, Act(act)) {
-            acts.push(act)?;
-        }
-    }
-    Ok(acts)
-}
-
-/// Adds who holds a clock back, for an activity that waits for clocks.
-#[tactic(auto, using(crate::proofs::PieceLemmas::piece_there))]
-fn push_holders(
-    out: &mut Vec<u8>,
-    core: &Core<'_>,
-    held: &[Piece],
-    condition: Condition,
-    clock: ClockId,
-) -> Result<(), AllocError>
-    requires clock { clock < length core.now.world.clocks }
-    requires held { held.now ≡ pieces_below (held_words core.now.world)
-        (length core.now.world.clocks) }
-    ensures { OnOk result (out.new.items
-        ≡ out.old.items ++ holders_words condition core.now.world clock) }
-{
-    match condition {
-        Condition::ForClocks => push_piece(out, held, clock.0),
-        Condition::Absent => Ok(()),
-        Condition::Ended => Ok(()),
-        Condition::Able => Ok(()),
-        Condition::InFinish => Ok(()),
-    }
-}
 
 /// Adds a clock, and where the activity stands on it, if it is registered there.
 #[tactic(auto, unfolding(crate::specs::Where::registration))]
@@ -65,20 +20,19 @@ fn push_registration(
     alloc: Global,
     out: &mut Vec<u8>,
     core: &Core<'_>,
-    held: &[Piece],
+    waits: &Waits,
     condition: Condition,
     act: Act,
     clock: ClockId,
 ) -> Result<(), AllocError>
     requires act { act < length core.now.world.activities }
     requires clock { clock < length core.now.world.clocks }
-    requires held { held.now ≡ pieces_below (held_words core.now.world)
-        (length core.now.world.clocks) }
+    requires waits { AreWaitsOf core.now.world waits.now }
     ensures { OnOk result (out.new.items
         ≡ out.old.items ++ registration condition core.now.world act clock) }
 {
     let standing = standing_on(core, act, clock);
-    push_by(alloc, out, core, held, condition, standing, clock)
+    push_by(alloc, out, core, waits, condition, standing, clock)
 }
 
 /// Adds a clock, and a word on it.
@@ -100,14 +54,13 @@ fn push_by(
     alloc: Global,
     out: &mut Vec<u8>,
     core: &Core<'_>,
-    held: &[Piece],
+    waits: &Waits,
     condition: Condition,
     standing: Standing,
     clock: ClockId,
 ) -> Result<(), AllocError>
     requires clock { clock < length core.now.world.clocks }
-    requires held { held.now ≡ pieces_below (held_words core.now.world)
-        (length core.now.world.clocks) }
+    requires waits { AreWaitsOf core.now.world waits.now }
     ensures { OnOk result (out.new.items
         ≡ out.old.items ++ registration_by standing condition core.now.world clock) }
 {
@@ -116,7 +69,7 @@ fn push_by(
         Standing::Open => push_clock(alloc, out, clock, "open"),
         Standing::Signalled => {
             push_clock(alloc, out, clock, "signalled")?;
-            push_holders(out, core, held, condition, clock)
+            waits.push_holders(out, core, condition, clock)
         }
         Standing::Ahead => push_clock(alloc, out, clock, "ahead"),
     }
@@ -127,18 +80,17 @@ fn push_registrations(
     alloc: Global,
     out: &mut Vec<u8>,
     core: &Core<'_>,
-    held: &[Piece],
+    waits: &Waits,
     condition: Condition,
     act: Act,
 ) -> Result<(), AllocError>
     requires act { act < length core.now.world.activities }
-    requires held { held.now ≡ pieces_below (held_words core.now.world)
-        (length core.now.world.clocks) }
+    requires waits { AreWaitsOf core.now.world waits.now }
     ensures { OnOk result (out.new.items
         ≡ out.old.items ++ registrations condition core.now.world act) }
 {
     for clock in 0..core.clocks() {
-        push_registration(alloc, out, core, held, condition, act, ClockId(clock))?;
+        push_registration(alloc, out, core, waits, condition, act, ClockId(clock))?;
     }
     Ok(())
 }
@@ -181,35 +133,18 @@ fn push_condition(
     push_text(out, condition_words(condition))
 }
 
-/// Adds whom an activity awaits at its `endfinish`.
-fn push_awaited(
-    alloc: Global,
-    out: &mut Vec<u8>,
-    core: &Core<'_>,
-    act: Act,
-) -> Result<(), AllocError>
-    requires { act < length core.now.world.activities }
-    ensures { OnOk result (out.new.items ≡ (out.old.items ++ codes " for")
-        ++ listed (awaited_by core.now.world act)) }
-{
-    let awaited = awaited_by(alloc, core, act)?;
-    push_text(out, " for")?;
-    push_listed(alloc, out, &awaited)
-}
-
 /// Adds what is told of an activity behind its number.
 fn push_words(
     alloc: Global,
     out: &mut Vec<u8>,
     places: &Places<'_>,
     core: &Core<'_>,
-    held: &[Piece],
+    waits: &Waits,
     condition: Condition,
     act: Act,
 ) -> Result<(), AllocError>
     requires act { act < length core.now.world.activities }
-    requires held { held.now ≡ pieces_below (held_words core.now.world)
-        (length core.now.world.clocks) }
+    requires waits { AreWaitsOf core.now.world waits.now }
     ensures { OnOk result (out.new.items
         ≡ out.old.items ++ act_words condition places.now core.now.world act) }
 {
@@ -218,16 +153,16 @@ fn push_words(
         Condition::Ended => push_text(out, condition_words(condition)),
         Condition::Able => {
             push_condition(alloc, out, places, core, condition, act)?;
-            push_registrations(alloc, out, core, held, condition, act)
+            push_registrations(alloc, out, core, waits, condition, act)
         }
         Condition::ForClocks => {
             push_condition(alloc, out, places, core, condition, act)?;
-            push_registrations(alloc, out, core, held, condition, act)
+            push_registrations(alloc, out, core, waits, condition, act)
         }
         Condition::InFinish => {
             push_condition(alloc, out, places, core, condition, act)?;
-            push_awaited(alloc, out, core, act)?;
-            push_registrations(alloc, out, core, held, condition, act)
+            waits.push_awaited(alloc, out, core, act)?;
+            push_registrations(alloc, out, core, waits, condition, act)
         }
     }
 }
@@ -239,18 +174,25 @@ fn push_act(
     out: &mut Vec<u8>,
     places: &Places<'_>,
     core: &Core<'_>,
-    held: &[Piece],
+    waits: &Waits,
     act: Act,
 ) -> Result<(), AllocError>
     requires act { act < length core.now.world.activities }
-    requires held { held.now ≡ pieces_below (held_words core.now.world)
-        (length core.now.world.clocks) }
+    requires waits { AreWaitsOf core.now.world waits.now }
     ensures { OnOk result (out.new.items ≡ out.old.items
         ++ act_line places.now core.now.module_run core.now.world act) }
 {
     let number = act.0;
     push_text(out, format!(in alloc; "act {number}")?.as_str())?;
-    push_words(alloc, out, places, core, held, condition_of(core, act), act)?;
+    push_words(
+        alloc,
+        out,
+        places,
+        core,
+        waits,
+        condition_of(core, act),
+        act,
+    )?;
     push_text(out, "\n")
 }
 
@@ -265,9 +207,9 @@ pub(crate) fn push_acts(
         ++ each_below (act_line places.now core.now.module_run core.now.world)
         (length core.now.world.activities)) }
 {
-    let held = held_pieces(alloc, core)?;
+    let waits = Waits::of(alloc, core)?;
     for act in 0..core.activities() {
-        push_act(alloc, out, places, core, &held, Act(act))?;
+        push_act(alloc, out, places, core, &waits, Act(act))?;
     }
     Ok(())
 }

@@ -2,10 +2,12 @@
 
 ghost use Rattle.std.specs.Prelude.{◌≡◌, [], ◌<◌, ◌++◌, length, slice_index_or, IfOk, OnOk};
 ghost use Rattle.xk_types.specs.Step.{is_pending};
+ghost use Rattle.xk_show_where.specs.Excerpts.{excerpt_of};
 ghost use Rattle.xk_show_where.specs.Pieces.{pieces_below};
 ghost use Rattle.xk_show_where.specs.Where.{held_words, holders_of, standing_on};
 
-use crate::texts::{push_listed, push_text};
+use crate::excerpts::Excerpt;
+use crate::texts::push_text;
 use std::alloc::{AllocError, Global};
 use std::marker::Model;
 use xk_core::Core;
@@ -62,21 +64,21 @@ fn is_pending(standing: Standing) -> bool
 }
 
 /// Who holds a clock back.
-fn holders_of(alloc: Global, core: &Core<'_>, clock: ClockId) -> Result<Vec<u32>, AllocError>
+#[tactic(auto, using(crate::proofs::ExcerptLemmas::excerpt_next, crate::proofs::ExcerptLemmas::few_enough))]
+fn holders_of(alloc: Global, core: &Core<'_>, clock: ClockId) -> Result<Excerpt, AllocError>
     requires { clock < length core.now.world.clocks }
-    ensures { IfOk result (λ v. v.items ≡ holders_of core.now.world clock) }
+    ensures { IfOk result (λ e. e ≡ excerpt_of (holders_of core.now.world clock)) }
 {
-    let mut acts = Vec::new(alloc);
+    let mut holders = Excerpt::new(alloc);
     for act in 0..core.activities() {
-        if is_pending(standing_on(core, Act(act), clock)) {
-            acts.push(act)?;
-        }
+        let holds = is_pending(standing_on(core, Act(act), clock));
+        holders.note(act, holds)?;
     }
-    Ok(acts)
+    Ok(holders)
 }
 
 /// The same in words: ` held by 2 3`.
-#[tactic(auto, unfolding(crate::specs::Where::held_words))]
+#[tactic(auto, unfolding(crate::specs::Where::held_words, crate::specs::Where::listed))]
 fn held_words(alloc: Global, core: &Core<'_>, clock: ClockId) -> Result<Piece, AllocError>
     requires { clock < length core.now.world.clocks }
     ensures { IfOk result (λ p. p ≡ held_words core.now.world clock) }
@@ -84,7 +86,7 @@ fn held_words(alloc: Global, core: &Core<'_>, clock: ClockId) -> Result<Piece, A
     let holders = holders_of(alloc, core, clock)?;
     let mut bytes = Vec::new(alloc);
     push_text(&mut bytes, " held by")?;
-    push_listed(alloc, &mut bytes, &holders)?;
+    holders.push_to(alloc, &mut bytes)?;
     Ok(Piece { bytes })
 }
 

@@ -2,12 +2,15 @@
 #![tactic(auto)]
 
 mod acts;
+mod awaited;
 mod condition;
+mod excerpts;
 mod holders;
 pub mod laws;
 mod progress;
 mod standings;
 mod texts;
+mod waits;
 
 pub use condition::Condition;
 pub use progress::Stop;
