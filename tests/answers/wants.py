@@ -377,7 +377,7 @@ class Calls:
             ("1,500 activities", adds, to_order(1_501, 1_500, 0)),
             ("133,000 accesses", accesses, to_order(2, 133_000, 0)),
             ("133,000 advances", advances, to_order(2, 133_000, 0)),
-            ("76,000 races", places, to_order(21, 400, 76_000)),
+            ("more races than are printed", places, to_order(21, 400, 10_400)),
         ):
             yield self.logged(name, text)
             yield self.on_log(["races"], name, text, most)

@@ -18,6 +18,8 @@ ACCESSES = ("Got", "Put", "Added")
 # A pair of these is no race.
 PEACEFUL = ("Got", "Added")
 IN_ORDER = "prints in one order\n"
+# So many races are shown at most.
+SHOWN = 10_000
 
 
 @dataclass
@@ -139,7 +141,8 @@ def races(program: Program, played: Played) -> str:
         f"race shared {number}: {access(first)}, {access(second)}\n" for number, first, second in found(played, past)
     ]
     if lines:
-        return "".join(lines) + f"races {len(lines)}\n" + "of this run alone\n"
+        count = f"{len(lines)}" if len(lines) <= SHOWN else f"{SHOWN} and more"
+        return "".join(lines[:SHOWN]) + f"races {count}\n" + "of this run alone\n"
     prints = print_words(program, played, past)
     order = " in this order" if prints == IN_ORDER else ""
     return f"races 0\n{prints}every schedule prints these numbers{order}\n"

@@ -4,6 +4,7 @@ pub mod OrderLemmas
 pub mod KnowledgeLemmas
 pub mod SightLemmas
 pub mod RaceListLemmas
+pub mod ShownLemmas
 pub mod PlaceListLemmas
 pub mod LatestLemmas
 pub mod ToldPlaceLemmas

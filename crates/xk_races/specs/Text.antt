@@ -1,5 +1,6 @@
 -- What is told of the races of a run. This project's own.
-use Rattle.std.specs.Prelude.{ℕ, ℤ, List, [], ◌∷◌, ◌++◌, length, flat_map, Option, Some, None, codes, decimal}
+use Rattle.std.specs.Prelude.{◌≡◌, ℕ, suc, ℤ, nat_le, List, [], ◌∷◌, ◌++◌, length, take, flat_map, codes, decimal, if◌then◌else◌}
+use Rattle.std.specs.Prelude.{Option, Some, None}
 use Rattle.xk_types.specs.declared.world.Entry.{Entry}
 use Rattle.xk_types.specs.Code.{ModuleValue}
 use Rattle.xk_show_events.specs.declared.steps.RunStep.{RunStep}
@@ -29,8 +30,15 @@ abbrev pub print_line_if_free : PlacesValue → List Race → Option Gap → Lis
 print_line_if_free p [] g = print_line p g
 print_line_if_free p (r ∷ rs) g = []
 
+-- so many races are shown at most, the first ones
+unfoldable pub most_shown : ℕ
+most_shown = 10000
+
+-- how many races there are, or that there are more than are shown
 unfoldable pub count_line : ℕ → List ℕ
-count_line n = codes "races " ++ (decimal n ++ codes "\n")
+count_line n =
+    if nat_le n most_shown then codes "races " ++ (decimal n ++ codes "\n")
+    else codes "races " ++ (decimal most_shown ++ codes " and more\n")
 
 -- Of which runs it holds: where there is no race, this one speaks for all (`one_speaks_for_all` of `xk_law_races`).
 abbrev pub scope_line : List Race → Option Gap → List ℕ
@@ -39,8 +47,14 @@ scope_line [] (Some g) = codes "every schedule prints these numbers\n"
 scope_line (r ∷ rs) g = codes "of this run alone\n"
 
 abbrev pub text_by : PlacesValue → List Race → Option Gap → List ℕ
-text_by p rs g = ((flat_map (race_line p) rs ++ count_line (length rs)) ++ print_line_if_free p rs g) ++ scope_line rs g
+text_by p rs g = ((flat_map (race_line p) (take most_shown rs) ++ count_line (length rs)) ++ print_line_if_free p rs g) ++ scope_line rs g
 
 -- what is told of the run that a log stands for
 abbrev pub races_text : PlacesValue → ModuleValue → List ℤ → List Entry → List ℕ
 races_text p m args log = text_by p (races_in (sights_of_run m args log)) (gap_in (sights_of_run m args log))
+
+-- ---- where there are more races than are shown
+
+-- The same is told of these races as of all: they are as many as are shown, and one more, if there are so many.
+abbrev pub AreEnough : List Race → List Race → Type 0
+AreEnough rs all = take (suc most_shown) rs ≡ take (suc most_shown) all

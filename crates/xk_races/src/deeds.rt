@@ -255,22 +255,15 @@ fn cell_of(instr: &Instr) -> u32
     }
 }
 
-/// The same of the instruction at a place.
-fn cell_in(code: &[Instr], place: u32) -> u32
-    ensures { result ≡ cell_of (slice_get code.now place) }
-{
-    match code.get(place as usize) {
-        Some(instr) => cell_of(instr),
-        None => 0,
-    }
-}
-
 /// Which shared number a step had to do with.
 fn cell_at(program: &Module, step: &RunStep) -> u32
     ensures { result ≡ cell_at program.now step.now }
 {
     match program.units().get(step.unit as usize) {
-        Some(unit) => cell_in(&unit.code, step.place),
+        Some(unit) => match unit.code.get(step.place as usize) {
+            Some(instr) => cell_of(instr),
+            None => 0,
+        },
         None => 0,
     }
 }

@@ -1,9 +1,10 @@
 //! Pairs of steps that nothing but the schedule puts in order.
 
-ghost use Rattle.std.specs.Prelude.{◌≡◌, [], slice_get, if◌then◌else◌, IfOk, OnOk};
+ghost use Rattle.std.specs.Prelude.{◌≡◌, slice_get, IfOk, OnOk};
 ghost use Rattle.std.specs.Option.{option_to_list};
 ghost use Rattle.xk_races.specs.Accesses.{sights_at};
-ghost use Rattle.xk_races.specs.Races.{cell_in, clash, gap_in, have_one_number, is_print, is_race, race, races_in, with_race, with_races_of};
+ghost use Rattle.xk_races.specs.Races.{cell_in, clash, gap_in, have_one_number, is_print, is_race, races_in, with_races_of};
+ghost use Rattle.xk_races.specs.Text.{AreEnough};
 
 use crate::accesses::take;
 use crate::deeds::Part;
@@ -71,21 +72,6 @@ fn is_race(x: &Sight, y: &Sight) -> bool
         && !comes_before(x, y)
 }
 
-/// Adds two accesses, if they are a race.
-fn push_if_race(list: &mut RaceList, x: &Sight, y: &Sight) -> Result<(), AllocError>
-    ensures { OnOk result (list.new ≡ (if is_race x.now y.now
-        then with_race (race x.now y.now) list.old else list.old)) }
-{
-    if is_race(x, y) {
-        list.push(Race {
-            cell: cell_in(y.deed.part),
-            first: x.deed.step,
-            second: y.deed.step,
-        })?;
-    }
-    Ok(())
-}
-
 /// Adds the race of an access with the earlier one at a position, if there is one.
 fn push_race_at(
     list: &mut RaceList,
@@ -97,7 +83,13 @@ fn push_race_at(
         (option_to_list (slice_get earlier.now position)) list.old) }
 {
     if let Some(x) = earlier.get(position) {
-        push_if_race(list, x, y)?;
+        if is_race(x, y) {
+            list.push(Race {
+                cell: cell_in(y.deed.part),
+                first: x.deed.step,
+                second: y.deed.step,
+            })?;
+        }
     }
     Ok(())
 }
@@ -118,13 +110,16 @@ pub fn push_races_at(
     Ok(())
 }
 
-/// The races among these.
+/// The races among these, but none that are found behind more than are shown.
 pub fn races_in(alloc: Global, sights: &[Sight]) -> Result<Vec<Race>, AllocError>
-    ensures { IfOk result (λ v. v.items ≡ races_in sights.now) }
+    ensures { IfOk result (λ v. AreEnough v.items (races_in sights.now)) }
 {
     let mut list = RaceList::new(alloc);
     let mut cells = Vec::new(alloc);
     for (i, y) in sights.iter().enumerate() {
+        if list.is_long() {
+            return Ok(list.into_races());
+        }
         take(alloc, &mut cells, &mut list, &sights[..i], y)?;
     }
     Ok(list.into_races())

@@ -1,11 +1,13 @@
 //! Races that are told, each two places once.
 
-ghost use Rattle.std.specs.Prelude.{◌≡◌, [], OnOk};
+ghost use Rattle.std.specs.Prelude.{◌≡◌, [], length, nat_lt, OnOk};
 ghost use Rattle.std.specs.List.{list_any};
 ghost use Rattle.xk_races.specs.Races.{have_same_places, with_race};
+ghost use Rattle.xk_races.specs.Text.{most_shown};
 ghost use Rattle.xk_races.specs.ToldPlaces.{is_told, key, key_back, text_place};
 
 use crate::pairs::Race;
+use crate::text::most_shown;
 use std::alloc::{AllocError, Global};
 use std::collections::BTreeSet;
 use std::marker::Model;
@@ -56,6 +58,7 @@ pub struct RaceList {
 impl Model for RaceList {
     ghost use Rattle.std.specs.Prelude.{List};
     ghost use Rattle.xk_races.specs.declared.pairs.Race.{Race as RaceValue};
+    ghost use Rattle.xk_races.specs.Text.{most_shown};
     ghost use Rattle.xk_races.specs.ToldPlaces.{AreTold};
 
     ghost Value = { List RaceValue };
@@ -81,6 +84,13 @@ impl RaceList {
         ensures { result ≡ list_any (have_same_places race.now) self.now }
     {
         is_told(&self.told, race)
+    }
+
+    /// Whether there are more races than are shown.
+    pub fn is_long(&self) -> bool
+        ensures { result ≡ nat_lt most_shown (length self.now) }
+    {
+        self.races.len() > most_shown()
     }
 
     /// Adds a race, unless there is one of the same places.

@@ -41,10 +41,11 @@ fn races(alloc: Global, places: &Places<'_>, ended: &Ended<'_>) -> Result<RaceRe
     })
 }
 
-/// The races of a run of a source text's module, a line each, as `race shared 1: step 9 act 1 at 13:9 write, step 19 act 2 at 18:9 read`: two accesses
-/// of one shared number, not both reads and not both additions, neither of which had to come before the other. Of each two places in the text
-/// the first such pair of the run is told. Where there is none, it is told whether the prints are in one order, and that every schedule prints
-/// these numbers; else nothing is said of other runs.
+/// The races of a run of a source text's module, a line each, as `race shared 1: step 9 act 1 at 13:9 write, step
+/// 19 act 2 at 18:9 read`: two accesses of one shared number, not both reads and not both additions, neither of
+/// which had to come before the other. Of each two places in the text the first such pair of the run is told, and
+/// of all pairs the first 10,000. Where there is none, it is told whether the prints are in one order, and that
+/// every schedule prints these numbers; else nothing is said of other runs.
 /// It takes time in proportion to the deeds of the run (its steps that others see, those of clocks counted once for each clock) times its
 /// activities. For an access that is in a race there is, besides, time in proportion to how many activities access its shared number at how many
 /// places of the text, and for each of these places once to how often that shared number is accessed; each look whether two places are told

@@ -1,6 +1,6 @@
 //! Rows of numbers, in which all that isn't there is 0.
 
-ghost use Rattle.std.specs.Prelude.{◌≡◌, ℕ, [], suc, ◌-◌, ◌++◌, length, max, replicate, slice_set, IfOk, OnOk};
+ghost use Rattle.std.specs.Prelude.{◌≡◌, ℕ, [], suc, ◌-◌, ◌++◌, length, replicate, slice_set, IfOk, OnOk};
 ghost use Rattle.xk_races.specs.Lists.{joined, number_at, row_at, with_at};
 ghost use Rattle.xk_races.specs.Knowledge.{told_to};
 
@@ -20,13 +20,6 @@ impl Model for Row {
     ghost Value = { List ℕ };
 
     ghost view = { λ r. r.numbers.items };
-}
-
-/// The greater one of two numbers.
-fn greater(a: usize, b: usize) -> usize
-    ensures { result ≡ max a b }
-{
-    a.max(b)
 }
 
 /// Number k of a row.
@@ -74,8 +67,8 @@ fn joined(alloc: Global, row: &[usize], other: &[usize]) -> Result<Row, AllocErr
     ensures { IfOk result (λ r. r ≡ joined row.now other.now) }
 {
     let mut numbers = Vec::new(alloc);
-    for k in 0..greater(row.len(), other.len()) {
-        numbers.push(greater(number_at(row, k), number_at(other, k)))?;
+    for k in 0..row.len().max(other.len()) {
+        numbers.push(number_at(row, k).max(number_at(other, k)))?;
     }
     Ok(Row { numbers })
 }

@@ -1,7 +1,7 @@
 //! What is told of the races of a run.
 
 ghost use Rattle.std.specs.Prelude.{◌≡◌, ◌++◌, flat_map, length, IfOk, OnOk, string_bytes};
-ghost use Rattle.xk_races.specs.Text.{access_words, count_line, print_line, print_line_if_free, race_line, scope_line, step_words, text_by};
+ghost use Rattle.xk_races.specs.Text.{access_words, count_line, most_shown, print_line, print_line_if_free, race_line, scope_line, step_words, text_by};
 
 use crate::pairs::{Gap, Race};
 use std::alloc::{AllocError, Global};
@@ -40,13 +40,6 @@ fn race_line(alloc: Global, places: &Places<'_>, race: &Race) -> Result<String, 
     format!(in alloc; "race shared {cell}: {first}, {second}\n")
 }
 
-/// Adds a text.
-fn put(out: &mut Vec<u8>, text: &str) -> Result<(), AllocError>
-    ensures { OnOk result (out.new.items ≡ out.old.items ++ text.now) }
-{
-    out.extend_from_slice(text.as_bytes())
-}
-
 /// The lines of races.
 fn race_lines(alloc: Global, places: &Places<'_>, races: &[Race]) -> Result<Vec<u8>, AllocError>
     ensures { IfOk result (λ v. v.items ≡ flat_map (race_line places.now) races.now) }
@@ -54,16 +47,28 @@ fn race_lines(alloc: Global, places: &Places<'_>, races: &[Race]) -> Result<Vec<
     let mut out = Vec::new(alloc);
     for race in races {
         let line = race_line(alloc, places, race)?;
-        put(&mut out, line.as_str())?;
+        out.extend_from_slice(line.as_bytes())?;
     }
     Ok(out)
 }
 
-/// How many races there are.
+/// So many races are shown at most.
+#[tactic(auto, unfolding(crate::specs::Text::most_shown))]
+pub(crate) fn most_shown() -> usize
+    ensures { result ≡ most_shown }
+{
+    10_000
+}
+
+/// How many races there are, or that there are more than are shown.
 #[tactic(auto, unfolding(crate::specs::Text::count_line))]
 fn count_line(alloc: Global, count: usize) -> Result<String, AllocError>
     ensures { IfOk result (λ text. string_bytes text ≡ count_line count) }
 {
+    let most = most_shown();
+    if count > most {
+        return format!(in alloc; "races {most} and more\n");
+    }
     format!(in alloc; "races {count}\n")
 }
 
@@ -120,12 +125,12 @@ pub fn text_by(
 ) -> Result<Vec<u8>, AllocError>
     ensures { IfOk result (λ v. v.items ≡ text_by places.now races.now gap) }
 {
-    let mut out = race_lines(alloc, places, races)?;
-    put(&mut out, count_line(alloc, races.len())?.as_str())?;
-    put(
-        &mut out,
-        print_line_if_free(alloc, places, races, gap)?.as_str(),
-    )?;
-    put(&mut out, scope_line(races, gap))?;
+    let shown = &races[..races.len().min(most_shown())];
+    let mut out = race_lines(alloc, places, shown)?;
+    let count = count_line(alloc, races.len())?;
+    out.extend_from_slice(count.as_bytes())?;
+    let prints = print_line_if_free(alloc, places, races, gap)?;
+    out.extend_from_slice(prints.as_bytes())?;
+    out.extend_from_slice(scope_line(races, gap).as_bytes())?;
     Ok(out)
 }

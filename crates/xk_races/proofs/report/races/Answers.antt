@@ -1,0 +1,24 @@
+-- The races that are found tell what all of the run's tell.
+use Rattle.std.proofs.Common.{◌≡◌, ◌∙◌, List, ap, subst}
+use Rattle.xk_races.specs.declared.pairs.Race.{Race}
+use Rattle.xk_races.specs.Knowledge.{Sight, sights_of}
+use Rattle.xk_races.specs.Races.{gap_in, races_in, sights_of_run}
+use Rattle.xk_races.specs.Text.{AreEnough, text_by}
+use Rattle.xk_races.proofs.ShownLemmas.{told_alike}
+use Rattle.xk_races.proofs.report.races.Goals as goal
+
+pub returns-clause-text : goal.returns-clause-text
+returns-clause-text c =
+    let p = c.args.places.now in
+    let run = c.args.ended.now in
+    let seen = sights_of_run run.module.now run.core.world.arguments run.log.items in
+    let races = c.in_ok-races.races.items in
+    let sights : c.in_ok-sights.sights.items ≡ seen =
+    c.in_ok-sights.ensures ∙ ap sights_of (c.deref.ensures.value ∙ c.in_ok-deeds.ensures) in
+    let enough : AreEnough races (races_in seen) =
+    subst (λ (ss : List Sight). AreEnough races (races_in ss)) (c.deref-2.ensures.value ∙ sights) c.in_ok-races.ensures in
+    let gap : c.gap_in-gap.result ≡ gap_in seen = c.gap_in-gap.ensures ∙ ap gap_in (c.deref-3.ensures.value ∙ sights) in
+    c.in_ok-text.ensures
+    ∙ ap (λ (rs : List Race). text_by p rs c.gap_in-gap.result) c.deref-4.ensures.value
+    ∙ told_alike p races (races_in seen) c.gap_in-gap.result enough
+    ∙ ap (text_by p (races_in seen)) gap
