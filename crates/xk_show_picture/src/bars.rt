@@ -7,6 +7,7 @@ ghost use Rattle.xk_show_picture.specs.Picture.{bar_piece, clock_bar, drawn_bar,
 
 use crate::layout::bar_row;
 use crate::lines::{push_bands, push_lines, put};
+use crate::picture::Plan;
 use crate::shapes::{label, shape, stroke, top};
 use crate::sheet::{Sheet, labels, lane_left, middle};
 use std::alloc::{AllocError, Global};
@@ -35,26 +36,32 @@ fn ring_if(alloc: Global, there: bool, x: u64, y: u64) -> Result<String, AllocEr
     Ok(String::new(alloc))
 }
 
-/// What a bar shows in a lane: whether that is on it, and some lane before it and behind it.
+/// Which lanes are on a bar: whether one is, and some before it and behind it.
+#[derive(Clone, Copy)]
+struct OnBar {
+    here: bool,
+    before: bool,
+    behind: bool,
+}
+
+/// What a bar shows in a lane.
 fn bar_piece(
     alloc: Global,
     sheet: Sheet,
     row: u32,
     lane: u32,
-    here: bool,
-    before: bool,
-    behind: bool,
+    on: OnBar,
 ) -> Result<String, AllocError>
     ensures { IfOk result (λ t. string_bytes t
-        ≡ bar_piece sheet row lane here before behind) }
+        ≡ bar_piece sheet row lane on.here on.before on.behind) }
 {
     let y = top(row) + 12;
     let x = middle(sheet, lane);
-    let to_left = before && (here || behind);
-    let to_right = behind && (here || before);
+    let to_left = on.before && (on.here || on.behind);
+    let to_right = on.behind && (on.here || on.before);
     let left = stroke_if(alloc, to_left, lane_left(sheet, lane), y, sheet.half)?;
     let right = stroke_if(alloc, to_right, x, y, sheet.half)?;
-    let ring = ring_if(alloc, here, x, y)?;
+    let ring = ring_if(alloc, on.here, x, y)?;
     format!(in alloc; "{left}{right}{ring}")
 }
 
@@ -71,10 +78,12 @@ fn lane_strokes(
     ensures { IfOk result (λ t. string_bytes t
         ≡ lane_strokes sheet core.now.world clock row lane) }
 {
-    let here = is_on(core, clock, lane);
-    let before = any_below(core, clock, lane);
-    let behind = any_behind(core, clock, lane, sheet.lanes);
-    bar_piece(alloc, sheet, row, lane, here, before, behind)
+    let on = OnBar {
+        here: is_on(core, clock, lane),
+        before: any_below(core, clock, lane),
+        behind: any_behind(core, clock, lane, sheet.lanes),
+    };
+    bar_piece(alloc, sheet, row, lane, on)
 }
 
 /// Adds what the bar of a clock shows in all lanes.
@@ -97,26 +106,33 @@ fn push_bar_lanes(
     Ok(())
 }
 
-/// Adds the row of the bar of a clock that advanced in the last step, which this activity took.
+/// The bar of a clock that advanced in the last step: which clock, who took the step, and the row of the bar.
+#[derive(Clone, Copy)]
+struct Bar {
+    clock: ClockId,
+    act: u32,
+    row: u32,
+}
+
+/// Adds the row of a bar.
 #[tactic(auto, unfolding(crate::specs::Picture::drawn_bar))]
 fn push_bar_at(
     alloc: Global,
     out: &mut Vec<u8>,
     core: &Core<'_>,
     sheet: Sheet,
-    act: u32,
-    clock: ClockId,
-    row: u32,
+    bar: Bar,
 ) -> Result<(), AllocError>
-    requires { clock < length core.now.world.clocks }
+    requires { bar.clock < length core.now.world.clocks }
     ensures { OnOk result (out.new.items ≡ out.old.items
-        ++ drawn_bar sheet core.now.module_run core.now.world act clock row) }
+        ++ drawn_bar sheet core.now.module_run core.now.world bar.act bar.clock bar.row) }
 {
-    let words = bar_label(alloc, core, act, clock)?;
+    let row = bar.row;
+    let words = bar_label(alloc, core, bar.act, bar.clock)?;
     let text = label(alloc, labels(sheet), top(row) + 16, words.as_str())?;
     push_lines(alloc, out, core, sheet, row)?;
     push_bands(alloc, out, core, sheet, row)?;
-    push_bar_lanes(alloc, out, core, sheet, clock, row)?;
+    push_bar_lanes(alloc, out, core, sheet, bar.clock, row)?;
     put(out, text.as_str())
 }
 
@@ -125,18 +141,21 @@ fn push_bars_of(
     alloc: Global,
     out: &mut Vec<u8>,
     core: &Core<'_>,
-    sheet: Sheet,
-    rows: &[u64],
+    plan: &Plan,
     act: u32,
     clocks: &[u32],
 ) -> Result<(), AllocError>
     requires { clocks.now ≡ advanced_now core.now.world }
-    ensures { OnOk result (out.new.items ≡ out.old.items
-        ++ flat_map (clock_bar sheet rows.now core.now.module_run core.now.world act) clocks.now) }
+    ensures { OnOk result (out.new.items ≡ out.old.items ++ flat_map (clock_bar plan.now.sheet
+        plan.now.rows.items core.now.module_run core.now.world act) clocks.now) }
 {
     for clock in clocks {
-        let row = bar_row(rows, core, clocks, *clock);
-        push_bar_at(alloc, out, core, sheet, act, ClockId(*clock), row)?;
+        let bar = Bar {
+            clock: ClockId(*clock),
+            act,
+            row: bar_row(&plan.rows, core, clocks, *clock),
+        };
+        push_bar_at(alloc, out, core, plan.sheet, bar)?;
     }
     Ok(())
 }
@@ -146,14 +165,13 @@ pub(crate) fn push_bars(
     alloc: Global,
     out: &mut Vec<u8>,
     core: &Core<'_>,
-    sheet: Sheet,
-    rows: &[u64],
+    plan: &Plan,
     act: u32,
 ) -> Result<(), AllocError>
-    ensures { OnOk result (out.new.items ≡ out.old.items
-        ++ flat_map (clock_bar sheet rows.now core.now.module_run core.now.world act)
+    ensures { OnOk result (out.new.items ≡ out.old.items ++ flat_map (clock_bar plan.now.sheet
+        plan.now.rows.items core.now.module_run core.now.world act)
         (advanced_now core.now.world)) }
 {
     let clocks = advanced(alloc, core)?;
-    push_bars_of(alloc, out, core, sheet, rows, act, &clocks)
+    push_bars_of(alloc, out, core, plan, act, &clocks)
 }

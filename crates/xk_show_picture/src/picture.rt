@@ -31,16 +31,15 @@ fn push_row_and_bars(
     alloc: Global,
     out: &mut Vec<u8>,
     core: &Core<'_>,
-    sheet: Sheet,
-    rows: &[u64],
-    places: &Places<'_>,
+    teller: &PictureTeller<'_, '_>,
     step: &RunStep,
 ) -> Result<(), AllocError>
     ensures { OnOk result (out.new.items ≡ out.old.items ++ rows_of_step
-        sheet rows.now places.now core.now.module_run core.now.world step.now) }
+        teller.now.plan.now.sheet teller.now.plan.now.rows.items teller.now.places.now
+        core.now.module_run core.now.world step.now) }
 {
-    push_row(alloc, out, core, sheet, rows, places, step)?;
-    push_bars(alloc, out, core, sheet, rows, step.act)
+    push_row(alloc, out, core, teller, step)?;
+    push_bars(alloc, out, core, teller.plan, step.act)
 }
 
 /// Tells of the steps that are shown, by their rows.
@@ -61,9 +60,8 @@ impl Describe<u8> for PictureTeller<'_, '_> {
         core: &Core<'_>,
         step: &RunStep,
     ) -> Result<(), AllocError> {
-        let plan = self.plan;
-        if is_shown(core, plan.sheet.window, step.event) {
-            push_row_and_bars(alloc, out, core, plan.sheet, &plan.rows, self.places, step)?;
+        if is_shown(core, self.plan.sheet.window, step.event) {
+            push_row_and_bars(alloc, out, core, self, step)?;
         }
         Ok(())
     }

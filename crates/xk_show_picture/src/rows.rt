@@ -8,6 +8,7 @@ ghost use Rattle.xk_show_picture.specs.Picture.{boxed, drawn_row, kind, start_by
 
 use crate::layout::row_of;
 use crate::lines::{push_bands, push_other_lines, put};
+use crate::picture::PictureTeller;
 use crate::shapes::{arrow, box_frame, box_head, box_words, front, top};
 use crate::sheet::{Sheet, lane_left, middle};
 use std::alloc::{AllocError, Global};
@@ -107,17 +108,18 @@ fn push_row_at(
     alloc: Global,
     out: &mut Vec<u8>,
     core: &Core<'_>,
-    sheet: Sheet,
-    places: &Places<'_>,
+    teller: &PictureTeller<'_, '_>,
     step: &RunStep,
     row: u32,
 ) -> Result<(), AllocError>
     ensures { OnOk result (out.new.items ≡ out.old.items
-        ++ drawn_row sheet places.now core.now.module_run core.now.world step.now row) }
+        ++ drawn_row teller.now.plan.now.sheet teller.now.places.now
+        core.now.module_run core.now.world step.now row) }
 {
+    let sheet = teller.plan.sheet;
     push_other_lines(alloc, out, core, sheet, step, row)?;
     push_bands(alloc, out, core, sheet, row)?;
-    push_step_itself(alloc, out, sheet, places, step, row)
+    push_step_itself(alloc, out, sheet, teller.places, step, row)
 }
 
 /// Adds the row of a step that led to the core, if others can see it.
@@ -125,24 +127,16 @@ pub(crate) fn push_row(
     alloc: Global,
     out: &mut Vec<u8>,
     core: &Core<'_>,
-    sheet: Sheet,
-    rows: &[u64],
-    places: &Places<'_>,
+    teller: &PictureTeller<'_, '_>,
     step: &RunStep,
 ) -> Result<(), AllocError>
     ensures { OnOk result (out.new.items ≡ out.old.items
-        ++ step_row sheet rows.now places.now core.now.module_run core.now.world step.now) }
+        ++ step_row teller.now.plan.now.sheet teller.now.plan.now.rows.items
+        teller.now.places.now core.now.module_run core.now.world step.now) }
 {
     if !is_seen(step.event) {
         return Ok(());
     }
-    push_row_at(
-        alloc,
-        out,
-        core,
-        sheet,
-        places,
-        step,
-        row_of(rows, step.number),
-    )
+    let row = row_of(&teller.plan.rows, step.number);
+    push_row_at(alloc, out, core, teller, step, row)
 }
