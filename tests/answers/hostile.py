@@ -37,6 +37,8 @@ TOO_LONG = """/dev/zero: F4 TooLong: the text has more than 1048576 bytes
    = usual repair: write a shorter one: a method is written once, however often it is called
 """
 OVER_FILE = "x10clock: --log would write over FILE\n"
+OVER_OUTPUT = "x10clock: --log would write over standard output\n"
+OVER_ERROR = "x10clock: --log would write over standard error\n"
 MANY = """def main() {
     val c = Clock.make();
     for (i in 1..9000) async clocked(c) { Clock.advanceAll(); }
@@ -152,6 +154,38 @@ def over_file(tried: Tried) -> None:
     tried.answers("exec $x run --log /dev/null /dev/null", 1, err="x10clock: F9 NoMain at 0\n")
     tried.answers("exec $x run --log other kept.x10", 0, PRINTED)
     tried.wants("another file", (tried.folder / "other").read_text(), LOG)
+
+
+def over_streams(tried: Tried) -> None:
+    """Nor is a log written over what a standard stream writes to, where that is a file; to a pipe or a device it may
+    be."""
+    os.symlink("same", tried.folder / "name")
+    for command in ("run", "outcomes", "run --order ask"):
+        for path in ("same", "name", "/dev/stdout", "/dev/fd/1"):
+            tried.file("same", "what was there before\n")
+            tried.answers(f"exec $x {command} --log {path} in-step.x10 >> same", 2, err=OVER_OUTPUT)
+            tried.wants("what was there before", (tried.folder / "same").read_text(), "what was there before\n")
+        for path in ("same", "name", "/dev/stderr", "/dev/fd/2"):
+            tried.file("same", "")
+            tried.answers(f"exec $x {command} --log {path} in-step.x10 2>> same", 2)
+            tried.wants("standard error", (tried.folder / "same").read_text(), OVER_ERROR)
+    tried.answers("exec $x run --log /dev/stdout in-step.x10", 0, PRINTED + LOG)
+    tried.answers("exec $x run --log /dev/stderr in-step.x10", 0, PRINTED, LOG)
+    tried.answers("exec $x run --log /dev/null in-step.x10 > /dev/null", 0)
+
+
+def shared_path(tried: Tried) -> None:
+    """A log that is longer than what was written, for something else writes there, too, is a failure."""
+    tried.calls += 1
+    first, path = "act 0 at 2:9\nwho steps?\n", tried.folder / "shared"
+    words = [tried.program, "run", "--order", "ask", "--log", path, "in-step.x10"]
+    with subprocess.Popen(
+        words, stdin=subprocess.PIPE, stdout=subprocess.PIPE, stderr=subprocess.PIPE, cwd=tried.folder, text=True
+    ) as one:
+        told = "".join(one.stderr.readline() for _ in range(2))
+        tried.answers("exec $x run --log shared in-step.x10", 0, PRINTED)
+        out, err = one.communicate("", timeout=harness.SECONDS)
+        tried.wants("one that writes less", (told + err, out, one.returncode), (first + DEVICE, "stopped steps 0\n", 5))
 
 
 # Where input comes from.
@@ -390,6 +424,8 @@ def all_of_them() -> Iterator[Callable[[Tried], None]]:
         full_devices,
         streams,
         over_file,
+        over_streams,
+        shared_path,
         strange_files,
         asked,
         strange_lists,

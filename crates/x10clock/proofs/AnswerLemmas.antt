@@ -1,18 +1,20 @@
 -- An answer on open devices, told where less is known of them.
-use Rattle.std.proofs.Common.{◌≡◌, ◌≢◌, ℕ, ℤ, Bool, true, false, if◌then◌else◌, List, [], Option, None, Some, inl, inr}
+use Rattle.std.proofs.Common.{◌≡◌, ◌≢◌, ℕ, ℤ, Bool, true, false, if◌then◌else◌, List, [], Option, None, Some, codes, inl, inr}
 use Rattle.std.specs.Prelude.{◌⊎◌, IfSome, is_some}
 use Rattle.std.specs.Io.KnownBytes.{Appends}
 use Rattle.xk_cli.specs.declared.job.Form.{Form}
+use Rattle.xk_cli.specs.CommandLine.{asked_value}
+use Rattle.xk_cli.specs.Status.{status_words}
 use Rattle.xk_cli.specs.declared.job.Request.{Request}
 use Rattle.xk_cli.specs.declared.job.Request.TheVariants as request
 use Rattle.xk_serve.specs.Answer.{Task, reads_more, task_of}
 use Rattle.xk_program.specs.Bytes.{kept}
-use Rattle.xk_serve.specs.Devices.{IfKnown, read_of}
+use Rattle.xk_serve.specs.Devices.{Answered, IfKnown, Tells, read_of}
 use Rattle.xk_serve.proofs.ReplyLemmas.{of_known}
 use Rattle.xk_answers.proofs.LogLemmas.{of_each}
 use Rattle.xk_serve_ask.specs.AskedRun.{IsHandReply}
 use Rattle.xk_serve_ask.proofs.AskedRunLemmas.{unread_ends}
-use Rattle.x10clock.specs.Requests.{AnswersHand, AnswersTask, EndsIn, IsAnswered}
+use Rattle.x10clock.specs.Requests.{AnswersHand, AnswersTask, EndsIn, IsAnswered, IsAnsweredBySome, IsByHand, IsServed, IsToldOver, input_line}
 
 -- ---- a run by hand
 
@@ -128,6 +130,84 @@ unread (request.ByHand run) p i j s out out_new err err_new log log_new Told (in
     inl (of_each (AnswersHand run i j s out out_new err err_new log log_new) (AnswersHand run None None s out out_new err err_new log log_new) p
     (λ bytes answer memory device.
     hand_unread run.form (kept run.form bytes) run.arguments.items (is_some run.log) s i j out out_new err err_new log log_new (answer memory device)) h)
+
+-- ---- what is answered on some bytes
+
+-- whatever became of the log
+answered_unlogged : (t : Task) (bytes logged : List ℕ) (s : ℕ) (out out_new err err_new log log_new : Option (List ℕ))
+    → Answered t bytes logged s out out_new err err_new log log_new → Answered t bytes logged s out out_new err err_new None None
+answered_unlogged t bytes logged s out out_new err err_new log log_new a =
+    record { reply = a.reply; answers = a.answers; status_is = a.status_is; out_is = a.out_is; err_is = a.err_is; log_is = tt }
+
+pub some_unlogged : (r : Request) (p i j : Option (List ℕ)) (s : ℕ) (out out_new err err_new log log_new : Option (List ℕ))
+    → IsAnsweredBySome r p i j s out out_new err err_new log log_new → IsAnsweredBySome r p i j s out out_new err err_new None None
+some_unlogged (request.Job job) p i j s out out_new err err_new log log_new h =
+    let t = task_of job in
+    record {
+      bytes = h.bytes;
+      are = h.are;
+      answered = of_each (λ logged. Answered t h.bytes logged s out out_new err err_new log log_new)
+          (λ logged. Answered t h.bytes logged s out out_new err err_new None None) (read_of t i)
+          (λ logged a. answered_unlogged t h.bytes logged s out out_new err err_new log log_new a) h.answered;
+    }
+some_unlogged (request.ByHand run) p i j s out out_new err err_new log log_new h = record {
+  bytes = h.bytes;
+  are = h.are;
+  reply = hand_unlogged run.form h.bytes run.arguments.items (is_some run.log) s i j out out_new err err_new log log_new h.reply;
+}
+
+-- whatever is known of what is read beside FILE
+pub some_unread : (r : Request) (p i j : Option (List ℕ)) (s : ℕ) (out out_new err err_new log log_new : Option (List ℕ)) (Told : Type 0)
+    → IsAnsweredBySome r p i j s out out_new err err_new log log_new ⊎ Told
+    → IsAnsweredBySome r p None None s out out_new err err_new log log_new ⊎ Told
+some_unread r p i j s out out_new err err_new log log_new Told (inr told) = inr told
+some_unread (request.Job job) p i j s out out_new err err_new log log_new Told (inl h) =
+    let t = task_of job in
+    inl (record {
+      bytes = h.bytes;
+      are = h.are;
+      answered = without (reads_more t.doing) i (λ logged. Answered t h.bytes logged s out out_new err err_new log log_new) h.answered;
+    })
+some_unread (request.ByHand run) p i j s out out_new err err_new log log_new Told (inl h) = inl (record {
+  bytes = h.bytes;
+  are = h.are;
+  reply = hand_unread run.form h.bytes run.arguments.items (is_some run.log) s i j out out_new err err_new log log_new h.reply;
+})
+
+-- and of FILE
+some_unknown : (r : Request) (p i j : Option (List ℕ)) (s : ℕ) (out out_new err err_new log log_new : Option (List ℕ))
+    → IsAnsweredBySome r p i j s out out_new err err_new log log_new → IsAnsweredBySome r None i j s out out_new err err_new log log_new
+some_unknown (request.Job job) p i j s out out_new err err_new log log_new h = record { bytes = h.bytes; are = tt; answered = h.answered }
+some_unknown (request.ByHand run) p i j s out out_new err err_new log log_new h = record { bytes = h.bytes; are = tt; reply = h.reply }
+
+-- where no file was opened there is no such answer
+pub none_opened : (s : ℕ) (A : Type 0) → (s ≡ 4) ⊎ (s ≡ 5) → s ≢ 4 → s ≢ 5 → A
+none_opened s A e memory device = absurd (not_both s e memory device)
+
+-- ---- what is asked for is served
+
+pub served : (r : Request) (p : Option (List ℕ)) (s : ℕ) (out out_new err err_new : Option (List ℕ)) (e g : ℕ)
+    → (s ≢ 4 → s ≢ 5 → IsAnsweredBySome r p None None s out out_new err err_new None None
+    ⊎ IsToldOver r err err_new e g s)
+    → IsServed r s out out_new err err_new e g
+served r p s out out_new err err_new e g h memory device = by (h memory device)
+  where
+    by : IsAnsweredBySome r p None None s out out_new err err_new None None ⊎ IsToldOver r err err_new e g s
+        → IsAnsweredBySome r None None None s out out_new err err_new None None
+        ⊎ (IsToldOver r err err_new e g s
+        ⊎ (IsByHand r × ((asked_value r).file ≡ codes "-") × Tells input_line status_words err err_new e g s))
+    by (inl a) = inl (some_unknown r p None None s out out_new err err_new None None a)
+    by (inr over) = inr (inl over)
+
+-- or FILE of a run by hand is standard input
+pub input_served : (r : Request) (s : ℕ) (out out_new err err_new : Option (List ℕ)) (e g : ℕ) → IsByHand r
+    → (asked_value r).file ≡ codes "-"
+    → Tells input_line status_words err err_new e g s → IsServed r s out out_new err err_new e g
+input_served r s out out_new err err_new e g hand file told memory device = inr (inr (hand, file, told))
+
+pub none_served : (r : Request) (s : ℕ) (out out_new err err_new : Option (List ℕ)) (e g : ℕ) → (s ≡ 4) ⊎ (s ≡ 5)
+    → IsServed r s out out_new err err_new e g
+none_served r s out out_new err err_new e g is memory device = absurd (not_both s is memory device)
 
 -- ---- the line that tells a fault
 

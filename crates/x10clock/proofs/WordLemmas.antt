@@ -1,19 +1,19 @@
 -- Words that were read are those that were given.
 use Rattle.std.proofs.Common.{◌≡◌, ℕ, ◌⊎◌, inl, inr, List, Option, None, Some, refl, subst}
 use Rattle.std.specs.Io.KnownBytes.{Appends}
-use Rattle.xk_cli.specs.CommandLine.{Asked, IsRefused, WithOrders, asked_value, crowds_in, excludes_in, faults_in, job_of, misplaces_in, strays_in}
+use Rattle.xk_cli.specs.CommandLine.{IsRefused, WithOrders, asked_value, crowds_in, excludes_in, faults_in, job_of, misplaces_in, strays_in}
 use Rattle.xk_cli.specs.declared.job.Request.{Request}
 use Rattle.xk_cli.specs.declared.job.Request.TheVariants as request
 use Rattle.xk_cli.specs.declared.words_fault.WordsFault.{WordsFault}
-use Rattle.x10clock.specs.CommandLine.{AreNoJob, AreUnderstood, AskForHand, AskForJob}
+use Rattle.x10clock.specs.CommandLine.{AreNoJob, AreUnderstood, AskFor, AskForHand}
 use Rattle.x10clock.specs.Requests.{EndsIn, IsLastLine}
 
--- they ask for a job
-pub asked : (found given : List (List ℕ)) (job : Asked) → found ≡ given → AreUnderstood found → WithOrders (λ names. job_of names found ≡ Some job)
-    → AskForJob given
-asked found given job e understood h =
-    let said = subst (λ words. WithOrders (λ names. job_of names words ≡ Some job)) e h in
-    (subst AreUnderstood e understood, (said.0, said.1, (job, said.2)))
+-- they ask for this
+pub asked : (r : Request) (found given : List (List ℕ)) (P : Request → Type 0) → found ≡ given → AreUnderstood found
+    → WithOrders (λ names. job_of names found ≡ Some (asked_value r)) → P r → AskFor given P
+asked r found given P e understood h served =
+    let said = subst (λ words. WithOrders (λ names. job_of names words ≡ Some (asked_value r))) e h in
+    (subst AreUnderstood e understood, (said.0, said.1, (r, said.2, served)))
 
 -- where somebody is asked, the line that tells a fault stands behind what is
 pub last_line : (r : Request) (found given : List (List ℕ)) (line : List ℕ) (old new : Option (List ℕ)) → found ≡ given → AreUnderstood found

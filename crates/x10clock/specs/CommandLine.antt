@@ -3,7 +3,8 @@ use Rattle.std.specs.Prelude.{◌≡◌, ◌⊎◌, ℕ, List, [], Option, Some,
 use Rattle.std.specs.IoError.{error_kind}
 use Rattle.std.specs.declared.io.Error.{Error}
 use Rattle.std.specs.declared.io.ErrorKind.TheVariants as kind
-use Rattle.xk_cli.specs.CommandLine.{Asked, ByHand, IsRefused, WithOrders, crowds_in, excludes_in, faults_in, job_of, misplaces_in, strays_in}
+use Rattle.xk_cli.specs.CommandLine.{Asked, ByHand, IsRefused, WithOrders, asked_value, crowds_in, excludes_in, faults_in, job_of, misplaces_in, strays_in}
+use Rattle.xk_cli.specs.declared.job.Request.{Request}
 use Rattle.xk_cli.specs.declared.words_fault.WordsFault.{WordsFault}
 use Rattle.xk_cli.specs.declared.words_fault.WordsFault.TheVariants as words
 
@@ -19,9 +20,9 @@ no_text_line = codes "x10clock: a word is not in UTF-8\n"
 abbrev pub AreUnderstood : List (List ℕ) → Type 0
 AreUnderstood given = WithOrders (λ names. faults_in names given ≡ [])
 
--- these words ask for a job
-abbrev pub AskForJob : List (List ℕ) → Type 0
-AskForJob given = AreUnderstood given × WithOrders (λ names. (job : Asked) × (job_of names given ≡ Some job))
+-- these words ask for this, of which that holds
+abbrev pub AskFor : List (List ℕ) → (Request → Type 0) → Type 0
+AskFor given P = AreUnderstood given × WithOrders (λ names. (r : Request) × (job_of names given ≡ Some (asked_value r)) × P r)
 
 -- they ask for a run by hand
 abbrev pub AskForHand : List (List ℕ) → Type 0
@@ -31,6 +32,6 @@ AskForHand given = AreUnderstood given × WithOrders (λ names. (job : Asked) ×
 abbrev pub AreNoJob : List (List ℕ) → WordsFault → Type 0
 AreNoJob given f = WithOrders (λ names. IsRefused (faults_in names given) (job_of names given) (excludes_in names given) (strays_in names given) (misplaces_in names given) (crowds_in names given) f)
 
--- words that ask for no job are told as that, for a reason that they have, or as want of memory
-abbrev pub AreTold : List (List ℕ) → (WordsFault → Type 0) → Type 0
-AreTold given Told = AskForJob given ⊎ (((f : WordsFault) × AreNoJob given f × Told f) ⊎ Told words.OutOfMemory)
+-- What words ask for is served so; words that ask for no job are told as that, for a reason that they have; or want of memory is told.
+abbrev pub AreTold : List (List ℕ) → (Request → Type 0) → (WordsFault → Type 0) → Type 0
+AreTold given Served Told = AskFor given Served ⊎ (((f : WordsFault) × AreNoJob given f × Told f) ⊎ Told words.OutOfMemory)

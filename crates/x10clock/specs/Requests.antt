@@ -1,20 +1,34 @@
 -- What the program does with what its words ask for, on open devices: a job is served, and a run by hand is played. This project's own.
-use Rattle.std.specs.Prelude.{◌≡◌, ◌≢◌, ℕ, List, ◌++◌, codes, true, false, Option, None, IfSome, is_some, option_map}
+use Rattle.std.specs.Prelude.{◌≡◌, ◌≢◌, ℕ, ◌⊎◌, List, ◌++◌, codes, true, false, Option, None, Some, Result, Ok, Err, IfSome, is_some, option_map}
 use Rattle.std.specs.Io.KnownBytes.{Appends}
-use Rattle.xk_cli.specs.Status.{status_device, status_memory}
+use Rattle.xk_cli.specs.Status.{status_device, status_memory, status_words}
+use Rattle.xk_cli.specs.CommandLine.{asked_value}
 use Rattle.xk_cli.specs.CommandFiles.{written_path}
 use Rattle.xk_cli.specs.declared.job.HandRun.{HandRun}
 use Rattle.xk_cli.specs.declared.job.Request.{Request}
 use Rattle.xk_cli.specs.declared.job.Request.TheVariants as request
 use Rattle.xk_serve.specs.Answer.{Task, reads_more, task_of}
 use Rattle.xk_program.specs.Bytes.{kept}
-use Rattle.xk_serve.specs.Devices.{Answered, ErrBegins, IfKnown, OutBegins}
-use Rattle.xk_serve_ask.specs.AskedRun.{BeginsAsking, EndsAsking, IsHandReply, OutBeginsRun}
+use Rattle.xk_serve.specs.Devices.{Answered, AnsweredBySome, ErrBegins, IfKnown, OutBegins, Tells}
+use Rattle.x10clock.specs.declared.files.Over.{Over}
+use Rattle.x10clock.specs.declared.files.Over.TheVariants as over
+use Rattle.xk_serve_ask.specs.AskedRun.{BeginsAsking, EndsAsking, IsHandReply, IsHandReplyOfSome, OutBeginsRun}
 
 -- where the log would be written over what is read: FILE, or the answers of a run by hand
-abbrev pub over_line : Request → List ℕ
-over_line (request.Job job) = codes "x10clock: --log would write over FILE\n"
-over_line (request.ByHand run) = codes "x10clock: --log would write over FILE or standard input\n"
+abbrev pub over_read_line : Request → List ℕ
+over_read_line (request.Job job) = codes "x10clock: --log would write over FILE\n"
+over_read_line (request.ByHand run) = codes "x10clock: --log would write over FILE or standard input\n"
+
+-- or over what standard output or standard error goes to
+abbrev pub over_line : Request → Over → List ℕ
+over_line r over.Read = over_read_line r
+over_line r over.Output = codes "x10clock: --log would write over standard output\n"
+over_line r over.Error = codes "x10clock: --log would write over standard error\n"
+
+-- what the log would be written over, if its file wasn't made for that
+abbrev pub what_over : {F : Type 0} → Result F Over → Option Over
+what_over (Ok file) = None
+what_over (Err what) = Some what
 
 -- ---- the log that is written
 
@@ -25,6 +39,11 @@ log_path (request.ByHand run) = option_map (λ path. path.now) run.log
 
 abbrev pub WritesLog : Request → Type 0
 WritesLog r = is_some (log_path r) ≡ true
+
+-- there is one, and it is told what it would be written over
+abbrev pub IsToldOver : Request → Option (List ℕ) → Option (List ℕ) → ℕ → ℕ → ℕ → Type 0
+IsToldOver r err_old err_new faults_old faults_new status =
+    WritesLog r × ((what : Over) × Tells (over_line r what) status_words err_old err_new faults_old faults_new status)
 
 -- ---- answers
 
@@ -48,6 +67,16 @@ IsAnswered (request.Job job) program in_old in_new status out_old out_new err_ol
     IfKnown (task_of job) program in_old (AnswersTask (task_of job) status out_old out_new err_old err_new log_old log_new)
 IsAnswered (request.ByHand run) program in_old in_new status out_old out_new err_old err_new log_old log_new =
     IfSome program (AnswersHand run in_old in_new status out_old out_new err_old err_new log_old log_new)
+
+-- Whatever is known of FILE, status and texts answer the job on some bytes of it, or are those of the run by hand of some.
+abbrev pub IsAnsweredBySome : Request → Option (List ℕ) → Option (List ℕ) → Option (List ℕ) → ℕ → Option (List ℕ) → Option (List ℕ)
+    → Option (List ℕ)
+    → Option (List ℕ) → Option (List ℕ) → Option (List ℕ) → Type 0
+IsAnsweredBySome (request.Job job) program in_old in_new status out_old out_new err_old err_new log_old log_new =
+    AnsweredBySome (task_of job) program in_old status out_old out_new err_old err_new log_old log_new
+IsAnsweredBySome (request.ByHand run) program in_old in_new status out_old out_new err_old err_new log_old log_new =
+    IsHandReplyOfSome run.form program run.arguments.items (is_some run.log) status in_old in_new out_old out_new err_old err_new log_old
+    log_new
 
 -- ---- where something fails
 
@@ -88,3 +117,15 @@ ReadsNoMore (request.ByHand run) = ⊥
 -- some text was written, and behind it this line
 abbrev pub IsLastLine : List ℕ → Option (List ℕ) → Option (List ℕ) → Type 0
 IsLastLine line old new = (said : List ℕ) × Appends old new (said ++ line)
+
+-- ---- what is asked for
+
+-- Where neither memory nor a device fails, status and texts answer what is asked for on some bytes of FILE, of which nothing is known
+-- before it is opened;
+-- or they tell what the log would be written over, or that FILE of a run by hand is standard input.
+abbrev pub IsServed : Request → ℕ → Option (List ℕ) → Option (List ℕ) → Option (List ℕ) → Option (List ℕ) → ℕ → ℕ → Type 0
+IsServed r status out_old out_new err_old err_new faults_old faults_new =
+    status ≢ status_memory → status ≢ status_device
+    → IsAnsweredBySome r None None None status out_old out_new err_old err_new None None
+    ⊎ (IsToldOver r err_old err_new faults_old faults_new status
+    ⊎ (IsByHand r × ((asked_value r).file ≡ codes "-") × Tells input_line status_words err_old err_new faults_old faults_new status))

@@ -1,8 +1,55 @@
 //! What the program asks of the files and streams that it is given, before it opens any.
 
-use std::fs::{Files, Metadata, OpenOptions, metadata};
-use std::io::{ErrorKind, Result};
+use std::fs::{Files, Metadata, OpenFile, OpenOptions, metadata};
+use std::io::{Error, ErrorKind, Result, Seek, Write};
 use std::os::unix::fs::MetadataExt;
+
+/// What a log would be written over.
+#[derive(Clone, Copy)]
+pub enum Over {
+    /// FILE, or what the answers of a run by hand are read from.
+    Read,
+    /// The file that standard output goes to.
+    Output,
+    /// The file that standard error goes to.
+    Error,
+}
+
+/// The file of a log, which nothing else is to write to: a write fails where the file is longer or shorter than what was
+/// written.
+#[derive(Drop)]
+pub struct LogFile<F> {
+    file: F,
+}
+
+impl<F: Write + Seek + OpenFile> LogFile<F> {
+    /// A file that was made or emptied, and to which nothing was written.
+    pub fn new(file: F) -> LogFile<F> {
+        LogFile { file }
+    }
+
+    /// Whether the file ends where the last write did. Only of one that holds its bytes this is asked.
+    fn is_alone(&mut self) -> Result<bool> {
+        let found = self.file.metadata()?;
+        Ok(!found.is_file() || self.file.stream_position()? == found.len())
+    }
+}
+
+impl<F: Write + Seek + OpenFile> Write for LogFile<F> {
+    /// Writes once, and looks at what the file has become.
+    fn write(&mut self, piece: &[u8]) -> Result<usize> {
+        let count = self.file.write(piece)?;
+        match self.is_alone() {
+            Ok(true) => Ok(count),
+            Ok(false) | Err(_) => Err(Error::from(ErrorKind::Other)),
+        }
+    }
+
+    /// Hands on what the file keeps back.
+    fn flush(&mut self) -> Result<()> {
+        self.file.flush()
+    }
+}
 
 /// Holds the places of the standard streams that the caller closed, as long as they are kept: so no file that is opened takes such a place, and what is
 /// written to standard output can't get into a log. To read from a closed standard input fails, and so does to write to the others. A place that can't

@@ -11,11 +11,11 @@ ghost use Rattle.xk_messages.specs.Lines.{memory_line};
 ghost use Rattle.xk_serve.specs.Devices.{Reports, Tells, TellsWords};
 ghost use Rattle.xk_program.specs.declared.fault.Fault.TheVariants as fault;
 ghost use Rattle.x10clock.specs.CommandLine.{AreTold, AskForHand, IsWantOfMemory, no_text_line};
-ghost use Rattle.x10clock.specs.Requests.{EndsIn, IsByHand, IsLastLine, ErrIsBegun, IsAnswered, OutIsBegun, ReadsNoMore, WritesLog, input_line, log_path, over_line};
+ghost use Rattle.x10clock.specs.Requests.{EndsIn, IsByHand, IsLastLine, ErrIsBegun, IsAnswered, IsAnsweredBySome, IsServed, IsToldOver, OutIsBegun, ReadsNoMore, input_line, log_path, over_line, over_read_line, what_over};
 
 mod files;
 
-use files::{hold_streams, is_same_file};
+use files::{LogFile, Over, hold_streams, is_same_file};
 use std::alloc::{AllocError, AllocGlobal, Global};
 use std::fs::Files;
 use std::io::{ErrorKind, Input, Read};
@@ -69,7 +69,10 @@ fn no_words<E: Sink>(alloc: Global, e: &io::Error, err: &mut E) -> u8
 
 /// Does what the words ask for, or says why they ask for nothing.
 fn on_words<R: Runtime, O: Sink, E: Sink>(rt: &R, words: &[String], out: &mut O, err: &mut E) -> u8
-    ensures told { AreTold (map string_bytes words.now) (λ f. TellsWords f
+    ensures told { AreTold (map string_bytes words.now)
+        (λ r. IsServed r result (O.contents out.old) (O.contents out.new)
+        (E.contents err.old) (E.contents err.new) (E.fault_count err.old) (E.fault_count err.new))
+        (λ f. TellsWords f
         (λ text status. (err.new ≡ err.old)
         × Tells text status (O.contents out.old) (O.contents out.new)
         (O.fault_count out.old) (O.fault_count out.new) result)
@@ -114,6 +117,8 @@ fn on_request<R: Runtime, O: Sink, E: Sink>(
     out: &mut O,
     err: &mut E,
 ) -> u8
+    ensures served { IsServed request.now result (O.contents out.old) (O.contents out.new)
+        (E.contents err.old) (E.contents err.new) (E.fault_count err.old) (E.fault_count err.new) }
     ensures no_input { IsByHand request.now → (asked_value request.now).file ≡ codes "-"
         → Tells input_line status_words (E.contents err.old) (E.contents err.new)
         (E.fault_count err.old) (E.fault_count err.new) result }
@@ -155,6 +160,9 @@ fn on_input<R: Runtime, O: Sink, E: Sink>(
     out: &mut O,
     err: &mut E,
 ) -> u8
+    ensures served { (asked_value request.now).file ≡ codes "-"
+        → IsServed request.now result (O.contents out.old) (O.contents out.new)
+        (E.contents err.old) (E.contents err.new) (E.fault_count err.old) (E.fault_count err.new) }
     ensures no_input { IsByHand request.now → Tells input_line status_words
         (E.contents err.old) (E.contents err.new)
         (E.fault_count err.old) (E.fault_count err.new) result }
@@ -190,9 +198,14 @@ fn on_program<R: Runtime, P: Read + Drop, O: Sink, E: Sink>(
     ensures answered { IsAnswered request.now (P.remaining program) None None result
         (O.contents out.old) (O.contents out.new)
         (E.contents err.old) (E.contents err.new) None None
-        ⊎ (WritesLog request.now
-        × Tells (over_line request.now) status_words (E.contents err.old) (E.contents err.new)
-        (E.fault_count err.old) (E.fault_count err.new) result) }
+        ⊎ IsToldOver request.now (E.contents err.old) (E.contents err.new)
+        (E.fault_count err.old) (E.fault_count err.new) result }
+    ensures by_some { result ≢ status_memory → result ≢ status_device
+        → IsAnsweredBySome request.now (P.remaining program) None None result
+        (O.contents out.old) (O.contents out.new)
+        (E.contents err.old) (E.contents err.new) None None
+        ⊎ IsToldOver request.now (E.contents err.old) (E.contents err.new)
+        (E.fault_count err.old) (E.fault_count err.new) result }
     ensures memory_out { result ≡ status_memory
         → Appends (O.contents out.old) (O.contents out.new) [] }
     ensures memory_err { result ≡ status_memory
@@ -245,9 +258,15 @@ fn on_log<R: Runtime, P: Read + Drop, L: Source, O: Sink, E: Sink>(
         (L.remaining input.old) (L.remaining input.new) result
         (O.contents out.old) (O.contents out.new)
         (E.contents err.old) (E.contents err.new) None None
-        ⊎ (WritesLog request.now
-        × Tells (over_line request.now) status_words (E.contents err.old) (E.contents err.new)
-        (E.fault_count err.old) (E.fault_count err.new) result) }
+        ⊎ IsToldOver request.now (E.contents err.old) (E.contents err.new)
+        (E.fault_count err.old) (E.fault_count err.new) result }
+    ensures by_some { result ≢ status_memory → result ≢ status_device
+        → IsAnsweredBySome request.now (P.remaining program)
+        (L.remaining input.old) (L.remaining input.new) result
+        (O.contents out.old) (O.contents out.new)
+        (E.contents err.old) (E.contents err.new) None None
+        ⊎ IsToldOver request.now (E.contents err.old) (E.contents err.new)
+        (E.fault_count err.old) (E.fault_count err.new) result }
     ensures memory_out { result ≡ status_memory
         → Appends (O.contents out.old) (O.contents out.new) [] }
     ensures memory_err { result ≡ status_memory
@@ -268,12 +287,12 @@ fn on_log<R: Runtime, P: Read + Drop, L: Source, O: Sink, E: Sink>(
         let mut log_out = Counted::new(io::sink());
         return on_devices(rt, request, program, input, out, err, &mut log_out);
     };
-    match log_file(rt, path, request) {
-        Ok(Some(file)) => {
-            let mut log_out = Counted::new(file);
+    match log_file(rt, path, written_over(rt, path, request)) {
+        Ok(Ok(file)) => {
+            let mut log_out = Counted::new(LogFile::new(file));
             on_devices(rt, request, program, input, out, err, &mut log_out)
         }
-        Ok(None) => tell(over_line(request), status::WORDS, err),
+        Ok(Err(over)) => tell(over_line(request, over), status::WORDS, err),
         Err(e) => not_opened(rt, &e, err),
     }
 }
@@ -288,21 +307,52 @@ fn path_of_log<'a>(request: &Request<'a>) -> Option<&'a str>
     }
 }
 
-/// The file of the log that is written, made or emptied; `None`, and nothing is emptied, where that is FILE itself, or what the answers of a run by hand
-/// are read from.
-fn log_file<R: Files>(rt: &R, path: &str, request: &Request<'_>) -> io::Result<Option<R::File>> {
+/// What the log at this path would be written over, if anything: FILE, what the answers of a run by hand are read from,
+/// or what the standard streams write to.
+fn written_over<R: Files>(rt: &R, path: &str, request: &Request<'_>) -> io::Result<Option<Over>> {
     if is_same_file(rt, path, file_of(request))? {
-        return Ok(None);
+        return Ok(Some(Over::Read));
     }
     if matches!(request, Request::ByHand(_)) && is_same_file(rt, path, "-")? {
-        return Ok(None);
+        return Ok(Some(Over::Read));
     }
-    Ok(Some(fs::create(rt, path)?))
+    if is_same_file(rt, path, "/dev/fd/1")? {
+        return Ok(Some(Over::Output));
+    }
+    if is_same_file(rt, path, "/dev/fd/2")? {
+        return Ok(Some(Over::Error));
+    }
+    Ok(None)
 }
 
-/// What is told where the log would be written over what is read.
-fn over_line(request: &Request<'_>) -> &'static str
-    ensures { result.now ≡ over_line request.now }
+/// The file of the log that is written, made or emptied; or what it would be written over, and then nothing is emptied.
+fn log_file<R: Files>(
+    rt: &R,
+    path: &str,
+    over: io::Result<Option<Over>>,
+) -> io::Result<Result<R::File, Over>>
+    ensures over { IfOk result (λ file. IfOk over (λ what. what_over file ≡ what)) }
+{
+    match over? {
+        Some(over) => Ok(Err(over)),
+        None => Ok(Ok(fs::create(rt, path)?)),
+    }
+}
+
+/// What is told where the log would be written over something.
+fn over_line(request: &Request<'_>, over: Over) -> &'static str
+    ensures { result.now ≡ over_line request.now over }
+{
+    match over {
+        Over::Read => over_read_line(request),
+        Over::Output => "x10clock: --log would write over standard output\n",
+        Over::Error => "x10clock: --log would write over standard error\n",
+    }
+}
+
+/// The same where that is read.
+fn over_read_line(request: &Request<'_>) -> &'static str
+    ensures { result.now ≡ over_read_line request.now }
 {
     match request {
         Request::Job(_) => "x10clock: --log would write over FILE\n",
@@ -350,6 +400,11 @@ fn on_devices<
     log_out: &mut K,
 ) -> u8
     ensures answered { IsAnswered request.now (P.remaining program)
+        (L.remaining input.old) (L.remaining input.new) result
+        (O.contents out.old) (O.contents out.new) (E.contents err.old) (E.contents err.new)
+        (K.contents log_out.old) (K.contents log_out.new) }
+    ensures by_some { result ≢ status_memory → result ≢ status_device
+        → IsAnsweredBySome request.now (P.remaining program)
         (L.remaining input.old) (L.remaining input.new) result
         (O.contents out.old) (O.contents out.new) (E.contents err.old) (E.contents err.new)
         (K.contents log_out.old) (K.contents log_out.new) }

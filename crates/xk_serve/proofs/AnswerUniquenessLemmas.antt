@@ -38,7 +38,7 @@ use Rattle.xk_answers.specs.declared.picture.Picture.{Picture}
 use Rattle.xk_io.specs.Lines.{number_lines}
 use Rattle.xk_program.specs.Lines.{fault_line, status_of}
 use Rattle.xk_messages.specs.Lines.{accepted_line, ended_line, refusal_status, arguments_line, no_outcome_line}
-use Rattle.xk_serve.specs.OneAnswer.{ComesToOne, HasOneStatus, IsDetermined, IsLeftOpen, IsSameLine, IsSameReply, TellFaults}
+use Rattle.xk_serve.specs.OneAnswer.{ComesToOne, HasOneStatus, IsDetermined, IsLeftOpen, IsReplyOf, IsSameLine, IsSameReply, TellFaults}
 use Rattle.xk_answers.specs.OrderedRun.{IsLoggedRun, IsOrderedRun, IsReplay}
 use Rattle.xk_program.specs.Programs.{Gives, IsCompiledTo, IsNoModule, IsNoSource, IsUnread, longest_module}
 use Rattle.xk_serve.proofs.LogUniquenessLemmas.{no_run_once, text_not_cut, text_not_wrong, text_once, whole_not_refused}
@@ -221,10 +221,6 @@ done_once what m args logged d e none p q =
 
 -- ---- what is said of a fault
 
--- The reply is that of a fault. Of a task whose standard output is determined nothing is said there.
-abbrev IsFaultReply : Doing → Fault → Reply → Type 0
-IsFaultReply what f r = (said : List ℕ) × (IsDetermined what → said ≡ []) × (r ≡ fault_reply said f)
-
 -- what is said of a fault
 said_determined : (what : Doing) (kind : Form) (file bytes said : List ℕ) (f : Fault) → IsSaidBy what kind file bytes f said → IsDetermined what → said ≡ []
 said_determined (Explain json) kind file bytes said f h one = absurd one
@@ -239,13 +235,6 @@ said_determined Races kind file bytes said f h one = h
 said_determined (Tally seed runs) kind file bytes said f h one = h
 said_determined (Outcomes sets limit pick kept) kind file bytes said f h one = h
 said_determined (Expected sets limit) kind file bytes said f h one = h
-
--- the reply of a task's fault
-abbrev IsReplyOf : Task → List ℕ → Fault → Reply → Type 0
-IsReplyOf t bytes f r = (said : List ℕ) × IsSaidOf t bytes f said × (r ≡ fault_reply said f)
-
-reply_of : (t : Task) (bytes : List ℕ) (r : Reply) (f : Fault) → IsReplyOf t bytes f r → IsFaultReply t.doing f r
-reply_of t bytes r f e = (e.0, said_determined t.doing t.form t.file bytes e.0 f e.1, e.2)
 
 -- ---- what is told of it
 
@@ -341,7 +330,8 @@ telling_accepted (Outcomes sets limit pick kept) kind file bytes m args logged t
 telling_accepted (Expected sets limit) kind file bytes m args logged told asks h = absurd h
 
 -- it goes to standard output, and nothing to the log, and the status says whether it is whole
-text_told : (P : Tale → Type 0) (d : Done) → IsText P d → (whole : Bool) × P (done_text d, whole) × (done_status d ≡ whole_status whole) × (done_log d ≡ [])
+pub text_told : (P : Tale → Type 0) (d : Done) → IsText P d
+    → (whole : Bool) × P (done_text d, whole) × (done_status d ≡ whole_status whole) × (done_log d ≡ [])
 text_told P (done.Told text whole) h = (whole, h, refl, refl)
 text_told P (done.Compiled text) h = absurd h
 text_told P (done.Accepted steps activities clocks) h = absurd h
@@ -399,25 +389,30 @@ telling_unlisted what kind file bytes m args logged told lists h =
 
 -- The reply is that of a refusal, of arguments that aren't as many as main takes, of a log of no run, of a line that may not stand in a list, of what the
 -- job comes to, or of what it tells.
-data Said (t : Task) (bytes : List ℕ) (m : ModuleValue) (logged : List ℕ) (r : Reply) : Type 0 where
-  Refusing : (f : Refusal) → asks_verifier t.doing ≡ true → Refuses m f → refusal_status f ≢ 4 → IsFaultReply t.doing (fault.Refused f) r → Said t bytes m logged r
-  Misfit : (wants has : ℕ) → runs t.doing ≡ true → IsAccepted m → IsMisfit m t.arguments wants has → IsFaultReply t.doing (fault.Arguments wants has) r → Said t bytes m logged r
+pub data Said (t : Task) (bytes : List ℕ) (m : ModuleValue) (logged : List ℕ) (r : Reply) : Type 0 where
+  Refusing : (f : Refusal) → asks_verifier t.doing ≡ true → Refuses m f → refusal_status f ≢ 4 → IsReplyOf t bytes (fault.Refused f) r
+      → Said t bytes m logged r
+  Misfit : (wants has : ℕ) → runs t.doing ≡ true → IsAccepted m → IsMisfit m t.arguments wants has
+      → IsReplyOf t bytes (fault.Arguments wants has) r → Said t bytes m logged r
   NoRun : (f : Fault) → reads_log t.doing ≡ true → IsAccepted m → AreArguments m t.arguments → IsNoRun m t.arguments logged f × MayStand t.doing f → status_of f ≢ 4
-      → IsFaultReply t.doing f r → Said t bytes m logged r
+      → IsReplyOf t bytes f r → Said t bytes m logged r
   Astray : (line : ℕ) → reads_list t.doing ≡ true → IsAccepted m → AreArguments m t.arguments → stray_line (list_in logged) ≡ Some line
-      → IsFaultReply t.doing (fault.NoOutcome line) r → Said t bytes m logged r
+      → IsReplyOf t bytes (fault.NoOutcome line) r → Said t bytes m logged r
   Does : (HasOneStatus t.doing → r.status ≡ 0) → r.err ≡ [] → Prints t.doing m t.arguments logged r.out r.log → Said t bytes m logged r
   Telling : (whole : Bool) → r.status ≡ whole_status whole → r.err ≡ [] → IsTelling t.doing t.form t.file bytes m t.arguments logged (r.out, whole) → r.log ≡ []
       → Said t bytes m logged r
 
 -- the replies of two faults that have one line, but for a walk
-same_faults : (what : Doing) (r s : Reply) (f g : Fault) → IsFaultReply what f r → IsFaultReply what g s → status_of f ≡ status_of g → IsSameLine (fault_line f) (fault_line g)
-    → IsSameReply what r s
-same_faults what r s f g e d same lines = record {
+same_faults : (t : Task) (bytes : List ℕ) (r s : Reply) (f g : Fault) → IsReplyOf t bytes f r → IsReplyOf t bytes g s
+    → status_of f ≡ status_of g
+    → IsSameLine (fault_line f) (fault_line g) → IsSameReply t.doing r s
+same_faults t bytes r s f g e d same lines = record {
   status = λ one. ap (λ (z : Reply). z.status) e.2 ∙ same ∙ sym (ap (λ (z : Reply). z.status) d.2);
   err = subst (λ (z : Reply). IsSameLine z.err s.err) (sym e.2) (subst (λ (z : Reply). IsSameLine (fault_line f) z.err) (sym d.2) lines);
-  out = λ none. ap (λ (z : Reply). z.out) e.2 ∙ (e.1 none ∙ sym (d.1 none)) ∙ sym (ap (λ (z : Reply). z.out) d.2);
-  log = λ none. ap (λ (z : Reply). z.log) e.2 ∙ sym (ap (λ (z : Reply). z.log) d.2);
+  out = λ one. ap (λ (z : Reply). z.out) e.2
+      ∙ (said_determined t.doing t.form t.file bytes e.0 f e.1 one ∙ sym (said_determined t.doing t.form t.file bytes d.0 g d.1 one))
+      ∙ sym (ap (λ (z : Reply). z.out) d.2);
+  log = λ one. ap (λ (z : Reply). z.log) e.2 ∙ sym (ap (λ (z : Reply). z.log) d.2);
 }
 
 same_misfits : (m : ModuleValue) (args : List ℤ) (wants has other given : ℕ) → IsMisfit m args wants has → IsMisfit m args other given
@@ -444,7 +439,8 @@ determined (Expected sets limit) one = absurd one
 module _ (t : Task) (bytes : List ℕ) (m : ModuleValue) (logged : List ℕ) (r s : Reply) (given : Gives t.form bytes m) where
   same_said : Said t bytes m logged r → Said t bytes m logged s → IsSameReply t.doing r s
   same_said (Refusing f asks p n e) (Refusing g again q k d) =
-      same_faults t.doing r s (fault.Refused f) (fault.Refused g) e d (refused_status f n ∙ sym (refused_status g k)) (refusal_once m f g p q n k)
+      same_faults t bytes r s (fault.Refused f) (fault.Refused g) e d (refused_status f n ∙ sym (refused_status g k)) (refusal_once m f g
+      p q n k)
   same_said (Refusing f asks p n e) (Misfit wants has run ok q d) = absurd (not_accepted m f ok p n)
   same_said (Refusing f asks p n e) (NoRun g reads ok taken q k d) = absurd (not_accepted m f ok p n)
   same_said (Refusing f asks p n e) (Astray line lists ok taken q d) = absurd (not_accepted m f ok p n)
@@ -452,7 +448,8 @@ module _ (t : Task) (bytes : List ℕ) (m : ModuleValue) (logged : List ℕ) (r 
   same_said (Refusing f asks p n e) (Telling whole zero quiet q none) = absurd (not_accepted m f (telling_accepted t.doing t.form t.file bytes m t.arguments logged (s.out, whole) asks q) p n)
   same_said (Misfit wants has run ok p e) (Refusing g again q k d) = absurd (not_accepted m g ok q k)
   same_said (Misfit wants has run ok p e) (Misfit other given again fine q d) =
-      same_faults t.doing r s (fault.Arguments wants has) (fault.Arguments other given) e d refl (inl (same_misfits m t.arguments wants has other given p q))
+      same_faults t bytes r s (fault.Arguments wants has) (fault.Arguments other given) e d refl (inl (same_misfits m t.arguments wants
+      has other given p q))
   same_said (Misfit wants has run ok p e) (NoRun g reads fine taken q k d) = absurd (p.misfit taken)
   same_said (Misfit wants has run ok p e) (Astray line lists fine taken q d) = absurd (p.misfit taken)
   same_said (Misfit wants has run ok p e) (Does zero quiet q) = absurd (p.misfit (prints_taken t.doing m t.arguments logged s.out s.log run q))
@@ -461,7 +458,7 @@ module _ (t : Task) (bytes : List ℕ) (m : ModuleValue) (logged : List ℕ) (r 
   same_said (NoRun f reads ok taken p n e) (Misfit wants has run fine q d) = absurd (q.misfit taken)
   same_said (NoRun f reads ok taken p n e) (NoRun g again fine fits q k d) =
       let same = no_run_once m t.arguments logged f g p.0 q.0 n k in
-      same_faults t.doing r s f g e d (ap status_of same) (inl (ap fault_line same))
+      same_faults t bytes r s f g e d (ap status_of same) (inl (ap fault_line same))
   same_said (NoRun f reads ok taken p n e) (Astray line lists fine fits q d) = absurd (list_or_log t.doing lists reads)
   same_said (NoRun f reads ok taken p n e) (Does zero quiet q) =
       let whole = prints_whole t.doing m t.arguments logged s.out s.log reads q in absurd (whole_not_refused m t.arguments logged f whole.0 p.0 n whole.1 whole.2)
@@ -476,7 +473,7 @@ module _ (t : Task) (bytes : List ℕ) (m : ModuleValue) (logged : List ℕ) (r 
   same_said (Astray line lists ok taken p e) (NoRun g reads fine fits q k d) = absurd (list_or_log t.doing lists reads)
   same_said (Astray line lists ok taken p e) (Astray other again fine fits q d) =
       let same : line ≡ other = same_Some line other (sym p ∙ q) in
-      same_faults t.doing r s (fault.NoOutcome line) (fault.NoOutcome other) e d refl (inl (ap no_outcome_line same))
+      same_faults t bytes r s (fault.NoOutcome line) (fault.NoOutcome other) e d refl (inl (ap no_outcome_line same))
   same_said (Astray line lists ok taken p e) (Does zero quiet q) = absurd (prints_listed t.doing m t.arguments logged s.out s.log line lists q p)
   same_said (Astray line lists ok taken p e) (Telling whole zero quiet q none) = absurd (telling_unlisted t.doing t.form t.file bytes m t.arguments logged (s.out, whole) lists q)
   same_said (Does zero quiet p) (Astray line lists ok taken q d) = absurd (prints_listed t.doing m t.arguments logged r.out r.log line lists p q)
@@ -505,7 +502,7 @@ module _ (t : Task) (bytes : List ℕ) (m : ModuleValue) (logged : List ℕ) (r 
 -- ---- what is said of bytes
 
 -- the bytes are no module text, or no source text of a program without faults, or they give a module, of which this is said
-data Case (t : Task) (bytes logged : List ℕ) (r : Reply) : Type 0 where
+pub data Case (t : Task) (bytes logged : List ℕ) (r : Reply) : Type 0 where
   Unread : (f : ModuleFault) → t.form ≡ form.Module → IsNoModule bytes f → IsReplyOf t bytes (fault.Text f) r → Case t bytes logged r
   Unfit : (f : FrontFault) → t.form ≡ form.Source → IsNoSource bytes f → IsReplyOf t bytes (fault.Front f) r → Case t bytes logged r
   Read : (m : ModuleValue) → Gives t.form bytes m → Said t bytes m logged r → Case t bytes logged r
@@ -514,7 +511,7 @@ data Case (t : Task) (bytes logged : List ℕ) (r : Reply) : Type 0 where
 status_not : (r : Reply) (f : Fault) (said : List ℕ) → r ≡ fault_reply said f → r.status ≢ 4 → status_of f ≢ 4
 status_not r f said e not4 = λ is. not4 (ap (λ (z : Reply). z.status) e ∙ is)
 
-no_source : (t : Task) → t.form ≡ form.Module → t.form ≡ form.Source → ⊥
+pub no_source : (t : Task) → t.form ≡ form.Module → t.form ≡ form.Source → ⊥
 no_source t e d = let both : form.Module ≡ form.Source = sym e ∙ d in cc
 
 done_said : (t : Task) (bytes : List ℕ) (m : ModuleValue) (logged : List ℕ) (r : Reply) (d : Done) → r ≡ done_reply d
@@ -526,28 +523,29 @@ done_said t bytes m logged r d e (inr h) =
     Telling told.0 (ap (λ (z : Reply). z.status) e ∙ told.2) (ap (λ (z : Reply). z.err) e)
     (subst (λ (z : Reply). IsTelling t.doing t.form t.file bytes m t.arguments logged (z.out, told.0)) (sym e) told.1) (ap (λ (z : Reply). z.log) e ∙ told.3)
 
-case_of : (t : Task) (bytes logged : List ℕ) (r : Reply) → r.status ≢ 4 → Answers t bytes logged r → Case t bytes logged r
+pub case_of : (t : Task) (bytes logged : List ℕ) (r : Reply) → r.status ≢ 4 → Answers t bytes logged r → Case t bytes logged r
 case_of t bytes logged r not4 (inl (d, s, e)) = Read s.of s.given (done_said t bytes s.of logged r d e s.done)
 case_of t bytes logged r not4 (inr (fault.Text f, h, e)) = Unread f h.0 h.1 e
 case_of t bytes logged r not4 (inr (fault.Front f, h, e)) = Unfit f h.0 h.1 e
 case_of t bytes logged r not4 (inr (fault.Refused (refusal.Shape f), h, e)) =
-    Read h.1.0 h.1.1 (Refusing (refusal.Shape f) h.0 h.1.2 (status_not r (fault.Refused (refusal.Shape f)) e.0 e.2 not4) (reply_of t bytes r (fault.Refused (refusal.Shape f)) e))
+    Read h.1.0 h.1.1 (Refusing (refusal.Shape f) h.0 h.1.2 (status_not r (fault.Refused (refusal.Shape f)) e.0 e.2 not4) e)
 case_of t bytes logged r not4 (inr (fault.Refused (refusal.Kind f), h, e)) =
-    Read h.1.0 h.1.1 (Refusing (refusal.Kind f) h.0 h.1.2 (status_not r (fault.Refused (refusal.Kind f)) e.0 e.2 not4) (reply_of t bytes r (fault.Refused (refusal.Kind f)) e))
+    Read h.1.0 h.1.1 (Refusing (refusal.Kind f) h.0 h.1.2 (status_not r (fault.Refused (refusal.Kind f)) e.0 e.2 not4) e)
 case_of t bytes logged r not4 (inr (fault.Refused (refusal.Bound f), h, e)) =
-    Read h.1.0 h.1.1 (Refusing (refusal.Bound f) h.0 h.1.2 (status_not r (fault.Refused (refusal.Bound f)) e.0 e.2 not4) (reply_of t bytes r (fault.Refused (refusal.Bound f)) e))
+    Read h.1.0 h.1.1 (Refusing (refusal.Bound f) h.0 h.1.2 (status_not r (fault.Refused (refusal.Bound f)) e.0 e.2 not4) e)
 case_of t bytes logged r not4 (inr (fault.Refused refusal.OutOfMemory, h, e)) = absurd h
-case_of t bytes logged r not4 (inr (fault.Arguments wants has, h, e)) = Read h.1.0 h.1.1 (Misfit wants has h.0 h.1.2 h.1.3 (reply_of t bytes r (fault.Arguments wants has) e))
+case_of t bytes logged r not4 (inr (fault.Arguments wants has, h, e)) = Read h.1.0 h.1.1 (Misfit wants has h.0 h.1.2 h.1.3 e)
 case_of t bytes logged r not4 (inr (fault.Grammar line, h, e)) =
-    Read h.1.0 h.1.1 (NoRun (fault.Grammar line) h.0 h.1.2 h.1.3.0 (h.1.3.1, tt) (status_not r (fault.Grammar line) e.0 e.2 not4) (reply_of t bytes r (fault.Grammar line) e))
+    Read h.1.0 h.1.1 (NoRun (fault.Grammar line) h.0 h.1.2 h.1.3.0 (h.1.3.1, tt) (status_not r (fault.Grammar line) e.0 e.2 not4) e)
 case_of t bytes logged r not4 (inr (fault.Truncated, h, e)) =
-    Read h.1.0 h.1.1 (NoRun fault.Truncated h.0 h.1.2 h.1.3.0 (h.1.3.1, tt) (status_not r fault.Truncated e.0 e.2 not4) (reply_of t bytes r fault.Truncated e))
+    Read h.1.0 h.1.1 (NoRun fault.Truncated h.0 h.1.2 h.1.3.0 (h.1.3.1, tt) (status_not r fault.Truncated e.0 e.2 not4) e)
 case_of t bytes logged r not4 (inr (fault.NotEnabled i, h, e)) =
-    Read h.1.1.0 h.1.1.1 (NoRun (fault.NotEnabled i) h.1.0 h.1.1.2 h.1.1.3.0 (h.1.1.3.1, h.0) (status_not r (fault.NotEnabled i) e.0 e.2 not4) (reply_of t bytes r (fault.NotEnabled i) e))
+    Read h.1.1.0 h.1.1.1 (NoRun (fault.NotEnabled i) h.1.0 h.1.1.2 h.1.1.3.0 (h.1.1.3.1, h.0) (status_not r (fault.NotEnabled i) e.0 e.2
+    not4) e)
 case_of t bytes logged r not4 (inr (fault.NotEnded, h, e)) =
-    Read h.1.1.0 h.1.1.1 (NoRun fault.NotEnded h.1.0 h.1.1.2 h.1.1.3.0 (h.1.1.3.1, h.0) (status_not r fault.NotEnded e.0 e.2 not4) (reply_of t bytes r fault.NotEnded e))
+    Read h.1.1.0 h.1.1.1 (NoRun fault.NotEnded h.1.0 h.1.1.2 h.1.1.3.0 (h.1.1.3.1, h.0) (status_not r fault.NotEnded e.0 e.2 not4) e)
 case_of t bytes logged r not4 (inr (fault.NoOutcome line, h, e)) =
-    Read h.1.0 h.1.1 (Astray line h.0 h.1.2 h.1.3.0 h.1.3.1 (reply_of t bytes r (fault.NoOutcome line) e))
+    Read h.1.0 h.1.1 (Astray line h.0 h.1.2 h.1.3.0 h.1.3.1 e)
 case_of t bytes logged r not4 (inr (fault.OutOfMemory, h, e)) = absurd (not4 (ap (λ (z : Reply). z.status) e.2))
 case_of t bytes logged r not4 (inr (fault.Device, h, e)) = absurd h
 
@@ -580,29 +578,30 @@ read_none bytes text.OutOfMemory m p q = p
 too_many : (bytes : List ℕ) → longest_module < length bytes → length bytes ≤ longest_module → ⊥
 too_many bytes more less = omega (arith, more, less)
 
-unread_once : (bytes : List ℕ) (f g : ModuleFault) → IsNoModule bytes f → IsNoModule bytes g → f ≡ g
+pub unread_once : (bytes : List ℕ) (f g : ModuleFault) → IsNoModule bytes f → IsNoModule bytes g → f ≡ g
 unread_once bytes f g (inl p) (inl q) = p.1 ∙ sym q.1
 unread_once bytes f g (inl p) (inr q) = absurd (too_many bytes p.0 q.0)
 unread_once bytes f g (inr p) (inl q) = absurd (too_many bytes q.0 p.0)
 unread_once bytes f g (inr p) (inr q) = read_once bytes f g p.1 q.1
 
-unread_none : (bytes : List ℕ) (f : ModuleFault) (m : ModuleValue) → IsNoModule bytes f → Gives form.Module bytes m → ⊥
+pub unread_none : (bytes : List ℕ) (f : ModuleFault) (m : ModuleValue) → IsNoModule bytes f → Gives form.Module bytes m → ⊥
 unread_none bytes f m (inl p) q = too_many bytes p.0 q.0
 unread_none bytes f m (inr p) q = read_none bytes f m p.1 (q.1, q.2)
 
-given_text : (t : Task) (bytes : List ℕ) (m : ModuleValue) → t.form ≡ form.Module → Gives t.form bytes m → Gives form.Module bytes m
+pub given_text : (t : Task) (bytes : List ℕ) (m : ModuleValue) → t.form ≡ form.Module → Gives t.form bytes m → Gives form.Module bytes m
 given_text t bytes m of given = subst (λ f. Gives f bytes m) of given
 
-given_source : (t : Task) (bytes : List ℕ) (m : ModuleValue) → t.form ≡ form.Source → Gives t.form bytes m → IsCompiledTo bytes m
+pub given_source : (t : Task) (bytes : List ℕ) (m : ModuleValue) → t.form ≡ form.Source → Gives t.form bytes m → IsCompiledTo bytes m
 given_source t bytes m of given = subst (λ f. Gives f bytes m) of given
 
 -- bytes give one module
-given_once : (kind : Form) (bytes : List ℕ) (m n : ModuleValue) → Gives kind bytes m → Gives kind bytes n → m ≡ n
+pub given_once : (kind : Form) (bytes : List ℕ) (m n : ModuleValue) → Gives kind bytes m → Gives kind bytes n → m ≡ n
 given_once form.Module bytes m n p q = one_module bytes m n p.1 q.1
 given_once form.Source bytes m n p q = one_text bytes m n p q
 
 -- an answer, where the bytes give this module
-said_of : (t : Task) (bytes logged : List ℕ) (r : Reply) (m : ModuleValue) → Gives t.form bytes m → Case t bytes logged r → Said t bytes m logged r
+pub said_of : (t : Task) (bytes logged : List ℕ) (r : Reply) (m : ModuleValue) → Gives t.form bytes m → Case t bytes logged r
+    → Said t bytes m logged r
 said_of t bytes logged r m given (Unread f of p e) = absurd (unread_none bytes f m p (given_text t bytes m of given))
 said_of t bytes logged r m given (Unfit f of p e) = absurd (unfit_none bytes f m p (given_source t bytes m of given))
 said_of t bytes logged r m given (Read n found told) =
@@ -611,7 +610,8 @@ said_of t bytes logged r m given (Read n found told) =
 same_case : (t : Task) (bytes logged : List ℕ) (r s : Reply) → t.form ≡ form.Module → Case t bytes logged r → Case t bytes logged s → IsSameReply t.doing r s
 same_case t bytes logged r s of (Unread f is p e) (Unread g text q d) =
     let same = unread_once bytes f g p q in
-    same_faults t.doing r s (fault.Text f) (fault.Text g) (reply_of t bytes r (fault.Text f) e) (reply_of t bytes s (fault.Text g) d) (ap (λ k. status_of (fault.Text k)) same) (inl (ap (λ k. fault_line (fault.Text k)) same))
+    same_faults t bytes r s (fault.Text f) (fault.Text g) e d (ap (λ k. status_of (fault.Text k)) same) (inl (ap (λ k. fault_line
+    (fault.Text k)) same))
 same_case t bytes logged r s of (Unread f is p e) (Unfit g source q d) = absurd (no_source t of source)
 same_case t bytes logged r s of (Unread f is p e) (Read m given said) = absurd (unread_none bytes f m p (given_text t bytes m of given))
 same_case t bytes logged r s of (Unfit f source p e) other = absurd (no_source t of source)
@@ -626,7 +626,8 @@ one_answer t bytes logged r s of p q n k = same_case t bytes logged r s of (case
 same_unfit : (t : Task) (bytes : List ℕ) (r s : Reply) (f g : FrontFault) → IsReplyOf t bytes (fault.Front f) r
     → IsReplyOf t bytes (fault.Front g) s → (f ≡ g) ⊎ IsLeftOpen bytes f g → IsSameReply t.doing r s ⊎ TellFaults t bytes r s
 same_unfit t bytes r s f g e d (inl same) =
-    inl (same_faults t.doing r s (fault.Front f) (fault.Front g) (reply_of t bytes r (fault.Front f) e) (reply_of t bytes s (fault.Front g) d) (ap (λ k. status_of (fault.Front k)) same) (inl (ap (λ k. fault_line (fault.Front k)) same)))
+    inl (same_faults t bytes r s (fault.Front f) (fault.Front g) e d (ap (λ k. status_of (fault.Front k)) same) (inl (ap (λ k. fault_line
+    (fault.Front k)) same)))
 same_unfit t bytes r s f g e d (inr left) = inr (record {
   here = f;
   there = g;

@@ -6,8 +6,10 @@ pub mod RefusalUniquenessLemmas
 pub mod RunUniquenessLemmas
 pub mod ReplyLemmas
 pub mod RunLogLemmas
+pub mod SomeBytesLemmas
 pub mod TaskLemmas
 pub mod TellingUniquenessLemmas
 pub mod TextUniquenessLemmas
+pub mod ExplainedOnceLemmas
 pub mod ExplanationLemmas
 pub mod VerdictLemmas

@@ -183,7 +183,7 @@ said_kept t bytes known logged said f e h =
     same_said t.doing t.form t.file bytes known said f (λ json. explanation_kept json t bytes known logged said f e h)
 
 -- of devices nothing is said
-device_unsaid : (what : Doing) (kind : Form) (file bytes said : List ℕ) → IsSaidBy what kind file bytes fault.Device said → said ≡ []
+pub device_unsaid : (what : Doing) (kind : Form) (file bytes said : List ℕ) → IsSaidBy what kind file bytes fault.Device said → said ≡ []
 device_unsaid (Explain json) kind file bytes said h = h
 device_unsaid Check kind file bytes said h = h
 device_unsaid Compile kind file bytes said h = h

@@ -1,5 +1,6 @@
 -- A module is refused for one reason, at one place.
-use Rattle.std.proofs.Common.{◌≡◌, ◌≢◌, ◌∙◌, ℕ, ◌<◌, ◌≤◌, true, false, List, [], ◌∷◌, ◌++◌, codes, decimal, length, get_or, inl, inr, refl, sym, ap, subst, arith}
+use Rattle.std.proofs.Common.{◌≡◌, ◌≢◌, ◌∙◌, ℕ, ◌<◌, ◌≤◌, true, false, List, [], ◌∷◌, length, get_or, inl, inr, refl, sym, ap, subst, arith}
+use Rattle.std.specs.Prelude.{◌⊎◌}
 use Rattle.std.proofs.lemmas.Bool.{both_ways}
 use Rattle.std.proofs.lemmas.Option.{same_Some}
 use Rattle.xk_types.specs.declared.rules.Kind.{Kind}
@@ -23,8 +24,10 @@ use Rattle.xk_bounds.specs.declared.refusal.Refusal.{Refusal}
 use Rattle.xk_bounds.specs.declared.refusal.Refusal.TheVariants as refusal
 use Rattle.xk_bounds.specs.Refusals.{IsBoundFault, Refuses}
 use Rattle.xk_bounds.proofs.RefusalLemmas.{refused_by_memory}
-use Rattle.xk_messages.specs.Lines.{refusal_status, bound_text, line, place_text, refusal_line, rule_text}
-use Rattle.xk_serve.specs.OneAnswer.{IsSameLine, IsSameRefusal}
+use Rattle.xk_messages.specs.Lines.{refusal_line, refusal_status}
+use Rattle.xk_shape.specs.Fault.{IsShapeFault}
+use Rattle.xk_shape.specs.declared.fault.ShapeFault.{ShapeFault}
+use Rattle.xk_serve.specs.OneAnswer.{AreWalks, IsSameLine, IsSameRefusal}
 
 -- ---- orders
 
@@ -78,21 +81,23 @@ kind_once k j e = sym (kind_at (kind_place j) k kind.Unset e) ∙ kind_at (kind_
 abbrev KeepsEarlier : ModuleValue → Rule → Type 0
 KeepsEarlier m r = (k : Rule) (unit at : ℕ) → rule_number k < rule_number r → breaks m k unit at ≡ false
 
--- no place that breaks the rule comes before this one
-abbrev IsLeast : ModuleValue → Rule → ℕ → ℕ → Type 0
-IsLeast m r unit at = (u a : ℕ) → breaks m r u a ≡ true → NotAfter (unit ∷ at ∷ []) (u ∷ a ∷ [])
-
 first_rule : (m : ModuleValue) (r q : Rule) (unit at other place : ℕ) → breaks m r unit at ≡ true → KeepsEarlier m r → breaks m q other place ≡ true → KeepsEarlier m q → r ≡ q
 first_rule m r q unit at other place broken keeps breach holds = rule_once r q
     (neither_less (rule_number r) (rule_number q) (λ lt. both_ways _ (holds r unit at lt) broken) (λ lt. both_ways _ (keeps q other place lt) breach))
 
-shape_once : (m : ModuleValue) (r q : Rule) (unit at other place : ℕ) → breaks m r unit at ≡ true → KeepsEarlier m r → IsLeast m r unit at
-    → breaks m q other place ≡ true → KeepsEarlier m q → IsLeast m q other place → place_text r unit at ≡ place_text q other place
-shape_once m r q unit at other place broken keeps least breach holds first =
-    let same = first_rule m r q unit at other place broken keeps breach holds in
-    let both = not_after_both (unit ∷ at ∷ []) (other ∷ place ∷ []) (least other place (subst (λ k. breaks m k other place ≡ true) (sym same) breach))
-    (first unit at (subst (λ k. breaks m k unit at ≡ true) same broken)) in
-    ap (λ k. place_text k unit at) same ∙ ap (λ u. place_text q u at) (ap (λ l. get_or l 0 0) both) ∙ ap (λ a. place_text q other a) (ap (λ l. get_or l 1 0) both)
+-- the fault of a rule at a place
+abbrev shape_fault : Rule → ℕ → ℕ → ShapeFault
+shape_fault r unit at = record { rule = r; unit = unit; at = at }
+
+shape_fault_once : (m : ModuleValue) (f g : ShapeFault) → IsShapeFault m f → IsShapeFault m g → f ≡ g
+shape_fault_once m f g p q =
+    let same = first_rule m f.rule g.rule f.unit f.at g.unit g.at p.broken p.first q.broken q.first in
+    let both =
+    not_after_both (f.unit ∷ f.at ∷ []) (g.unit ∷ g.at ∷ []) (p.least g.unit g.at (subst (λ k. breaks m k g.unit g.at ≡ true) (sym same)
+    q.broken))
+    (q.least f.unit f.at (subst (λ k. breaks m k f.unit f.at ≡ true) same p.broken)) in
+    ap (λ k. shape_fault k f.unit f.at) same ∙ ap (λ u. shape_fault g.rule u f.at) (ap (λ l. get_or l 0 0) both)
+    ∙ ap (λ a. shape_fault g.rule g.unit a) (ap (λ l. get_or l 1 0) both)
 
 -- ---- kinds
 
@@ -141,11 +146,14 @@ kinds_once m f g p q =
 over_first : (m : ModuleValue) (f g : BoundFault) → IsBoundFault m f → IsBoundFault m g → rule_number g.rule < rule_number f.rule → ⊥
 over_first m f g p q lt = omega (arith, p.first g.rule lt, q.broken)
 
-bounds_once : (m : ModuleValue) (f g : BoundFault) → IsBoundFault m f → IsBoundFault m g → bound_text f ≡ bound_text g
+-- the fault of a rule on bounds
+abbrev bound_fault : Rule → ℕ → BoundFault
+bound_fault r limit = record { rule = r; limit = limit }
+
+bounds_once : (m : ModuleValue) (f g : BoundFault) → IsBoundFault m f → IsBoundFault m g → f ≡ g
 bounds_once m f g p q =
     let same = rule_once f.rule g.rule (neither_less (rule_number f.rule) (rule_number g.rule) (over_first m g f q p) (over_first m f g p q)) in
-    ap (λ r. rule_text r ++ (codes " over " ++ decimal f.limit)) same
-    ∙ ap (λ n. rule_text g.rule ++ (codes " over " ++ decimal n)) (p.limit ∙ ap limit_of same ∙ sym q.limit)
+    ap (λ r. bound_fault r f.limit) same ∙ ap (λ n. bound_fault g.rule n) (p.limit ∙ ap limit_of same ∙ sym q.limit)
 
 -- ---- all of them
 
@@ -160,20 +168,34 @@ refused_status (refusal.Kind f) not4 = refl
 refused_status (refusal.Bound f) not4 = refl
 refused_status refusal.OutOfMemory not4 = absurd (not4 refl)
 
--- two refusals of one module are told by one line, but for a walk
+-- two refusals of one module are one, but for a walk
+pub refusals_once : (m : ModuleValue) (r q : Refusal) → Refuses m r → Refuses m q → refusal_status r ≢ 4 → refusal_status q ≢ 4
+    → (r ≡ q) ⊎ AreWalks r q
+refusals_once m (refusal.Shape f) (refusal.Shape g) p q n k = inl (ap refusal.Shape (shape_fault_once m f g p q))
+refusals_once m (refusal.Shape f) (refusal.Kind g) p q n k = absurd (both_ways _ (q.shape f.rule f.unit f.at) p.broken)
+refusals_once m (refusal.Shape f) (refusal.Bound g) p q n k = absurd (both_ways _ (q.shape f.rule f.unit f.at) p.broken)
+refusals_once m (refusal.Kind f) (refusal.Shape g) p q n k = absurd (both_ways _ (p.shape g.rule g.unit g.at) q.broken)
+refusals_once m (refusal.Kind f) (refusal.Kind g) p q n k = inr (kinds_once m f g p.fault q.fault)
+refusals_once m (refusal.Kind f) (refusal.Bound g) p q n k = absurd (q.kinds f.unit f.slot (visit f.at f.kind) f.rule p.fault.refused)
+refusals_once m (refusal.Bound f) (refusal.Shape g) p q n k = absurd (both_ways _ (p.shape g.rule g.unit g.at) q.broken)
+refusals_once m (refusal.Bound f) (refusal.Kind g) p q n k = absurd (p.kinds g.unit g.slot (visit g.at g.kind) g.rule q.fault.refused)
+refusals_once m (refusal.Bound f) (refusal.Bound g) p q n k = inl (ap refusal.Bound (bounds_once m f g p.fault q.fault))
+refusals_once m refusal.OutOfMemory q p h n k = absurd (n refl)
+refusals_once m (refusal.Shape f) refusal.OutOfMemory p q n k = absurd (k refl)
+refusals_once m (refusal.Kind f) refusal.OutOfMemory p q n k = absurd (k refl)
+refusals_once m (refusal.Bound f) refusal.OutOfMemory p q n k = absurd (k refl)
+
+-- so they are told by one line, but for a walk
+one_line : (r q : Refusal) → (r ≡ q) ⊎ AreWalks r q → IsSameLine (refusal_line r) (refusal_line q)
+one_line r q (inl same) = inl (ap refusal_line same)
+one_line (refusal.Kind f) (refusal.Kind g) (inr same) =
+    inr (record { here = f; there = g; same = same; told_here = refl; told_there = refl })
+one_line (refusal.Shape f) q (inr same) = absurd same
+one_line (refusal.Bound f) q (inr same) = absurd same
+one_line refusal.OutOfMemory q (inr same) = absurd same
+one_line (refusal.Kind f) (refusal.Shape g) (inr same) = absurd same
+one_line (refusal.Kind f) (refusal.Bound g) (inr same) = absurd same
+one_line (refusal.Kind f) refusal.OutOfMemory (inr same) = absurd same
+
 pub refusal_once : (m : ModuleValue) (r q : Refusal) → Refuses m r → Refuses m q → refusal_status r ≢ 4 → refusal_status q ≢ 4 → IsSameLine (refusal_line r) (refusal_line q)
-refusal_once m (refusal.Shape f) (refusal.Shape g) p q n k =
-    inl (ap line (shape_once m f.rule g.rule f.unit f.at g.unit g.at p.broken p.first p.least q.broken q.first q.least))
-refusal_once m (refusal.Shape f) (refusal.Kind g) p q n k = absurd (both_ways _ (q.shape f.rule f.unit f.at) p.broken)
-refusal_once m (refusal.Shape f) (refusal.Bound g) p q n k = absurd (both_ways _ (q.shape f.rule f.unit f.at) p.broken)
-refusal_once m (refusal.Kind f) (refusal.Shape g) p q n k = absurd (both_ways _ (p.shape g.rule g.unit g.at) q.broken)
-refusal_once m (refusal.Kind f) (refusal.Kind g) p q n k =
-    inr (record { here = f; there = g; same = kinds_once m f g p.fault q.fault; told_here = refl; told_there = refl })
-refusal_once m (refusal.Kind f) (refusal.Bound g) p q n k = absurd (q.kinds f.unit f.slot (visit f.at f.kind) f.rule p.fault.refused)
-refusal_once m (refusal.Bound f) (refusal.Shape g) p q n k = absurd (both_ways _ (p.shape g.rule g.unit g.at) q.broken)
-refusal_once m (refusal.Bound f) (refusal.Kind g) p q n k = absurd (p.kinds g.unit g.slot (visit g.at g.kind) g.rule q.fault.refused)
-refusal_once m (refusal.Bound f) (refusal.Bound g) p q n k = inl (ap line (bounds_once m f g p.fault q.fault))
-refusal_once m refusal.OutOfMemory q p h n k = absurd (n refl)
-refusal_once m (refusal.Shape f) refusal.OutOfMemory p q n k = absurd (k refl)
-refusal_once m (refusal.Kind f) refusal.OutOfMemory p q n k = absurd (k refl)
-refusal_once m (refusal.Bound f) refusal.OutOfMemory p q n k = absurd (k refl)
+refusal_once m r q p h n k = one_line r q (refusals_once m r q p h n k)

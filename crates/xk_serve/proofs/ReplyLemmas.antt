@@ -203,6 +203,9 @@ module _ (t : Task) (program known err_old err_new : Option (List ℕ)) (faults_
   told : Tells memory_line 4 err_old err_new faults_old faults_new result
   told = memory_told err_old err_new faults_old faults_new result reports
 
+  pub memory_alone : result ≢ 4 → result ≢ 5 → ⊥
+  memory_alone = no_other_status err_old err_new faults_old faults_new result told
+
   pub memory_answers : (out_old out_new log_old log_new : Option (List ℕ)) → IfKnown t program known
       (λ bytes logged. result ≢ 4 → result ≢ 5 → Answered t bytes logged result out_old out_new err_old err_new log_old log_new)
   memory_answers out_old out_new log_old log_new = of_known t program known

@@ -28,7 +28,8 @@ same_origins : (t : TreeValue) (o p : List UnitOrigins) → AreOrigins t o → A
 same_origins t o p h k = h.are ∙ ap (map (unit_origins t)) (one_units t h.units k.units h.are_units k.are_units) ∙ sym k.are
 
 -- bytes that give a module have one, if any
-origins_once : (kind : Form) (bytes : List ℕ) (m : ModuleValue) (o p : Option (List UnitOrigins)) → Gives kind bytes m → HaveOrigins kind bytes o
+pub origins_once : (kind : Form) (bytes : List ℕ) (m : ModuleValue) (o p : Option (List UnitOrigins)) → Gives kind bytes m
+    → HaveOrigins kind bytes o
     → HaveOrigins kind bytes p → o ≡ p
 origins_once form.Module bytes m o p given h k = h ∙ sym k
 origins_once form.Source bytes m None p given h k = absurd (unfit_none bytes h.0 m h.1 given)

@@ -13,7 +13,7 @@ use Rattle.xk_law_compiler.proofs.CompiledOnceLaw.{one_compiled}
 use Rattle.xk_codegen.specs.Faults.{IsFaultOf, IsToldOnce}
 use Rattle.xk_codegen.proofs.OneFaultLaw.{not_faulty, same_fault, told_once}
 use Rattle.xk_serve.specs.OneAnswer.{IsLeftOpen}
-use Rattle.xk_program.specs.Programs.{IsCompiledTo, IsNoSource, IsSource}
+use Rattle.xk_program.specs.Programs.{IsCompiledTo, IsNoSource, IsNoText, IsSource}
 
 not_utf8 : (bytes : List ℕ) (n : ℕ) → IsValidUpTo bytes n → IsUtf8 bytes → ⊥
 not_utf8 bytes n bad good =
@@ -40,6 +40,12 @@ unfit_none bytes f m (inr (inr (inl p))) c = p.2 c.tree c.spelled.1
 unfit_none bytes f m (inr (inr (inr p))) c =
     let same = one_tree bytes p.0 c.tree p.1.1 c.spelled.1 in
     not_faulty c.tree f m (subst (λ (t : TreeValue). IsFaultOf t f) same p.2) c.clean c.falls c.code c.limits
+
+-- a source text of a tree spells one
+pub text_or_none : (bytes : List ℕ) (tree : TreeValue) (f : FrontFault) → IsSource bytes tree → IsNoText bytes f → ⊥
+text_or_none bytes tree f source (inl p) = not_both (length bytes) p.0 source.1.short
+text_or_none bytes tree f source (inr (inl p)) = not_utf8 bytes f.at p.2 source.0
+text_or_none bytes tree f source (inr (inr p)) = p.2 tree source.1
 
 -- ---- faults
 

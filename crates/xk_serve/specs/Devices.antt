@@ -1,17 +1,19 @@
 -- What the program does with its devices. This project's own.
-use Rattle.std.specs.Prelude.{◌≡◌, ◌≢◌, ℕ, ◌⊎◌, true, List, [], Option, Some, IfSome, string_bytes, if◌then◌else◌}
+use Rattle.std.specs.Prelude.{◌≡◌, ◌≢◌, ℕ, ◌⊎◌, true, List, [], Option, Some, Result, IfErr, IfOk, IfSome, string_bytes, if◌then◌else◌}
 use Rattle.std.specs.Io.KnownBytes.{Appends}
 use Rattle.xk_types.specs.Device.{Rose}
 use Rattle.xk_cli.specs.Status.{status_device, status_done, status_memory, status_words}
 use Rattle.xk_cli.specs.declared.words_fault.WordsFault.{WordsFault}
 use Rattle.xk_cli.specs.declared.words_fault.WordsFault.TheVariants as words
+use Rattle.xk_cli.specs.declared.job.Form.{Form}
+use Rattle.xk_answers.specs.declared.explanation.Refused.{Refused}
 use Rattle.xk_answers.specs.declared.job_result.Done.{Done}
 use Rattle.xk_program.specs.declared.fault.Fault.{Fault}
 use Rattle.xk_program.specs.declared.fault.Fault.TheVariants as fault
 use Rattle.xk_io.specs.Writing.{AppendsBeginning}
 use Rattle.xk_serve.specs.Answer.{Answers, FailsBy, Reply, Succeeds, Task, IsSaidOf, reads_list, reads_more}
 use Rattle.xk_answers.specs.Results.{Doing, longest_list}
-use Rattle.xk_program.specs.Bytes.{LosesAtMost}
+use Rattle.xk_program.specs.Bytes.{LosesAtMost, kept}
 use Rattle.xk_program.specs.Lines.{device_line, fault_line, status_of}
 use Rattle.xk_answers.specs.Printed.{done_log, done_text}
 use Rattle.xk_serve.specs.Lines.{excluded_line, list_line, runs_line, seed_line}
@@ -63,6 +65,17 @@ abbrev pub StandsAgainst : Task → Option (List ℕ) → Option (List ℕ) → 
 StandsAgainst t known logged n fault.Device said = FailsToRead n × (said ≡ [])
 StandsAgainst t known logged n f said = IsRead n × IfKnown t known logged (λ bytes log. FailsBy t bytes log f × IsSaidOf t bytes f said)
 
+-- these are the bytes that are kept of FILE, where those in it are known
+abbrev pub AreKeptOf : Form → Option (List ℕ) → List ℕ → Type 0
+AreKeptOf form program bytes = IfSome program (λ all. bytes ≡ kept form all)
+
+-- On some bytes of FILE, known or not, the task comes to what it is said to come to, or what is said to stand against it does.
+pub record IsOutcomeOfSome (t : Task) (program logged : Option (List ℕ)) (n : Reads) (r : Result Done Refused) : Type 0 where
+  pub bytes : List ℕ
+  pub are : AreKeptOf t.form program bytes
+  pub done : IfOk r (λ d. IfSome (read_of t logged) (λ log. Succeeds t bytes log d))
+  pub against : IfErr r (λ x. StandsAgainst t (Some bytes) logged n x.fault x.said.items)
+
 -- What stands against a task on these bytes, of which the log may still have been read: the numbers are the failures of the log's source.
 abbrev pub AgainstLog : Task → List ℕ → Option (List ℕ) → ℕ → ℕ → Fault → Type 0
 AgainstLog t bytes known old new fault.Device = Rose old new
@@ -101,6 +114,15 @@ pub record Answered (t : Task) (bytes logged : List ℕ) (status : ℕ) (out_old
   pub out_is : Appends out_old out_new reply.out
   pub err_is : Appends err_old err_new reply.err
   pub log_is : Appends log_old log_new reply.log
+
+-- status and texts are an answer to the task on some bytes of FILE, known or not; and on those of the log or the list that is read, where
+-- they are known
+pub record AnsweredBySome (t : Task) (program logged : Option (List ℕ)) (status : ℕ) (out_old out_new err_old err_new log_old log_new :
+    Option (List ℕ))
+    : Type 0 where
+  pub bytes : List ℕ
+  pub are : AreKeptOf t.form program bytes
+  pub answered : IfSome (read_of t logged) (λ log. Answered t bytes log status out_old out_new err_old err_new log_old log_new)
 
 -- standard output got a beginning of what is said of a fault that stands against the task, and the log nothing
 abbrev pub SaidBegins : Task → List ℕ → List ℕ → Option (List ℕ) → Option (List ℕ) → Option (List ℕ) → Option (List ℕ) → Type 0

@@ -13,9 +13,12 @@ use Rattle.xk_replay.specs.Chart.{chart_text}
 use Rattle.xk_answers.specs.declared.job_result.Done.{Done}
 use Rattle.xk_answers.specs.declared.job_result.Done.TheVariants as done
 use Rattle.xk_answers.specs.declared.picture.Picture.TheVariants as picture
+use Rattle.xk_program.specs.declared.fault.Fault.{Fault}
 use Rattle.xk_program.specs.declared.fault.Fault.TheVariants as fault
+use Rattle.xk_bounds.specs.declared.refusal.Refusal.{Refusal}
+use Rattle.xk_bounds.specs.declared.refusal.Refusal.TheVariants as refusal
 use Rattle.xk_serve.specs.Answer.{Answers, IsSaidOf, Reply, Task, done_reply, fault_reply}
-use Rattle.xk_answers.specs.Results.{Doing, Draw, Expected, Explain, IsLogText, Outcomes, Replay, Run}
+use Rattle.xk_answers.specs.Results.{Check, Doing, Draw, Expected, Explain, IsLogText, Outcomes, Replay, Run}
 use Rattle.xk_messages.specs.Lines.{kind_text, line}
 use Rattle.xk_program.specs.Programs.{Gives, IsSource, SpellsNone}
 
@@ -27,6 +30,11 @@ pub record IsSameRefusal (f g : KindFault) : Type 0 where
   pub slot : f.slot ≡ g.slot
   pub kind : f.kind ≡ g.kind
   pub as_long : length f.walk.items ≡ length g.walk.items
+
+-- both refusals are of one slot so, maybe with different walks to it
+abbrev pub AreWalks : Refusal → Refusal → Type 0
+AreWalks (refusal.Kind f) (refusal.Kind g) = IsSameRefusal f g
+AreWalks _ _ = ⊥
 
 -- both lines tell one refusal of kinds, maybe with different walks to it
 pub record TellWalks (a b : List ℕ) : Type 0 where
@@ -63,12 +71,16 @@ HasOneStatus _ = ⊤
 
 -- Two replies to a job are one, but for the walk to a refusal of kinds; where workers take the steps, but for the numbers and the log of the run; where
 -- outcomes are looked for, but for what is found; of `explain`, but for standard output. (What it says there of a fault is `IsSaidOf`; of an accepted
--- program that is one, by `one_answer`.)
+-- program that is one, by `one_answer`; of one that is refused by `explanations`.)
 pub record IsSameReply (what : Doing) (r s : Reply) : Type 0 where
   pub status : HasOneStatus what → r.status ≡ s.status
   pub err : IsSameLine r.err s.err
   pub out : IsDetermined what → r.out ≡ s.out
   pub log : ComesToOne what → r.log ≡ s.log
+
+-- the reply tells this fault, and what is said of it
+abbrev pub IsReplyOf : Task → List ℕ → Fault → Reply → Type 0
+IsReplyOf t bytes f r = (said : List ℕ) × IsSaidOf t bytes f said × (r ≡ fault_reply said f)
 
 -- ---- source texts
 
@@ -87,6 +99,30 @@ pub record TellFaults (t : Task) (bytes : List ℕ) (r s : Reply) : Type 0 where
   pub of_there : IsSaidOf t bytes (fault.Front there) said_there
   pub told_here : r ≡ fault_reply said_here (fault.Front here)
   pub told_there : s ≡ fault_reply said_there (fault.Front there)
+
+-- ---- what is explained
+
+-- which of two faults of the bytes is told is left open
+abbrev pub AreLeftOpen : List ℕ → Fault → Fault → Type 0
+AreLeftOpen bytes (fault.Front f) (fault.Front g) = IsLeftOpen bytes f g
+AreLeftOpen bytes (fault.Refused r) (fault.Refused q) = AreWalks r q
+AreLeftOpen bytes _ _ = ⊥
+
+-- both replies tell a fault, of which that is left open, and what is said of it
+pub record ExplainFaults (t : Task) (bytes : List ℕ) (r s : Reply) : Type 0 where
+  pub here : Fault
+  pub there : Fault
+  pub left : AreLeftOpen bytes here there
+  pub of_here : IsReplyOf t bytes here r
+  pub of_there : IsReplyOf t bytes there s
+
+-- the same job with `check` in place of `explain`
+abbrev pub checking : Task → Task
+checking t = record { doing = Check; file = t.file; form = t.form; arguments = t.arguments }
+
+-- `check` may answer with the same status and the same standard error
+abbrev pub MayCheck : Task → List ℕ → List ℕ → Reply → Type 0
+MayCheck t bytes logged r = (s : Reply) × Answers (checking t) bytes logged s × (s.status ≡ r.status) × (s.err ≡ r.err)
 
 -- ---- the log of a run
 

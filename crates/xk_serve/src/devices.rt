@@ -11,7 +11,7 @@ ghost use Rattle.xk_program.specs.Bytes.{IsReadToLimit};
 ghost use Rattle.xk_program.specs.Lines.{device_line, status_of};
 ghost use Rattle.xk_answers.specs.Printed.{done_ending, done_log};
 ghost use Rattle.xk_messages.specs.Lines.{memory_line};
-ghost use Rattle.xk_serve.specs.Devices.{Answered, ErrBegins, Explained, IfKnown, IsBegun, IsListReadToLimit, IsQuiet, IsWritten, OutBegins, Reports, StandsAgainst, Tells, TellsWords, reads};
+ghost use Rattle.xk_serve.specs.Devices.{Answered, AnsweredBySome, ErrBegins, Explained, IfKnown, IsBegun, IsListReadToLimit, IsOutcomeOfSome, IsQuiet, IsWritten, OutBegins, Reports, StandsAgainst, Tells, TellsWords, reads};
 
 use crate::commands::answer;
 use std::alloc::Global;
@@ -59,6 +59,11 @@ pub fn serve<R: Threads + Wait + Sync, P: Source, L: Source, O: Sink, E: Sink, K
         → Answered (task_of job.now) bytes logged result
         (O.contents out.old) (O.contents out.new) (E.contents err.old) (E.contents err.new)
         (K.contents log_out.old) (K.contents log_out.new)) }
+    // Whatever is known of FILE, the answer is that of some bytes.
+    ensures by_some { result ≢ status_memory → result ≢ status_device
+        → AnsweredBySome (task_of job.now) (P.remaining program.old) (L.remaining log_in.old) result
+        (O.contents out.old) (O.contents out.new) (E.contents err.old) (E.contents err.new)
+        (K.contents log_out.old) (K.contents log_out.new) }
 
     // Memory and devices.
     ensures out_begins { IfKnown (task_of job.now) (P.remaining program.old) (L.remaining
@@ -126,6 +131,9 @@ fn outcome<R: Threads + Wait + Sync, P: Source, L: Source>(
         StandsAgainst (task_of job.now) (P.remaining program.old) (L.remaining log_in.old)
         (reads (P.fault_count program.old) (P.fault_count program.new)
         (L.fault_count log_in.old) (L.fault_count log_in.new)) r.fault r.said.items) }
+    ensures by_some { IsOutcomeOfSome (task_of job.now) (P.remaining program.old)
+        (L.remaining log_in.old) (reads (P.fault_count program.old) (P.fault_count program.new)
+        (L.fault_count log_in.old) (L.fault_count log_in.new)) result }
     ensures quiet { IfErr result (λ r. IsQuiet r.fault r.said.items) }
     ensures unread { reads_more (task_of job.now).doing ≡ false → log_in.new ≡ log_in.old }
     ensures refused { IfErr result

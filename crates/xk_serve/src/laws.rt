@@ -1,19 +1,20 @@
 //! What holds of all answers: nothing here is computed.
 
-ghost use Rattle.std.specs.Prelude.{◌≡◌, ◌≢◌, ◌⊎◌, ℕ, ℤ, List, true};
+ghost use Rattle.std.specs.Prelude.{◌≡◌, ◌≢◌, ◌⊎◌, ℕ, ℤ, Bool, List, true};
 ghost use Rattle.xk_answers.specs.declared.job_result.Done.{Done};
-ghost use Rattle.xk_serve.specs.Answer.{Answers, Reply, Task};
-ghost use Rattle.xk_answers.specs.Results.{ComesTo, Doing, IsTelling, IsText, Run};
+ghost use Rattle.xk_serve.specs.Answer.{Answers, IsSaidOf, Reply, Task};
+ghost use Rattle.xk_answers.specs.Results.{ComesTo, Doing, Explain, IsTelling, IsText, Run};
 ghost use Rattle.xk_answers.specs.Printed.{done_log, done_text};
-ghost use Rattle.xk_serve.specs.OneAnswer.{ComesToOne, IsCharted, IsSameReply, MayChart, TellFaults, charting, done_with, replaying};
+ghost use Rattle.xk_serve.specs.OneAnswer.{ComesToOne, ExplainFaults, IsCharted, IsSameReply, MayChart, MayCheck, TellFaults, charting, done_with, replaying};
 ghost use Rattle.xk_program.specs.Programs.{Gives};
+ghost use Rattle.xk_program.specs.declared.fault.Fault.{Fault};
 ghost use Rattle.xk_types.specs.Code.{ModuleValue};
 ghost use Rattle.xk_cli.specs.declared.job.Form.TheVariants as form;
 ghost use Rattle.xk_cli.specs.CommandLine.{Way};
 ghost use Rattle.xk_cli.specs.Status.{status_done, status_memory};
 
 /// To a job on a module text there is one answer, want of memory aside: the same status, and the same bytes on every device. Left open are: which walk
-/// is told of a refusal of kinds, one of the shortest; what `explain` writes to standard output of a refusal; where workers take the steps, which run
+/// is told of a refusal of kinds, one of the shortest, and so what `explain` writes to standard output of it; where workers take the steps, which run
 /// they take (then standard output and the log are those of some run, but the status and the line of a fault are determined still); and, where outcomes
 /// are looked for, in which order they are told, and whether all are. To a job on a source text there is one answer in the same sense, but that of a
 /// text which spells no tree, or has several recursive calls, it is left open which fault is told: the status and the other devices are the same then
@@ -35,6 +36,20 @@ pub fn one_answer()
         → IsText (IsTelling t.doing t.form t.file bytes m t.arguments logged) d
         → IsText (IsTelling t.doing t.form t.file bytes m t.arguments logged) e
         → (done_text d ≡ done_text e) × (done_log d ≡ done_log e) }
+{}
+
+/// What `explain` says is one: of a program that is accepted, and of a fault. Where two answers tell one fault, all that
+/// they write is the same. Left open is which fault is told, as in `one_answer`: so the answers are two only where that is.
+/// And `check` may answer with the status that `explain` has, and with the same line on standard error, or none.
+pub fn explanations()
+    ensures explained { (t : Task) (json : Bool) (bytes logged : List ℕ) (r s : Reply)
+        → t.doing ≡ Explain json → Answers t bytes logged r → Answers t bytes logged s
+        → r.status ≢ status_memory → s.status ≢ status_memory
+        → (r.out ≡ s.out) ⊎ ExplainFaults t bytes r s }
+    ensures said { (t : Task) (bytes : List ℕ) (f : Fault) (a b : List ℕ)
+        → IsSaidOf t bytes f a → IsSaidOf t bytes f b → a ≡ b }
+    ensures checked { (t : Task) (json : Bool) (bytes logged : List ℕ) (r : Reply)
+        → t.doing ≡ Explain json → Answers t bytes logged r → MayCheck t bytes logged r }
 {}
 
 /// The log that `run` has written tells that run. Of the same FILE, the same arguments and that log `replay` may print what the run printed, with

@@ -32,6 +32,12 @@ use Rattle.xk_program.specs.Programs.{Gives}
 use Rattle.xk_serve.proofs.ReplyLemmas.{appends_none, tells_begins}
 use Rattle.xk_serve_ask.specs.AskedRun.{AreBegun, BeginsAsking, BeginsToAsk, EndsAsking, FailsWhile, IsAskedBy, IsAskedFirst, IsFaultReply, IsHandReply, IsHandRun, IsPlayedByHand, IsUnfitFor, IsWrittenBy, OutBeginsRun, StandsAgainstAsked, last_line}
 
+-- what holds of the bytes kept holds of those kept of the bytes that are known
+of_known : (form : Form) (program : Option (List ℕ)) (bytes : List ℕ) (P : List ℕ → Type 0) → IfSome program (λ k. bytes ≡ kept form k) → P bytes
+    → IfSome program (λ k. P (kept form k))
+of_known form None bytes P is p = tt
+of_known form (Some k) bytes P is p = subst P is p
+
 -- ---- what was written of a run
 
 -- it was written, and nothing more to standard error
@@ -43,6 +49,33 @@ IsOut mid new log numbers ending whole keeps out_old out_new log_old log_new o_o
     ⊎ ((result ≡ 5) × (Rose o_old o_new ⊎ Rose k_old k_new))
 
 -- so it is answered by that run
+pub run_reply : {D : Type 0} (contents : D → Option (List ℕ)) (first mid new : D) (form : Form) (bytes : List ℕ) (args : List ℤ)
+    (in_old in_new : Option (List ℕ)) (log : List Entry) (numbers : List ℤ) (steps : ℕ) (whole keeps : Bool) (ending : List ℕ)
+    (out_old out_new log_old log_new : Option (List ℕ)) (o_old o_new k_old k_new result : ℕ)
+    → IsPlayedByHand form bytes args in_old in_new (contents first) (contents mid) log numbers steps whole
+    → ending ≡ last_line whole steps
+    → IsOut mid new log numbers ending whole keeps out_old out_new log_old log_new o_old o_new k_old k_new result
+    → result ≢ 4 → result ≢ 5
+    → IsHandReply form bytes args keeps result in_old in_new out_old out_new (contents first) (contents new) log_old log_new
+run_reply contents first mid new form bytes args in_old in_new log numbers steps whole keeps ending out_old out_new log_old log_new o_old
+    o_new k_old k_new
+    result done last (inl out) memory device =
+    inl (record {
+      log = log;
+      numbers = numbers;
+      steps = steps;
+      whole = whole;
+      by_hand =
+          subst (λ d. IsPlayedByHand form bytes args in_old in_new (contents first) (contents d) log numbers steps whole) (sym out.3) done;
+      status_is = out.0;
+      out_is = subst (λ l. Appends out_old out_new (number_lines numbers ++ l)) last out.1;
+      log_is = out.2;
+    })
+run_reply contents first mid new form bytes args in_old in_new log numbers steps whole keeps ending out_old out_new log_old log_new o_old
+    o_new k_old k_new
+    result done last (inr broke) memory device = absurd (device broke.0)
+
+-- and of the bytes that are known, if they are
 pub run_replies : {D : Type 0} (contents : D → Option (List ℕ)) (first mid new : D) (form : Form) (program : Option (List ℕ)) (bytes : List ℕ) (args : List ℤ)
     (in_old in_new : Option (List ℕ)) (log : List Entry) (numbers : List ℤ) (steps : ℕ) (whole keeps : Bool) (ending : List ℕ)
     (out_old out_new log_old log_new : Option (List ℕ)) (o_old o_new k_old k_new result : ℕ)
@@ -52,25 +85,15 @@ pub run_replies : {D : Type 0} (contents : D → Option (List ℕ)) (first mid n
     → IsOut mid new log numbers ending whole keeps out_old out_new log_old log_new o_old o_new k_old k_new result
     → IfSome program (λ b. result ≢ 4 → result ≢ 5
     → IsHandReply form (kept form b) args keeps result in_old in_new out_old out_new (contents first) (contents new) log_old log_new)
-run_replies contents first mid new form None bytes args in_old in_new log numbers steps whole keeps ending out_old out_new log_old log_new o_old o_new k_old
-    k_new
-    result is done last out = tt
-run_replies contents first mid new form (Some b) bytes args in_old in_new log numbers steps whole keeps ending out_old out_new log_old log_new o_old o_new k_old
-    k_new result is done last (inl out) =
-    λ memory device. inl (record {
-      log = log;
-      numbers = numbers;
-      steps = steps;
-      whole = whole;
-      by_hand = subst (λ d. IsPlayedByHand form (kept form b) args in_old in_new (contents first) (contents d) log numbers steps whole) (sym out.3)
-          (subst (λ x. IsPlayedByHand form x args in_old in_new (contents first) (contents mid) log numbers steps whole) is done);
-      status_is = out.0;
-      out_is = subst (λ l. Appends out_old out_new (number_lines numbers ++ l)) last out.1;
-      log_is = out.2;
-    })
-run_replies contents first mid new form (Some b) bytes args in_old in_new log numbers steps whole keeps ending out_old out_new log_old log_new o_old o_new k_old
-    k_new result is done last (inr broke) =
-    λ memory device. absurd (device broke.0)
+run_replies contents first mid new form program bytes args in_old in_new log numbers steps whole keeps ending out_old out_new log_old
+    log_new o_old o_new k_old
+    k_new result is done last out =
+    of_known form program bytes
+    (λ x. result ≢ 4 → result ≢ 5
+    → IsHandReply form x args keeps result in_old in_new out_old out_new (contents first) (contents new) log_old log_new) is
+    (λ memory device. run_reply contents first mid new form bytes args in_old in_new log numbers steps whole keeps ending out_old out_new
+    log_old log_new
+    o_old o_new k_old k_new result done last out memory device)
 
 -- of it a beginning was written
 pub run_begins : (form : Form) (program : Option (List ℕ)) (bytes : List ℕ) (args : List ℤ) (in_old in_new first mid : Option (List ℕ)) (log : List Entry)
@@ -365,11 +388,6 @@ begins_asking : (form : Form) (bytes : List ℕ) (args : List ℤ) (input : Opti
 begins_asking form bytes args input f first mid new asked may begun =
     (asked.0, asked.1, (f, may, (begun.0, appends_then first mid new asked.0 (take begun.0 (fault_line f)) asked.2 begun.1)))
 
-of_known : (form : Form) (program : Option (List ℕ)) (bytes : List ℕ) (P : List ℕ → Type 0) → IfSome program (λ k. bytes ≡ kept form k) → P bytes
-    → IfSome program (λ k. P (kept form k))
-of_known form None bytes P is p = tt
-of_known form (Some k) bytes P is p = subst P is p
-
 -- behind a run
 pub run_begins_line : (form : Form) (program : Option (List ℕ)) (bytes : List ℕ) (args : List ℤ) (input first mid new : Option (List ℕ))
     → IfSome program (λ k. bytes ≡ kept form k) → IsWrittenBy (IsAskedFirst form bytes args input) first mid → AppendsBeginning mid new device_line
@@ -427,16 +445,22 @@ told_at_read i j f old new faults_old faults_new result came (inl (inr broke)) =
 told_at_read i j f old new faults_old faults_new result came (inr (other, inl line)) = inl line.0
 told_at_read i j f old new faults_old faults_new result came (inr (other, inr broke)) = inr broke.0
 
+-- where FILE can't be read memory is wanting, or a device failed
+pub unread_alone : (i j : ℕ) (f : Fault) (old new : Option (List ℕ)) (faults_old faults_new result : ℕ) → FailsRead i j f
+    → Reports f old new faults_old faults_new result → result ≢ 4 → result ≢ 5 → ⊥
+unread_alone i j f old new faults_old faults_new result came told memory device =
+    by (told_at_read i j f old new faults_old faults_new result came told)
+  where
+    by : (result ≡ 4) ⊎ (result ≡ 5) → ⊥
+    by (inl is) = memory is
+    by (inr is) = device is
+
 pub unread_replies : (form : Form) (program : Option (List ℕ)) (args : List ℤ) (keeps : Bool) (i j : ℕ) (f : Fault) (input old new out log : Option (List ℕ))
     (faults_old faults_new result : ℕ) → FailsRead i j f → Reports f old new faults_old faults_new result
     → IfSome program (λ b. result ≢ 4 → result ≢ 5 → IsHandReply form (kept form b) args keeps result input input out out old new log log)
 unread_replies form None args keeps i j f input old new out log faults_old faults_new result came told = tt
 unread_replies form (Some b) args keeps i j f input old new out log faults_old faults_new result came told = λ memory device.
-    absurd (by memory device (told_at_read i j f old new faults_old faults_new result came told))
-  where
-    by : result ≢ 4 → result ≢ 5 → (result ≡ 4) ⊎ (result ≡ 5) → ⊥
-    by memory device (inl is) = memory is
-    by memory device (inr is) = device is
+    absurd (unread_alone i j f old new faults_old faults_new result came told memory device)
 
 pub unread_ends : (form : Form) (program : Option (List ℕ)) (args : List ℤ) (input : Option (List ℕ)) (line : List ℕ) (err new : Option (List ℕ))
     → Appends err new line → EndsAsking form program args input line err new
@@ -454,7 +478,7 @@ unread_ends_device form program args input err new e g (inr rose) = inr rose
 -- ---- what stands against a run
 
 -- it is answered by that
-fault_reply_of : (form : Form) (bytes : List ℕ) (args : List ℤ) (f : Fault) (i j e g : ℕ) (first mid new out log : Option (List ℕ))
+pub fault_reply_of : (form : Form) (bytes : List ℕ) (args : List ℤ) (f : Fault) (i j e g : ℕ) (first mid new out log : Option (List ℕ))
     (faults_old faults_new result : ℕ)
     → StandsAgainstAsked form bytes args i j e g first mid f → Reports f mid new faults_old faults_new result → result ≢ 4 → result ≢ 5
     → IsFaultReply form bytes args result out out first new log log

@@ -26,6 +26,7 @@ use Rattle.xk_program.specs.Bytes.{kept}
 use Rattle.xk_program.specs.Faults.{GivesNoModule}
 use Rattle.xk_program.specs.Lines.{fault_line, status_of}
 use Rattle.xk_program.specs.Programs.{Gives}
+use Rattle.xk_serve.specs.Devices.{AreKeptOf}
 
 -- want of memory is one fault, whoever met it
 abbrev pub fault_of : AskFault → Fault
@@ -113,6 +114,13 @@ abbrev pub IsHandReply : Form → List ℕ → List ℤ → Bool → ℕ → Opt
 IsHandReply form bytes args keeps status in_old in_new out_old out_new err_old err_new log_old log_new =
     IsRunReply form bytes args keeps status in_old in_new out_old out_new err_old err_new log_old log_new
     ⊎ IsFaultReply form bytes args status out_old out_new err_old err_new log_old log_new
+
+-- they are so on some bytes of FILE, known or not
+pub record IsHandReplyOfSome (form : Form) (program : Option (List ℕ)) (args : List ℤ) (keeps : Bool) (status : ℕ)
+    (in_old in_new out_old out_new err_old err_new log_old log_new : Option (List ℕ)) : Type 0 where
+  pub bytes : List ℕ
+  pub are : AreKeptOf form program bytes
+  pub reply : IsHandReply form bytes args keeps status in_old in_new out_old out_new err_old err_new log_old log_new
 
 -- ---- where memory is wanting, or a device fails
 

@@ -14,7 +14,7 @@ ghost use Rattle.xk_ask.specs.Play.{IsPlayed, log_by, unread};
 ghost use Rattle.xk_answers.specs.Printed.{whole_status};
 ghost use Rattle.xk_program.specs.Lines.{device_line, status_of};
 ghost use Rattle.xk_ask.specs.Answers.{AreAnswers};
-ghost use Rattle.xk_serve_ask.specs.AskedRun.{AreBegun, BeginsAsking, BeginsToAsk, EndsAsking, FailsWhile, fault_of, IsAskedBy, IsAskedFirst, IsHandReply, IsPlayedByHand, IsWrittenBy, OutBeginsRun, StandsAgainstAsked, last_line};
+ghost use Rattle.xk_serve_ask.specs.AskedRun.{AreBegun, BeginsAsking, BeginsToAsk, EndsAsking, FailsWhile, fault_of, IsAskedBy, IsAskedFirst, IsHandReply, IsHandReplyOfSome, IsPlayedByHand, IsWrittenBy, OutBeginsRun, StandsAgainstAsked, last_line};
 ghost use Rattle.xk_cli.specs.declared.job.Form.{Form as FormValue};
 ghost use Rattle.xk_program.specs.Origins.{IsFrom};
 ghost use Rattle.xk_program.specs.Bytes.{IsReadToLimit, kept};
@@ -257,6 +257,12 @@ pub fn serve_asked<P: Source, L: Source, O: Sink, E: Sink, K: Sink>(
         (L.remaining input.old) (L.remaining input.new)
         (O.contents out.old) (O.contents out.new) (E.contents err.old) (E.contents err.new)
         (K.contents log_out.old) (K.contents log_out.new)) }
+    // Whatever is known of FILE, the answer is that of some bytes.
+    ensures by_some { result ≢ status_memory → result ≢ status_device
+        → IsHandReplyOfSome form (P.remaining program.old) arguments.now keeps_log result
+        (L.remaining input.old) (L.remaining input.new)
+        (O.contents out.old) (O.contents out.new) (E.contents err.old) (E.contents err.new)
+        (K.contents log_out.old) (K.contents log_out.new) }
     ensures unread { result ≡ status_program → input.new ≡ input.old }
 
     // Memory and devices.

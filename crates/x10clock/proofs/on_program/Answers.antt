@@ -1,4 +1,4 @@
-use Rattle.x10clock.proofs.AnswerLemmas.{unread}
+use Rattle.x10clock.proofs.AnswerLemmas.{some_unread, unread}
 use Rattle.x10clock.proofs.on_program.Goals as goal
 
 pub returns-in_default-clause-answered : goal.returns-in_default-clause-answered
@@ -6,3 +6,16 @@ returns-in_default-clause-answered g c =
     unread c.args.request.now (g.P.Read.remaining c.args.program) _ _ c.on_log.result
     (g.O.Sink.contents c.args.out.now) (g.O.Sink.contents c.on_log.new.out) (g.E.Sink.contents c.args.err.now) (g.E.Sink.contents c.on_log.new.err)
     _ _ _ c.on_log.ensures.answered
+
+pub returns-in_default-clause-by_some : goal.returns-in_default-clause-by_some
+returns-in_default-clause-by_some g c memory device =
+    some_unread c.args.request.now (g.P.Read.remaining c.args.program) _ _ c.on_log.result
+    (g.O.Sink.contents c.args.out.now) (g.O.Sink.contents c.on_log.new.out) (g.E.Sink.contents c.args.err.now) (g.E.Sink.contents c.on_log.new.err)
+    _ _ _ (c.on_log.ensures.by_some memory device)
+
+pub returns-in_default-read_path-clause-by_some : goal.returns-in_default-read_path-clause-by_some
+returns-in_default-read_path-clause-by_some g c memory device =
+    let done = c.on_log-in_default-read_path in
+    some_unread c.args.request.now (g.P.Read.remaining c.args.program) _ _ done.result
+    (g.O.Sink.contents c.args.out.now) (g.O.Sink.contents done.new.out) (g.E.Sink.contents c.args.err.now) (g.E.Sink.contents done.new.err)
+    _ _ _ (done.ensures.by_some memory device)

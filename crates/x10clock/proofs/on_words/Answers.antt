@@ -1,11 +1,13 @@
 use Rattle.std.proofs.Common.{◌∙◌, ap, inl, inr}
-use Rattle.xk_cli.specs.CommandLine.{asked_value, texts}
+use Rattle.xk_cli.specs.CommandLine.{texts}
 use Rattle.x10clock.proofs.WordLemmas.{asked, last_line, refused}
 use Rattle.x10clock.proofs.on_words.Goals as goal
 
 pub returns-in-Ok-read_job-clause-told : goal.returns-in-Ok-read_job-clause-told
 returns-in-Ok-read_job-clause-told g c =
-    inl (asked (texts c.deref.result.now) _ (asked_value c.in-Ok-read_job.request) (ap texts c.deref.ensures.value ∙ c.in-Ok.ensures.same) c.in-Ok-read_job.ensures.understood c.in-Ok-read_job.ensures.job)
+    inl (asked c.in-Ok-read_job.request (texts c.deref.result.now) _ _ (ap texts c.deref.ensures.value ∙ c.in-Ok.ensures.same)
+    c.in-Ok-read_job.ensures.understood
+    c.in-Ok-read_job.ensures.job c.on_request.ensures.served)
 
 pub returns-clause-told : goal.returns-clause-told
 returns-clause-told g c =

@@ -3,7 +3,8 @@ use Rattle.xk_serve.specs.Devices.{ErrBegins}
 use Rattle.xk_program.specs.declared.fault.Fault.TheVariants as fault
 use Rattle.std.proofs.Common.{inl, refl}
 use Rattle.xk_serve.proofs.ReplyLemmas.{begun_known, line_begins, of_known, said_begins, told_answers, written_answers}
-use Rattle.xk_serve.proofs.ReplyLemmas.{memory_answers, memory_begins, none_begins}
+use Rattle.xk_serve.proofs.ReplyLemmas.{memory_alone, memory_answers, memory_begins, none_begins}
+use Rattle.xk_serve.proofs.SomeBytesLemmas.{told_by_some, written_by_some}
 use Rattle.xk_serve.proofs.devices.serve.Goals as goal
 
 pub returns-in-Ok-ending-clause-answered : goal.returns-in-Ok-ending-clause-answered
@@ -53,3 +54,23 @@ pub returns-in-Ok-clause-err_begins : goal.returns-in-Ok-clause-err_begins
 returns-in-Ok-clause-err_begins g c =
     memory_begins (task_of c.args.job.now) (g.P.Source.remaining c.args.program.now) (g.L.Source.remaining c.args.log_in.now)
     _ _ _ _ c.report.result c.report.ensures
+
+-- ---- of some bytes
+
+pub returns-in-Ok-ending-clause-by_some : goal.returns-in-Ok-ending-clause-by_some
+returns-in-Ok-ending-clause-by_some g c =
+    written_by_some (task_of c.args.job.now) (g.P.Source.remaining c.args.program.now) (g.L.Source.remaining c.args.log_in.now) _
+    c.outcome.result
+    _ _ _ _ _ _ c.print.result c.in-Ok.done _ c.in-Ok.is c.outcome.ensures.by_some c.print.ensures.printed
+
+pub returns-in-Ok-clause-by_some : goal.returns-in-Ok-clause-by_some
+returns-in-Ok-clause-by_some g c memory device =
+    absurd (memory_alone (task_of c.args.job.now) (g.P.Source.remaining c.args.program.now) (g.L.Source.remaining c.args.log_in.now)
+    _ _ _ _ c.report.result c.report.ensures memory device)
+
+pub returns-clause-by_some : goal.returns-clause-by_some
+returns-clause-by_some g c =
+    told_by_some (task_of c.args.job.now) (g.P.Source.remaining c.args.program.now) (g.L.Source.remaining c.args.log_in.now) _
+    c.outcome.result
+    c.in-Err.refused _ _ _ _ _ _ _ _ c.refuse.result (g.K.Sink.contents c.args.log_out.now) c.in-Err.is c.outcome.ensures.by_some
+    c.refuse.ensures

@@ -1,6 +1,6 @@
-use Rattle.std.proofs.Common.{inl}
+use Rattle.std.proofs.Common.{inl, inr}
 use Rattle.std.specs.Prelude.{string_bytes}
-use Rattle.xk_serve_ask.proofs.AskedRunLemmas.{ends_asking, ends_asking_device, fault_begins_line, fault_replies, nothing_begins, out_status, reports_begun, reports_device, reports_memory, reports_refusal, run_begins, run_begins_line, run_replies, stands_counts, stands_told, unread_begins_line, unread_ends, unread_ends_device, unread_replies}
+use Rattle.xk_serve_ask.proofs.AskedRunLemmas.{ends_asking, ends_asking_device, fault_begins_line, fault_replies, fault_reply_of, nothing_begins, out_status, reports_begun, reports_device, reports_memory, reports_refusal, run_begins, run_begins_line, run_replies, run_reply, stands_counts, stands_told, unread_alone, unread_begins_line, unread_ends, unread_ends_device, unread_replies}
 use Rattle.xk_serve_ask.proofs.asked_run.serve_asked.Goals as goal
 
 -- ---- a run
@@ -116,3 +116,36 @@ returns-in-Err-clause-by_hand g c =
     unread_replies c.args.form (g.P.Source.remaining c.args.program.now) c.args.arguments.now c.args.keeps_log _ _ c.in-Err.fault
     (g.L.Source.remaining c.args.input.now) (g.E.Sink.contents c.args.err.now) (g.E.Sink.contents c.report.new.err) (g.O.Sink.contents c.args.out.now)
     (g.K.Sink.contents c.args.log_out.now) _ _ c.report.result c.in-Err.ensures.failed c.report.ensures
+
+-- ---- on some bytes
+
+pub returns-in-Ok-asked_of-clause-by_some : goal.returns-in-Ok-asked_of-clause-by_some
+returns-in-Ok-asked_of-clause-by_some g c memory device =
+    let r = c.in-Ok-asked_of.found in
+    record {
+      bytes = c.in-Ok.bytes.items;
+      are = c.in-Ok.ensures.kept;
+      reply =
+          run_reply g.E.Sink.contents c.args.err.now c.asked_of.new.err c.print.new.err c.args.form c.in-Ok.bytes.items c.args.arguments.now
+          (g.L.Source.remaining c.args.input.now) (g.L.Source.remaining c.asked_of.new.input) r.played.log.items r.played.printed.items
+          r.played.steps
+          r.played.whole c.args.keeps_log _ _ _ _ _ _ _ _ _ c.print.result (rw c.deref.ensures.value at c.in-Ok-asked_of.ensures.done)
+          c.in-Ok-asked_of.ensures.ending c.print.ensures.printed memory device;
+    }
+
+pub returns-clause-by_some : goal.returns-clause-by_some
+returns-clause-by_some g c memory device = record {
+  bytes = c.in-Ok.bytes.items;
+  are = c.in-Ok.ensures.kept;
+  reply =
+      inr (fault_reply_of c.args.form c.in-Ok.bytes.items c.args.arguments.now c.in-Err-asked_of.fault _ _ _ _ (g.E.Sink.contents
+      c.args.err.now)
+      (g.E.Sink.contents c.asked_of.new.err) _ (g.O.Sink.contents c.args.out.now) (g.K.Sink.contents c.args.log_out.now) _ _
+      c.report-in-Err-asked_of.result (rw c.deref.ensures.value at c.in-Err-asked_of.ensures.against) c.report-in-Err-asked_of.ensures
+      memory device);
+}
+
+pub returns-in-Err-clause-by_some : goal.returns-in-Err-clause-by_some
+returns-in-Err-clause-by_some g c memory device =
+    absurd (unread_alone _ _ c.in-Err.fault (g.E.Sink.contents c.args.err.now) (g.E.Sink.contents c.report.new.err) _ _ c.report.result
+    c.in-Err.ensures.failed c.report.ensures memory device)
