@@ -58,11 +58,6 @@ counted (e ∷ shares) (suc k) s there = ap (λ l. share_value e ∷ l) (counted
 abbrev place_of : List ℤ → List (Vec ℤ × Declared) → ℕ
 place_of numbers shares = position_or_len (λ k. are_same numbers k.items) (keys_of shares)
 
-<<<<<<< HEAD
--- where the first is another one, they are one place further on
-past_first : (n : ℕ) → cond (not false) (1 + n) 0 ≡ suc n
-past_first n = let more : 1 + n ≡ suc n = omega arith in more
-=======
 place_later : (numbers : List ℤ) (e : Vec ℤ × Declared) (shares : List (Vec ℤ × Declared)) → are_same numbers e.0.items ≡ false
     → place_of numbers (e ∷ shares) ≡ suc (place_of numbers shares)
 place_later numbers e shares differs =
@@ -72,7 +67,6 @@ place_later numbers e shares differs =
 -- the run of this seed, which printed these numbers, in shares that lie in memory
 abbrev inserted : ℕ → Vec ℤ → List (Vec ℤ × Declared) → List (Vec ℤ × Declared)
 inserted seed numbers shares = insert_entry (λ x y. are_same x.items y.items) shares numbers (record { first = seed; runs = 1 })
->>>>>>> e0ad20cc28f84f7735fe37d2e91bb20a0150ed83
 
 pub noted_later : (seed : ℕ) (numbers : List ℤ) (s : Share) (shares : List Share) → are_same s.numbers numbers ≡ false
     → noted seed numbers (s ∷ shares) ≡ s ∷ noted seed numbers shares
@@ -94,11 +88,7 @@ noted_there seed numbers (e ∷ shares) less = by (noted_there seed numbers shar
         → once_more (place_of numbers (e ∷ shares)) (map share_value (e ∷ shares)) ≡ noted seed numbers (map share_value (e ∷ shares))
     by rest true same = simp (same, other_order numbers e.0.items true same)
     by rest false differs =
-<<<<<<< HEAD
-        let at : place_of numbers (e ∷ shares) ≡ suc (place_of numbers shares) = ap (λ b. cond (not b) (1 + place_of numbers shares) 0) differs ∙ past_first (place_of numbers shares) in
-=======
         let at = place_later numbers e shares differs in
->>>>>>> e0ad20cc28f84f7735fe37d2e91bb20a0150ed83
         let within : place_of numbers shares < length (keys_of shares) = omega (arith, less, at) in
         ap (λ k. once_more k (map share_value (e ∷ shares))) at
         ∙ ap (λ l. share_value e ∷ l) (rest within)
@@ -118,12 +108,7 @@ noted_behind seed numbers (e ∷ shares) none = by (noted_behind seed numbers sh
         let at : place_of numbers.items (e ∷ shares) ≡ 0 = ap (λ b. cond (not b) (1 + place_of numbers.items shares) 0) same in
         absurd (omega (arith, none, at))
     by rest false differs =
-<<<<<<< HEAD
-        let at : place_of numbers.items (e ∷ shares) ≡ suc (place_of numbers.items shares) =
-        ap (λ b. cond (not b) (1 + place_of numbers.items shares) 0) differs ∙ past_first (place_of numbers.items shares) in
-=======
         let at = place_later numbers.items e shares differs in
->>>>>>> e0ad20cc28f84f7735fe37d2e91bb20a0150ed83
         let behind : length (keys_of shares) ≡ place_of numbers.items shares = omega (arith, none, at) in
         ap (map share_value) (inserted_later seed numbers e shares differs)
         ∙ ap (λ l. share_value e ∷ l) (rest behind)
