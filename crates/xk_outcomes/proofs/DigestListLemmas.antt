@@ -100,5 +100,7 @@ pub linked_pushed : {S : Type 0} (all before more places : List ℕ) (d p n : �
 linked_pushed all before more places d p n old new are is next updates put set =
     let one : n ≡ suc (length all) = omega (arith, next) in
     let linked = linked_more all before d p (place_in old) (place_in new) are is
-    (λ q. ap (λ o. unwrap_or o 0) (updates.0 q) ∙ open_cond (nat_eq d q) n (get nat_eq old q) ∙ ap (λ m. cond (nat_eq d q) m (place_in old q)) one) in
+    (λ q. ap (λ o. unwrap_or o 0) (updates.0 q)
+    ∙ open_cond (nat_eq d q) n (get nat_eq old q)
+    ∙ ap (λ m. cond (nat_eq d q) m (place_in old q)) one) in
     subst (λ l. AreLinked l places (place_in new)) (sym put) (subst (λ l. AreLinked (all ++ d ∷ []) l (place_in new)) (sym set) linked)

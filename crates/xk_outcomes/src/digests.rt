@@ -40,13 +40,6 @@ impl Digests {
         }
     }
 
-    /// How many there are.
-    pub fn len(&self) -> usize
-        ensures { result ≡ length self.now }
-    {
-        self.all.len()
-    }
-
     /// The place behind the last that is this digest, or 0.
     pub fn last(&self, digest: u64) -> usize
         ensures { IsLast self.now digest (length self.now) result }

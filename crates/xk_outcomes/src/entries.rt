@@ -100,7 +100,8 @@ impl<'m> Entries<'m> {
         ensures settled { AreSettled self.now.start self.now.all }
         ensures different { AreDifferent self.now.all }
     {
-        self.digests.len()
+        // The first one, and one for each edge.
+        self.edges.len() + 1
     }
 
     /// The steps that lead to one from the first, the last of which stands first.

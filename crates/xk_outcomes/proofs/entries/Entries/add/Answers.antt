@@ -14,10 +14,12 @@ invariant_of-self-2 c =
     let new = c.args.new.now in
     let x = c.requires.0 in
     let edge : Edge = record { from = c.args.from; act = c.args.act } in
-    let there : slice_get (led_by start edges) c.args.from ≡ Some x = subst (λ (e : EntriesValue). slice_get e.all c.args.from ≡ Some x) (sym c.self.view_is) c.requires.1 in
+    let more = c.push_reserved.ensures.items ∙ ap (λ (l : List Edge). l ++ edge ∷ []) c.reserve.ensures.items in
+    let there : slice_get (led_by start edges) c.args.from ≡ Some x =
+    subst (λ (e : EntriesValue). slice_get e.all c.args.from ≡ Some x) (sym c.self.view_is) c.requires.1 in
     let found : IsFound c.args.self.now.start new =
     subst (λ (e : EntriesValue). IsFound e.start new) c.self.view_is (new_found start edges c.args.from c.args.act x new there c.requires.2) in
-    entries_push start edges c.push_reserved.new.self.items digests c.push.new.self edge x new c.self.invariant (c.push_reserved.ensures.items ∙ ap (λ (l : List Edge). l ++ edge ∷ []) c.reserve.ensures.items)
+    entries_push start edges c.push_reserved.new.self.items digests c.push.new.self edge x new c.self.invariant more
     (c.in_ok-push.ensures.more ∙ ap (λ (d : ℕ). digests ++ d ∷ []) c.found_digest-digest.ensures) there c.requires.2
     (λ has. c.in_ok-is_known.ensures.no found c.if-branch.false (subst (λ (e : EntriesValue). Has e.all new.core.world new.printed) c.self.view_is has))
 
@@ -28,9 +30,11 @@ returns-clause-grown c k y h =
     let new = c.args.new.now in
     let x = c.requires.0 in
     let edge : Edge = record { from = c.args.from; act = c.args.act } in
-    let there : slice_get (led_by start edges) c.args.from ≡ Some x = subst (λ (e : EntriesValue). slice_get e.all c.args.from ≡ Some x) (sym c.self.view_is) c.requires.1 in
+    let more = c.push_reserved.ensures.items ∙ ap (λ (l : List Edge). l ++ edge ∷ []) c.reserve.ensures.items in
+    let there : slice_get (led_by start edges) c.args.from ≡ Some x =
+    subst (λ (e : EntriesValue). slice_get e.all c.args.from ≡ Some x) (sym c.self.view_is) c.requires.1 in
     grown_push (led_by start edges) (led_by start c.push_reserved.new.self.items) new
-    (led_push start edges c.push_reserved.new.self.items edge x new (c.push_reserved.ensures.items ∙ ap (λ (l : List Edge). l ++ edge ∷ []) c.reserve.ensures.items) there c.requires.2) k y
+    (led_push start edges c.push_reserved.new.self.items edge x new more there c.requires.2) k y
     (subst (λ (e : EntriesValue). slice_get e.all k ≡ Some y) (sym c.self.view_is) h)
 
 pub returns-clause-there : goal.returns-clause-there
@@ -40,6 +44,8 @@ returns-clause-there c =
     let new = c.args.new.now in
     let x = c.requires.0 in
     let edge : Edge = record { from = c.args.from; act = c.args.act } in
-    let there : slice_get (led_by start edges) c.args.from ≡ Some x = subst (λ (e : EntriesValue). slice_get e.all c.args.from ≡ Some x) (sym c.self.view_is) c.requires.1 in
+    let more = c.push_reserved.ensures.items ∙ ap (λ (l : List Edge). l ++ edge ∷ []) c.reserve.ensures.items in
+    let there : slice_get (led_by start edges) c.args.from ≡ Some x =
+    subst (λ (e : EntriesValue). slice_get e.all c.args.from ≡ Some x) (sym c.self.view_is) c.requires.1 in
     has_push (led_by start edges) (led_by start c.push_reserved.new.self.items) new
-    (led_push start edges c.push_reserved.new.self.items edge x new (c.push_reserved.ensures.items ∙ ap (λ (l : List Edge). l ++ edge ∷ []) c.reserve.ensures.items) there c.requires.2)
+    (led_push start edges c.push_reserved.new.self.items edge x new more there c.requires.2)

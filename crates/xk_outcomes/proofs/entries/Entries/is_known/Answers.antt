@@ -44,5 +44,7 @@ loop-at-preserved c =
     let like = subst (λ d. IsLast (map found_digest all) d (at - 1) next) c.requires.digest last in
     record {
       there = last.there;
-      none = λ found. none_between all new at next c.loop-at-test.true (c.loop-at.invariant.none found) (c.in_ok-is_same_at.ensures.no found c.if-branch.false) like;
+      none = λ found.
+          let here = c.in_ok-is_same_at.ensures.no found c.if-branch.false in
+          none_between all new at next c.loop-at-test.true (c.loop-at.invariant.none found) here like;
     }
