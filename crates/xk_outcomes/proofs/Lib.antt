@@ -1,8 +1,10 @@
 mod DigestLemmas
+mod DigestListLemmas
 mod SearchLemmas
 mod FoundLemmas
 mod RestLemmas
 mod EntriesLemmas
+mod LookupLemmas
 mod ExplorationLemmas
 mod RisingLemmas
 mod ListingLemmas

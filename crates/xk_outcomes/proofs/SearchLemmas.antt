@@ -146,11 +146,3 @@ different_push old new o e fresh before i j x y hi hj same =
 pub digests_push : (old new : List FoundValue) (digests more : List ℕ) (x : FoundValue) → new ≡ old ++ x ∷ [] → more ≡ digests ++ found_digest x ∷ [] → AreDigests old digests → AreDigests new more
 digests_push old new digests more x e f h =
     f ∙ ap (λ (l : List ℕ). l ++ found_digest x ∷ []) h ∙ sym (map-append found_digest old (x ∷ [])) ∙ ap (map found_digest) (sym e)
-
-pub digest_at : (all : List FoundValue) (digests : List ℕ) (k d : ℕ) (x : FoundValue) → AreDigests all digests → slice_get all k ≡ Some x → get_or digests k d ≡ found_digest x
-digest_at all digests k d x h there = ap (λ (l : List ℕ). get_or l k d) h ∙ read all k there
-  where
-    read : (xs : List FoundValue) (i : ℕ) → slice_get xs i ≡ Some x → get_or (map found_digest xs) i d ≡ found_digest x
-    read [] i g = absurd (none-some x g)
-    read (z ∷ zs) zero g = ap found_digest (same_Some z x g)
-    read (z ∷ zs) (suc i) g = read zs i g

@@ -2,6 +2,7 @@ pub mod Outcomes
 pub mod Limits
 pub mod Sets
 pub mod Digest
+pub mod Digests
 pub mod Found
 pub mod Search
 pub mod Entries

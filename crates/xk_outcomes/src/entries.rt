@@ -7,6 +7,7 @@ ghost use Rattle.xk_outcomes.specs.Found.{FoundValue, along, first_found, next};
 ghost use Rattle.xk_outcomes.specs.Search.{AreDifferent, AreFound, AreSettled, Has, IsAt, IsFound, IsGrown, found_digest};
 
 use crate::digest::digest_of;
+use crate::digests::Digests;
 use crate::found::{Found, beginning};
 use std::alloc::{AllocError, Global};
 use std::marker::Model;
@@ -28,7 +29,7 @@ pub struct Edge {
 pub struct Entries<'m> {
     start: Core<'m>,
     edges: Vec<Edge>,
-    digests: Vec<u64>,
+    digests: Digests,
 }
 
 impl<'m> Model for Entries<'m> {
@@ -38,7 +39,7 @@ impl<'m> Model for Entries<'m> {
 
     ghost view = { λ e. record { start = e.start; all = led_by e.start e.edges.items } };
 
-    ghost invariant = { λ e. AreEntries e.start e.edges.items e.digests.items };
+    ghost invariant = { λ e. AreEntries e.start e.edges.items e.digests };
 }
 
 /// The digest of one.
@@ -83,7 +84,7 @@ impl<'m> Entries<'m> {
         ensures { IfOk result (λ e. e ≡ first_entry start.entry) }
     {
         let digest = first_digest(alloc, &start)?;
-        let mut digests = Vec::new(alloc);
+        let mut digests = Digests::new(alloc);
         digests.push(digest)?;
         Ok(Entries {
             start,
@@ -99,7 +100,8 @@ impl<'m> Entries<'m> {
         ensures settled { AreSettled self.now.start self.now.all }
         ensures different { AreDifferent self.now.all }
     {
-        self.digests.len()
+        // The first one, and one for each edge.
+        self.edges.len() + 1
     }
 
     /// The steps that lead to one from the first, the last of which stands first.
@@ -159,29 +161,7 @@ impl<'m> Entries<'m> {
         Ok(is_same(&x, new))
     }
 
-    /// The same of a new one that has such a digest. No core is led where the digests differ.
-    fn is_at(
-        &self,
-        alloc: Global,
-        number: usize,
-        new: &Found<'_>,
-        digest: u64,
-    ) -> Result<bool, AllocError>
-        requires number { number < length self.now.all }
-        requires digest { digest ≡ found_digest new.now }
-        ensures yes { IfOk result (λ same. same ≡ true
-            → Has self.now.all new.now.core.world new.now.printed) }
-        ensures no { IsFound self.now.start new.now → IfOk result (λ same. same ≡ false
-            → (x : FoundValue) → slice_get self.now.all number ≡ Some x
-            → IsAt x new.now.core.world new.now.printed → ⊥) }
-    {
-        if self.digests[number] != digest {
-            return Ok(false);
-        }
-        self.is_same_at(alloc, number, new)
-    }
-
-    /// Whether one like it, which has such a digest, is there already.
+    /// Whether one like it, which has such a digest, is there already. A core is led to those of the same digest alone.
     fn is_known(&self, alloc: Global, new: &Found<'_>, digest: u64) -> Result<bool, AllocError>
         requires digest { digest ≡ found_digest new.now }
         ensures yes { IfOk result (λ known. known ≡ true
@@ -189,10 +169,13 @@ impl<'m> Entries<'m> {
         ensures no { IsFound self.now.start new.now → IfOk result (λ known. known ≡ false
             → Has self.now.all new.now.core.world new.now.printed → ⊥) }
     {
-        for number in 0..self.len() {
-            if self.is_at(alloc, number, new, digest)? {
+        let mut at = self.digests.last(digest);
+        while at > 0 {
+            let number = at - 1;
+            if self.is_same_at(alloc, number, new)? {
                 return Ok(true);
             }
+            at = self.digests.before(number);
         }
         Ok(false)
     }
@@ -215,9 +198,9 @@ impl<'m> Entries<'m> {
         if self.is_known(alloc, new, digest)? {
             return Ok(());
         }
-        self.digests.reserve(1)?;
-        self.edges.push(Edge { from, act })?;
-        self.digests.push_reserved(digest);
+        self.edges.reserve(1)?;
+        self.digests.push(digest)?;
+        self.edges.push_reserved(Edge { from, act });
         Ok(())
     }
 }

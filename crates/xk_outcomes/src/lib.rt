@@ -3,6 +3,7 @@
 
 mod all_outcomes;
 mod digest;
+mod digests;
 mod entries;
 mod expected;
 mod found;

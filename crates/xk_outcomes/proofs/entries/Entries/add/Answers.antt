@@ -10,16 +10,17 @@ pub invariant_of-self-2 : goal.invariant_of-self-2
 invariant_of-self-2 c =
     let start = c.self.inside.start in
     let edges = c.self.inside.edges.items in
-    let digests = c.self.inside.digests.items in
+    let digests = c.self.inside.digests in
     let new = c.args.new.now in
     let x = c.requires.0 in
     let edge : Edge = record { from = c.args.from; act = c.args.act } in
-    let there : slice_get (led_by start edges) c.args.from ≡ Some x = subst (λ (e : EntriesValue). slice_get e.all c.args.from ≡ Some x) (sym c.self.view_is) c.requires.1 in
+    let more = c.push_reserved.ensures.items ∙ ap (λ (l : List Edge). l ++ edge ∷ []) c.reserve.ensures.items in
+    let there : slice_get (led_by start edges) c.args.from ≡ Some x =
+    subst (λ (e : EntriesValue). slice_get e.all c.args.from ≡ Some x) (sym c.self.view_is) c.requires.1 in
     let found : IsFound c.args.self.now.start new =
     subst (λ (e : EntriesValue). IsFound e.start new) c.self.view_is (new_found start edges c.args.from c.args.act x new there c.requires.2) in
-    entries_push start edges c.push.new.self.items digests c.push_reserved.new.self.items edge x new c.self.invariant c.in_ok-push.ensures.items
-    (c.push_reserved.ensures.items ∙ ap (λ (l : List ℕ). l ++ c.found_digest-digest.result ∷ []) c.reserve.ensures.items
-    ∙ ap (λ (d : ℕ). digests ++ d ∷ []) c.found_digest-digest.ensures) there c.requires.2
+    entries_push start edges c.push_reserved.new.self.items digests c.push.new.self edge x new c.self.invariant more
+    (c.in_ok-push.ensures.more ∙ ap (λ (d : ℕ). digests ++ d ∷ []) c.found_digest-digest.ensures) there c.requires.2
     (λ has. c.in_ok-is_known.ensures.no found c.if-branch.false (subst (λ (e : EntriesValue). Has e.all new.core.world new.printed) c.self.view_is has))
 
 pub returns-clause-grown : goal.returns-clause-grown
@@ -29,9 +30,11 @@ returns-clause-grown c k y h =
     let new = c.args.new.now in
     let x = c.requires.0 in
     let edge : Edge = record { from = c.args.from; act = c.args.act } in
-    let there : slice_get (led_by start edges) c.args.from ≡ Some x = subst (λ (e : EntriesValue). slice_get e.all c.args.from ≡ Some x) (sym c.self.view_is) c.requires.1 in
-    grown_push (led_by start edges) (led_by start c.push.new.self.items) new
-    (led_push start edges c.push.new.self.items edge x new c.in_ok-push.ensures.items there c.requires.2) k y
+    let more = c.push_reserved.ensures.items ∙ ap (λ (l : List Edge). l ++ edge ∷ []) c.reserve.ensures.items in
+    let there : slice_get (led_by start edges) c.args.from ≡ Some x =
+    subst (λ (e : EntriesValue). slice_get e.all c.args.from ≡ Some x) (sym c.self.view_is) c.requires.1 in
+    grown_push (led_by start edges) (led_by start c.push_reserved.new.self.items) new
+    (led_push start edges c.push_reserved.new.self.items edge x new more there c.requires.2) k y
     (subst (λ (e : EntriesValue). slice_get e.all k ≡ Some y) (sym c.self.view_is) h)
 
 pub returns-clause-there : goal.returns-clause-there
@@ -41,6 +44,8 @@ returns-clause-there c =
     let new = c.args.new.now in
     let x = c.requires.0 in
     let edge : Edge = record { from = c.args.from; act = c.args.act } in
-    let there : slice_get (led_by start edges) c.args.from ≡ Some x = subst (λ (e : EntriesValue). slice_get e.all c.args.from ≡ Some x) (sym c.self.view_is) c.requires.1 in
-    has_push (led_by start edges) (led_by start c.push.new.self.items) new
-    (led_push start edges c.push.new.self.items edge x new c.in_ok-push.ensures.items there c.requires.2)
+    let more = c.push_reserved.ensures.items ∙ ap (λ (l : List Edge). l ++ edge ∷ []) c.reserve.ensures.items in
+    let there : slice_get (led_by start edges) c.args.from ≡ Some x =
+    subst (λ (e : EntriesValue). slice_get e.all c.args.from ≡ Some x) (sym c.self.view_is) c.requires.1 in
+    has_push (led_by start edges) (led_by start c.push_reserved.new.self.items) new
+    (led_push start edges c.push_reserved.new.self.items edge x new more there c.requires.2)

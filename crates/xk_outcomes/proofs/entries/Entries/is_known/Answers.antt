@@ -1,22 +1,50 @@
-use Rattle.std.proofs.Common.{◌≡◌, ℕ, Some, slice_get, arith}
-use borrow.Author.Count.{below_more}
+use Rattle.std.proofs.Common.{◌≡◌, ◌∙◌, ◌<◌, ◌-◌, ℕ, List, Some, ap, arith, length, map, slice_get, subst, sym}
 use Rattle.std.proofs.lemmas.Option.{slice_get_within}
-use Rattle.xk_outcomes.specs.Found.{FoundValue}
-use Rattle.xk_outcomes.specs.Search.{IsAt}
+use Rattle.xk_outcomes.specs.Digests.{IsLast}
+use Rattle.xk_outcomes.specs.Entries.{EntriesValue}
+use Rattle.xk_outcomes.specs.Search.{found_digest}
+use Rattle.xk_outcomes.proofs.LookupLemmas.{none_behind, none_between, one_before, within}
 use Rattle.xk_outcomes.proofs.entries.Entries.is_known.Goals as goal
 
-pub loop-number-init : goal.loop-number-init
-loop-number-init c found j less = absurd (omega (arith, less))
+pub loop-at-init : goal.loop-at-init
+loop-at-init c =
+    let all = c.args.self.now.all in
+    let at = c.last-at.result in
+    let are = c.self.invariant.digests_are ∙ ap (λ (e : EntriesValue). map found_digest e.all) c.self.view_is in
+    let last = subst (λ (l : List ℕ). IsLast l c.args.digest (length l) at) are c.last-at.ensures in
+    let like = subst (λ d. IsLast (map found_digest all) d (length (map found_digest all)) at) c.requires.digest last in
+    record {
+      there = last.there;
+      none = λ found. none_behind all c.args.new.now at like;
+    }
 
-pub loop-number-preserved : goal.loop-number-preserved
-loop-number-preserved c found =
+pub is_same_at-requires : goal.is_same_at-requires
+is_same_at-requires c =
+    let at = c.loop-at.at in
+    within c.args.self.now.all c.args.digest (at - 1) (c.loop-at.invariant.there (at - 1) (one_before at c.loop-at-test.true))
+
+pub before-at-requires : goal.before-at-requires
+before-at-requires c =
+    let at = c.loop-at.at in
+    let are = c.self.invariant.digests_are ∙ ap (λ (e : EntriesValue). map found_digest e.all) c.self.view_is in
+    let there = c.loop-at.invariant.there (at - 1) (one_before at c.loop-at-test.true) in
+    slice_get_within c.self.inside.digests (at - 1) c.args.digest
+    (subst (λ (l : List ℕ). slice_get l (at - 1) ≡ Some c.args.digest) (sym are) there)
+
+pub loop-at-preserved : goal.loop-at-preserved
+loop-at-preserved c =
+    let all = c.args.self.now.all in
     let new = c.args.new.now in
-    below_more (λ (j : ℕ). (y : FoundValue) → slice_get c.args.self.now.all j ≡ Some y → IsAt y new.core.world new.printed → ⊥) c.loop-number.number
-    (c.loop-number.invariant found) (c.in_ok-is_at.ensures.no found c.if-branch.false)
-
-pub returns-clause-no : goal.returns-clause-no
-returns-clause-no c found said has =
-    let inside = slice_get_within c.args.self.now.all has.0 has.1 has.2 in
-    let many = c.len-number-end.ensures.count in
-    let over = c.loop-number-test.false in
-    c.loop-number.invariant found has.0 (omega (arith, inside, many, over)) has.1 has.2 has.3
+    let at = c.loop-at.at in
+    let next = c.before-at.result in
+    let are = c.self.invariant.digests_are ∙ ap (λ (e : EntriesValue). map found_digest e.all) c.self.view_is in
+    let there = c.loop-at.invariant.there (at - 1) (one_before at c.loop-at-test.true) in
+    let here = subst (λ (l : List ℕ). slice_get l (at - 1) ≡ Some c.args.digest) (sym are) there in
+    let last = subst (λ (l : List ℕ). IsLast l c.args.digest (at - 1) next) are (c.before-at.ensures c.args.digest here) in
+    let like = subst (λ d. IsLast (map found_digest all) d (at - 1) next) c.requires.digest last in
+    record {
+      there = last.there;
+      none = λ found.
+          let here = c.in_ok-is_same_at.ensures.no found c.if-branch.false in
+          none_between all new at next c.loop-at-test.true (c.loop-at.invariant.none found) here like;
+    }
