@@ -107,6 +107,11 @@ def to_draw(steps: int) -> int:
     return 128 * steps
 
 
+def to_stand(activities: int) -> int:
+    """Whom each activity awaits: eight of them, how many there are, and whether its governor does."""
+    return 90 * activities
+
+
 def to_tally(lists: int, numbers: int) -> int:
     """A list has its numbers, their length and room, a seed, and how often it was printed."""
     return 160 * lists + to_print(numbers)
@@ -303,8 +308,8 @@ class Calls:
         return Call(f"{told}, {name}", [*words, path, self.folder / "log"], self.small(text) + entries + most, 4)
 
     def of_where(self) -> Iterator[Call]:
-        """How things are where there are many clocks; where many wait for one; where many are registered on many; after
-        many entries."""
+        """How things are where there are many clocks; where many wait for one; where many are registered on many; where
+        one waits for many; after many entries."""
         makes, clocks = "".join(f"val c{k}=Clock.make();" for k in range(60)), ",".join(f"c{k}" for k in range(60))
         last = "Clock.advanceAll();"
         every = "".join(f"{who} 1\n" for who in range(1, 60_001))
@@ -326,13 +331,18 @@ class Calls:
                 f"x10log 1\n0 {2 * 20_000 + 61}\nend 1\n",
             ),
             (
+                "60,000 activities in a finish",
+                "def main(){finish for(i in 1..60000)async for(j in 1..2);}",
+                f"x10log 1\n0 {2 * 60_000 + 2}\nend 1\n",
+            ),
+            (
                 "2,200,000 entries",
                 "def main(){for(i in 1..2200000);}",
                 "x10log 1\n" + "0 1\n" * 2_200_000 + "end 2200000\n",
             ),
         ):
             (self.folder / "log").write_text(log)
-            yield self.on_log(["where"], name, text, 0)
+            yield self.on_log(["where"], name, text, to_stand(judged(text).bounds.activities))
 
     def of_tallies(self) -> Iterator[Call]:
         """One long list, a list again and again, and many lists."""

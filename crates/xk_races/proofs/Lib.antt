@@ -3,6 +3,7 @@ pub mod RowLemmas
 pub mod OrderLemmas
 pub mod KnowledgeLemmas
 pub mod SightLemmas
+pub mod ClockStepLemmas
 pub mod RaceListLemmas
 pub mod ShownLemmas
 pub mod PlaceListLemmas

@@ -1,4 +1,5 @@
 pub mod Lists
+pub mod ClockSteps
 pub mod Deeds
 pub mod Knowledge
 pub mod Order

@@ -1,9 +1,10 @@
 //! What the steps of a run have to do with its order.
 
-ghost use Rattle.std.specs.Prelude.{◌≡◌, ◌<◌, true, [], ◌∷◌, ◌++◌, length, flat_map, slice_get, Some, if◌then◌else◌, IfOk, OnOk};
+ghost use Rattle.std.specs.Prelude.{◌≡◌, ◌<◌, true, [], ◌∷◌, ◌++◌, length, flat_map, option_map, slice_get, Some, if◌then◌else◌, IfOk, OnOk};
 ghost use Rattle.xk_types.specs.Step.{is_pending, is_signalled};
 ghost use Rattle.xk_types.specs.Schedule.{is_enabled};
 ghost use Rattle.xk_core.specs.Core.{StepsTo};
+ghost use Rattle.xk_races.specs.ClockSteps.{AreEnoughAwaiting, AreEnoughResumed, IsNextIfAny, concerns_clocks, instr_in, leaves_clocks, may_be};
 ghost use Rattle.xk_races.specs.Deeds.{advance, at_clocks, awaiting, awaits, cell_at, cell_of, deeds_of_run, gives_way, has_left, has_resumed, leave, pass, plain, plain_part, resumed_by, signal, signals, tell_deeds};
 
 use std::alloc::{AllocError, Global};
@@ -79,11 +80,71 @@ fn push_if(list: &mut Vec<u32>, clock: u32, holds: bool) -> Result<(), AllocErro
     Ok(())
 }
 
-/// The clocks that await the activity.
-fn awaiting(alloc: Global, core: &Core<'_>, act: Act) -> Result<Vec<u32>, AllocError>
-    ensures { IfOk result (λ v. v.items ≡ awaiting core.now.world act) }
+/// The instruction at a place, if there is one.
+fn instr_at(program: &Module, unit: u16, place: u32) -> Option<&Instr>
+    ensures { option_map (λ i. i.now) result ≡ instr_in program.now unit place }
+{
+    match program.units().get(unit as usize) {
+        Some(unit) => unit.code.get(place as usize),
+        None => None,
+    }
+}
+
+/// The instruction that an activity carries out next, if it runs.
+fn next_instr<'m>(core: &Core<'m>, act: Act) -> Option<&'m Instr>
+    requires { act < length core.now.world.activities }
+    ensures { IsNextIfAny core.now.module_run core.now.world act
+        (option_map (λ i. i.now) result) }
+{
+    if !core.is_living(act) {
+        return None;
+    }
+    if core.is_waiting(act) {
+        return None;
+    }
+    let frames = core.frames(act);
+    instr_at(core.module().module(), frames.unit(), frames.place())
+}
+
+/// Whether a step at an instruction may leave clocks.
+fn may_leave(next: Option<&Instr>) -> bool
+    ensures { result ≡ may_be leaves_clocks (option_map (λ i. i.now) next.entry) }
+{
+    match next {
+        Some(instr) => matches!(instr, Instr::Drop(_) | Instr::Ret),
+        None => true,
+    }
+}
+
+/// Whether it may resume or leave clocks.
+fn may_concern_clocks(next: Option<&Instr>) -> bool
+    ensures { result ≡ may_be concerns_clocks (option_map (λ i. i.now) next.entry) }
+{
+    match next {
+        Some(instr) => matches!(
+            instr,
+            Instr::Resume(_) | Instr::Advance | Instr::Drop(_) | Instr::Ret
+        ),
+        None => true,
+    }
+}
+
+/// The clocks that await the activity, as far as its next step may have to do with them.
+fn awaiting(
+    alloc: Global,
+    core: &Core<'_>,
+    act: Act,
+    next: Option<&Instr>,
+) -> Result<Vec<u32>, AllocError>
+    requires { IsNextIfAny core.now.module_run core.now.world act
+        (option_map (λ i. i.now) next) }
+    ensures { IfOk result (λ v. AreEnoughAwaiting core.now.module_run core.now.world act
+        v.items) }
 {
     let mut list = Vec::new(alloc);
+    if !may_concern_clocks(next) {
+        return Ok(list);
+    }
     for clock in 0..core.clocks() {
         push_if(&mut list, clock, awaits(core, act, ClockId(clock)))?;
     }
@@ -98,11 +159,22 @@ fn has_resumed(core: &Core<'_>, act: Act, clock: ClockId) -> bool
     act.0 < core.activities() && is_signalled(core.standing(act, clock))
 }
 
-/// The clocks that the activity has resumed.
-fn resumed_by(alloc: Global, core: &Core<'_>, act: Act) -> Result<Vec<u32>, AllocError>
-    ensures { IfOk result (λ v. v.items ≡ resumed_by core.now.world act) }
+/// The clocks that the activity has resumed, as far as its next step may have to do with them.
+fn resumed_by(
+    alloc: Global,
+    core: &Core<'_>,
+    act: Act,
+    next: Option<&Instr>,
+) -> Result<Vec<u32>, AllocError>
+    requires { IsNextIfAny core.now.module_run core.now.world act
+        (option_map (λ i. i.now) next) }
+    ensures { IfOk result (λ v. AreEnoughResumed core.now.module_run core.now.world act
+        v.items) }
 {
     let mut list = Vec::new(alloc);
+    if !may_leave(next) {
+        return Ok(list);
+    }
     for clock in 0..core.clocks() {
         push_if(&mut list, clock, has_resumed(core, act, ClockId(clock)))?;
     }
@@ -320,6 +392,7 @@ fn push_at_clocks(
 }
 
 /// Takes a step that others see, and adds its deeds.
+#[tactic(auto, using(xk_show_events::proofs::StepLemmas::enabled_there))]
 fn push_seen(
     alloc: Global,
     list: &mut Vec<Deed>,
@@ -332,8 +405,9 @@ fn push_seen(
         ++ tell_deeds core.old.module_run act core.old.world core.new.world e) }
     ensures same_module { core.new.module_run ≡ core.old.module_run }
 {
-    let resumed = resumed_by(alloc, core, act)?;
-    let awaiting = awaiting(alloc, core, act)?;
+    let next = next_instr(core, act);
+    let resumed = resumed_by(alloc, core, act, next)?;
+    let awaiting = awaiting(alloc, core, act, next)?;
     let step = take_step(core, act)?;
     push_plain(list, core.module().module(), &step)?;
     push_at_clocks(alloc, list, core, &step, &resumed, &awaiting)?;

@@ -3,7 +3,7 @@
 ghost use Rattle.std.specs.Prelude.{◌≡◌, slice_get, IfOk, OnOk};
 ghost use Rattle.std.specs.Option.{option_to_list};
 ghost use Rattle.xk_races.specs.Accesses.{sights_at};
-ghost use Rattle.xk_races.specs.Races.{cell_in, clash, gap_in, have_one_number, is_print, is_race, races_in, with_races_of};
+ghost use Rattle.xk_races.specs.Races.{cell_in, clash, gap_in, have_one_number, is_race, races_in, with_races_of};
 ghost use Rattle.xk_races.specs.Text.{AreEnough};
 
 use crate::accesses::take;
@@ -125,20 +125,13 @@ pub fn races_in(alloc: Global, sights: &[Sight]) -> Result<Vec<Race>, AllocError
     Ok(list.into_races())
 }
 
-/// Whether a deed is a print.
-fn is_print(part: Part) -> bool
-    ensures { result ≡ is_print part }
-{
-    matches!(part, Part::Print)
-}
-
 /// The first print before which the print just before it needn't have come, and that one.
 pub fn gap_in(sights: &[Sight]) -> Option<Gap>
     ensures { result ≡ gap_in sights.now }
 {
     let mut last: Option<&Sight> = None;
     for y in sights {
-        if is_print(y.deed.part) {
+        if matches!(y.deed.part, Part::Print) {
             if let Some(x) = last {
                 if !comes_before(x, y) {
                     return Some(Gap {

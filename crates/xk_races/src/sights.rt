@@ -32,13 +32,6 @@ pub fn comes_before(x: &Sight, y: &Sight) -> bool
     x.number <= number_at(&y.row, x.deed.step.act as usize)
 }
 
-/// Whether a deed is one of these.
-fn is_sight(part: Part) -> bool
-    ensures { result ≡ is_sight part }
-{
-    matches!(part, Part::Access(_) | Part::Print)
-}
-
 /// Adds a deed, if it is one of these.
 fn push_if_sight(
     alloc: Global,
@@ -50,7 +43,7 @@ fn push_if_sight(
     ensures { OnOk result (list.new.items ≡ list.old.items
         ++ (if is_sight deed.now.part then sight number deed.now known.now ∷ [] else [])) }
 {
-    if is_sight(deed.part) {
+    if matches!(deed.part, Part::Access(_) | Part::Print) {
         let row = copied(alloc, known.of(deed.step.act))?;
         list.push(Sight {
             number,
