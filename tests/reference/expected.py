@@ -3,6 +3,8 @@ to it. It has no table of the grammar."""
 
 from __future__ import annotations
 
+import re
+
 from tests.reference.source import Fault, parse
 
 # Each token that is named alone, in the order of docs/EXPLAIN.md, and how it is named.
@@ -37,6 +39,13 @@ def can_end(front: bytes) -> bool:
     except Fault as fault:
         return fault.rule not in (1, 2)
     return True
+
+
+def repair(text: bytes, rule: str, at: int) -> str | None:
+    """The repair where one token alone could stand."""
+    found = notes(text, rule, at)
+    alone = re.fullmatch(r"could stand here: (`[^`]+`)", found[0][1]) if found else None
+    return f"write {alone[1]} here" if alone else None
 
 
 def notes(text: bytes, rule: str, at: int) -> list[tuple[None, str]]:

@@ -12,7 +12,7 @@ from tests.reference.sums import Note
 
 PAGE = TOP / "docs/EXPLAIN.md"
 ROW = re.compile(r"\| (?P<rule>[FMV]\d+) \w+ \| (?P<wrong>.*) \| (?P<repair>.*) \|")
-HABIT = re.compile(r"\| (?P<rule>F\d+) \| (?P<where>at|behind|before|line) \| (?P<what>.*?) \| (?P<repair>.*) \|")
+HABIT = re.compile(r"\| (?P<rule>F\d+) \| (?P<where>at|behind|before|in) \| (?P<what>.*?) \| (?P<repair>.*) \|")
 KIND = re.compile(r"\| (?P<kind>unset|number|live|resumed|out) \| (?P<holds>.*) \|")
 FRONT = re.compile(r"(?P<title>(?P<rule>F\d+) \w+) at (?P<at>\d+)")
 TEXT = re.compile(r"(?P<title>(?P<rule>M\d+) \w+)")
@@ -24,11 +24,13 @@ BOUND = re.compile(r"(?P<title>(?P<rule>V\d+) \w+) over (?P<limit>\d+)")
 WINDOW, TOLD = 80, 60
 WAYS = "   = ways go round loops and into both branches, whatever the numbers are\n"
 WORD = re.compile(rb"[0-9A-Za-z_]*")
+WORDS = re.compile(rb"[0-9A-Za-z_]+")
 LAST_WORD = re.compile(rb"[0-9A-Za-z_]*\Z")
 BLANKS = b" \t\n\r"
 COMMENT = re.compile(rb"//[^\n]*|/\*.*?\*/", re.DOTALL)
 MARK = b"\xef\xbb\xbf"
 WITHOUT_PLACE = ("F4", "F9")
+RESERVED = b"shared def val var if else for in async clocked finish atomic Clock Long Console".split()
 
 
 @cache
@@ -120,38 +122,80 @@ def without_comments(text: bytes) -> bytes:
     return COMMENT.sub(lambda comment: re.sub(rb"[^\n]", b" ", comment[0]), text)
 
 
-def stands(where: str, what: str, text: bytes, at: int) -> bool:
-    """Whether this stands at an offset, before or behind what stands there, or begins its line."""
+def head(blanked: bytes) -> bytes:
+    """The last word that a statement is known by, behind each `;`, `{` and `}`."""
+    known = {word for _, where, what, _ in habits() if where == "in" for word in cells(what)}
+    words = WORDS.findall(re.split(rb"[;{}]", blanked)[-1])
+    return next((word for word in reversed(words) if word in known), b"")
+
+
+def cells(what: str) -> list[bytes]:
+    """What is in backticks."""
+    return [cell.encode() for cell in re.findall(r"`([^`]*)`", what)]
+
+
+def is_alone(kept: bytes) -> bool:
+    """Whether a text ends with a word behind the end of a statement."""
+    word = LAST_WORD.search(kept)[0]
+    return word != b"" and kept[: len(kept) - len(word)].rstrip(BLANKS).endswith((b";", b"{", b"}", b")"))
+
+
+def stands_by_name(what: str, text: bytes, at: int) -> bool | None:
+    """Whether that stands at an offset which a row describes in words; None of what it spells."""
     before, rest = text[:at], text[at:]
     blanked = without_comments(before)
     kept = blanked.rstrip(BLANKS)
     word, last = WORD.match(rest)[0], LAST_WORD.search(kept)[0]
-    if what == "a byte order mark, where the text begins":
-        return at == 0 and rest.startswith(MARK)
-    if what == "no ASCII":
-        return rest[:1] >= b"\x80"
-    if what == "the text's end":
-        return not rest
-    if what == "a line's end":
-        return b"\n" in before[len(kept) :] and (last != b"" or kept.endswith(b")"))
-    if what == "a number":
-        return LAST_WORD.search(before)[0][:1].isdigit() and (word != b"" or rest.startswith(b"."))
-    if what == "`}`":
-        return kept.endswith(b"}")
-    spelled = [cell.encode() for cell in re.findall(r"`([^`]*)`", what)]
+    tests = {
+        "a byte order mark, where the text begins": at == 0 and rest.startswith(MARK),
+        "a no-break space": rest.startswith("\u00a0".encode()),
+        "a typographic quote": rest.startswith(tuple(sign.encode() for sign in "\u2018\u2019\u201c\u201d")),
+        "a dash": rest.startswith(tuple(sign.encode() for sign in "\u2013\u2014\u2212")),
+        "a sign of full width": rest.startswith((b"\xef\xbc", b"\xef\xbd")),
+        "no ASCII": rest[:1] >= b"\x80",
+        "the text's end": not rest,
+        "a line's end": b"\n" in before[len(kept) :] and (last != b"" or kept.endswith(b")")),
+        "a number": LAST_WORD.search(before)[0][:1].isdigit() and (word != b"" or rest.startswith(b".")),
+        "nothing": kept == b"",
+        "`int`, `long`, `let`, in a `for`": last in (b"int", b"long", b"let") and head(blanked) == b"for",
+        "`int`, `long`, `let`, in a `shared`": last in (b"int", b"long", b"let") and head(blanked) == b"shared",
+        "`def`, `val`, `var`, at a word of the language": last in (b"def", b"val", b"var") and word in RESERVED,
+        "`*`, behind a `*`": rest.startswith(b"*") and kept.endswith(b"*"),
+        "a `-` and a blank, in an `atomic`": rest.startswith(b"- ") and head(blanked) == b"atomic",
+        "`val`, `var`, behind nothing or a `;`": word in (b"val", b"var") and (not kept or kept.endswith(b";")),
+        "`;` behind a lone `next`, `advance`": rest.startswith(b";")
+        and last in (b"next", b"advance")
+        and is_alone(kept),
+        "`=`, of an `atomic`": re.search(rb"\batomic[ \t\n\r]+\w+[ \t\n\r]*=\Z", kept) is not None,
+        "`;`, behind a word alone": rest.startswith(b";") and is_alone(kept),
+    }
+    return tests.get(what)
+
+
+def stands(where: str, what: str, text: bytes, at: int) -> bool:
+    """Whether this stands at an offset, before or behind what stands there, or is what its statement is known by."""
+    found = stands_by_name(what, text, at)
+    if found is not None:
+        return found
+    before, rest, spelled = text[:at], text[at:], cells(what)
+    blanked = without_comments(before)
+    kept = blanked.rstrip(BLANKS)
+    word = WORD.match(rest)[0]
     if where == "behind":
-        return last in spelled
+        signs_spelled = tuple(sign for sign in spelled if not sign.isalnum())
+        return LAST_WORD.search(kept)[0] in spelled or kept.endswith(signs_spelled)
     if where == "before":
         return re.match(rb"[ \t\n\r]*=(?!=)", without_comments(rest[len(word) :])) is not None
-    if where == "line":
-        return WORD.match(whole_line(blanked + rest, at).lstrip(BLANKS))[0] in spelled
+    if where == "in":
+        return head(blanked) in spelled
     return word in spelled or any(rest.startswith(sign) for sign in spelled if not sign.isalnum())
 
 
 def repair_at(rule: str, text: bytes, at: int) -> str:
-    """What the first row says that fits, or the usual repair of the rule."""
+    """What the first row says that fits, or the notes call for, or the usual repair of the rule."""
     found = (said for of, where, what, said in habits() if of == rule and stands(where, what, text, at))
-    return next(found, tables()[0][rule][1])
+    called_for = expected.repair(text, rule, at) or declarations.repair(text, rule, at)
+    return next(found, called_for or tables()[0][rule][1])
 
 
 def notes_on(data: bytes, said: str, is_module: bool) -> list[Note]:

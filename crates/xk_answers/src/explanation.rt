@@ -14,14 +14,13 @@ ghost use Rattle.xk_program.specs.declared.fault.Fault.TheVariants as found;
 use std::alloc::{AllocError, Global};
 use xk_bounds::{Refusal, Verified};
 use xk_explain::{
-    ModuleRule, Note, explain_front, explain_module, explain_refusal, explain_source, note_lines,
-    plain_lines,
+    ModuleRule, Note, SourceText, explain_front, explain_module, explain_refusal, explain_source,
+    note_lines, plain_lines,
 };
 use xk_explain_bounds::{accepted_notes, module_notes, refusal_notes};
 use xk_explain_expected::expected_notes;
 use xk_explain_json::{accepted_json, front_json, module_json, refusal_json, source_json};
 use xk_explain_names::front_notes;
-use xk_lines::LineStarts;
 use xk_listing::{list_module, list_source};
 use xk_messages::accepted_line;
 use xk_module::ModuleFault;
@@ -254,7 +253,7 @@ fn lines_of(alloc: Global, text: Option<&[u8]>, notes: &[Note]) -> Result<Vec<u8
         (λ said. said.items ≡ lines_of (option_map (λ t. t.now) text.entry) notes.now) }
 {
     match text {
-        Some(text) => note_lines(alloc, &LineStarts::new(alloc, text)?, text, notes),
+        Some(text) => note_lines(alloc, &SourceText::new(alloc, text)?, notes),
         None => plain_lines(alloc, notes),
     }
 }

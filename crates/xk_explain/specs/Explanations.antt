@@ -17,7 +17,7 @@ use Rattle.xk_bounds.specs.declared.refusal.Refusal.TheVariants as refusal
 use Rattle.xk_lines.specs.declared.lines.Position.{Position}
 use Rattle.xk_lines.specs.Lines.{position_of}
 use Rattle.xk_lines.specs.Excerpts.{excerpt}
-use Rattle.xk_explain_repairs.specs.Repairs.{repair_at}
+use Rattle.xk_explain.specs.FrontRepairs.{repair_of}
 use Rattle.xk_explain.specs.declared.module_rule.ModuleRule.{ModuleRule}
 use Rattle.xk_explain.specs.Notes.{NoteValue, note_lines, plain_lines}
 use Rattle.xk_explain.specs.Messages.{front_message, front_repair, kind_message, module_message, module_name, module_number, module_repair, rule_message, rule_repair}
@@ -36,7 +36,7 @@ module_title r = codes "M" ++ (decimal (module_number r) ++ (codes " " ++ module
 
 -- a line of its own behind the first one: `   = usual repair: ..`
 unfoldable pub repair_line : List ℕ → List ℕ
-repair_line repair = codes "   = usual repair: " ++ (repair ++ codes "\n")
+repair_line repair = (codes "   = usual repair: " ++ repair) ++ codes "\n"
 
 -- the first line of what has no place in a text: `FILE: M1 NotJson: ..`
 unfoldable pub head : List ℕ → List ℕ → List ℕ → List ℕ
@@ -80,7 +80,7 @@ excerpt_lines text at = excerpt text at (marked_from (drop at text)) ++ codes "\
 abbrev pub placed_explanation : List ℕ → List ℕ → FrontFault → List NoteValue → List ℕ
 placed_explanation file text f notes =
     ((head_at file (position_of text (shown_at text f)) (front_title f.rule) (front_message f.rule) ++ excerpt_lines text (shown_at text f))
-    ++ note_lines text notes) ++ repair_line (repair_at text f.rule (shown_at text f))
+    ++ note_lines text notes) ++ repair_line (repair_of text f.rule (shown_at text f) notes)
 
 -- all that is said of one that has none
 abbrev pub unplaced_explanation : List ℕ → List ℕ → FrontRule → List NoteValue → List ℕ

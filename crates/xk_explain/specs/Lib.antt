@@ -1,4 +1,5 @@
 pub mod Messages
 pub mod Notes
+pub mod FrontRepairs
 pub mod Explanations
 pub mod SourceExplanations

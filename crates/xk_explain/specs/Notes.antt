@@ -6,10 +6,11 @@ use Rattle.std.specs.Option.{option_map_or}
 use Rattle.xk_lines.specs.declared.lines.Position.{Position}
 use Rattle.xk_lines.specs.Lines.{position_of}
 
--- a note: an offset in the text, if it speaks of a place there, and its words
+-- a note: an offset in the text, if it speaks of a place there; its words; and the repair that it calls for, if it calls for one
 pub record NoteValue : Type 0 where
   pub at : Option ℕ
   pub text : List ℕ
+  pub repair : Option (List ℕ)
 
 -- `3:5`
 abbrev pub place_title : Position → List ℕ

@@ -61,8 +61,11 @@ unfoldable pub stop_line : List ℕ → ℕ → Kind → List ℕ
 stop_line text at k = (stop_head (position_of text at) k ++ line_text text at) ++ codes "\n"
 
 -- of one behind which a loop begins again: `     9:5  a clock, dropped, and then the next turn`
-unfoldable pub turn_line : List ℕ → ℕ → Kind → List ℕ
-turn_line text at k = codes "     " ++ (place_title (position_of text at) ++ (codes "  " ++ (kind_message k ++ codes ", and then the next turn\n")))
+unfoldable pub turn_text : Position → Kind → List ℕ
+turn_text p k = codes "     " ++ (place_title p ++ (codes "  " ++ (kind_message k ++ codes ", and then the next turn\n")))
+
+abbrev pub turn_line : List ℕ → ℕ → Kind → List ℕ
+turn_line text at k = turn_text (position_of text at) k
 
 -- a walk goes back from a stop to the one behind it: that is the next turn of a loop
 abbrev pub goes_back : Visit → List Visit → Bool

@@ -3,14 +3,15 @@
 ghost use Rattle.std.specs.Prelude.{◌≡◌, ◌≤◌, length, IfOk, string_bytes};
 ghost use Rattle.xk_explain.specs.Explanations.{front_explanation, front_title, has_place, module_explanation, module_title, placed_explanation, shown_at, unplaced_explanation};
 
+use crate::front_repairs::repair_of;
 use crate::lines::{push_head, push_repair};
 use crate::messages::{front_message, module_message, module_repair};
 use crate::module_rule::ModuleRule;
 use crate::note::{Note, note_lines};
 use crate::places::{push_excerpt, push_head_at};
+use crate::source_text::SourceText;
 use std::alloc::{AllocError, Global};
-use xk_explain_repairs::{front_repair, repair_at};
-use xk_lines::LineStarts;
+use xk_explain_repairs::front_repair;
 use xk_tree::{FrontFault, FrontRule};
 
 /// All that is said of a fault of the source text in FILE: `FILE:3:5: F2 Syntax: ..`, the line there with carets, these notes, and the usual repair.
@@ -41,21 +42,22 @@ fn explain_placed(
 ) -> Result<Vec<u8>, AllocError>
     ensures { IfOk result (λ v. v.items ≡ placed_explanation file.now text.now fault notes.now) }
 {
-    let lines = LineStarts::new(alloc, text)?;
+    let source = SourceText::new(alloc, text)?;
     let at = shown_at(text, fault);
+    let repair = repair_of(alloc, text, fault.rule, at, notes)?;
     let title = front_title(alloc, fault.rule)?;
     let mut out = Vec::new(alloc);
     push_head_at(
         alloc,
         &mut out,
         file,
-        lines.position(at),
+        source.lines().position(at),
         title.as_bytes(),
         front_message(fault.rule),
     )?;
-    push_excerpt(alloc, &mut out, &lines, text, at)?;
-    out.extend_from_slice(&note_lines(alloc, &lines, text, notes)?)?;
-    push_repair(alloc, &mut out, repair_at(text, fault.rule, at))?;
+    push_excerpt(alloc, &mut out, &source, at)?;
+    out.extend_from_slice(&note_lines(alloc, &source, notes)?)?;
+    push_repair(alloc, &mut out, repair)?;
     Ok(out)
 }
 
@@ -69,12 +71,12 @@ fn explain_unplaced(
 ) -> Result<Vec<u8>, AllocError>
     ensures { IfOk result (λ v. v.items ≡ unplaced_explanation file.now text.now rule notes.now) }
 {
-    let lines = LineStarts::new(alloc, text)?;
+    let source = SourceText::new(alloc, text)?;
     let title = front_title(alloc, rule)?;
     let mut out = Vec::new(alloc);
     push_head(alloc, &mut out, file, title.as_str(), front_message(rule))?;
-    out.extend_from_slice(&note_lines(alloc, &lines, text, notes)?)?;
-    push_repair(alloc, &mut out, front_repair(rule))?;
+    out.extend_from_slice(&note_lines(alloc, &source, notes)?)?;
+    push_repair(alloc, &mut out, front_repair(rule).as_bytes())?;
     Ok(out)
 }
 
@@ -86,7 +88,7 @@ pub fn explain_module(alloc: Global, file: &str, rule: ModuleRule) -> Result<Vec
     let title = module_title(alloc, rule)?;
     let mut out = Vec::new(alloc);
     push_head(alloc, &mut out, file, title.as_str(), module_message(rule))?;
-    push_repair(alloc, &mut out, module_repair(rule))?;
+    push_repair(alloc, &mut out, module_repair(rule).as_bytes())?;
     Ok(out)
 }
 

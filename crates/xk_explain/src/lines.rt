@@ -31,15 +31,24 @@ pub(crate) fn push_head(
     )
 }
 
-/// Adds the line of the usual repair.
+/// The line of the usual repair.
 #[tactic(auto, unfolding(crate::specs::Explanations::repair_line))]
-pub(crate) fn push_repair(alloc: Global, out: &mut Vec<u8>, repair: &str) -> Result<(), AllocError>
+fn repair_line(alloc: Global, repair: &[u8]) -> Result<Vec<u8>, AllocError>
+    ensures { IfOk result (λ v. v.items ≡ repair_line repair.now) }
+{
+    let mut out = Vec::new(alloc);
+    push_text(&mut out, "   = usual repair: ")?;
+    out.extend_from_slice(repair)?;
+    push_text(&mut out, "\n")?;
+    Ok(out)
+}
+
+/// Adds the line of the usual repair.
+pub(crate) fn push_repair(alloc: Global, out: &mut Vec<u8>, repair: &[u8]) -> Result<(), AllocError>
     ensures { OnOk result (out.new.items ≡ out.old.items ++ repair_line repair.now) }
 {
-    push_text(
-        out,
-        format!(in alloc; "   = usual repair: {repair}\n")?.as_str(),
-    )
+    let line = repair_line(alloc, repair)?;
+    out.extend_from_slice(&line)
 }
 
 /// A rule with its number: `V9 Registers`.

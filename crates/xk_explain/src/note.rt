@@ -4,9 +4,10 @@ ghost use Rattle.std.specs.Prelude.{◌≡◌, ◌++◌, IfOk, OnOk, string_byte
 ghost use Rattle.xk_explain.specs.Notes.{note_line, note_lines, place_title, placed_line, plain_line, plain_lines};
 
 use crate::lines::push_text;
+use crate::source_text::SourceText;
 use std::alloc::{AllocError, Global};
 use std::marker::Model;
-use xk_lines::{LineStarts, Position};
+use xk_lines::Position;
 
 /// What is told beside the fault itself, and where in the text it stands, if it has a place there.
 #[derive(Debug, Drop)]
@@ -15,9 +16,12 @@ pub struct Note {
     pub at: Option<usize>,
     /// Its words, without a line feed.
     pub text: Vec<u8>,
+    /// The repair that it calls for, without a line feed, if it calls for one.
+    pub repair: Option<Vec<u8>>,
 }
 
 impl Model for Note {
+    ghost use Rattle.std.specs.Prelude.{option_map};
     ghost use Rattle.xk_explain.specs.Notes.{NoteValue};
 
     ghost Value = { NoteValue };
@@ -25,6 +29,7 @@ impl Model for Note {
     ghost view = { λ n. record {
       at = n.at;
       text = n.text.items;
+      repair = option_map (λ r. r.items) n.repair;
     } };
 }
 
@@ -65,17 +70,11 @@ fn placed_line(alloc: Global, position: Position, words: &[u8]) -> Result<Vec<u8
 }
 
 /// The line of a note on a text.
-fn note_line(
-    alloc: Global,
-    lines: &LineStarts<'_>,
-    text: &[u8],
-    note: &Note,
-) -> Result<Vec<u8>, AllocError>
-    requires { lines.now ≡ text.now }
-    ensures { IfOk result (λ v. v.items ≡ note_line text.now note.now) }
+fn note_line(alloc: Global, source: &SourceText<'_>, note: &Note) -> Result<Vec<u8>, AllocError>
+    ensures { IfOk result (λ v. v.items ≡ note_line source.now note.now) }
 {
     match note.at {
-        Some(at) => placed_line(alloc, lines.position(at.min(text.len())), &note.text),
+        Some(at) => placed_line(alloc, source.nearest(at), &note.text),
         None => plain_line(alloc, &note.text),
     }
 }
@@ -84,30 +83,26 @@ fn note_line(
 fn push_note(
     alloc: Global,
     out: &mut Vec<u8>,
-    lines: &LineStarts<'_>,
-    text: &[u8],
+    source: &SourceText<'_>,
     note: &Note,
 ) -> Result<(), AllocError>
-    requires { lines.now ≡ text.now }
-    ensures { OnOk result (out.new.items ≡ out.old.items ++ note_line text.now note.now) }
+    ensures { OnOk result (out.new.items ≡ out.old.items ++ note_line source.now note.now) }
 {
-    let line = note_line(alloc, lines, text, note)?;
+    let line = note_line(alloc, source, note)?;
     out.extend_from_slice(&line)
 }
 
 /// The lines of notes on a text.
 pub fn note_lines(
     alloc: Global,
-    lines: &LineStarts<'_>,
-    text: &[u8],
+    source: &SourceText<'_>,
     notes: &[Note],
 ) -> Result<Vec<u8>, AllocError>
-    requires { lines.now ≡ text.now }
-    ensures { IfOk result (λ v. v.items ≡ note_lines text.now notes.now) }
+    ensures { IfOk result (λ v. v.items ≡ note_lines source.now notes.now) }
 {
     let mut out = Vec::new(alloc);
     for note in notes {
-        push_note(alloc, &mut out, lines, text, note)?;
+        push_note(alloc, &mut out, source, note)?;
     }
     Ok(out)
 }

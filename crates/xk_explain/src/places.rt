@@ -5,8 +5,9 @@ ghost use Rattle.std.specs.List.{prefix_len};
 ghost use Rattle.xk_explain.specs.Explanations.{excerpt_lines, head_at, is_word_byte, marked_from, message_tail, place_head};
 
 use crate::lines::push_text;
+use crate::source_text::SourceText;
 use std::alloc::{AllocError, Global};
-use xk_lines::{LineStarts, Position};
+use xk_lines::Position;
 
 /// Adds the first line of what has a place in the text: `FILE:3:5: F2 Syntax: ..`.
 pub(crate) fn push_head_at(
@@ -75,16 +76,14 @@ fn marked_at(text: &[u8], at: usize) -> usize
 pub(crate) fn push_excerpt(
     alloc: Global,
     out: &mut Vec<u8>,
-    lines: &LineStarts<'_>,
-    text: &[u8],
+    source: &SourceText<'_>,
     at: usize,
 ) -> Result<(), AllocError>
-    requires same { lines.now ≡ text.now }
-    requires within { at ≤ length text.now }
-    ensures { OnOk result (out.new.items ≡ out.old.items ++ excerpt_lines text.now at) }
+    requires { at ≤ length source.now }
+    ensures { OnOk result (out.new.items ≡ out.old.items ++ excerpt_lines source.now at) }
 {
-    let marked = marked_at(text, at);
-    let excerpt = lines.excerpt(alloc, at, marked)?;
+    let marked = marked_at(source.bytes(), at);
+    let excerpt = source.lines().excerpt(alloc, at, marked)?;
     out.extend_from_slice(&excerpt)?;
     out.push(b'\n')?;
     Ok(())

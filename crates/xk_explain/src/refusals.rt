@@ -63,7 +63,7 @@ pub(crate) fn explain_shape(
         rule_message(fault.rule),
     )?;
     out.extend_from_slice(notes)?;
-    push_repair(alloc, &mut out, rule_repair(fault.rule))?;
+    push_repair(alloc, &mut out, rule_repair(fault.rule).as_bytes())?;
     Ok(out)
 }
 
@@ -88,7 +88,7 @@ pub(crate) fn explain_kind(
     push_walk(alloc, &mut out, fault.slot, &fault.walk)?;
     push_ways(&mut out)?;
     out.extend_from_slice(notes)?;
-    push_repair(alloc, &mut out, rule_repair(fault.rule))?;
+    push_repair(alloc, &mut out, rule_repair(fault.rule).as_bytes())?;
     Ok(out)
 }
 
@@ -112,7 +112,7 @@ pub(crate) fn explain_bound(
     )?;
     push_limit(alloc, &mut out, fault.limit)?;
     out.extend_from_slice(notes)?;
-    push_repair(alloc, &mut out, rule_repair(fault.rule))?;
+    push_repair(alloc, &mut out, rule_repair(fault.rule).as_bytes())?;
     Ok(out)
 }
 

@@ -8,10 +8,10 @@ use crate::messages::{rule_message, rule_repair};
 use crate::note::{Note, note_lines};
 use crate::places::{push_excerpt, push_head_at};
 use crate::refusals::{explain_bound, explain_kind, explain_shape, push_ways};
+use crate::source_text::SourceText;
 use crate::walks::{holds_line, push_stops, stops_head, unit_title};
 use std::alloc::{AllocError, Global};
 use xk_bounds::Refusal;
-use xk_lines::LineStarts;
 use xk_origins::{Head, UnitOrigins};
 use xk_shape::ShapeFault;
 use xk_types::Rule;
@@ -31,32 +31,30 @@ pub fn explain_source(
     ensures { IfOk result
         (λ v. v.items ≡ source_explanation file.now text.now units.now refusal.now notes.now) }
 {
-    let lines = LineStarts::new(alloc, text)?;
-    let notes = note_lines(alloc, &lines, text, notes)?;
-    explain_in_source(alloc, file, &lines, text, units, refusal, &notes)
+    let source = SourceText::new(alloc, text)?;
+    let notes = note_lines(alloc, &source, notes)?;
+    explain_in_source(alloc, file, &source, units, refusal, &notes)
 }
 
 /// The same with these lines of notes.
 fn explain_in_source(
     alloc: Global,
     file: &str,
-    lines: &LineStarts<'_>,
-    text: &[u8],
+    source: &SourceText<'_>,
     units: &[UnitOrigins<'_>],
     refusal: &Refusal,
     notes: &[u8],
 ) -> Result<Vec<u8>, AllocError>
-    requires { lines.now ≡ text.now }
     ensures { IfOk result (λ v. v.items
-        ≡ explanation_in_source file.now text.now units.now refusal.now notes.now) }
+        ≡ explanation_in_source file.now source.now units.now refusal.now notes.now) }
 {
     match refusal {
         Refusal::Shape(fault) => match units.get(fault.unit as usize) {
-            Some(unit) => shape_in_source(alloc, file, lines, text, unit, fault, notes),
+            Some(unit) => shape_in_source(alloc, file, source, unit, fault, notes),
             None => explain_shape(alloc, file, fault, notes),
         },
         Refusal::Kind(fault) => match units.get(fault.unit as usize) {
-            Some(unit) => kind_in_source(alloc, file, lines, text, unit, fault, notes),
+            Some(unit) => kind_in_source(alloc, file, source, unit, fault, notes),
             None => explain_kind(alloc, file, fault, notes),
         },
         Refusal::Bound(fault) => explain_bound(alloc, file, *fault, notes),
@@ -68,22 +66,17 @@ fn explain_in_source(
 fn shape_in_source(
     alloc: Global,
     file: &str,
-    lines: &LineStarts<'_>,
-    text: &[u8],
+    source: &SourceText<'_>,
     unit: &UnitOrigins<'_>,
     fault: &ShapeFault,
     notes: &[u8],
 ) -> Result<Vec<u8>, AllocError>
-    requires { lines.now ≡ text.now }
     ensures { IfOk result
-        (λ v. v.items ≡ shape_in_source file.now text.now fault.now notes.now unit.now) }
+        (λ v. v.items ≡ shape_in_source file.now source.now fault.now notes.now unit.now) }
 {
-    let mut out = Vec::new(alloc);
-    push_place_lines(
-        alloc, &mut out, file, lines, text, unit, fault.rule, fault.at,
-    )?;
+    let mut out = place_lines(alloc, file, source, unit, fault.rule, fault.at)?;
     out.extend_from_slice(notes)?;
-    push_repair(alloc, &mut out, rule_repair(fault.rule))?;
+    push_repair(alloc, &mut out, rule_repair(fault.rule).as_bytes())?;
     Ok(out)
 }
 
@@ -91,24 +84,19 @@ fn shape_in_source(
 fn kind_in_source(
     alloc: Global,
     file: &str,
-    lines: &LineStarts<'_>,
-    text: &[u8],
+    source: &SourceText<'_>,
     unit: &UnitOrigins<'_>,
     fault: &KindFault,
     notes: &[u8],
 ) -> Result<Vec<u8>, AllocError>
-    requires { lines.now ≡ text.now }
     ensures { IfOk result
-        (λ v. v.items ≡ kind_in_source file.now text.now fault.now notes.now unit.now) }
+        (λ v. v.items ≡ kind_in_source file.now source.now fault.now notes.now unit.now) }
 {
-    let mut out = Vec::new(alloc);
-    push_place_lines(
-        alloc, &mut out, file, lines, text, unit, fault.rule, fault.at,
-    )?;
-    push_walk(alloc, &mut out, lines, text, unit, fault)?;
+    let mut out = place_lines(alloc, file, source, unit, fault.rule, fault.at)?;
+    push_walk(alloc, &mut out, source, unit, fault)?;
     push_ways(&mut out)?;
     out.extend_from_slice(notes)?;
-    push_repair(alloc, &mut out, rule_repair(fault.rule))?;
+    push_repair(alloc, &mut out, rule_repair(fault.rule).as_bytes())?;
     Ok(out)
 }
 
@@ -116,21 +104,19 @@ fn kind_in_source(
 fn push_walk(
     alloc: Global,
     out: &mut Vec<u8>,
-    lines: &LineStarts<'_>,
-    text: &[u8],
+    source: &SourceText<'_>,
     unit: &UnitOrigins<'_>,
     fault: &KindFault,
 ) -> Result<(), AllocError>
-    requires { lines.now ≡ text.now }
     ensures { OnOk result (out.new.items
-        ≡ out.old.items ++ walk_in_source text.now fault.now unit.now) }
+        ≡ out.old.items ++ walk_in_source source.now fault.now unit.now) }
 {
     let holds = holds_line(alloc, unit, fault.slot, fault.kind)?;
     let head = stops_head(alloc, unit, fault.slot)?;
     let mut walk = Vec::new(alloc);
     walk.extend_from_slice(&holds)?;
     walk.extend_from_slice(&head)?;
-    push_stops(alloc, &mut walk, lines, text, unit, &fault.walk)?;
+    push_stops(alloc, &mut walk, source, unit, &fault.walk)?;
     out.extend_from_slice(&walk)
 }
 
@@ -148,16 +134,14 @@ pub fn origin_at(text: &[u8], unit: &UnitOrigins<'_>, at: u16) -> usize
 /// A rule, and the unit in which it is broken.
 fn title_in(
     alloc: Global,
-    lines: &LineStarts<'_>,
-    text: &[u8],
+    source: &SourceText<'_>,
     rule: Rule,
     head: &Head<'_>,
 ) -> Result<Vec<u8>, AllocError>
-    requires { lines.now ≡ text.now }
-    ensures { IfOk result (λ v. v.items ≡ title_in text.now rule head.now) }
+    ensures { IfOk result (λ v. v.items ≡ title_in source.now rule head.now) }
 {
     let title = rule_title(alloc, rule)?;
-    let unit = unit_title(alloc, lines, text, head)?;
+    let unit = unit_title(alloc, source, head)?;
     let mut out = Vec::new(alloc);
     push_text(&mut out, title.as_str())?;
     push_text(&mut out, ", ")?;
@@ -165,24 +149,22 @@ fn title_in(
     Ok(out)
 }
 
-/// Adds the lines on a place of a unit that breaks a rule, up to that with carets.
-fn push_place_lines(
+/// The lines on a place of a unit that breaks a rule, up to that with carets.
+fn place_lines(
     alloc: Global,
-    out: &mut Vec<u8>,
     file: &str,
-    lines: &LineStarts<'_>,
-    text: &[u8],
+    source: &SourceText<'_>,
     unit: &UnitOrigins<'_>,
     rule: Rule,
     at: u16,
-) -> Result<(), AllocError>
-    requires { lines.now ≡ text.now }
-    ensures { OnOk result (out.new.items
-        ≡ out.old.items ++ place_lines file.now text.now unit.now rule at) }
+) -> Result<Vec<u8>, AllocError>
+    ensures { IfOk result (λ v. v.items ≡ place_lines file.now source.now unit.now rule at) }
 {
-    let offset = origin_at(text, unit, at);
-    let title = title_in(alloc, lines, text, rule, &unit.head)?;
-    let position = lines.position(offset);
-    push_head_at(alloc, out, file, position, &title, rule_message(rule))?;
-    push_excerpt(alloc, out, lines, text, offset)
+    let offset = origin_at(source.bytes(), unit, at);
+    let title = title_in(alloc, source, rule, &unit.head)?;
+    let position = source.lines().position(offset);
+    let mut out = Vec::new(alloc);
+    push_head_at(alloc, &mut out, file, position, &title, rule_message(rule))?;
+    push_excerpt(alloc, &mut out, source, offset)?;
+    Ok(out)
 }

@@ -1,14 +1,15 @@
 //! Names and walks in the words of a source text.
 
 ghost use Rattle.std.specs.Prelude.{◌≡◌, ◌++◌, ◌≤◌, length, IfOk, OnOk, None, codes, decimal, string_bytes};
-ghost use Rattle.xk_explain.specs.SourceExplanations.{goes_back, holds_line, is_name, is_told, line_text, one_stop, quoted, slot_name, slot_title, stop_head, stop_line, stops, stops_head, told_behind, turn_line, unit_title};
+ghost use Rattle.xk_explain.specs.SourceExplanations.{goes_back, holds_line, is_name, is_told, line_text, one_stop, quoted, slot_name, slot_title, stop_head, stop_line, stops, stops_head, told_behind, turn_line, turn_text, unit_title};
 
 use crate::lines::push_text;
 use crate::messages::kind_message;
 use crate::note::place_title;
 use crate::source_refusals::origin_at;
+use crate::source_text::SourceText;
 use std::alloc::{AllocError, Global};
-use xk_lines::{LineStarts, Position, shown_front};
+use xk_lines::{Position, shown_front};
 use xk_origins::{Head, UnitOrigins};
 use xk_types::{Kind, Visit};
 
@@ -19,12 +20,10 @@ const TOLD: usize = 60;
 #[tactic(auto, unfolding(crate::specs::SourceExplanations::unit_title))]
 pub(crate) fn unit_title(
     alloc: Global,
-    lines: &LineStarts<'_>,
-    text: &[u8],
+    source: &SourceText<'_>,
     head: &Head<'_>,
 ) -> Result<Vec<u8>, AllocError>
-    requires { lines.now ≡ text.now }
-    ensures { IfOk result (λ v. v.items ≡ unit_title text.now head.now) }
+    ensures { IfOk result (λ v. v.items ≡ unit_title source.now head.now) }
 {
     let mut out = Vec::new(alloc);
     match head.name {
@@ -34,7 +33,7 @@ pub(crate) fn unit_title(
             Ok(out)
         }
         None => {
-            let place = place_title(alloc, lines.position(head.at.min(text.len())))?;
+            let place = place_title(alloc, source.nearest(head.at))?;
             push_text(&mut out, "in the `async` at ")?;
             push_text(&mut out, place.as_str())?;
             Ok(out)
@@ -130,11 +129,11 @@ pub(crate) fn holds_line(
 
 /// The line of an offset as it is shown, without the blanks that it begins with.
 #[tactic(auto, unfolding(crate::specs::SourceExplanations::line_text))]
-fn line_text(alloc: Global, lines: &LineStarts<'_>, at: usize) -> Result<Vec<u8>, AllocError>
-    requires { at ≤ length lines.now }
-    ensures { IfOk result (λ v. v.items ≡ line_text lines.now at) }
+fn line_text(alloc: Global, source: &SourceText<'_>, at: usize) -> Result<Vec<u8>, AllocError>
+    requires { at ≤ length source.now }
+    ensures { IfOk result (λ v. v.items ≡ line_text source.now at) }
 {
-    shown_front(alloc, lines.words_at(at), TOLD)
+    shown_front(alloc, source.lines().words_at(at), TOLD)
 }
 
 /// What stands before the text of a stop.
@@ -151,15 +150,15 @@ fn stop_head(alloc: Global, position: Position, kind: Kind) -> Result<String, Al
 #[tactic(auto, unfolding(crate::specs::SourceExplanations::stop_line))]
 fn stop_line(
     alloc: Global,
-    lines: &LineStarts<'_>,
+    source: &SourceText<'_>,
     at: usize,
     kind: Kind,
 ) -> Result<Vec<u8>, AllocError>
-    requires { at ≤ length lines.now }
-    ensures { IfOk result (λ v. v.items ≡ stop_line lines.now at kind) }
+    requires { at ≤ length source.now }
+    ensures { IfOk result (λ v. v.items ≡ stop_line source.now at kind) }
 {
-    let head = stop_head(alloc, lines.position(at), kind)?;
-    let line = line_text(alloc, lines, at)?;
+    let head = stop_head(alloc, source.lines().position(at), kind)?;
+    let line = line_text(alloc, source, at)?;
     let mut out = Vec::new(alloc);
     push_text(&mut out, head.as_str())?;
     out.extend_from_slice(&line)?;
@@ -167,39 +166,30 @@ fn stop_line(
     Ok(out)
 }
 
-/// Adds what is said of one stop.
-fn push_stop(
-    alloc: Global,
-    out: &mut Vec<u8>,
-    lines: &LineStarts<'_>,
-    at: usize,
-    kind: Kind,
-) -> Result<(), AllocError>
-    requires { at ≤ length lines.now }
-    ensures { OnOk result (out.new.items ≡ out.old.items ++ stop_line lines.now at kind) }
+/// What is said of a stop behind which a loop begins again.
+#[tactic(auto, unfolding(crate::specs::SourceExplanations::turn_text))]
+fn turn_text(alloc: Global, position: Position, kind: Kind) -> Result<String, AllocError>
+    ensures { IfOk result (λ text. string_bytes text ≡ turn_text position kind) }
 {
-    let line = stop_line(alloc, lines, at, kind)?;
-    out.extend_from_slice(&line)
+    let place = place_title(alloc, position)?;
+    let holds = kind_message(kind);
+    format!(in alloc; "     {place}  {holds}, and then the next turn\n")
 }
 
-/// Adds what is said of a stop behind which a loop begins again.
-#[tactic(auto, unfolding(crate::specs::SourceExplanations::turn_line))]
-fn push_turn(
+/// The line of such a stop.
+fn turn_line(
     alloc: Global,
-    out: &mut Vec<u8>,
-    lines: &LineStarts<'_>,
+    source: &SourceText<'_>,
     at: usize,
     kind: Kind,
-) -> Result<(), AllocError>
-    requires { at ≤ length lines.now }
-    ensures { OnOk result (out.new.items ≡ out.old.items ++ turn_line lines.now at kind) }
+) -> Result<Vec<u8>, AllocError>
+    requires { at ≤ length source.now }
+    ensures { IfOk result (λ v. v.items ≡ turn_line source.now at kind) }
 {
-    let place = place_title(alloc, lines.position(at))?;
-    let holds = kind_message(kind);
-    push_text(
-        out,
-        format!(in alloc; "     {place}  {holds}, and then the next turn\n")?.as_str(),
-    )
+    let text = turn_text(alloc, source.lines().position(at), kind)?;
+    let mut out = Vec::new(alloc);
+    push_text(&mut out, text.as_str())?;
+    Ok(out)
 }
 
 /// Whether a walk goes back from a stop to those behind it.
@@ -238,47 +228,44 @@ fn told_behind(told: Option<usize>, at: usize, visit: Visit, behind: &[Visit]) -
     }
 }
 
-/// Adds what is said of a stop before these, if anything.
-fn push_one_stop(
+/// What is said of a stop before these, if anything.
+fn one_stop(
     alloc: Global,
-    out: &mut Vec<u8>,
-    lines: &LineStarts<'_>,
+    source: &SourceText<'_>,
     told: Option<usize>,
     at: usize,
     visit: Visit,
     behind: &[Visit],
-) -> Result<(), AllocError>
-    requires { at ≤ length lines.now }
-    ensures { OnOk result (out.new.items
-        ≡ out.old.items ++ one_stop lines.now told at visit behind.now) }
+) -> Result<Vec<u8>, AllocError>
+    requires { at ≤ length source.now }
+    ensures { IfOk result (λ v. v.items ≡ one_stop source.now told at visit behind.now) }
 {
     if goes_back(visit, behind) {
-        return push_turn(alloc, out, lines, at, visit.kind);
+        return turn_line(alloc, source, at, visit.kind);
     }
     if is_told(told, at, behind) {
-        return Ok(());
+        return Ok(Vec::new(alloc));
     }
-    push_stop(alloc, out, lines, at, visit.kind)
+    stop_line(alloc, source, at, visit.kind)
 }
 
 /// Adds the stops of a walk, statement by statement.
 pub(crate) fn push_stops(
     alloc: Global,
     out: &mut Vec<u8>,
-    lines: &LineStarts<'_>,
-    text: &[u8],
+    source: &SourceText<'_>,
     unit: &UnitOrigins<'_>,
     walk: &[Visit],
 ) -> Result<(), AllocError>
-    requires { lines.now ≡ text.now }
     ensures { OnOk result
-        (out.new.items ≡ out.old.items ++ stops text.now unit.now None walk.now) }
+        (out.new.items ≡ out.old.items ++ stops source.now unit.now None walk.now) }
 {
     let mut told = None;
     for (i, visit) in walk.iter().enumerate() {
-        let at = origin_at(text, unit, visit.at);
+        let at = origin_at(source.bytes(), unit, visit.at);
         let behind = &walk[i + 1..];
-        push_one_stop(alloc, out, lines, told, at, *visit, behind)?;
+        let line = one_stop(alloc, source, told, at, *visit, behind)?;
+        out.extend_from_slice(&line)?;
         told = told_behind(told, at, *visit, behind);
     }
     Ok(())

@@ -67,15 +67,15 @@ main_origins = record {
 }
 
 loop_note : note_of (main_origins ∷ []) (place 0 1 (fact.Loop 4 12))
-    ≡ record { at = Some 31; text = codes "this loop has 4 turns each time, 12 in one run of main" }
+    ≡ record { at = Some 31; text = codes "this loop has 4 turns each time, 12 in one run of main"; repair = None }
 unfolding loop_words digits
 loop_note = refl
 
-steps_note : note_of (main_origins ∷ []) (whole 0 (fact.Steps 20)) ≡ record { at = Some 4; text = codes "main takes 20 steps at most" }
+steps_note : note_of (main_origins ∷ []) (whole 0 (fact.Steps 20)) ≡ record { at = Some 4; text = codes "main takes 20 steps at most"; repair = None }
 unfolding most_words digits
 steps_note = refl
 
-by_number : note_of [] (place 0 1 (fact.Call 1 1)) ≡ record { at = None; text = codes "unit 0 at 1: unit 1 is called here 1 time in one run of unit 0" }
+by_number : note_of [] (place 0 1 (fact.Call 1 1)) ≡ record { at = None; text = codes "unit 0 at 1: unit 1 is called here 1 time in one run of unit 0"; repair = None }
 unfolding times_words digits
 by_number = refl
 

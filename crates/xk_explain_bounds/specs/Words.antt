@@ -80,5 +80,5 @@ place_in u (Some at) = slice_get u.offsets at
 -- the note of a remark
 abbrev pub note_of : List UnitOrigins → Remark → NoteValue
 note_of origins r =
-    option_map_or (λ u. record { at = place_in u r.at; text = words origins r.unit r.fact }) (slice_get origins r.unit)
-    (record { at = None; text = place_before r.unit r.at ++ words origins r.unit r.fact })
+    option_map_or (λ u. record { at = place_in u r.at; text = words origins r.unit r.fact; repair = None }) (slice_get origins r.unit)
+    (record { at = None; text = place_before r.unit r.at ++ words origins r.unit r.fact; repair = None })

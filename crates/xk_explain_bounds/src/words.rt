@@ -306,11 +306,16 @@ pub(crate) fn note_of(
         Some(u) => Ok(Note {
             at: place_in(u, remark.at),
             text: words,
+            repair: None,
         }),
         None => {
             let mut text = place_before(alloc, remark.unit, remark.at)?;
             text.extend_from_slice(&words)?;
-            Ok(Note { at: None, text })
+            Ok(Note {
+                at: None,
+                text,
+                repair: None,
+            })
         }
     }
 }

@@ -1,5 +1,5 @@
 -- Small texts that break off, and what is told beside the fault, by evaluation.
-use Rattle.std.proofs.Common.{◌≡◌, ℕ, List, refl, Option, Some, None}
+use Rattle.std.proofs.Common.{◌≡◌, ℕ, List, [], ◌∷◌, refl, Option, Some, None}
 use Rattle.std.specs.Prelude.{codes}
 use Rattle.xk_lexer.specs.Tokens.{keyword_of}
 use Rattle.xk_lexer.specs.Pieces.{number_of}
@@ -7,34 +7,41 @@ use Rattle.xk_lexer.specs.Lexing.{comment_at, piece_at, sign_at, sign_of_one, si
 use Rattle.xk_tree.specs.declared.fault.FrontFault.{FrontFault}
 use Rattle.xk_tree.specs.declared.fault.FrontRule.TheVariants as rule
 use Rattle.xk_explain_expected.specs.Grammar.{name_terminal}
-use Rattle.xk_explain_expected.specs.Expected.{choices_text, expected_text, stack_at, stack_text}
+use Rattle.xk_explain_expected.specs.Expected.{choices_text, stack_at, stack_text, write_text}
+use Rattle.xk_explain.specs.Notes.{NoteValue}
+use Rattle.xk_explain_expected.specs.Notes.{expected_notes}
 
 abbrev fault : ℕ → FrontFault
 fault at = record { rule = rule.Syntax; at = at }
 
-abbrev told : List ℕ → Option (List ℕ)
-told text = Some text
+abbrev told : List ℕ → Option (List ℕ) → List NoteValue
+told text repair = record { at = None; text = text; repair = repair } ∷ []
 
 -- a `;` is missing behind a number, where an operator could stand too
-no_semicolon : expected_text (codes "def m(){val n=1 n=2;}") (fault 16) ≡ told (codes "could stand here: `;`, `+`, `-`, `*`")
+no_semicolon : expected_notes (codes "def m(){val n=1 n=2;}") (fault 16) ≡ told (codes "could stand here: `;`, `+`, `-`, `*`") None
 unfolding stack_at stack_text choices_text name_terminal piece_at comment_at sign_at sign_of_one sign_of_two number_of keyword_of
 no_semicolon = refl
 
 -- the text ends in a block, behind an `if` that may have an `else`
-no_brace : expected_text (codes "def m(){if(a==1);") (fault 17) ≡ told (codes "could stand here: a statement, `}`, `else`")
+no_brace : expected_notes (codes "def m(){if(a==1);") (fault 17) ≡ told (codes "could stand here: a statement, `}`, `else`") None
 unfolding stack_at stack_text choices_text name_terminal piece_at comment_at sign_at sign_of_one sign_of_two number_of keyword_of
 no_brace = refl
 
 -- behind all methods nothing has to come
-behind_methods : expected_text (codes "def m(){}}") (fault 9) ≡ told (codes "could stand here: `def`, the end of the text")
+behind_methods : expected_notes (codes "def m(){}}") (fault 9) ≡ told (codes "could stand here: `def`, the end of the text") None
 unfolding stack_at stack_text choices_text name_terminal piece_at comment_at sign_at sign_of_one sign_of_two number_of keyword_of
 behind_methods = refl
 
+-- where one token alone could stand, it is the repair
+only_one : expected_notes (codes "def m(){m()}") (fault 11) ≡ told (codes "could stand here: `;`") (Some (codes "write `;` here"))
+unfolding stack_at stack_text choices_text write_text name_terminal piece_at comment_at sign_at sign_of_one sign_of_two number_of keyword_of
+only_one = refl
+
 -- where the tokens before the offset can't stand so, nothing is told
-cant_stand : expected_text (codes "m m") (fault 2) ≡ None
+cant_stand : expected_notes (codes "m m") (fault 2) ≡ []
 unfolding stack_at name_terminal piece_at comment_at keyword_of
 cant_stand = refl
 
 -- of other faults nothing is told
-other_fault : expected_text (codes "def m(){val n=1 n=2;}") (record { rule = rule.TooDeep; at = 16 }) ≡ None
+other_fault : expected_notes (codes "def m(){val n=1 n=2;}") (record { rule = rule.TooDeep; at = 16 }) ≡ []
 other_fault = refl

@@ -157,10 +157,22 @@ is_misplaced _ = false
 unfoldable pub stack_text : List Symbol → List ℕ
 stack_text stack = choices_text (choices stack)
 
--- what could stand at an offset of a text, if the tokens before it can stand so
-abbrev pub text_at : List ℕ → ℕ → Option (List ℕ)
-text_at text at = option_map stack_text (stack_at text at)
+-- the token has one spelling
+abbrev pub is_single : Terminal → Bool
+is_single terminal.Comparison = false
+is_single terminal.Binding = false
+is_single terminal.Verb = false
+is_single terminal.Name = false
+is_single terminal.Digits = false
+is_single terminal.End = false
+is_single terminal.Unfit = false
+is_single _ = true
 
--- What is told beside such a fault: what could stand there, if the tokens before it can stand so.
-abbrev pub expected_text : List ℕ → FrontFault → Option (List ℕ)
-expected_text text f = if is_misplaced f.rule then text_at text f.at else None
+-- ``write `;` here``
+unfoldable pub write_text : Terminal → List ℕ
+write_text t = (codes "write " ++ terminal_text t) ++ codes " here"
+
+-- the repair where one token alone could stand
+abbrev pub only_text : List Choice → Option (List ℕ)
+only_text (choice.One t ∷ []) = if is_single t then Some (write_text t) else None
+only_text _ = None

@@ -2,7 +2,6 @@
 #![tactic(auto)]
 
 mod choices;
-mod faults;
 mod grammar;
 pub mod laws;
 mod machine;

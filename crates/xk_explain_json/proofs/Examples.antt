@@ -29,7 +29,7 @@ module_text = refl
 -- two notes on a text of two lines, of which one has a place
 front_text : compact_text (
     front_value (codes "a.x10") (codes "ab\ncd") (record { rule = front.DuplicateName; at = 4 })
-    (record { at = Some 1; text = codes "b" } ∷ record { at = None; text = codes "c" } ∷ []))
+    (record { at = Some 1; text = codes "b"; repair = None } ∷ record { at = None; text = codes "c"; repair = None } ∷ []))
     ≡ codes "{\"accepted\":false,\"column\":2,\"file\":\"a.x10\",\"line\":2,\"message\":\"this name is visible here already, or another method has it\",\"name\":\"DuplicateName\",\"notes\":[{\"column\":2,\"line\":1,\"text\":\"b\"},{\"text\":\"c\"}],\"repair\":\"take another name\",\"rule\":\"F6\"}"
 unfolding serde_json_on_literals digits utf8_lossy utf8_valid_len is_utf8 chars
 front_text = refl

@@ -18,7 +18,7 @@ use Rattle.xk_lines.specs.Lines.{position_of}
 use Rattle.xk_origins.specs.UnitOrigins.{Head, UnitOrigins}
 use Rattle.xk_explain.specs.declared.module_rule.ModuleRule.{ModuleRule}
 use Rattle.xk_explain.specs.Messages.{front_message, kind_message, module_message, module_name, module_number, module_repair, rule_message, rule_repair}
-use Rattle.xk_explain_repairs.specs.Repairs.{repair_at}
+use Rattle.xk_explain.specs.FrontRepairs.{repair_of}
 use Rattle.xk_explain.specs.Explanations.{has_place, shown_at}
 use Rattle.xk_explain.specs.SourceExplanations.{is_name, origin_at, slot_name}
 use Rattle.xk_explain.specs.Notes.{NoteValue, place_title}
@@ -26,29 +26,35 @@ use Rattle.xk_explain_json.specs.Objects.{array_of, bytes_value, number_value, o
 
 -- ---- groups of members
 
--- a refusal: the file, the rule by its number and its name, what is wrong, and how it is usually repaired
-abbrev pub refused : List ℕ → List ℕ → List ℕ → List ℕ → List ℕ → Group
-refused file rule name message repair =
+-- a refusal: the file, the rule by its number and its name, and what is wrong
+abbrev pub refused : List ℕ → List ℕ → List ℕ → List ℕ → Group
+refused file rule name message =
     (codes "accepted", boolean false)
     ∷ (codes "file", string file)
     ∷ (codes "message", string message)
     ∷ (codes "name", string name)
-    ∷ (codes "repair", string repair)
     ∷ (codes "rule", string rule)
     ∷ []
 
--- by a rule on source texts, with the repair for what stands there
-abbrev pub refused_by_front : List ℕ → List ℕ → FrontFault → Group
-refused_by_front file text f =
-    refused file (codes "F" ++ decimal (front_number f.rule)) (front_name f.rule) (front_message f.rule) (repair_at text f.rule (shown_at text f))
+-- how it is usually repaired
+abbrev pub repair_member : List ℕ → Group
+repair_member repair = (codes "repair", string repair) ∷ []
+
+-- by a rule on source texts
+abbrev pub refused_by_front : List ℕ → FrontFault → Group
+refused_by_front file f = refused file (codes "F" ++ decimal (front_number f.rule)) (front_name f.rule) (front_message f.rule)
+
+-- with the repair for what stands there
+abbrev pub front_repair_member : List ℕ → FrontFault → List NoteValue → Group
+front_repair_member text f notes = (codes "repair", bytes_value (repair_of text f.rule (shown_at text f) notes)) ∷ []
 
 -- by a rule on module texts
 abbrev pub refused_by_module : List ℕ → ModuleRule → Group
-refused_by_module file r = refused file (codes "M" ++ decimal (module_number r)) (module_name r) (module_message r) (module_repair r)
+refused_by_module file r = refused file (codes "M" ++ decimal (module_number r)) (module_name r) (module_message r) ++ repair_member (module_repair r)
 
 -- by a rule of the verifier
 abbrev pub refused_by : List ℕ → Rule → Group
-refused_by file r = refused file (codes "V" ++ decimal (rule_number r)) (rule_name r) (rule_message r) (rule_repair r)
+refused_by file r = refused file (codes "V" ++ decimal (rule_number r)) (rule_name r) (rule_message r) ++ repair_member (rule_repair r)
 
 abbrev pub position_members : Position → Group
 position_members p = (codes "column", number_value p.column) ∷ (codes "line", number_value p.line) ∷ []
@@ -84,7 +90,7 @@ front_place text f = if has_place f.rule then position_members (position_of text
 
 -- all that is said of a fault of a source text
 abbrev pub front_value : List ℕ → List ℕ → FrontFault → List NoteValue → Data
-front_value file text f notes = object_of (notes_in text notes ∷ refused_by_front file text f ∷ front_place text f ∷ [])
+front_value file text f notes = object_of (notes_in text notes ∷ refused_by_front file f ∷ front_repair_member text f notes ∷ front_place text f ∷ [])
 
 -- ---- module texts
 

@@ -4,12 +4,11 @@ ghost use Rattle.std.specs.Prelude.{◌≡◌, IfOk, OnOk};
 ghost use Rattle.xk_explain_json.specs.Explanations.{front_place, front_value, module_value};
 ghost use Rattle.xk_explain_json.specs.Objects.{json_line, Gains, IsReadBack};
 
-use crate::members::{put_position, put_refused_by_front, put_refused_by_module};
+use crate::members::{put_front_repair, put_position, put_refused_by_front, put_refused_by_module};
 use crate::notes::put_notes_in;
 use crate::object::Object;
 use std::alloc::{AllocError, Global};
-use xk_explain::{ModuleRule, Note, has_place, shown_at};
-use xk_lines::LineStarts;
+use xk_explain::{ModuleRule, Note, SourceText, has_place, shown_at};
 use xk_tree::FrontFault;
 
 /// All that is said of a fault of the source text in FILE, with these notes: a JSON object in one line, `{"accepted":false,"column":5,"file":"FILE",
@@ -27,11 +26,12 @@ pub fn front_json(
     ensures reads_back { OnOk result
         (IsReadBack (front_value file.now text.now fault notes.now)) }
 {
-    let lines = LineStarts::new(alloc, text)?;
+    let source = SourceText::new(alloc, text)?;
     let mut object = Object::new(alloc);
-    put_notes_in(alloc, &mut object, &lines, text, notes)?;
-    put_refused_by_front(alloc, &mut object, file, text, fault)?;
-    put_front_place(alloc, &mut object, &lines, text, fault)?;
+    put_notes_in(alloc, &mut object, &source, notes)?;
+    put_refused_by_front(alloc, &mut object, file, fault)?;
+    put_front_repair(alloc, &mut object, text, fault, notes)?;
+    put_front_place(alloc, &mut object, &source, fault)?;
     object.line(alloc)
 }
 
@@ -39,15 +39,17 @@ pub fn front_json(
 fn put_front_place(
     alloc: Global,
     object: &mut Object,
-    lines: &LineStarts<'_>,
-    text: &[u8],
+    source: &SourceText<'_>,
     fault: FrontFault,
 ) -> Result<(), AllocError>
-    requires { lines.now ≡ text.now }
-    ensures { OnOk result (Gains (front_place text.now fault) object.old object.new) }
+    ensures { OnOk result (Gains (front_place source.now fault) object.old object.new) }
 {
     if has_place(fault.rule) {
-        return put_position(alloc, object, lines.position(shown_at(text, fault)));
+        return put_position(
+            alloc,
+            object,
+            source.lines().position(shown_at(source.bytes(), fault)),
+        );
     }
     Ok(())
 }

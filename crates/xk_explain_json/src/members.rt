@@ -2,17 +2,16 @@
 
 ghost use Rattle.std.specs.Prelude.{[], ◌∷◌, codes, OnOk};
 ghost use Rattle.serde_json.specs.Data.{boolean};
-ghost use Rattle.xk_explain_json.specs.Explanations.{instruction_members, limit_member, position_members, refused, refused_by, refused_by_front, refused_by_module, slot_members};
+ghost use Rattle.xk_explain_json.specs.Explanations.{front_repair_member, instruction_members, limit_member, position_members, refused, refused_by, refused_by_front, refused_by_module, slot_members};
 ghost use Rattle.xk_explain_json.specs.Objects.{Gains};
 
 use crate::object::Object;
 use serde_json::Value;
 use std::alloc::{AllocError, Global};
 use xk_explain::{
-    ModuleRule, front_message, kind_message, module_message, module_repair, rule_message,
-    rule_repair, shown_at,
+    ModuleRule, Note, front_message, kind_message, module_message, module_repair, repair_of,
+    rule_message, rule_repair, shown_at,
 };
-use xk_explain_repairs::repair_at;
 use xk_lines::Position;
 use xk_tree::FrontFault;
 use xk_types::{Kind, Rule};
@@ -29,7 +28,7 @@ pub(crate) fn put_accepted(
     object.put(alloc, "accepted", Value::from(accepted))
 }
 
-/// Adds a refusal: by which rule, what is wrong, and how it is usually repaired.
+/// Adds a refusal: by which rule, and what is wrong.
 fn put_refused(
     alloc: Global,
     object: &mut Object,
@@ -37,29 +36,25 @@ fn put_refused(
     rule: &str,
     name: &str,
     message: &str,
-    repair: &str,
 ) -> Result<(), AllocError>
-    ensures { OnOk result (Gains
-        (refused file.now rule.now name.now message.now repair.now) object.old object.new) }
+    ensures { OnOk result
+        (Gains (refused file.now rule.now name.now message.now) object.old object.new) }
 {
     put_accepted(alloc, object, false)?;
     object.put_text(alloc, "file", file)?;
     object.put_text(alloc, "message", message)?;
     object.put_text(alloc, "name", name)?;
-    object.put_text(alloc, "repair", repair)?;
     object.put_text(alloc, "rule", rule)
 }
 
-/// Adds a fault of a source text, with the repair for what stands there.
+/// Adds a fault of a source text.
 pub(crate) fn put_refused_by_front(
     alloc: Global,
     object: &mut Object,
     file: &str,
-    text: &[u8],
     fault: FrontFault,
 ) -> Result<(), AllocError>
-    ensures { OnOk result
-        (Gains (refused_by_front file.now text.now fault) object.old object.new) }
+    ensures { OnOk result (Gains (refused_by_front file.now fault) object.old object.new) }
 {
     let rule = fault.rule;
     let number = rule.number();
@@ -71,8 +66,22 @@ pub(crate) fn put_refused_by_front(
         title.as_str(),
         rule.name(),
         front_message(rule),
-        repair_at(text, rule, shown_at(text, fault)),
     )
+}
+
+/// Adds the repair of a fault of a source text, with these notes.
+pub(crate) fn put_front_repair(
+    alloc: Global,
+    object: &mut Object,
+    text: &[u8],
+    fault: FrontFault,
+    notes: &[Note],
+) -> Result<(), AllocError>
+    ensures { OnOk result
+        (Gains (front_repair_member text.now fault notes.now) object.old object.new) }
+{
+    let repair = repair_of(alloc, text, fault.rule, shown_at(text, fault), notes)?;
+    object.put_bytes(alloc, "repair", repair)
 }
 
 /// Adds a refusal by a rule on module texts.
@@ -93,8 +102,8 @@ pub(crate) fn put_refused_by_module(
         title.as_str(),
         rule.name(),
         module_message(rule),
-        module_repair(rule),
-    )
+    )?;
+    object.put_text(alloc, "repair", module_repair(rule))
 }
 
 /// Adds a refusal by a rule of the verifier.
@@ -115,8 +124,8 @@ pub(crate) fn put_refused_by(
         title.as_str(),
         rule.name(),
         rule_message(rule),
-        rule_repair(rule),
-    )
+    )?;
+    object.put_text(alloc, "repair", rule_repair(rule))
 }
 
 /// Adds a line and a column.

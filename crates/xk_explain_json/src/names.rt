@@ -8,19 +8,12 @@ use crate::members::put_position;
 use crate::object::Object;
 use serde_json::Value;
 use std::alloc::{AllocError, Global};
-use xk_explain::{is_name, origin_at, place_title, slot_name};
-use xk_lines::LineStarts;
+use xk_explain::{SourceText, is_name, origin_at, place_title, slot_name};
 use xk_origins::{Head, UnitOrigins};
 
 /// `main`, `f`, or `async at 3:5`.
-fn unit_name(
-    alloc: Global,
-    lines: &LineStarts<'_>,
-    text: &[u8],
-    head: &Head<'_>,
-) -> Result<Vec<u8>, AllocError>
-    requires { lines.now ≡ text.now }
-    ensures { IfOk result (λ v. v.items ≡ unit_name text.now head.now) }
+fn unit_name(alloc: Global, source: &SourceText<'_>, head: &Head<'_>) -> Result<Vec<u8>, AllocError>
+    ensures { IfOk result (λ v. v.items ≡ unit_name source.now head.now) }
 {
     let mut out = Vec::new(alloc);
     match head.name {
@@ -29,7 +22,7 @@ fn unit_name(
             Ok(out)
         }
         None => {
-            let place = place_title(alloc, lines.position(head.at.min(text.len())))?;
+            let place = place_title(alloc, source.nearest(head.at))?;
             out.extend_from_slice(b"async at ")?;
             out.extend_from_slice(place.as_bytes())?;
             Ok(out)
@@ -41,18 +34,20 @@ fn unit_name(
 pub(crate) fn put_origin(
     alloc: Global,
     object: &mut Object,
-    lines: &LineStarts<'_>,
-    text: &[u8],
+    source: &SourceText<'_>,
     unit: &UnitOrigins<'_>,
     at: u16,
 ) -> Result<(), AllocError>
-    requires { lines.now ≡ text.now }
     ensures { OnOk result
-        (Gains (origin_members text.now unit.now at) object.old object.new) }
+        (Gains (origin_members source.now unit.now at) object.old object.new) }
 {
-    let name = unit_name(alloc, lines, text, &unit.head)?;
+    let name = unit_name(alloc, source, &unit.head)?;
     object.put_bytes(alloc, "in", &name)?;
-    put_position(alloc, object, lines.position(origin_at(text, unit, at)))
+    put_position(
+        alloc,
+        object,
+        source.lines().position(origin_at(source.bytes(), unit, at)),
+    )
 }
 
 /// Adds the name of a slot, or null where the text has none for it.

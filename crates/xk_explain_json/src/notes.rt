@@ -9,22 +9,15 @@ use crate::members::put_position;
 use crate::object::Object;
 use serde_json::Value;
 use std::alloc::{AllocError, Global};
-use xk_explain::Note;
-use xk_lines::LineStarts;
+use xk_explain::{Note, SourceText};
 
 /// A note on a text, with its place there, if it has one.
-fn note_in(
-    alloc: Global,
-    lines: &LineStarts<'_>,
-    text: &[u8],
-    note: &Note,
-) -> Result<Value, AllocError>
-    requires { lines.now ≡ text.now }
-    ensures { IfOk result (λ v. view v ≡ note_in text.now note.now) }
+fn note_in(alloc: Global, source: &SourceText<'_>, note: &Note) -> Result<Value, AllocError>
+    ensures { IfOk result (λ v. view v ≡ note_in source.now note.now) }
 {
     let mut object = Object::new(alloc);
     if let Some(at) = note.at {
-        put_position(alloc, &mut object, lines.position(at.min(text.len())))?;
+        put_position(alloc, &mut object, source.nearest(at))?;
     }
     object.put_bytes(alloc, "text", &note.text)?;
     Ok(object.into_value())
@@ -40,18 +33,12 @@ fn note_alone(alloc: Global, note: &Note) -> Result<Value, AllocError>
 }
 
 /// The list of these notes on a text.
-fn list_in(
-    alloc: Global,
-    lines: &LineStarts<'_>,
-    text: &[u8],
-    notes: &[Note],
-) -> Result<Value, AllocError>
-    requires { lines.now ≡ text.now }
-    ensures { IfOk result (λ v. view v ≡ array_of (note_in text.now) notes.now) }
+fn list_in(alloc: Global, source: &SourceText<'_>, notes: &[Note]) -> Result<Value, AllocError>
+    ensures { IfOk result (λ v. view v ≡ array_of (note_in source.now) notes.now) }
 {
     let mut values = Vec::new(alloc);
     for note in notes {
-        values.push(note_in(alloc, lines, text, note)?)?;
+        values.push(note_in(alloc, source, note)?)?;
     }
     Ok(Value::from(values))
 }
@@ -71,14 +58,12 @@ fn list_alone(alloc: Global, notes: &[Note]) -> Result<Value, AllocError>
 pub(crate) fn put_notes_in(
     alloc: Global,
     object: &mut Object,
-    lines: &LineStarts<'_>,
-    text: &[u8],
+    source: &SourceText<'_>,
     notes: &[Note],
 ) -> Result<(), AllocError>
-    requires { lines.now ≡ text.now }
-    ensures { OnOk result (Gains (notes_in text.now notes.now) object.old object.new) }
+    ensures { OnOk result (Gains (notes_in source.now notes.now) object.old object.new) }
 {
-    let list = list_in(alloc, lines, text, notes)?;
+    let list = list_in(alloc, source, notes)?;
     object.put(alloc, "notes", list)
 }
 
@@ -106,8 +91,8 @@ pub(crate) fn put_notes(
 {
     match text {
         Some(text) => {
-            let lines = LineStarts::new(alloc, text)?;
-            put_notes_in(alloc, object, &lines, text, notes)
+            let source = SourceText::new(alloc, text)?;
+            put_notes_in(alloc, object, &source, notes)
         }
         None => put_notes_alone(alloc, object, notes),
     }

@@ -12,8 +12,7 @@ use crate::refusals::{is_memory, put_bound, put_kind, put_shape};
 use crate::walks::put_walk_in;
 use std::alloc::{AllocError, Global};
 use xk_bounds::Refusal;
-use xk_explain::Note;
-use xk_lines::LineStarts;
+use xk_explain::{Note, SourceText};
 use xk_origins::UnitOrigins;
 use xk_shape::ShapeFault;
 use xk_typestate::KindFault;
@@ -36,10 +35,10 @@ pub fn source_json(
     if is_memory(refusal) {
         return Ok(Vec::new(alloc));
     }
-    let lines = LineStarts::new(alloc, text)?;
+    let source = SourceText::new(alloc, text)?;
     let mut object = Object::new(alloc);
-    put_notes_in(alloc, &mut object, &lines, text, notes)?;
-    put_source(alloc, &mut object, file, &lines, text, units, refusal)?;
+    put_notes_in(alloc, &mut object, &source, notes)?;
+    put_source(alloc, &mut object, file, &source, units, refusal)?;
     object.line(alloc)
 }
 
@@ -48,22 +47,20 @@ fn put_source(
     alloc: Global,
     object: &mut Object,
     file: &str,
-    lines: &LineStarts<'_>,
-    text: &[u8],
+    source: &SourceText<'_>,
     units: &[UnitOrigins<'_>],
     refusal: &Refusal,
 ) -> Result<(), AllocError>
-    requires { lines.now ≡ text.now }
     ensures { OnOk result (GainsAll
-        (source_groups file.now text.now units.now refusal.now) object.old object.new) }
+        (source_groups file.now source.now units.now refusal.now) object.old object.new) }
 {
     match refusal {
         Refusal::Shape(fault) => match units.get(fault.unit as usize) {
-            Some(unit) => put_shape_in(alloc, object, file, lines, text, unit, fault),
+            Some(unit) => put_shape_in(alloc, object, file, source, unit, fault),
             None => put_shape(alloc, object, file, fault),
         },
         Refusal::Kind(fault) => match units.get(fault.unit as usize) {
-            Some(unit) => put_kind_in(alloc, object, file, lines, text, unit, fault),
+            Some(unit) => put_kind_in(alloc, object, file, source, unit, fault),
             None => put_kind(alloc, object, file, fault),
         },
         Refusal::Bound(fault) => put_bound(alloc, object, file, *fault),
@@ -76,18 +73,16 @@ fn put_shape_in(
     alloc: Global,
     object: &mut Object,
     file: &str,
-    lines: &LineStarts<'_>,
-    text: &[u8],
+    source: &SourceText<'_>,
     unit: &UnitOrigins<'_>,
     fault: &ShapeFault,
 ) -> Result<(), AllocError>
-    requires { lines.now ≡ text.now }
     ensures { OnOk result (GainsAll
-        (shape_in_source file.now text.now fault.now unit.now) object.old object.new) }
+        (shape_in_source file.now source.now fault.now unit.now) object.old object.new) }
 {
     put_refused_by(alloc, object, file, fault.rule)?;
     put_instruction(alloc, object, fault.unit, fault.at)?;
-    put_origin(alloc, object, lines, text, unit, fault.at)
+    put_origin(alloc, object, source, unit, fault.at)
 }
 
 /// Adds a slot of the wrong kind.
@@ -95,19 +90,17 @@ fn put_kind_in(
     alloc: Global,
     object: &mut Object,
     file: &str,
-    lines: &LineStarts<'_>,
-    text: &[u8],
+    source: &SourceText<'_>,
     unit: &UnitOrigins<'_>,
     fault: &KindFault,
 ) -> Result<(), AllocError>
-    requires { lines.now ≡ text.now }
     ensures { OnOk result (GainsAll
-        (kind_in_source file.now text.now fault.now unit.now) object.old object.new) }
+        (kind_in_source file.now source.now fault.now unit.now) object.old object.new) }
 {
     put_refused_by(alloc, object, file, fault.rule)?;
     put_instruction(alloc, object, fault.unit, fault.at)?;
-    put_origin(alloc, object, lines, text, unit, fault.at)?;
+    put_origin(alloc, object, source, unit, fault.at)?;
     put_slot(alloc, object, fault.slot, fault.kind)?;
     put_slot_name(alloc, object, unit, fault.slot)?;
-    put_walk_in(alloc, object, lines, text, unit, &fault.walk)
+    put_walk_in(alloc, object, source, unit, &fault.walk)
 }

@@ -9,8 +9,7 @@ use crate::members::put_position;
 use crate::object::Object;
 use serde_json::Value;
 use std::alloc::{AllocError, Global};
-use xk_explain::origin_at;
-use xk_lines::LineStarts;
+use xk_explain::{SourceText, origin_at};
 use xk_origins::UnitOrigins;
 use xk_types::Visit;
 
@@ -34,19 +33,19 @@ fn stop_alone(alloc: Global, visit: Visit) -> Result<Value, AllocError>
 /// One stop, with the line and column that it comes from.
 fn stop_in(
     alloc: Global,
-    lines: &LineStarts<'_>,
-    text: &[u8],
+    source: &SourceText<'_>,
     unit: &UnitOrigins<'_>,
     visit: Visit,
 ) -> Result<Value, AllocError>
-    requires { lines.now ≡ text.now }
-    ensures { IfOk result (λ v. view v ≡ stop_in text.now unit.now visit) }
+    ensures { IfOk result (λ v. view v ≡ stop_in source.now unit.now visit) }
 {
     let mut object = Object::new(alloc);
     put_position(
         alloc,
         &mut object,
-        lines.position(origin_at(text, unit, visit.at)),
+        source
+            .lines()
+            .position(origin_at(source.bytes(), unit, visit.at)),
     )?;
     put_stop(alloc, &mut object, visit)?;
     Ok(object.into_value())
@@ -66,17 +65,15 @@ fn list_alone(alloc: Global, walk: &[Visit]) -> Result<Value, AllocError>
 /// The same in the lines of a text.
 fn list_in(
     alloc: Global,
-    lines: &LineStarts<'_>,
-    text: &[u8],
+    source: &SourceText<'_>,
     unit: &UnitOrigins<'_>,
     walk: &[Visit],
 ) -> Result<Value, AllocError>
-    requires { lines.now ≡ text.now }
-    ensures { IfOk result (λ v. view v ≡ array_of (stop_in text.now unit.now) walk.now) }
+    ensures { IfOk result (λ v. view v ≡ array_of (stop_in source.now unit.now) walk.now) }
 {
     let mut values = Vec::new(alloc);
     for visit in walk {
-        values.push(stop_in(alloc, lines, text, unit, *visit)?)?;
+        values.push(stop_in(alloc, source, unit, *visit)?)?;
     }
     Ok(Value::from(values))
 }
@@ -97,15 +94,13 @@ pub(crate) fn put_walk_alone(
 pub(crate) fn put_walk_in(
     alloc: Global,
     object: &mut Object,
-    lines: &LineStarts<'_>,
-    text: &[u8],
+    source: &SourceText<'_>,
     unit: &UnitOrigins<'_>,
     walk: &[Visit],
 ) -> Result<(), AllocError>
-    requires { lines.now ≡ text.now }
     ensures { OnOk result
-        (Gains (walk_in text.now unit.now walk.now) object.old object.new) }
+        (Gains (walk_in source.now unit.now walk.now) object.old object.new) }
 {
-    let list = list_in(alloc, lines, text, unit, walk)?;
+    let list = list_in(alloc, source, unit, walk)?;
     object.put(alloc, "walk", list)
 }

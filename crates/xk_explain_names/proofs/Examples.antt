@@ -1,5 +1,5 @@
 -- Small programs: what is declared in them, and what is told beside a fault, by evaluation.
-use Rattle.std.proofs.Common.{◌≡◌, ℕ, pos, List, [], ◌∷◌, ◌++◌, refl, Option, Some, None, replicate}
+use Rattle.std.proofs.Common.{◌≡◌, ℕ, pos, Bool, true, false, List, [], ◌∷◌, ◌++◌, refl, Option, Some, None, replicate}
 use Rattle.std.specs.Prelude.{codes}
 use Rattle.xk_types.specs.declared.unit.ParamKind.TheVariants as param
 use Rattle.xk_tree.specs.declared.fault.FrontRule.TheVariants as rule
@@ -12,6 +12,8 @@ use Rattle.xk_tree.specs.Tree.{Word, Expression, Literal, Named, Make, Value, Up
 use Rattle.xk_explain.specs.Notes.{NoteValue}
 use Rattle.xk_explain_names.specs.declared.declaration.Role.TheVariants as role
 use Rattle.xk_explain_names.specs.Declarations.{Declared, declares, declarations}
+use Rattle.xk_explain_names.specs.NearNames.{is_near}
+use Rattle.xk_explain_names.specs.Kinds.{is_written_back, term_added}
 use Rattle.xk_explain_names.specs.Notes.{declared_text, front_notes, further_text, notes_on}
 
 abbrev x : ℕ → Word
@@ -36,7 +38,7 @@ abbrev fault : FrontRule → ℕ → FrontFault
 fault r at = record { rule = r; at = at }
 
 abbrev told : ℕ → List ℕ → NoteValue
-told at text = record { at = Some at; text = text }
+told at text = record { at = Some at; text = text; repair = None }
 
 -- ---- a loop declares x, and behind the loop x isn't visible
 
@@ -91,7 +93,42 @@ clocks_declare = refl
 
 -- ---- of nine the ninth isn't told
 
-nine : notes_on (codes "x") (replicate 9 (declares (x 4) role.Var))
-    ≡ replicate 8 (told 4 (codes "`x` is declared here, as a `var`")) ++ (record { at = None; text = further_text (codes "x") 1 }) ∷ []
+nine : notes_on None (codes "x") (replicate 9 (declares (x 4) role.Var))
+    ≡ replicate 8 (told 4 (codes "`x` is declared here, as a `var`")) ++ (record { at = None; text = further_text (codes "x") 1; repair = None }) ∷ []
 unfolding declared_text
 nine = refl
+
+-- ---- near names
+
+swapped : is_near (codes "smu") (codes "sum") ≡ true
+swapped = refl
+
+sign_more : is_near (codes "total") (codes "totals") ≡ true
+sign_more = refl
+
+other_case : is_near (codes "C") (codes "c") ≡ true
+other_case = refl
+
+short : is_near (codes "x") (codes "i") ≡ false
+short = refl
+
+two_edits : is_near (codes "count") (codes "mount_") ≡ false
+two_edits = refl
+
+-- ---- a shared number that is written back
+
+sum_of : term_added (codes "n") (codes "n = ") (codes "n + 2 * i;") ≡ Some (codes "(2 * i)")
+sum_of = refl
+
+difference_of : term_added (codes "n") (codes "n = ") (codes "n - i;") ≡ Some (codes "-i")
+difference_of = refl
+
+-- `n - a + b` isn't `n + -(a + b)`
+difference_of_a_sum : term_added (codes "n") (codes "n = ") (codes "n - a + b;") ≡ None
+difference_of_a_sum = refl
+
+written_back : is_written_back (codes "n") (codes "if (a == 1) n = 2 * ") ≡ true
+written_back = refl
+
+read_alone : is_written_back (codes "n") (codes "n = 1; val t = ") ≡ false
+read_alone = refl

@@ -6,11 +6,15 @@ use Rattle.xk_tree.specs.declared.fault.FrontFault.{FrontFault}
 use Rattle.xk_tree.specs.declared.fault.FrontRule.{FrontRule}
 use Rattle.xk_tree.specs.declared.fault.FrontRule.TheVariants as rule
 use Rattle.xk_tree.specs.Tree.{TreeValue}
-use Rattle.xk_explain.specs.Explanations.{is_word_byte}
+use Rattle.xk_explain_repairs.specs.Words.{begins, is_word_byte}
+use Rattle.xk_explain_repairs.specs.Comments.{from_sign}
 use Rattle.xk_explain.specs.Notes.{NoteValue}
 use Rattle.xk_explain_names.specs.declared.declaration.Role.{Role}
 use Rattle.xk_explain_names.specs.declared.declaration.Role.TheVariants as role
 use Rattle.xk_explain_names.specs.Declarations.{Declared, declarations}
+use Rattle.xk_explain_names.specs.NearNames.{is_near}
+use Rattle.xk_explain_names.specs.Kinds.{is_method, kind_repair, last_of, visible}
+use Rattle.xk_explain_names.specs.LentClocks.{lent_notes}
 
 -- ---- declarations of one name
 
@@ -49,9 +53,9 @@ role_text role.Loop = codes "the number of a loop"
 unfoldable pub declared_text : Declared → List ℕ
 declared_text d = ((codes "`" ++ d.name.text) ++ codes "` is declared here, as ") ++ role_text d.role
 
--- at its place
-abbrev pub note_of : Declared → NoteValue
-note_of d = record { at = Some d.name.at; text = declared_text d }
+-- at its place, with the repair that is called for
+abbrev pub note_of : Option (List ℕ) → Declared → NoteValue
+note_of repair d = record { at = Some d.name.at; text = declared_text d; repair = repair }
 
 -- `` further declarations of `x`: 3 ``
 unfoldable pub further_text : List ℕ → ℕ → List ℕ
@@ -59,16 +63,52 @@ further_text name count = ((codes "further declarations of `" ++ name) ++ codes 
 
 -- those of so many that aren't told, with no place
 abbrev pub further_notes : List ℕ → ℕ → List NoteValue
-further_notes name count = if nat_lt most count then record { at = None; text = further_text name (count - most) } ∷ [] else []
+further_notes name count = if nat_lt most count then record { at = None; text = further_text name (count - most); repair = None } ∷ [] else []
 
-abbrev pub notes_on : List ℕ → List Declared → List NoteValue
-notes_on name ds = map note_of (take most ds) ++ further_notes name (length ds)
+abbrev pub notes_on : Option (List ℕ) → List ℕ → List Declared → List NoteValue
+notes_on repair name ds = map (note_of repair) (take most ds) ++ further_notes name (length ds)
 
--- the rules on names that are declared, or aren't
+-- ---- a name that isn't visible, F5
+
+-- it is called: a `(` stands behind it
+abbrev pub is_called : List ℕ → List ℕ → Bool
+is_called name rest = begins (from_sign (drop (length name) rest)) (codes "(")
+
+-- what may be meant by a name: a method where it is called, else a number or a clock that is declared before
+abbrev pub may_be : Bool → ℕ → Declared → Bool
+may_be true at d = is_method d.role
+may_be false at d = not (is_method d.role) && nat_lt d.name.at at
+
+abbrev pub is_meant : Bool → List ℕ → ℕ → Declared → Bool
+is_meant called name at d = may_be called at d && is_near name d.name.text
+
+-- ``perhaps `sum` is meant``
+unfoldable pub meant_text : List ℕ → List ℕ
+meant_text name = (codes "perhaps `" ++ name) ++ codes "` is meant"
+
+abbrev pub meant_notes : Option Declared → List NoteValue
+meant_notes None = []
+meant_notes (Some d) = note_of (Some (meant_text d.name.text)) d ∷ []
+
+-- of these that have the name, or where none has it, the last that may be meant
+abbrev pub unknown_by : List ℕ → List ℕ → ℕ → List Declared → List Declared → List NoteValue
+unknown_by name rest at [] ds = meant_notes (last_of (is_meant (is_called name rest) name at) None ds)
+unknown_by name rest at (d ∷ same) ds = notes_on None name (d ∷ same)
+
+abbrev pub unknown_notes : List ℕ → List ℕ → ℕ → List Declared → List NoteValue
+unknown_notes name rest at ds = unknown_by name rest at (namesakes name at ds) ds
+
+-- ---- a name that is used as what it isn't, F7
+
+unfoldable pub kind_notes : List ℕ → List ℕ → ℕ → List Declared → List NoteValue
+kind_notes name text at ds =
+    notes_on (kind_repair name (take at text) (drop at text) (visible name at ds)) name (namesakes name at ds)
+
+-- ---- all of them
+
+-- the rules on names that are declared
 abbrev pub is_on_names : FrontRule → Bool
-is_on_names rule.UnknownName = true
 is_on_names rule.DuplicateName = true
-is_on_names rule.WrongKind = true
 is_on_names rule.NotCaptured = true
 is_on_names rule.Recursive = true
 is_on_names rule.Arity = true
@@ -76,5 +116,15 @@ is_on_names rule.SameClockTwice = true
 is_on_names _ = false
 
 -- Beside a fault of such a rule: where the name that stands there is declared, but for the fault's own place, in the order of the text.
+abbrev pub named_notes : FrontRule → List ℕ → ℕ → List Declared → List NoteValue
+named_notes r name at ds = if is_on_names r then notes_on None name (namesakes name at ds) else []
+
+abbrev pub notes_by : FrontRule → TreeValue → List ℕ → ℕ → List NoteValue
+notes_by rule.UnknownName t text at = unknown_notes (word_at text at) (drop at text) at (declarations t)
+notes_by rule.WrongKind t text at = kind_notes (word_at text at) text at (declarations t)
+notes_by rule.NoHiddenClock t text at = lent_notes t text at
+notes_by r t text at = named_notes r (word_at text at) at (declarations t)
+
+-- Beside a fault: where the name that stands there is declared, and what that calls for.
 abbrev pub front_notes : TreeValue → List ℕ → FrontFault → List NoteValue
-front_notes t text f = if is_on_names f.rule then notes_on (word_at text f.at) (namesakes (word_at text f.at) f.at (declarations t)) else []
+front_notes t text f = notes_by f.rule t text f.at

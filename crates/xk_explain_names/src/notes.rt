@@ -1,16 +1,19 @@
 //! Where else the name that stands at a fault is declared.
 
-ghost use Rattle.std.specs.Prelude.{◌≡◌, ◌≤◌, [], ◌∷◌, ◌++◌, length, map, take, IfOk, OnOk};
-ghost use Rattle.std.specs.List.{prefix_len};
-ghost use Rattle.std.specs.Str.{bytes_eq};
-ghost use Rattle.xk_explain.specs.Explanations.{is_word_byte};
+ghost use Rattle.std.specs.Prelude.{◌≡◌, [], ◌∷◌, ◌++◌, None, drop, map, option_map, IfOk, OnOk};
 ghost use Rattle.xk_tree.specs.Program.{tree_value};
 ghost use Rattle.xk_explain_names.specs.Declarations.{declared, declared_here};
-ghost use Rattle.xk_explain_names.specs.Notes.{declared_text, front_notes, further_notes, further_text, is_namesake, is_on_names, namesakes, note_of, notes_on, parameters_text, role_text, word_at};
+ghost use Rattle.xk_explain_names.specs.Kinds.{last_of};
+ghost use Rattle.xk_explain_names.specs.Notes.{declared_text, front_notes, further_notes, further_text, is_called, is_meant, is_namesake, is_on_names, kind_notes, may_be, meant_notes, meant_text, named_notes, namesakes, note_of, notes_on, parameters_text, role_text, unknown_by, unknown_notes, word_at};
 
 use crate::declaration::{Declaration, Role, declarations};
+use crate::kinds::{behind, is_method, kind_repair, visible};
+use crate::lent_clocks::lent_notes;
+use crate::near_names::{is_near, is_same};
+use crate::texts::{around, push_text};
 use std::alloc::{AllocError, Global};
 use xk_explain::Note;
+use xk_explain_repairs::{begins, first_word, from_sign};
 use xk_tree::{FrontFault, FrontRule, Tree};
 
 /// How many declarations are told at most.
@@ -21,9 +24,7 @@ fn is_on_names(rule: FrontRule) -> bool
     ensures { result ≡ is_on_names rule }
 {
     match rule {
-        FrontRule::UnknownName
-        | FrontRule::DuplicateName
-        | FrontRule::WrongKind
+        FrontRule::DuplicateName
         | FrontRule::NotCaptured
         | FrontRule::Recursive
         | FrontRule::Arity
@@ -32,6 +33,8 @@ fn is_on_names(rule: FrontRule) -> bool
         | FrontRule::Syntax
         | FrontRule::TooDeep
         | FrontRule::TooLong
+        | FrontRule::UnknownName
+        | FrontRule::WrongKind
         | FrontRule::NoMain
         | FrontRule::Literal
         | FrontRule::Table
@@ -39,43 +42,21 @@ fn is_on_names(rule: FrontRule) -> bool
     }
 }
 
-/// A byte of names and numbers.
-fn is_word_byte(b: u8) -> bool
-    ensures { result ≡ is_word_byte b }
+/// What a text goes on with from an offset.
+fn from(text: &[u8], at: usize) -> &[u8]
+    ensures { result.now ≡ drop at text.now }
 {
-    b.is_ascii_alphanumeric() || b == b'_'
-}
-
-/// How many bytes of names and numbers a text begins with.
-fn word_len(text: &[u8]) -> usize
-    ensures count { result ≡ prefix_len is_word_byte text.now }
-    ensures within { result ≤ length text.now }
-{
-    text.iter().take_while(|&&b| is_word_byte(b)).count()
-}
-
-/// The name or number that a text begins with.
-fn first_word(text: &[u8]) -> &[u8]
-    ensures { result.now ≡ take (prefix_len is_word_byte text.now) text.now }
-{
-    &text[..word_len(text)]
+    match text.get(at..) {
+        Some(rest) => rest,
+        None => b"",
+    }
 }
 
 /// The name or number at an offset.
 fn word_at(text: &[u8], at: usize) -> &[u8]
     ensures { result.now ≡ word_at text.now at }
 {
-    match text.get(at..) {
-        Some(rest) => first_word(rest),
-        None => b"",
-    }
-}
-
-/// Whether two names are spelled alike.
-fn is_same(a: &[u8], b: &[u8]) -> bool
-    ensures { result ≡ bytes_eq a.now b.now }
-{
-    a == b
+    first_word(from(text, at))
 }
 
 /// Whether the same name is declared, elsewhere than at the offset.
@@ -102,13 +83,6 @@ fn namesakes<'t>(
         }
     }
     Ok(found)
-}
-
-/// Adds a text.
-fn push_text(out: &mut Vec<u8>, text: &str) -> Result<(), AllocError>
-    ensures { OnOk result (out.new.items ≡ out.old.items ++ text.now) }
-{
-    out.extend_from_slice(text.as_bytes())
 }
 
 /// Adds how many parameters there are.
@@ -156,15 +130,33 @@ fn declared_text(alloc: Global, d: &Declaration<'_>) -> Result<Vec<u8>, AllocErr
     Ok(out)
 }
 
-/// Adds a note on a declaration.
-fn push_note(alloc: Global, notes: &mut Vec<Note>, d: &Declaration<'_>) -> Result<(), AllocError>
-    ensures { OnOk result (notes.new.items
-        ≡ notes.old.items ++ note_of (declared d.now) ∷ []) }
+/// A copy of a repair, if there is one.
+fn copy_of(alloc: Global, repair: Option<&[u8]>) -> Result<Option<Vec<u8>>, AllocError>
+    ensures { IfOk result (λ o. option_map (λ v. v.items) o
+        ≡ option_map (λ r. r.now) repair.entry) }
+{
+    match repair {
+        Some(repair) => Ok(Some(repair.to_vec(alloc)?)),
+        None => Ok(None),
+    }
+}
+
+/// Adds a note on a declaration, with the repair that is called for.
+fn push_note(
+    alloc: Global,
+    notes: &mut Vec<Note>,
+    repair: Option<&[u8]>,
+    d: &Declaration<'_>,
+) -> Result<(), AllocError>
+    ensures { OnOk result (notes.new.items ≡ notes.old.items
+        ++ note_of (option_map (λ r. r.now) repair.entry) (declared d.now) ∷ []) }
 {
     let text = declared_text(alloc, d)?;
+    let repair = copy_of(alloc, repair)?;
     notes.push(Note {
         at: Some(d.name.at),
         text,
+        repair,
     })?;
     Ok(())
 }
@@ -173,13 +165,14 @@ fn push_note(alloc: Global, notes: &mut Vec<Note>, d: &Declaration<'_>) -> Resul
 fn push_notes(
     alloc: Global,
     notes: &mut Vec<Note>,
+    repair: Option<&[u8]>,
     ds: &[Declaration<'_>],
 ) -> Result<(), AllocError>
-    ensures { OnOk result (notes.new.items
-        ≡ notes.old.items ++ map note_of (declared_here ds.now)) }
+    ensures { OnOk result (notes.new.items ≡ notes.old.items
+        ++ map (note_of (option_map (λ r. r.now) repair.entry)) (declared_here ds.now)) }
 {
     for d in ds {
-        push_note(alloc, notes, d)?;
+        push_note(alloc, notes, repair, d)?;
     }
     Ok(())
 }
@@ -211,23 +204,182 @@ fn push_further(
         return Ok(());
     }
     let text = further_text(alloc, name, count - MOST)?;
-    notes.push(Note { at: None, text })?;
+    notes.push(Note {
+        at: None,
+        text,
+        repair: None,
+    })?;
     Ok(())
 }
 
-/// The notes on the declarations of a name.
-fn notes_on(alloc: Global, name: &[u8], ds: &[Declaration<'_>]) -> Result<Vec<Note>, AllocError>
+/// The notes on the declarations of a name, with the repair that is called for.
+fn notes_on(
+    alloc: Global,
+    repair: Option<&[u8]>,
+    name: &[u8],
+    ds: &[Declaration<'_>],
+) -> Result<Vec<Note>, AllocError>
     ensures { IfOk result (λ notes. notes.items
-        ≡ notes_on name.now (declared_here ds.now)) }
+        ≡ notes_on (option_map (λ r. r.now) repair.entry) name.now (declared_here ds.now)) }
 {
     let mut notes = Vec::new(alloc);
-    push_notes(alloc, &mut notes, &ds[..ds.len().min(MOST)])?;
+    push_notes(alloc, &mut notes, repair, &ds[..ds.len().min(MOST)])?;
     push_further(alloc, &mut notes, name, ds.len())?;
     Ok(notes)
 }
 
+/// Whether a name is called.
+fn is_called(name: &[u8], rest: &[u8]) -> bool
+    ensures { result ≡ is_called name.now rest.now }
+{
+    begins(from_sign(behind(name, rest)), b"(")
+}
+
+/// Whether a declaration may be meant by a name that is called, or isn't.
+fn may_be(called: bool, at: usize, d: &Declaration<'_>) -> bool
+    ensures { result ≡ may_be called at (declared d.now) }
+{
+    if called {
+        is_method(d.role)
+    } else {
+        !is_method(d.role) && d.name.at < at
+    }
+}
+
+/// The same by its spelling, too.
+fn is_meant(called: bool, name: &[u8], at: usize, d: &Declaration<'_>) -> bool
+    ensures { result ≡ is_meant called name.now at (declared d.now) }
+{
+    may_be(called, at, d) && is_near(name, d.name.text)
+}
+
+/// The last declaration that may be meant.
+fn meant<'t>(
+    called: bool,
+    name: &[u8],
+    at: usize,
+    all: &[Declaration<'t>],
+) -> Option<Declaration<'t>>
+    ensures { option_map (λ d. declared d) result
+        ≡ last_of (is_meant called name.now at) None (declared_here all.now) }
+{
+    let mut found = None;
+    for d in all {
+        if is_meant(called, name, at, d) {
+            found = Some(*d);
+        }
+    }
+    found
+}
+
+/// What is meant.
+#[tactic(auto, unfolding(crate::specs::Notes::meant_text))]
+fn meant_text(alloc: Global, name: &[u8]) -> Result<Vec<u8>, AllocError>
+    ensures { IfOk result (λ v. v.items ≡ meant_text name.now) }
+{
+    around(alloc, "perhaps `", name, "` is meant")
+}
+
+/// The note on what is meant.
+fn meant_notes(alloc: Global, d: Option<Declaration<'_>>) -> Result<Vec<Note>, AllocError>
+    ensures { IfOk result (λ notes. notes.items
+        ≡ meant_notes (option_map (λ d. declared d) d.entry)) }
+{
+    let mut notes = Vec::new(alloc);
+    if let Some(d) = d {
+        let repair = meant_text(alloc, d.name.text)?;
+        push_note(alloc, &mut notes, Some(repair.as_slice()), &d)?;
+    }
+    Ok(notes)
+}
+
+/// Beside a name that isn't visible, of which these are declared elsewhere.
+fn unknown_by(
+    alloc: Global,
+    name: &[u8],
+    rest: &[u8],
+    at: usize,
+    same: &[Declaration<'_>],
+    all: &[Declaration<'_>],
+) -> Result<Vec<Note>, AllocError>
+    ensures { IfOk result (λ notes. notes.items
+        ≡ unknown_by name.now rest.now at (declared_here same.now) (declared_here all.now)) }
+{
+    match same {
+        [] => meant_notes(alloc, meant(is_called(name, rest), name, at, all)),
+        [_, ..] => notes_on(alloc, None, name, same),
+    }
+}
+
+/// Beside a name that isn't visible.
+fn unknown_notes(
+    alloc: Global,
+    name: &[u8],
+    rest: &[u8],
+    at: usize,
+    all: &[Declaration<'_>],
+) -> Result<Vec<Note>, AllocError>
+    ensures { IfOk result (λ notes. notes.items
+        ≡ unknown_notes name.now rest.now at (declared_here all.now)) }
+{
+    let same = namesakes(alloc, name, at, all)?;
+    unknown_by(alloc, name, rest, at, &same, all)
+}
+
+/// The notes on the declarations of a name, with this repair, if there is one.
+fn repair_notes(
+    alloc: Global,
+    repair: Option<Vec<u8>>,
+    name: &[u8],
+    ds: &[Declaration<'_>],
+) -> Result<Vec<Note>, AllocError>
+    ensures { IfOk result (λ notes. notes.items
+        ≡ notes_on (option_map (λ v. v.items) repair) name.now (declared_here ds.now)) }
+{
+    match repair {
+        Some(repair) => notes_on(alloc, Some(repair.as_slice()), name, ds),
+        None => notes_on(alloc, None, name, ds),
+    }
+}
+
+/// Beside a name that is used as what it isn't.
+#[tactic(auto, unfolding(crate::specs::Notes::kind_notes))]
+fn kind_notes(
+    alloc: Global,
+    name: &[u8],
+    text: &[u8],
+    at: usize,
+    all: &[Declaration<'_>],
+) -> Result<Vec<Note>, AllocError>
+    ensures { IfOk result (λ notes. notes.items
+        ≡ kind_notes name.now text.now at (declared_here all.now)) }
+{
+    let same = namesakes(alloc, name, at, all)?;
+    let before = &text[..text.len().min(at)];
+    let repair = kind_repair(alloc, name, before, from(text, at), visible(name, at, all))?;
+    repair_notes(alloc, repair, name, &same)
+}
+
+/// Beside any other fault of a name.
+fn named_notes(
+    alloc: Global,
+    rule: FrontRule,
+    name: &[u8],
+    at: usize,
+    all: &[Declaration<'_>],
+) -> Result<Vec<Note>, AllocError>
+    ensures { IfOk result (λ notes. notes.items
+        ≡ named_notes rule name.now at (declared_here all.now)) }
+{
+    if !is_on_names(rule) {
+        return Ok(Vec::new(alloc));
+    }
+    let same = namesakes(alloc, name, at, all)?;
+    notes_on(alloc, None, name, &same)
+}
+
 /// What is told beside a fault of a tree that was read from this text: where else the name that stands there is declared, the first eight
-/// places one by one. Faults that aren't on names have no notes. Err where memory was refused.
+/// places one by one, and the repair that this calls for. Faults that aren't on names have no notes. Err where memory was refused.
 pub fn front_notes(
     alloc: Global,
     tree: &Tree<'_>,
@@ -237,11 +389,24 @@ pub fn front_notes(
     ensures { IfOk result (λ notes. notes.items
         ≡ front_notes (tree_value tree.now) text.now fault) }
 {
-    if !is_on_names(fault.rule) {
-        return Ok(Vec::new(alloc));
-    }
-    let name = word_at(text, fault.at);
+    let (rule, at) = (fault.rule, fault.at);
+    let name = word_at(text, at);
     let all = declarations(alloc, tree)?;
-    let same = namesakes(alloc, name, fault.at, &all)?;
-    notes_on(alloc, name, &same)
+    match rule {
+        FrontRule::UnknownName => unknown_notes(alloc, name, from(text, at), at, &all),
+        FrontRule::WrongKind => kind_notes(alloc, name, text, at, &all),
+        FrontRule::NoHiddenClock => lent_notes(alloc, tree, text, at),
+        FrontRule::Token
+        | FrontRule::Syntax
+        | FrontRule::TooDeep
+        | FrontRule::TooLong
+        | FrontRule::DuplicateName
+        | FrontRule::NotCaptured
+        | FrontRule::NoMain
+        | FrontRule::Recursive
+        | FrontRule::Arity
+        | FrontRule::SameClockTwice
+        | FrontRule::Literal
+        | FrontRule::Table => named_notes(alloc, rule, name, at, &all),
+    }
 }

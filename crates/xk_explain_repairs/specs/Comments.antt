@@ -2,7 +2,7 @@
 use Rattle.std.specs.Prelude.{ℕ, ◌+◌, ◌==◌, Bool, false, not, ◌&&◌, List, [], ◌∷◌, take, drop, if◌then◌else◌}
 use Rattle.xk_explain_repairs.specs.declared.comments.Part.{Part}
 use Rattle.xk_explain_repairs.specs.declared.comments.Part.TheVariants as part
-use Rattle.xk_explain_repairs.specs.Words.{is_space, line_start}
+use Rattle.xk_explain_repairs.specs.Words.{is_space}
 
 -- The part that a byte leads to, from the part where it stands. A `/` among tokens begins a comment: a text in which one
 -- begins none is refused there (F1), and no fault is told behind it.
@@ -12,11 +12,6 @@ part_after part.Slash b = if b == 42 then part.BlockComment else part.LineCommen
 part_after part.LineComment b = if b == 10 then part.Tokens else part.LineComment
 part_after part.BlockComment b = if b == 42 then part.Star else part.BlockComment
 part_after part.Star b = if b == 47 then part.Tokens else if b == 42 then part.Star else part.BlockComment
-
--- the part that a text leads to, from the part where it begins
-abbrev pub part_behind : Part → List ℕ → Part
-part_behind p [] = p
-part_behind p (b ∷ bs) = part_behind (part_after p b) bs
 
 -- whether a byte that stands in this part is a token's
 abbrev pub is_of_token : Part → ℕ → Bool
@@ -43,8 +38,3 @@ tokens_begin p (b ∷ bs) = if is_of_token p b then 0 else tokens_begin (part_af
 -- without the blanks and comments that it begins with
 abbrev pub from_sign : List ℕ → List ℕ
 from_sign text = drop (tokens_begin part.Tokens text) text
-
--- from the first token of an offset's line on; a comment may have begun on a line before
-abbrev pub from_line_of : List ℕ → ℕ → List ℕ
-from_line_of text at =
-    drop (tokens_begin (part_behind part.Tokens (take (line_start text at) text)) (drop (line_start text at) text)) (drop (line_start text at) text)

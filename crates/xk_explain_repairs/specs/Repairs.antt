@@ -1,94 +1,130 @@
--- Repairs by what stands at a fault of a source text: what other languages have, and what is missing. Comments aren't looked at. This project's own.
-use Rattle.std.specs.Prelude.{ℕ, ◌==◌, nat_eq, nat_lt, Bool, true, false, not, ◌&&◌, ◌||◌, List, [], ◌∷◌, length, take, drop, codes, if◌then◌else◌}
+-- What is advised at a fault of a source text, by what stands there: what other languages have, and what is missing. Comments aren't looked at. This
+-- project's own.
+use Rattle.std.specs.Prelude.{ℕ, ◌-◌, ◌==◌, nat_eq, nat_lt, Bool, true, false, not, ◌&&◌, ◌||◌, List, [], ◌∷◌, length, take, drop, codes, if◌then◌else◌}
 use Rattle.std.specs.List.{list_any, ends_with}
 use Rattle.std.specs.Str.{bytes_eq}
 use Rattle.xk_tree.specs.declared.fault.FrontRule.{FrontRule}
 use Rattle.xk_tree.specs.declared.fault.FrontRule.TheVariants as front
-use Rattle.xk_explain_repairs.specs.Rules.{front_repair}
+use Rattle.xk_explain_repairs.specs.declared.advice.Advice.{Advice}
+use Rattle.xk_explain_repairs.specs.declared.advice.Advice.TheVariants as advice
+use Rattle.xk_explain_repairs.specs.declared.heads.Head.{Head}
+use Rattle.xk_explain_repairs.specs.declared.heads.Head.TheVariants as head
 use Rattle.xk_explain_repairs.specs.Words.{begins, first_word, is_digit, is_word_byte, last_word}
-use Rattle.xk_explain_repairs.specs.Comments.{from_line_of, from_sign, to_sign}
+use Rattle.xk_explain_repairs.specs.Comments.{from_sign, to_sign}
+use Rattle.xk_explain_repairs.specs.Heads.{head_at}
 
--- ---- no token begins there
+-- ---- no token begins there, F1
 
 -- by a sign that begins no token
-unfoldable pub sign_repair : List ℕ → List ℕ → List ℕ
-sign_repair rest other =
-    if begins rest (codes "/*") then codes "close the comment by `*/`"
-    else if begins rest (codes "%") then codes "there is no remainder: go through the halves by a loop, with `val even = 2 * half;`"
-    else if begins rest (codes "/") then codes "there is no division: compare products, or look for the quotient by a loop"
-    else if begins rest (codes "[") then codes "there are no arrays: write a shared number for each cell, as `a0`, `a1`"
-    else if begins rest (codes "\"") || begins rest (codes "'") then codes "there are no texts: print a number that tells who and when, as `10 * phase + who`"
-    else if begins rest (codes "&") then codes "write an `if` in an `if`"
-    else if begins rest (codes "|") then codes "write an `else if` with the same statement"
-    else if begins rest (codes "!") then codes "turn the comparison round: `!=` for `==`, `>=` for `<`"
-    else if begins rest (codes "?") then codes "there is no choice in an expression: `var b = 2; if (a > 0) b = 1;`"
-    else if begins rest (codes "#") then codes "a comment begins with `//`"
+unfoldable pub advice_at_stray : List ℕ → Advice → Advice
+advice_at_stray rest other =
+    if begins rest (codes "/*") then advice.CloseComment
+    else if begins rest (codes "%") then advice.NoRemainder
+    else if begins rest (codes "/") then advice.NoDivision
+    else if begins rest (codes "^") then advice.NoPower
+    else if begins rest (codes "[") then advice.NoArrays
+    else if begins rest (codes "\"") || begins rest (codes "'") then advice.NoTexts
+    else if begins rest (codes "&") then advice.BothConditions
+    else if begins rest (codes "|") then advice.EitherCondition
+    else if begins rest (codes "!") then advice.NoNegation
+    else if begins rest (codes "?") then advice.NoChoice
+    else if begins rest (codes "#") then advice.CommentSign
     else other
 
--- other signs than those of ASCII; a byte order mark is one only where the text begins
-unfoldable pub repair_of_byte : ℕ → List ℕ → List ℕ → List ℕ
-repair_of_byte at [] other = other
-repair_of_byte at (b ∷ bs) other = if nat_lt b 128 then other else if at == 0 && begins (b ∷ bs) (239 ∷ 187 ∷ 191 ∷ []) then codes "the text begins with a byte order mark, which isn't to be seen: save it as UTF-8 without one"
-    else codes "names are of letters, digits and `_` of ASCII; a comment may have any character, in UTF-8"
+-- a typographic quote: U+2018, U+2019, U+201C or U+201D
+unfoldable pub is_quote : List ℕ → Bool
+is_quote rest =
+    begins rest (226 ∷ 128 ∷ 152 ∷ []) || (begins rest (226 ∷ 128 ∷ 153 ∷ [])
+    || (begins rest (226 ∷ 128 ∷ 156 ∷ []) || begins rest (226 ∷ 128 ∷ 157 ∷ [])))
 
-abbrev pub token_repair : ℕ → List ℕ → List ℕ
-token_repair at rest = repair_of_byte at rest (sign_repair rest (front_repair front.Token))
+-- a dash: U+2013, U+2014 or the minus sign U+2212
+unfoldable pub is_dash : List ℕ → Bool
+is_dash rest =
+    begins rest (226 ∷ 128 ∷ 147 ∷ []) || (begins rest (226 ∷ 128 ∷ 148 ∷ []) || begins rest (226 ∷ 136 ∷ 146 ∷ []))
 
--- ---- a token can't stand there
+-- a sign of full width or its like, U+FF00 to U+FF7F
+unfoldable pub is_wide : List ℕ → Bool
+is_wide rest = begins rest (239 ∷ 188 ∷ []) || begins rest (239 ∷ 189 ∷ [])
 
--- by the word that stands before the fault
-unfoldable pub repair_behind : List ℕ → List ℕ → List ℕ
-repair_behind word other =
-    if bytes_eq word (codes "return") then codes "a method gives nothing back: write to a shared number, and put an `if` around the rest"
-    else if bytes_eq word (codes "break") || bytes_eq word (codes "continue") then codes "a loop goes on to its end: put an `if` around the rest of a turn"
-    else if bytes_eq word (codes "let") || (bytes_eq word (codes "int") || bytes_eq word (codes "long")) then codes "write `val n = 5;`, or `var` where it changes; a parameter is `n: Long`"
-    else if bytes_eq word (codes "new") then codes "there are no objects: a clock is `val c = Clock.make();`, and an array a shared number for each cell"
-    else if bytes_eq word (codes "do") then codes "write a `for`: how often something is done, at most, has to be known beforehand"
-    else if bytes_eq word (codes "if") then codes "write the condition in parentheses, as in `if (a == 1)`"
-    else if bytes_eq word (codes "clocked") || bytes_eq word (codes "async") then codes "write `async clocked (c)`; or, for a clock without a name, `clocked finish` and `clocked async`"
-    else if bytes_eq word (codes "atomic") then codes "write `atomic s = s + 1;`: one addition, with a sum in parentheses"
-    else other
+-- by a sign that isn't of ASCII; a byte order mark is one only where the text begins
+unfoldable pub advice_at_foreign : ℕ → List ℕ → Advice
+advice_at_foreign at rest =
+    if at == 0 && begins rest (239 ∷ 187 ∷ 191 ∷ []) then advice.ByteOrderMark
+    else if begins rest (194 ∷ 160 ∷ []) then advice.NoBreakSpace
+    else if is_quote rest then advice.TypographicQuote
+    else if is_dash rest then advice.Dash
+    else if is_wide rest then advice.WideSign
+    else advice.AsciiNames
 
--- by signs that stand there
-unfoldable pub repair_of_sign : List ℕ → List ℕ → List ℕ
-repair_of_sign rest other =
-    if begins rest (codes "++") || (begins rest (codes "--") || (begins rest (codes "+=") || (begins rest (codes "-=") || begins rest (codes "*=")))) then codes "write `n = n + 1;`, or of a shared number `atomic n = n + 1;`"
-    else if begins rest (codes ":=") then codes "write `=`"
-    else if begins rest (codes "(") then codes "a method gives nothing back: call it by `f(1);`, and read the shared number that it writes"
-    else other
+abbrev pub is_foreign : List ℕ → Bool
+is_foreign [] = false
+is_foreign (b ∷ bs) = not (nat_lt b 128)
 
--- by the word that stands there
-unfoldable pub repair_of_word : List ℕ → List ℕ → List ℕ
-repair_of_word word other =
-    if bytes_eq word (codes "public") || (bytes_eq word (codes "private") || (bytes_eq word (codes "static") || (bytes_eq word (codes "class") || (bytes_eq word (codes "import") || (bytes_eq word (codes "package") || bytes_eq word (codes "void")))))) then codes "a program is `shared` numbers and methods: begin with `def main() {`"
-    else if bytes_eq word (codes "shared") then codes "write `shared s = 0;`, with a number, in front of the methods"
-    else if bytes_eq word (codes "def") then codes "methods stand beside each other: look for a `}` that is missing before it"
-    else if bytes_eq word (codes "else") then codes "an `else` stands behind the one statement of its `if`: look for a `;` too many, or a `{` that is missing"
-    else if bytes_eq word (codes "advance") || bytes_eq word (codes "advanceAll") then codes "write `Clock.advanceAll();`: it waits for all clocks of the activity"
-    else if bytes_eq word (codes "Clock") then codes "write `val c = Clock.make();` where a clock is made, and `c: Clock` where one is taken"
-    else if bytes_eq word (codes "Long") then codes "write `val n = 5;`, or `var` where it changes; a parameter is `n: Long`"
-    else other
+abbrev pub token_advice : ℕ → List ℕ → Advice
+token_advice at rest = if is_foreign rest then advice_at_foreign at rest else advice_at_stray rest advice.Usual
 
--- by the word that the line begins with
-unfoldable pub repair_in_line : List ℕ → List ℕ → List ℕ
-repair_in_line word other =
-    if bytes_eq word (codes "while") then codes "write a `for`: how often something is done, at most, has to be known beforehand"
-    else if bytes_eq word (codes "when") then codes "there is no waiting for a number: advance a clock behind what writes it"
-    else if bytes_eq word (codes "for") then codes "write `for (i in 1..3)`, or up to what isn't known beforehand `for (i in 1..Math.min(n, 100))`"
-    else if bytes_eq word (codes "if") then codes "write `if (a == 1)`: two expressions, and one comparison between them"
-    else if bytes_eq word (codes "val") || bytes_eq word (codes "var") then codes "write `val n = 2 * m;`: one name, and an expression of `+`, `-` and `*`"
-    else if bytes_eq word (codes "shared") then codes "write `shared s = 0;`, with a number, in front of the methods"
-    else if bytes_eq word (codes "atomic") then codes "write `atomic s = s + 1;`: one addition, with a sum in parentheses"
-    else if bytes_eq word (codes "def") then codes "write `def f(n: Long, c: Clock) {`: a method gives nothing back"
-    else if bytes_eq word (codes "Console") || (bytes_eq word (codes "console") || bytes_eq word (codes "System")) then codes "write `Console.OUT.println(1);`, with one number"
-    else if bytes_eq word (codes "Clock") then codes "write `Clock.advanceAll();`, or `val c = Clock.make();`"
-    else if bytes_eq word (codes "async") || bytes_eq word (codes "clocked") then codes "write `async clocked (c)`; or, for a clock without a name, `clocked finish` and `clocked async`"
-    else other
+-- ---- a token can't stand there, F2
 
 -- the text ends there
-unfoldable pub repair_at_end : List ℕ → List ℕ → List ℕ
-repair_at_end [] other = codes "the text ends too early: look for a `}` that is missing, or a `;`"
-repair_at_end (b ∷ bs) other = other
+unfoldable pub advice_at_end : List ℕ → Advice → Advice
+advice_at_end [] other = advice.TextEnds
+advice_at_end (b ∷ bs) other = other
+
+-- a declaration of other languages begins so, or a type of numbers has this name
+unfoldable pub is_binder : List ℕ → Bool
+is_binder word =
+    bytes_eq word (codes "let") || (bytes_eq word (codes "const") || (bytes_eq word (codes "final")
+    || (bytes_eq word (codes "mut") || bytes_eq word (codes "auto"))))
+
+unfoldable pub is_number_type : List ℕ → Bool
+is_number_type word =
+    bytes_eq word (codes "int") || (bytes_eq word (codes "long") || (bytes_eq word (codes "Int")
+    || (bytes_eq word (codes "bool") || (bytes_eq word (codes "float") || bytes_eq word (codes "double")))))
+
+-- by the word that stands before the fault
+unfoldable pub advice_behind : List ℕ → Advice → Advice
+advice_behind word other =
+    if bytes_eq word (codes "return") then advice.NothingBack
+    else if bytes_eq word (codes "break") || bytes_eq word (codes "continue") then advice.LoopGoesOn
+    else if is_binder word || is_number_type word then advice.Declaration
+    else if bytes_eq word (codes "new") then advice.NoObjects
+    else if bytes_eq word (codes "do") then advice.Loop
+    else if bytes_eq word (codes "if") then advice.Condition
+    else if bytes_eq word (codes "clocked") || bytes_eq word (codes "async") then advice.Clocked
+    else if bytes_eq word (codes "atomic") then advice.OneAddition
+    else if bytes_eq word (codes "fn") || (bytes_eq word (codes "fun") || (bytes_eq word (codes "func")
+    || (bytes_eq word (codes "function") || bytes_eq word (codes "void")))) then advice.MethodWord
+    else if bytes_eq word (codes "in") then advice.LowerBound
+    else if bytes_eq word (codes "Math") then advice.LeastAlone
+    else other
+
+-- the same of a declaration in a `for`, as `for (int i = 0; ..)`, or in a `shared`
+abbrev pub is_type : List ℕ → Bool
+is_type word = bytes_eq word (codes "int") || (bytes_eq word (codes "long") || bytes_eq word (codes "let"))
+
+abbrev pub advice_of_part : Head → Advice → Advice
+advice_of_part head.For other = advice.Times
+advice_of_part head.Shared other = advice.SharedNumber
+advice_of_part _ other = other
+
+abbrev pub advice_of_type : Head → List ℕ → Advice → Advice
+advice_of_type h word other = if is_type word then advice_of_part h other else other
+
+-- a word of the language stands where a name is wanted
+unfoldable pub is_reserved : List ℕ → Bool
+is_reserved word =
+    bytes_eq word (codes "shared") || (bytes_eq word (codes "def") || (bytes_eq word (codes "val")
+    || (bytes_eq word (codes "var") || (bytes_eq word (codes "if") || (bytes_eq word (codes "else")
+    || (bytes_eq word (codes "for") || (bytes_eq word (codes "in") || (bytes_eq word (codes "async")
+    || (bytes_eq word (codes "clocked") || (bytes_eq word (codes "finish") || (bytes_eq word (codes "atomic")
+    || (bytes_eq word (codes "Clock") || (bytes_eq word (codes "Long")
+    || bytes_eq word (codes "Console"))))))))))))))
+
+unfoldable pub wants_name : List ℕ → Bool
+wants_name word = bytes_eq word (codes "def") || (bytes_eq word (codes "val") || bytes_eq word (codes "var"))
+
+abbrev pub advice_of_reserved : List ℕ → List ℕ → Advice → Advice
+advice_of_reserved before there other = if wants_name before && is_reserved there then advice.ReservedWord else other
 
 -- a statement, or a part of one, stands before the fault, and ends on a line before
 abbrev pub is_word : List ℕ → Bool
@@ -101,9 +137,9 @@ ends_part before = is_word (last_word before) || ends_with nat_eq before (codes 
 abbrev pub has_line_feed : List ℕ → Bool
 has_line_feed text = list_any (λ b. b == 10) text
 
-unfoldable pub repair_behind_line : List ℕ → List ℕ → List ℕ
-repair_behind_line before other =
-    if ends_part (to_sign before) && has_line_feed (drop (length (to_sign before)) before) then codes "end what stands before it: a `;` is missing there, or a `)`, or a `{`" else other
+unfoldable pub advice_behind_line : List ℕ → Advice → Advice
+advice_behind_line before other =
+    if ends_part (to_sign before) && has_line_feed (drop (length (to_sign before)) before) then advice.EndPart else other
 
 -- digits stand right before a letter or a point
 abbrev pub is_number : List ℕ → Bool
@@ -114,53 +150,175 @@ abbrev pub goes_on : List ℕ → Bool
 goes_on [] = false
 goes_on (b ∷ bs) = is_word_byte b || b == 46
 
-unfoldable pub repair_behind_number : List ℕ → List ℕ → List ℕ → List ℕ
-repair_behind_number before rest other = if is_number (last_word before) && goes_on rest then codes "a number is whole, and of digits alone: `5`, `1000`" else other
+unfoldable pub advice_behind_number : List ℕ → List ℕ → Advice → Advice
+advice_behind_number before rest other = if is_number (last_word before) && goes_on rest then advice.WholeNumber else other
 
--- a `}` stands before the fault
-unfoldable pub repair_behind_brace : List ℕ → List ℕ → List ℕ
-repair_behind_brace before other = if ends_with nat_eq (to_sign before) (codes "}") then codes "outside of methods stand `shared` numbers and methods alone: look for a `}` too many before it" else other
+-- something is taken away in an `atomic`
+abbrev pub is_atomic : Head → Bool
+is_atomic head.Atomic = true
+is_atomic _ = false
 
--- By the word that the fault's line begins with (`line` is the text from its first token on), by a `}` before the fault, and by what stands there.
-abbrev pub repair_there : List ℕ → List ℕ → List ℕ → List ℕ
-repair_there line before rest =
-    repair_of_sign rest (repair_of_word (first_word rest)
-    (repair_behind_brace before (repair_in_line (first_word line) (front_repair front.Syntax))))
+abbrev pub advice_at_minus : Head → List ℕ → Advice → Advice
+advice_at_minus h rest other = if is_atomic h && begins rest (codes "- ") then advice.NegativeAddend else other
 
--- The repair of a token that can't stand where it does: by the text's end, by what stands before it, or else by the rest.
-abbrev pub syntax_repair : List ℕ → List ℕ → List ℕ → List ℕ
-syntax_repair line before rest =
-    repair_at_end rest (repair_behind (last_word (to_sign before))
-    (repair_behind_line before (repair_behind_number before rest (repair_there line before rest))))
+-- a `(` stands behind `Clock`
+abbrev pub advice_behind_clock : List ℕ → Advice → Advice
+advice_behind_clock word other = if bytes_eq word (codes "Clock") then advice.ClockCalls else other
 
--- ---- another kind is wanted there
+-- a `*` stands behind another one
+abbrev pub advice_at_star : List ℕ → List ℕ → Advice → Advice
+advice_at_star before rest other = if ends_with nat_eq before (codes "*") && begins rest (codes "*") then advice.NoPower else other
+
+-- by signs that stand there
+unfoldable pub advice_at_sign : List ℕ → Advice → Advice
+advice_at_sign rest other =
+    if begins rest (codes "++") || (begins rest (codes "--") || (begins rest (codes "+=")
+    || (begins rest (codes "-=") || begins rest (codes "*=")))) then advice.AddOne
+    else if begins rest (codes ":=") then advice.AssignSign
+    else if begins rest (codes "(") then advice.NoValue
+    else other
+
+-- by the word that stands there
+unfoldable pub advice_at_word : List ℕ → Advice → Advice
+advice_at_word word other =
+    if bytes_eq word (codes "public") || (bytes_eq word (codes "private") || (bytes_eq word (codes "static")
+    || (bytes_eq word (codes "class") || (bytes_eq word (codes "import") || (bytes_eq word (codes "package")
+    || bytes_eq word (codes "void")))))) then advice.Program
+    else if bytes_eq word (codes "shared") then advice.SharedNumber
+    else if bytes_eq word (codes "def") then advice.MethodsBeside
+    else if bytes_eq word (codes "else") then advice.ElseBehind
+    else if bytes_eq word (codes "advance") || bytes_eq word (codes "advanceAll") then advice.AdvanceAll
+    else if bytes_eq word (codes "drop") then advice.DropByName
+    else if bytes_eq word (codes "sleep") then advice.NoTime
+    else if bytes_eq word (codes "Rail") || (bytes_eq word (codes "String")
+    || bytes_eq word (codes "Array")) then advice.MainNumbers
+    else if bytes_eq word (codes "Clock") then advice.MadeOrTaken
+    else if bytes_eq word (codes "Long") then advice.Declaration
+    else other
+
+-- a `val` or a `var` stands outside of methods: behind nothing, or behind a shared number
+abbrev pub is_outside : List ℕ → Bool
+is_outside [] = true
+is_outside (b ∷ bs) = ends_with nat_eq (b ∷ bs) (codes ";")
+
+abbrev pub is_binding : List ℕ → Bool
+is_binding word = bytes_eq word (codes "val") || bytes_eq word (codes "var")
+
+abbrev pub advice_of_global : List ℕ → List ℕ → Advice → Advice
+advice_of_global before there other = if is_outside before && is_binding there then advice.SharedNumber else other
+
+-- nothing stands before the fault, or a `}` does, or a `:`
+unfoldable pub advice_behind_sign : List ℕ → Advice → Advice
+advice_behind_sign [] other = advice.Program
+advice_behind_sign (b ∷ bs) other =
+    if ends_with nat_eq (b ∷ bs) (codes "}") then advice.Outside
+    else if ends_with nat_eq (b ∷ bs) (codes ":") then advice.Types
+    else other
+
+-- by the statement
+abbrev pub advice_of_head : Head → Advice → Advice
+advice_of_head head.Other other = other
+advice_of_head head.While other = advice.Loop
+advice_of_head head.When other = advice.Waiting
+advice_of_head head.For other = advice.Bounds
+advice_of_head head.If other = advice.Comparison
+advice_of_head head.Elif other = advice.ElseIf
+advice_of_head head.Switch other = advice.Cases
+advice_of_head head.Repeat other = advice.Times
+advice_of_head head.Synchronized other = advice.Locked
+advice_of_head head.Binding other = advice.OneName
+advice_of_head head.Shared other = advice.SharedNumber
+advice_of_head head.Atomic other = advice.OneAddition
+advice_of_head head.Def other = advice.MethodHead
+advice_of_head head.Print other = advice.Print
+advice_of_head head.Clock other = advice.ClockCalls
+advice_of_head head.Async other = advice.Clocked
+
+-- a point stands before the fault
+abbrev pub advice_behind_point : List ℕ → Advice → Advice
+advice_behind_point before other = if ends_with nat_eq before (codes ".") then advice.NamedClock else other
+
+-- a name alone stands between the end of a statement and a `;`
+abbrev pub is_begun : List ℕ → Bool
+is_begun before =
+    ends_with nat_eq before (codes ";") || (ends_with nat_eq before (codes "{")
+    || (ends_with nat_eq before (codes "}") || ends_with nat_eq before (codes ")")))
+
+abbrev pub before_word : List ℕ → List ℕ
+before_word before = to_sign (take (length before - length (last_word before)) before)
+
+abbrev pub is_lone : List ℕ → List ℕ → Bool
+is_lone before rest = begins rest (codes ";") && (is_word (last_word before) && is_begun (before_word before))
+
+-- a barrier, or a call without parentheses
+abbrev pub is_barrier : List ℕ → Bool
+is_barrier word = bytes_eq word (codes "next") || bytes_eq word (codes "advance")
+
+unfoldable pub advice_of_lone : List ℕ → List ℕ → Advice → Advice
+advice_of_lone before rest other =
+    if is_lone before rest then (if is_barrier (last_word before) then advice.AdvanceAll else advice.Parentheses) else other
+
+-- What is advised by what stands there, or by what stands before it up to here (`before` ends with a token).
+abbrev pub advice_there : Head → List ℕ → List ℕ → Advice
+advice_there h before rest =
+    advice_at_minus h rest (advice_behind_clock (last_word before) (advice_at_star before rest (advice_at_sign rest
+    (advice_at_word (first_word rest) (advice_of_global before (first_word rest) (advice_behind_sign before (advice_of_head h
+    (advice_behind_point before (advice_of_lone before rest advice.Usual)))))))))
+
+-- What is advised where a token can't stand: by the text's end, by what stands before it, or else by the rest.
+abbrev pub syntax_advice : Head → List ℕ → List ℕ → Advice
+syntax_advice h before rest =
+    advice_at_end rest (advice_of_type h (last_word (to_sign before)) (advice_behind (last_word (to_sign before))
+    (advice_of_reserved (last_word (to_sign before)) (first_word rest) (advice_behind_line before
+    (advice_behind_number before rest (advice_there h (to_sign before) rest))))))
+
+-- ---- no such name is visible there, F5
+
+unfoldable pub name_advice : List ℕ → Advice → Advice
+name_advice word other =
+    if bytes_eq word (codes "print") || (bytes_eq word (codes "println") || (bytes_eq word (codes "printf")
+    || (bytes_eq word (codes "puts") || bytes_eq word (codes "echo")))) then advice.Print
+    else if bytes_eq word (codes "advanceAll") || (bytes_eq word (codes "barrier")
+    || bytes_eq word (codes "next")) then advice.AdvanceAll
+    else if bytes_eq word (codes "sleep") then advice.NoTime
+    else if bytes_eq word (codes "true") || bytes_eq word (codes "false") then advice.NoTruth
+    else other
+
+-- ---- another kind is wanted there, F7
 
 -- a name stands before a `=`
 abbrev pub is_before_assign : List ℕ → Bool
 is_before_assign behind = begins behind (codes "=") && not (begins behind (codes "=="))
 
-unfoldable pub repair_before_assign : List ℕ → List ℕ → List ℕ
-repair_before_assign behind other = if is_before_assign behind then codes "a `var` and a shared number alone are assigned to: write `var n` where it is declared" else other
+abbrev pub advice_before_assign : List ℕ → Advice → Advice
+advice_before_assign behind other = if is_before_assign behind then advice.Variable else other
 
 -- by the type that stands there, or a clock that is made
-unfoldable pub repair_of_type : List ℕ → List ℕ → List ℕ
-repair_of_type word other =
-    if bytes_eq word (codes "Clock") || bytes_eq word (codes "Long") then codes "a clock is a `val` that is made there, `val c = Clock.make();`, and isn't copied; all else is `Long`"
-    else other
+abbrev pub advice_at_type : List ℕ → Advice → Advice
+advice_at_type word other =
+    if bytes_eq word (codes "Clock") || bytes_eq word (codes "Long") then advice.ClockBinding else other
 
 -- by an `atomic` that stands before the fault
-unfoldable pub repair_behind_atomic : List ℕ → List ℕ → List ℕ
-repair_behind_atomic word other = if bytes_eq word (codes "atomic") then codes "an `atomic` adds to a shared number alone: declare it `shared n = 0;` in front of the methods" else other
+abbrev pub advice_behind_atomic : List ℕ → Advice → Advice
+advice_behind_atomic word other = if bytes_eq word (codes "atomic") then advice.SharedAtomic else other
 
--- The repair of what is of another kind: by a type that stands there, by the word before it, or by a `=` behind it.
-abbrev pub kind_repair : List ℕ → List ℕ → List ℕ
-kind_repair before rest =
-    repair_of_type (first_word rest) (repair_behind_atomic (last_word (to_sign before))
-    (repair_before_assign (from_sign (drop (length (first_word rest)) rest)) (front_repair front.WrongKind)))
+-- the second name of an `atomic` stands behind its `=`
+abbrev pub is_second : List ℕ → Bool
+is_second before = ends_with nat_eq before (codes "=") && bytes_eq (last_word (before_word (to_sign (take (length before - 1) before)))) (codes "atomic")
 
--- The usual repair of a fault of this rule at an offset.
-abbrev pub repair_at : List ℕ → FrontRule → ℕ → List ℕ
-repair_at text front.Token at = token_repair at (drop at text)
-repair_at text front.Syntax at = syntax_repair (from_line_of text at) (take at text) (drop at text)
-repair_at text front.WrongKind at = kind_repair (take at text) (drop at text)
-repair_at text r at = front_repair r
+abbrev pub advice_of_second : List ℕ → Advice → Advice
+advice_of_second before other = if is_second before then advice.SameTwice else other
+
+-- By a type that stands there, by what stands before it, or by a `=` behind it.
+abbrev pub kind_advice : List ℕ → List ℕ → Advice
+kind_advice before rest =
+    advice_at_type (first_word rest) (advice_behind_atomic (last_word (to_sign before)) (advice_of_second (to_sign before)
+    (advice_before_assign (from_sign (drop (length (first_word rest)) rest)) advice.Usual)))
+
+-- What is advised on a fault of this rule at an offset.
+abbrev pub advice_at : List ℕ → FrontRule → ℕ → Advice
+advice_at text front.Token at = token_advice at (drop at text)
+advice_at text front.Syntax at = syntax_advice (head_at text at) (take at text) (drop at text)
+advice_at text front.UnknownName at = name_advice (first_word (drop at text)) advice.Usual
+advice_at text front.WrongKind at = kind_advice (take at text) (drop at text)
+advice_at text r at = advice.Usual

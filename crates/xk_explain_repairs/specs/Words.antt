@@ -22,10 +22,3 @@ first_word text = take (prefix_len is_word_byte text) text
 
 abbrev pub last_word : List ℕ → List ℕ
 last_word text = drop (length text - suffix_len is_word_byte text) text
-
--- where the line of an offset begins: behind the last line feed before it, or at 0
-abbrev pub isnt_line_feed : ℕ → Bool
-isnt_line_feed b = not (b == 10)
-
-abbrev pub line_start : List ℕ → ℕ → ℕ
-line_start text at = at - suffix_len isnt_line_feed (take at text)

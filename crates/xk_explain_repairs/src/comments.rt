@@ -1,9 +1,9 @@
 //! The tokens before and behind a place of a text, without the blanks and comments between.
 
 ghost use Rattle.std.specs.Prelude.{◌≡◌, ◌≤◌, length};
-ghost use Rattle.xk_explain_repairs.specs.Comments.{from_line_of, from_sign, is_of_token, part_after, part_behind, to_sign, tokens_begin, tokens_end};
+ghost use Rattle.xk_explain_repairs.specs.Comments.{from_sign, is_of_token, part_after, to_sign, tokens_begin, tokens_end};
 
-use crate::words::{is_space, line_start};
+use crate::words::is_space;
 
 /// Where a byte of a text stands.
 #[derive(Clone, Copy)]
@@ -71,17 +71,6 @@ impl Part {
     }
 }
 
-/// The part that a text leads to.
-fn part_behind(text: &[u8]) -> Part
-    ensures { result ≡ part_behind Part.Tokens text.now }
-{
-    let mut part = Part::Tokens;
-    for &b in text {
-        part = part.after(b);
-    }
-    part
-}
-
 /// Where the last token of a text ends.
 fn tokens_end(text: &[u8]) -> usize
     ensures end { result ≡ tokens_end Part.Tokens 0 0 text.now }
@@ -99,19 +88,19 @@ fn tokens_end(text: &[u8]) -> usize
 }
 
 /// A text without the blanks and comments that it ends with.
-pub(crate) fn to_sign(text: &[u8]) -> &[u8]
+pub fn to_sign(text: &[u8]) -> &[u8]
     ensures value { result.now ≡ to_sign text.now }
     ensures within { length result.now ≤ length text.now }
 {
     &text[..tokens_end(text)]
 }
 
-/// Where the first token of a text begins, if the text begins in this part.
-fn tokens_begin(first: Part, text: &[u8]) -> usize
-    ensures begin { result ≡ tokens_begin first text.now }
+/// Where the first token of a text begins.
+fn tokens_begin(text: &[u8]) -> usize
+    ensures begin { result ≡ tokens_begin Part.Tokens text.now }
     ensures within { result ≤ length text.now }
 {
-    let mut part = first;
+    let mut part = Part::Tokens;
     for (i, &b) in text.iter().enumerate() {
         if part.is_of_token(b) {
             return i;
@@ -122,18 +111,8 @@ fn tokens_begin(first: Part, text: &[u8]) -> usize
 }
 
 /// A text without the blanks and comments that it begins with.
-pub(crate) fn from_sign(text: &[u8]) -> &[u8]
+pub fn from_sign(text: &[u8]) -> &[u8]
     ensures { result.now ≡ from_sign text.now }
 {
-    &text[tokens_begin(Part::Tokens, text)..]
-}
-
-/// A text from the first token of an offset's line on.
-pub(crate) fn from_line_of(text: &[u8], at: usize) -> &[u8]
-    requires { at ≤ length text.now }
-    ensures { result.now ≡ from_line_of text.now at }
-{
-    let start = line_start(text, at);
-    let line = &text[start..];
-    &line[tokens_begin(part_behind(&text[..start]), line)..]
+    &text[tokens_begin(text)..]
 }

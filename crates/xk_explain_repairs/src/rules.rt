@@ -18,10 +18,10 @@ pub fn front_repair(rule: FrontRule) -> &'static str
         FrontRule::TooLong =>
             "write a shorter one: a method is written once, however often it is called",
         FrontRule::UnknownName =>
-            "look for another spelling, or declare it before it is used, and further out",
+            "look for another spelling, or declare it before it is used, and further out, as by `var n = 0;`",
         FrontRule::DuplicateName => "take another name",
         FrontRule::WrongKind =>
-            "a clock is no number; a shared number is read alone, as in `val x = s;`; a `var` and a shared number alone are assigned to",
+            "a parameter that is a clock is given a clock, by its name alone, and one that is a number is given no clock",
         FrontRule::NotCaptured =>
             "hand a clock on by `async clocked (c)`; in place of a `var` take a `val` of it before the `async`, or a shared number",
         FrontRule::NoMain =>

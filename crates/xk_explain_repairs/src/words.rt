@@ -3,7 +3,7 @@
 ghost use Rattle.std.specs.Prelude.{◌≡◌, ◌≤◌, length, nat_eq, take};
 ghost use Rattle.std.specs.List.{ends_with, prefix_len, suffix_len};
 ghost use Rattle.std.specs.Str.{bytes_eq};
-ghost use Rattle.xk_explain_repairs.specs.Words.{begins, first_word, is_digit, is_space, is_word_byte, isnt_line_feed, last_word, line_start};
+ghost use Rattle.xk_explain_repairs.specs.Words.{begins, first_word, is_digit, is_space, is_word_byte, last_word};
 
 /// A digit.
 pub(crate) fn is_digit(b: u8) -> bool
@@ -13,7 +13,7 @@ pub(crate) fn is_digit(b: u8) -> bool
 }
 
 /// A byte of names and numbers.
-pub(crate) fn is_word_byte(b: u8) -> bool
+pub fn is_word_byte(b: u8) -> bool
     ensures { result ≡ is_word_byte b }
 {
     b.is_ascii_alphanumeric() || b == b'_'
@@ -34,7 +34,7 @@ pub(crate) fn is_spelled(text: &[u8], word: &[u8]) -> bool
 }
 
 /// Whether a text begins so.
-pub(crate) fn begins(text: &[u8], front: &[u8]) -> bool
+pub fn begins(text: &[u8], front: &[u8]) -> bool
     ensures { result ≡ begins text.now front.now }
 {
     text.starts_with(front)
@@ -56,7 +56,7 @@ fn first_len(text: &[u8]) -> usize
 }
 
 /// The name or number that a text begins with.
-pub(crate) fn first_word(text: &[u8]) -> &[u8]
+pub fn first_word(text: &[u8]) -> &[u8]
     ensures value { result.now ≡ first_word text.now }
     ensures within { length result.now ≤ length text.now }
 {
@@ -72,25 +72,8 @@ fn last_len(text: &[u8]) -> usize
 }
 
 /// The name or number that a text ends with.
-pub(crate) fn last_word(text: &[u8]) -> &[u8]
+pub fn last_word(text: &[u8]) -> &[u8]
     ensures { result.now ≡ last_word text.now }
 {
     &text[text.len() - last_len(text)..]
-}
-
-/// How many bytes stand behind the last line feed.
-fn line_len(text: &[u8]) -> usize
-    ensures count { result ≡ suffix_len isnt_line_feed text.now }
-    ensures within { result ≤ length text.now }
-{
-    text.iter().rev().take_while(|&&b| b != b'\n').count()
-}
-
-/// Where the line of an offset begins.
-pub(crate) fn line_start(text: &[u8], at: usize) -> usize
-    requires { at ≤ length text.now }
-    ensures start { result ≡ line_start text.now at }
-    ensures within { result ≤ at }
-{
-    at - line_len(&text[..at])
 }

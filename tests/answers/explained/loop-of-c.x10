@@ -1,0 +1,3 @@
+def main() {
+    for (int i = 0; i < 3; i++) Console.OUT.println(i);
+}

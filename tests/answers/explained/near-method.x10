@@ -1,0 +1,5 @@
+def work() { }
+
+def main() {
+    async Work();
+}

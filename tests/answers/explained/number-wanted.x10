@@ -1,0 +1,4 @@
+def main() {
+    val c = Clock.make();
+    val n = 2 * c;
+}

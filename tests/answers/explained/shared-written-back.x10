@@ -1,0 +1,5 @@
+shared total = 0;
+
+def main() {
+    total = 2 * total;
+}

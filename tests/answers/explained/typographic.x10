@@ -1,0 +1,3 @@
+def main() {
+    Console.OUT.println(“hi”);
+}
