@@ -111,6 +111,7 @@ fn texts_of<'a>(alloc: Global, words: &'a [String]) -> Result<Vec<&'a str>, Allo
 }
 
 /// Opens FILE, and does what is asked for.
+#[tactic(auto, using(crate::proofs::AnswerLemmas::served, crate::proofs::AnswerLemmas::none_served))]
 fn on_request<R: Runtime, O: Sink, E: Sink>(
     rt: &R,
     request: &Request<'_>,
@@ -154,6 +155,7 @@ fn file_of<'a>(request: &Request<'a>) -> &'a str
 }
 
 /// Does what is asked for where FILE is standard input, which is to have the answers of a run by hand.
+#[tactic(auto, using(crate::proofs::AnswerLemmas::served, crate::proofs::AnswerLemmas::input_served))]
 fn on_input<R: Runtime, O: Sink, E: Sink>(
     rt: &R,
     request: &Request<'_>,
