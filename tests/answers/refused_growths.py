@@ -422,6 +422,7 @@ def each_mistake(calls: Calls) -> None:
                 ["outcomes", "--expect", "list", "--log", LOG, "-"],
                 "x10clock: --expect goes without --log and --pick",
             ),
+            ("a pick without a log", ["outcomes", "--pick", "2", "-"], "x10clock: --pick goes with --log"),
             ("no outcomes", ["outcomes", "--limit", "0", "-"],
              "error: invalid value '0' for '--limit <LIMIT>': 0 is not in 1..18446744073709551615")):
         calls.begins(name, words, 2, "", err)

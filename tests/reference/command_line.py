@@ -35,6 +35,7 @@ EXCLUDED = "x10clock: --workers and --order exclude each other"
 SEED_ALONE = "x10clock: --seed goes with --order random"
 RUNS_MISPLACED = "x10clock: --runs goes with --order random, and not with --log"
 LIST_MISPLACED = "x10clock: --expect goes without --log and --pick"
+PICK_ALONE = "x10clock: --pick goes with --log"
 OVER_FILE = "x10clock: --log would write over FILE"
 OVER_ANSWERS = "x10clock: --log would write over FILE or standard input"
 ASKED_INPUT = "x10clock: --order ask reads standard input, so FILE can't be -"
@@ -290,6 +291,8 @@ def read(words: list[str]) -> Job:
             raise Mistake(RUNS_MISPLACED)
         if "expect" in job.values and {"log", "pick"} & {*job.values}:
             raise Mistake(LIST_MISPLACED)
+        if "pick" in job.values and "log" not in job.values:
+            raise Mistake(PICK_ALONE)
         return job
     if first == "help":
         raise helped(rest)

@@ -368,9 +368,13 @@ outcomes_of None given =
 abbrev pub outcomes_in : List Row → Task
 outcomes_in given = outcomes_of (first_of (codes "FILE2") given) given
 
--- What is held against a list has no log.
+-- an outcome to pick was given, and no log's path
+abbrev pub is_pick_alone : List Row → Bool
+is_pick_alone given = is_some (first_of (codes "K") given) && not (is_some (first_of (codes "PATH") given))
+
+-- What is held against a list has no log, and an outcome is picked for one.
 abbrev pub outcomes_by : List Row → Option Task
-outcomes_by given = if is_list_misplaced given then None else Some (outcomes_in given)
+outcomes_by given = if is_list_misplaced given || is_pick_alone given then None else Some (outcomes_in given)
 
 -- `lanes` on a log, with what else was given to it
 abbrev pub lanes_on : Text → List Row → Task
@@ -455,6 +459,14 @@ crowds_by found = option_map_or (λ p. is_list_misplaced p.1) found false
 unfoldable pub crowds_in : Names → List Text → Bool
 crowds_in names words = crowds_by (subcommand_of (command_line names) words)
 
+-- an outcome to pick was given to the command that was found, and no log's path
+abbrev pub picks_by : Option (Text × List Row) → Bool
+picks_by found = option_map_or (λ p. is_pick_alone p.1) found false
+
+-- the words have an outcome to pick and no log's path, as `clap` takes them apart
+unfoldable pub picks_in : Names → List Text → Bool
+picks_in names words = picks_by (subcommand_of (command_line names) words)
+
 -- ---- why words are refused
 
 -- the fault fits the kind of `clap`'s error
@@ -465,6 +477,7 @@ FitsKind k fault.OrderAndWorkers = ⊥
 FitsKind k fault.SeedAlone = ⊥
 FitsKind k fault.MisplacedRuns = ⊥
 FitsKind k fault.MisplacedList = ⊥
+FitsKind k fault.PickAlone = ⊥
 FitsKind k fault.OutOfMemory = ⊤
 
 -- a mistake is among the kinds: one that is no request for help or for the version
@@ -473,16 +486,18 @@ HasMistake kinds = (k : ErrorKind) × IsAmong k kinds × (k ≢ kind.DisplayHelp
 
 -- Help is told only where it was asked for, words are called not understood only where `clap` finds a mistake in them, or where it finds
 -- nothing wrong and no job. The order and the workers are called to exclude each other only where both were given, a seed to stand alone only where
--- it does, and a number of runs or a list to be misplaced only where it is, and nothing is wrong else.
-abbrev pub IsRefused : Kinds → Option Asked → Bool → Bool → Bool → Bool → WordsFault → Type 0
-IsRefused kinds asked both alone misplaced crowded (fault.Help text) = IsAmong kind.DisplayHelp kinds ⊎ IsAmong kind.DisplayVersion kinds
-IsRefused kinds asked both alone misplaced crowded (fault.NotUnderstood text) =
-    HasMistake kinds ⊎ ((kinds ≡ []) × (asked ≡ None) × (both ≡ false) × (alone ≡ false) × (misplaced ≡ false) × (crowded ≡ false))
-IsRefused kinds asked both alone misplaced crowded fault.OrderAndWorkers = (kinds ≡ []) × (both ≡ true)
-IsRefused kinds asked both alone misplaced crowded fault.SeedAlone = (kinds ≡ []) × (alone ≡ true)
-IsRefused kinds asked both alone misplaced crowded fault.MisplacedRuns = (kinds ≡ []) × (misplaced ≡ true)
-IsRefused kinds asked both alone misplaced crowded fault.MisplacedList = (kinds ≡ []) × (crowded ≡ true)
-IsRefused kinds asked both alone misplaced crowded fault.OutOfMemory = ⊤
+-- it does, a number of runs or a list to be misplaced only where it is, and an outcome to be picked for no log only where that is so, and nothing
+-- is wrong else.
+abbrev pub IsRefused : Kinds → Option Asked → Bool → Bool → Bool → Bool → Bool → WordsFault → Type 0
+IsRefused kinds asked both alone misplaced crowded unlogged (fault.Help text) = IsAmong kind.DisplayHelp kinds ⊎ IsAmong kind.DisplayVersion kinds
+IsRefused kinds asked both alone misplaced crowded unlogged (fault.NotUnderstood text) =
+    HasMistake kinds ⊎ ((kinds ≡ []) × (asked ≡ None) × (both ≡ false) × (alone ≡ false) × (misplaced ≡ false) × (crowded ≡ false) × (unlogged ≡ false))
+IsRefused kinds asked both alone misplaced crowded unlogged fault.OrderAndWorkers = (kinds ≡ []) × (both ≡ true)
+IsRefused kinds asked both alone misplaced crowded unlogged fault.SeedAlone = (kinds ≡ []) × (alone ≡ true)
+IsRefused kinds asked both alone misplaced crowded unlogged fault.MisplacedRuns = (kinds ≡ []) × (misplaced ≡ true)
+IsRefused kinds asked both alone misplaced crowded unlogged fault.MisplacedList = (kinds ≡ []) × (crowded ≡ true)
+IsRefused kinds asked both alone misplaced crowded unlogged fault.PickAlone = (kinds ≡ []) × (unlogged ≡ true)
+IsRefused kinds asked both alone misplaced crowded unlogged fault.OutOfMemory = ⊤
 
 -- the status that the program ends with
 abbrev pub status_of : WordsFault → ℕ
@@ -492,4 +507,5 @@ status_of fault.OrderAndWorkers = status_words
 status_of fault.SeedAlone = status_words
 status_of fault.MisplacedRuns = status_words
 status_of fault.MisplacedList = status_words
+status_of fault.PickAlone = status_words
 status_of fault.OutOfMemory = status_memory

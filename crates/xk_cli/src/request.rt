@@ -5,14 +5,14 @@ ghost use Rattle.clap.specs.Words.{found_of, kind_of, rows_of, subcommand_rows_o
 ghost use Rattle.xk_cli.specs.CommandLine.{FitsKind, IsRefused, WithOrders, are_runs_misplaced, asked_by, asked_in};
 ghost use Rattle.xk_cli.specs.CommandLine.{asked_of, asked_value, command_by, command_by_log, command_on, crowds_by};
 ghost use Rattle.xk_cli.specs.CommandLine.{crowds_in, excludes_by, excludes_in, faults_in, found_task, is_both};
-ghost use Rattle.xk_cli.specs.CommandLine.{is_list_misplaced, is_seed_alone, job_of, misplaces_by, misplaces_in};
-ghost use Rattle.xk_cli.specs.CommandLine.{outcomes_by, outcomes_in, run_asked, run_by, run_in, strays_by, strays_in};
+ghost use Rattle.xk_cli.specs.CommandLine.{is_list_misplaced, is_pick_alone, is_seed_alone, job_of, misplaces_by, misplaces_in};
+ghost use Rattle.xk_cli.specs.CommandLine.{outcomes_by, outcomes_in, picks_by, picks_in, run_asked, run_by, run_in, strays_by, strays_in};
 ghost use Rattle.xk_cli.specs.CommandLine.{task_by, task_value, texts};
 
 use crate::commands::line;
 use crate::given::{
     are_runs_misplaced, arguments_in, count_in, drive_in, form_in, given_in, is_both, is_flagged,
-    is_list_misplaced, is_order, is_seed_alone, seed_in,
+    is_list_misplaced, is_order, is_pick_alone, is_seed_alone, seed_in,
 };
 use crate::job::{Command, Form, HandRun, Job, Request};
 use crate::words_fault::WordsFault;
@@ -40,7 +40,8 @@ pub fn read_job<'a>(alloc: Global, words: &'a [&'a str]) -> Result<Request<'a>, 
         (faults_in names (texts words.entry.now)) (job_of names (texts words.entry.now))
         (excludes_in names (texts words.entry.now)) (strays_in names (texts words.entry.now))
         (misplaces_in names (texts words.entry.now))
-        (crowds_in names (texts words.entry.now)) fault)) }
+        (crowds_in names (texts words.entry.now))
+        (picks_in names (texts words.entry.now)) fault)) }
 {
     let command_line = line(alloc)?;
     match command_line.try_get_matches_from(words) {
@@ -57,7 +58,8 @@ fn asked<'a>(alloc: Global, matches: &ArgMatches<'a>) -> Result<Request<'a>, Wor
         (excludes_by (subcommand_rows_of matches.now))
         (strays_by (subcommand_rows_of matches.now))
         (misplaces_by (subcommand_rows_of matches.now))
-        (crowds_by (subcommand_rows_of matches.now))) }
+        (crowds_by (subcommand_rows_of matches.now))
+        (picks_by (subcommand_rows_of matches.now))) }
 {
     match matches.subcommand() {
         Some((name, given)) => asked_by(alloc, name, given),
@@ -78,7 +80,8 @@ fn asked_by<'a>(
         (is_both (rows_of (found_of given.now)))
         (is_seed_alone (rows_of (found_of given.now)))
         (are_runs_misplaced (rows_of (found_of given.now)))
-        (is_list_misplaced (rows_of (found_of given.now)))) }
+        (is_list_misplaced (rows_of (found_of given.now)))
+        (is_pick_alone (rows_of (found_of given.now)))) }
 {
     match request_by(alloc, name, given)? {
         Some(request) => Ok(request),
@@ -231,11 +234,11 @@ fn command_by_log<'a>(name: &str, given: &ArgMatches<'a>) -> Option<Command<'a>>
 }
 
 /// The command `outcomes` with what was given to it: outcomes are held against a list, or printed. None where a list
-/// was given, and an outcome to pick or a log's path.
+/// was given, and an outcome to pick or a log's path; or an outcome to pick, and no log's path.
 fn outcomes_by<'a>(given: &ArgMatches<'a>) -> Option<Command<'a>>
     ensures { option_map task_value result ≡ outcomes_by (rows_of (found_of given.now)) }
 {
-    if is_list_misplaced(given) {
+    if is_list_misplaced(given) || is_pick_alone(given) {
         return None;
     }
     match given_in(given, "FILE2") {
@@ -253,13 +256,14 @@ fn outcomes_by<'a>(given: &ArgMatches<'a>) -> Option<Command<'a>>
     }
 }
 
-/// Why a command with what was given to it is no job: an order stands beside workers, or a seed, a number of runs or a
-/// list has no place there.
+/// Why a command with what was given to it is no job: an order stands beside workers, or a seed, a number of runs, a
+/// list or an outcome to pick has no place there.
 fn no_job(alloc: Global, given: &ArgMatches<'_>) -> WordsFault
     ensures { IsRefused [] None (is_both (rows_of (found_of given.now)))
         (is_seed_alone (rows_of (found_of given.now)))
         (are_runs_misplaced (rows_of (found_of given.now)))
-        (is_list_misplaced (rows_of (found_of given.now))) result }
+        (is_list_misplaced (rows_of (found_of given.now)))
+        (is_pick_alone (rows_of (found_of given.now))) result }
 {
     if is_both(given) {
         return WordsFault::OrderAndWorkers;
@@ -273,12 +277,15 @@ fn no_job(alloc: Global, given: &ArgMatches<'_>) -> WordsFault
     if is_list_misplaced(given) {
         return WordsFault::MisplacedList;
     }
+    if is_pick_alone(given) {
+        return WordsFault::PickAlone;
+    }
     not_a_job(alloc)
 }
 
 /// The fault where `clap` took the words, nothing in them excludes anything else, and they name no job. It doesn't come to that.
 fn not_a_job(alloc: Global) -> WordsFault
-    ensures { IsRefused [] None false false false false result }
+    ensures { IsRefused [] None false false false false false result }
 {
     match String::from_str(alloc, "error: no command on a file was given\n") {
         Ok(text) => WordsFault::NotUnderstood(text),

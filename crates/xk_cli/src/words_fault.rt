@@ -6,6 +6,21 @@ use crate::status;
 use std::alloc::AllocError;
 use thiserror::Error;
 
+/// The line where the words have an order beside workers.
+pub const EXCLUDED_LINE: &str = "x10clock: --workers and --order exclude each other\n";
+
+/// The line of words that have a seed, and no order by chance.
+pub const SEED_LINE: &str = "x10clock: --seed goes with --order random\n";
+
+/// The line of words that have a number of runs, and no order by chance, or a log.
+pub const RUNS_LINE: &str = "x10clock: --runs goes with --order random, and not with --log\n";
+
+/// The line of words that have a list of outcomes, and an outcome to pick, or a log.
+pub const LIST_LINE: &str = "x10clock: --expect goes without --log and --pick\n";
+
+/// The line of words that have an outcome to pick, and no log.
+pub const PICK_LINE: &str = "x10clock: --pick goes with --log\n";
+
 /// The words are no job.
 #[derive(Debug, Drop, Error)]
 pub enum WordsFault {
@@ -16,17 +31,20 @@ pub enum WordsFault {
     #[error("{0}")]
     NotUnderstood(String),
     /// `--workers` stands beside `--order`.
-    #[error("x10clock: --workers and --order exclude each other\n")]
+    #[error("{line}", line = EXCLUDED_LINE)]
     OrderAndWorkers,
     /// `--seed` stands without `--order random`.
-    #[error("x10clock: --seed goes with --order random\n")]
+    #[error("{line}", line = SEED_LINE)]
     SeedAlone,
     /// `--runs` stands without `--order random`, or beside `--log`.
-    #[error("x10clock: --runs goes with --order random, and not with --log\n")]
+    #[error("{line}", line = RUNS_LINE)]
     MisplacedRuns,
     /// `--expect` stands beside `--log` or `--pick`.
-    #[error("x10clock: --expect goes without --log and --pick\n")]
+    #[error("{line}", line = LIST_LINE)]
     MisplacedList,
+    /// `--pick` stands without `--log`.
+    #[error("{line}", line = PICK_LINE)]
+    PickAlone,
     /// Memory ran out.
     #[error("out of memory")]
     OutOfMemory,
@@ -45,7 +63,8 @@ impl WordsFault {
             | WordsFault::OrderAndWorkers
             | WordsFault::SeedAlone
             | WordsFault::MisplacedRuns
-            | WordsFault::MisplacedList => status::WORDS,
+            | WordsFault::MisplacedList
+            | WordsFault::PickAlone => status::WORDS,
             WordsFault::OutOfMemory => status::MEMORY,
         }
     }

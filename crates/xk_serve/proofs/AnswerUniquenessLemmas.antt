@@ -29,7 +29,7 @@ use Rattle.xk_answers.specs.declared.job_result.Done.{Done}
 use Rattle.xk_answers.specs.declared.job_result.Done.TheVariants as done
 use Rattle.xk_program.specs.declared.fault.Fault.{Fault}
 use Rattle.xk_program.specs.declared.fault.Fault.TheVariants as fault
-use Rattle.xk_serve.specs.Answer.{Answers, IsSaidBy, IsSaidOf, Reply, Task, asks_verifier, done_reply, fault_reply, reads_list, reads_log, runs, wants_whole}
+use Rattle.xk_serve.specs.Answer.{Answers, IsSaidBy, Reply, Task, asks_verifier, done_reply, fault_reply, reads_list, reads_log, runs, wants_whole}
 use Rattle.xk_answers.specs.Results.{Check, ComesTo, Compile, Doing, Draw, Expected, Explain, IsLogText, IsNoRun, IsTelling, IsText, Listing, Outcomes, Races, Replay, Run, Tally, Where, list_in}
 use Rattle.xk_program.specs.Refusals.{IsMisfit}
 use Rattle.xk_answers.specs.Printed.{done_status, whole_status, done_log, done_text}

@@ -16,3 +16,7 @@ runs_line = codes "x10clock: --runs goes with --order random, and not with --log
 -- they have a list, and an outcome to pick, or a log
 abbrev pub list_line : List ℕ
 list_line = codes "x10clock: --expect goes without --log and --pick\n"
+
+-- they have an outcome to pick, and no log
+abbrev pub pick_line : List ℕ
+pick_line = codes "x10clock: --pick goes with --log\n"

@@ -18,24 +18,12 @@ use std::alloc::Global;
 use std::sync::Wait;
 use std::thread::Threads;
 use xk_answers::{Done, Refused, explained, unsaid};
-use xk_cli::{Job, WordsFault, status};
+use xk_cli::{EXCLUDED_LINE, Job, LIST_LINE, PICK_LINE, RUNS_LINE, SEED_LINE, WordsFault, status};
 use xk_io::{Device, write_all};
 use xk_log::write_entries;
 use xk_messages::MEMORY_LINE;
 use xk_program::{DEVICE_LINE, Fault, read_program};
 use xk_types::{Sink, Source};
-
-/// The line where the words have an order beside workers.
-const EXCLUDED_LINE: &str = "x10clock: --workers and --order exclude each other\n";
-
-/// The line of words that have a seed, and no order by chance.
-const SEED_LINE: &str = "x10clock: --seed goes with --order random\n";
-
-/// The words have a number of runs, and no order by chance, or a log.
-const RUNS_LINE: &str = "x10clock: --runs goes with --order random, and not with --log\n";
-
-/// The words have a list of outcomes, and an outcome to pick, or a log.
-const LIST_LINE: &str = "x10clock: --expect goes without --log and --pick\n";
 
 /// Reads the program, does the job, and writes what comes of it: its result to `out` and then the log of a run that is to have one
 /// to `log_out`, or one line to `err`. The answer is the exit status: 0 where the job is done, 6 where it is
@@ -301,6 +289,7 @@ pub fn tell_words<O: Sink, E: Sink>(fault: &WordsFault, out: &mut O, err: &mut E
         WordsFault::SeedAlone => tell(SEED_LINE, status::WORDS, err),
         WordsFault::MisplacedRuns => tell(RUNS_LINE, status::WORDS, err),
         WordsFault::MisplacedList => tell(LIST_LINE, status::WORDS, err),
+        WordsFault::PickAlone => tell(PICK_LINE, status::WORDS, err),
         WordsFault::OutOfMemory => tell(MEMORY_LINE, status::MEMORY, err),
     }
 }
