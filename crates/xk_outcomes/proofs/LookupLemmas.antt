@@ -1,5 +1,5 @@
 -- Worlds that were found are looked for among those of one digest, the last one first.
-use Rattle.std.proofs.Common.{◌≡◌, ◌⊎◌, inl, inr, ◌∙◌, ℕ, suc, ◌-◌, ◌<◌, ◌≤◌, List, length, map, Some, option_map, slice_get, sym, ap, subst, arith}
+use Rattle.std.proofs.Common.{◌≡◌, ◌⊎◌, inl, inr, ◌∙◌, ℕ, suc, ◌-◌, ◌<◌, ◌≤◌, List, length, map, Some, option_map, slice_get, sym, ap, arith}
 use Rattle.std.proofs.lemmas.List.{length-map}
 use Rattle.std.proofs.lemmas.Option.{slice_get-map, slice_get_within}
 use Rattle.xk_outcomes.specs.Digests.{IsLast}
