@@ -138,7 +138,7 @@ fn outcomes_line<'a>(alloc: Global) -> Result<clap::Command<'a>, AllocError>
             alloc,
             "LIMIT",
             "limit",
-            "The search stops once so many worlds are kept, or so many outcomes are told: 40000 where nothing is said, and fewer where there may be many activities",
+            "The search stops once more worlds are kept, or so many outcomes are told: 40000 where nothing is said, and fewer where there may be many activities",
         ),
         count_option(
             alloc,

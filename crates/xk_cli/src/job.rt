@@ -78,7 +78,7 @@ pub enum Command<'a> {
     },
     /// `outcomes`: print all that FILE can print.
     Outcomes {
-        /// `--limit`: the search leaves off as soon as so many worlds are kept or so many outcomes are told, where that was given.
+        /// `--limit`: the search stops as soon as more worlds are kept or so many outcomes are told, where that was given.
         limit: Option<u64>,
         /// `--pick`: the outcome whose log is written, counted from 1; the first where none was given.
         pick: Option<u64>,
