@@ -34,7 +34,7 @@ MOST = {
     "pub": 74,
     "clauses": 0,
     "code": 253,
-    "proofs": 6676,
+    "proofs": 6682,
     "docs": 71,
     "scripts": 0,
     "files": 0,
