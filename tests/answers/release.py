@@ -37,8 +37,13 @@ EXAMPLE = TOP / "examples/two-in-step.x10"
 PRINTED = "1\n2\n11\n12\nended steps 19\n"
 # What becomes of `editors/`.
 EDITORS = {
+    "vim/compiler/x10clock.vim": "vim/compiler/x10clock.vim",
     "vim/ftdetect/x10clock.vim": "vim/ftdetect/x10clock.vim",
+    "vim/ftplugin/x10clock.vim": "vim/ftplugin/x10clock.vim",
+    "vim/lua/x10clock.lua": "vim/lua/x10clock.lua",
     "vim/syntax/x10clock.vim": "vim/syntax/x10clock.vim",
+    "vscode/extension.js": "vscode/extension.js",
+    "vscode/language-configuration.json": "vscode/language-configuration.json",
     "vscode/x10clock.tmLanguage.json": "textmate/x10clock.tmLanguage.json",
 }
 # The options that each command has, with the values that each may name; those before any command are of "".
