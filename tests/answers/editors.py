@@ -496,9 +496,9 @@ def main() -> int:
     try:
         shown, there = editors(program)
     except (OSError, ValueError) as fault:
-        shown, there = [f"editors: {fault!r}"], []
+        shown, there = [f"editors: {fault!r}"], list(EDITORS)
     print(*wrong, *shown, sep="\n", end="\n" if wrong or shown else "")
-    for editor in EDITORS.keys() - set(there):
+    for editor in [editor for editor in EDITORS if editor not in there]:
         print(f"editors: {editor} isn't here (Debian's {EDITORS[editor]}), and is left out")
     print(f"editors: {len(words)} words and {len(signs)} signs, {len(wrong)} coloured otherwise")
     print(f"editors: {len(texts())} texts in {', '.join(there) or 'no editor'}, {len(shown)} shown otherwise")
