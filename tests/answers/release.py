@@ -233,6 +233,8 @@ def is_what_sources_give(held: Held, version: str, program: pathlib.Path) -> Non
     """The release is what dist/release.sh makes now."""
     package = json.loads((DIST / "vscode/package.json").read_text(encoding="utf-8"))
     held.wants("dist/vscode/package.json: version", f"x10clock {package['version']}", version)
+    source = json.loads((TOP / "editors/vscode/package.json").read_text(encoding="utf-8"))
+    held.wants("dist/vscode/package.json", package, source | {"version": package["version"]})
     held.wants("dist/BUILT: version", version, said(program, "-V").strip())
     pairs = {name: TOP / "editors" / source for name, source in EDITORS.items()}
     if program == harness.BUILT:
