@@ -49,17 +49,9 @@ cp "$program" "$made/x10clock-$number-x86_64-linux"
 chmod 755 "$made/x10clock-$number-x86_64-linux"
 python3 dist/manual.py --program "$program" --to "$made"
 cp -R editors/vim "$made/vim"
-mkdir "$made/vscode"
+cp -R editors/vscode "$made/vscode"
 cp editors/textmate/x10clock.tmLanguage.json "$made/vscode"
-cat > "$made/vscode/package.json" << END
-{
-  "name": "x10clock", "version": "$number", "publisher": "x10clock", "engines": { "vscode": "^1.60.0" },
-  "contributes": {
-    "languages": [{ "id": "x10clock", "extensions": [".x10"] }],
-    "grammars": [{ "language": "x10clock", "scopeName": "source.x10clock", "path": "./x10clock.tmLanguage.json" }]
-  }
-}
-END
+sed "s/\"version\": \"0.0.0\"/\"version\": \"$number\"/" editors/vscode/package.json > "$made/vscode/package.json"
 # The newest version of a symbol that the program takes from the C library is the oldest library that has them all.
 glibc=$(grep -ao 'GLIBC_2\.[0-9]*' "$program" | sort -u -t . -k 2n | tail -n 1)
 cat > "$made/BUILT" << END

@@ -37,8 +37,13 @@ EXAMPLE = TOP / "examples/two-in-step.x10"
 PRINTED = "1\n2\n11\n12\nended steps 19\n"
 # What becomes of `editors/`.
 EDITORS = {
+    "vim/compiler/x10clock.vim": "vim/compiler/x10clock.vim",
     "vim/ftdetect/x10clock.vim": "vim/ftdetect/x10clock.vim",
+    "vim/ftplugin/x10clock.vim": "vim/ftplugin/x10clock.vim",
+    "vim/lua/x10clock.lua": "vim/lua/x10clock.lua",
     "vim/syntax/x10clock.vim": "vim/syntax/x10clock.vim",
+    "vscode/extension.js": "vscode/extension.js",
+    "vscode/language-configuration.json": "vscode/language-configuration.json",
     "vscode/x10clock.tmLanguage.json": "textmate/x10clock.tmLanguage.json",
 }
 # The options that each command has, with the values that each may name; those before any command are of "".
@@ -228,6 +233,8 @@ def is_what_sources_give(held: Held, version: str, program: pathlib.Path) -> Non
     """The release is what dist/release.sh makes now."""
     package = json.loads((DIST / "vscode/package.json").read_text(encoding="utf-8"))
     held.wants("dist/vscode/package.json: version", f"x10clock {package['version']}", version)
+    source = json.loads((TOP / "editors/vscode/package.json").read_text(encoding="utf-8"))
+    held.wants("dist/vscode/package.json", package, source | {"version": package["version"]})
     held.wants("dist/BUILT: version", version, said(program, "-V").strip())
     pairs = {name: TOP / "editors" / source for name, source in EDITORS.items()}
     if program == harness.BUILT:
