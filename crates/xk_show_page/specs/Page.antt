@@ -19,8 +19,8 @@ use Rattle.xk_show_page.specs.declared.furniture.TheConstants.{COLOURS, PLACES, 
 
 -- ---- what stands in each page
 
--- The page's first lines. The policy forbids it to fetch anything. It lets one script run, and two styles count, by the sums of their bytes: the
--- page's own, and the picture's style (Content Security Policy, level 2).
+-- The page's first lines, up to its style. The policy forbids it to fetch anything. It lets one script run, and two styles count, by the sums of
+-- their bytes: the page's own, and the picture's style (Content Security Policy, level 2).
 unfoldable pub page_top : List ℕ
 page_top =
     codes "<!DOCTYPE html>\n"
@@ -32,16 +32,34 @@ page_top =
     ++ (codes "style-src 'sha256-rqDgg6Gohj15oatNQVa5x4nb+K1EYRUrQ0bAL6oBY4I=' "
     ++ (codes "'sha256-1Mhn6nywKkLaXR5W9I5AIbKxhh5lqmYSXkp8j1iVKwY='; "
     ++ (codes "script-src 'sha256-fBcH5/Pwr1itfiMf+3bU2CB/fcDG5ilunBXqbLlij8Q='\">\n"
-    ++ (codes "<title>A run, step by step</title>\n")))))))))
+    ++ (codes "<title>A run, step by step</title>\n"
+    ++ (codes "<style>\n"))))))))))
 
--- before the source text, whose element HTML begins behind the line feed
+-- the end of the page's style
+unfoldable pub style_ends : List ℕ
+style_ends = codes "</style>\n</head>\n"
+
+-- The element of the source text begins, behind whose line feed its text does, and ends; and that of the picture begins.
+unfoldable pub source_begins : List ℕ
+source_begins = codes "<pre id=\"source\">\n"
+
+unfoldable pub source_ends : List ℕ
+source_ends = codes "</pre>\n"
+
+unfoldable pub picture_begins : List ℕ
+picture_begins = codes "<div id=\"picture\" tabindex=\"0\" role=\"group\" aria-label=\"Lanes of the run\">\n"
+
+-- what stands in the page's head
+unfoldable pub page_look : List ℕ
+page_look = (((page_top ++ COLOURS.now) ++ PLACES.now) ++ MARKS.now) ++ style_ends
+
+-- before the source text
 unfoldable pub page_head : List ℕ
-page_head = ((((((page_top ++ codes "<style>\n") ++ COLOURS.now) ++ PLACES.now) ++ MARKS.now) ++ codes "</style>\n</head>\n") ++ CONTROLS.now)
-    ++ codes "<pre id=\"source\">\n"
+page_head = (page_look ++ CONTROLS.now) ++ source_begins
 
 -- between it and the picture
 unfoldable pub behind_source : List ℕ
-behind_source = (codes "</pre>\n" ++ LISTS.now) ++ codes "<div id=\"picture\" tabindex=\"0\" role=\"group\" aria-label=\"Lanes of the run\">\n"
+behind_source = (source_ends ++ LISTS.now) ++ picture_begins
 
 -- between the picture and the moments, which no browser runs
 unfoldable pub behind_picture : List ℕ

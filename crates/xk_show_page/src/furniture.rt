@@ -2,7 +2,7 @@
 //! shows moments. The definitions name these texts, and spell those elements, and the policy.
 
 ghost use Rattle.std.specs.Prelude.{◌≡◌};
-ghost use Rattle.xk_show_page.specs.Page.{page_top};
+ghost use Rattle.xk_show_page.specs.Page.{page_top, picture_begins, source_begins, source_ends, style_ends};
 
 /// The page's first lines. Its policy has the sums of its script and of both styles: whoever changes one of these is told
 /// the new sum by tests/answers/html_pages.py.
@@ -20,7 +20,40 @@ pub(crate) fn top() -> &'static str
 style-src 'sha256-rqDgg6Gohj15oatNQVa5x4nb+K1EYRUrQ0bAL6oBY4I=' \
 'sha256-1Mhn6nywKkLaXR5W9I5AIbKxhh5lqmYSXkp8j1iVKwY='; \
 script-src 'sha256-fBcH5/Pwr1itfiMf+3bU2CB/fcDG5ilunBXqbLlij8Q='\">\n\
-<title>A run, step by step</title>\n"
+<title>A run, step by step</title>\n\
+<style>\n"
+}
+
+/// The end of the page's style.
+#[tactic(auto, unfolding(crate::specs::Page::style_ends))]
+pub(crate) fn style_ends() -> &'static str
+    ensures { result.now ≡ style_ends }
+{
+    "</style>\n</head>\n"
+}
+
+/// The beginning of the source text's element.
+#[tactic(auto, unfolding(crate::specs::Page::source_begins))]
+pub(crate) fn source_begins() -> &'static str
+    ensures { result.now ≡ source_begins }
+{
+    "<pre id=\"source\">\n"
+}
+
+/// The end of the source text's element.
+#[tactic(auto, unfolding(crate::specs::Page::source_ends))]
+pub(crate) fn source_ends() -> &'static str
+    ensures { result.now ≡ source_ends }
+{
+    "</pre>\n"
+}
+
+/// The beginning of the picture's element.
+#[tactic(auto, unfolding(crate::specs::Page::picture_begins))]
+pub(crate) fn picture_begins() -> &'static str
+    ensures { result.now ≡ picture_begins }
+{
+    "<div id=\"picture\" tabindex=\"0\" role=\"group\" aria-label=\"Lanes of the run\">\n"
 }
 
 /// Colours and letters, in light and in dark.

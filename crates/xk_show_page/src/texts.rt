@@ -1,9 +1,12 @@
 //! Pieces of the page.
 
 ghost use Rattle.std.specs.Prelude.{◌≡◌, ◌++◌, OnOk};
-ghost use Rattle.xk_show_page.specs.Page.{behind_picture, behind_source, escaped, escaped_byte, page_head, page_tail};
+ghost use Rattle.xk_show_page.specs.Page.{behind_picture, behind_source, escaped, escaped_byte, page_head, page_look, page_tail};
 
-use crate::furniture::{COLOURS, CONTROLS, LISTS, MARKS, MOVER, PLACES, READER, SHOWER, top};
+use crate::furniture::{
+    COLOURS, CONTROLS, LISTS, MARKS, MOVER, PLACES, READER, SHOWER, picture_begins, source_begins,
+    source_ends, style_ends, top,
+};
 use std::alloc::AllocError;
 
 /// Adds a text.
@@ -13,19 +16,26 @@ pub(crate) fn put(out: &mut Vec<u8>, text: &str) -> Result<(), AllocError>
     out.extend_from_slice(text.as_bytes())
 }
 
+/// Adds what stands in the page's head.
+#[tactic(auto, unfolding(crate::specs::Page::page_look))]
+fn push_look(out: &mut Vec<u8>) -> Result<(), AllocError>
+    ensures { OnOk result (out.new.items ≡ out.old.items ++ page_look) }
+{
+    put(out, top())?;
+    put(out, COLOURS)?;
+    put(out, PLACES)?;
+    put(out, MARKS)?;
+    put(out, style_ends())
+}
+
 /// Adds what stands before the source text.
 #[tactic(auto, unfolding(crate::specs::Page::page_head))]
 pub(crate) fn push_head(out: &mut Vec<u8>) -> Result<(), AllocError>
     ensures { OnOk result (out.new.items ≡ out.old.items ++ page_head) }
 {
-    put(out, top())?;
-    put(out, "<style>\n")?;
-    put(out, COLOURS)?;
-    put(out, PLACES)?;
-    put(out, MARKS)?;
-    put(out, "</style>\n</head>\n")?;
+    push_look(out)?;
     put(out, CONTROLS)?;
-    put(out, "<pre id=\"source\">\n")
+    put(out, source_begins())
 }
 
 /// Adds what stands between the source text and the picture.
@@ -33,12 +43,9 @@ pub(crate) fn push_head(out: &mut Vec<u8>) -> Result<(), AllocError>
 pub(crate) fn push_lists(out: &mut Vec<u8>) -> Result<(), AllocError>
     ensures { OnOk result (out.new.items ≡ out.old.items ++ behind_source) }
 {
-    put(out, "</pre>\n")?;
+    put(out, source_ends())?;
     put(out, LISTS)?;
-    put(
-        out,
-        "<div id=\"picture\" tabindex=\"0\" role=\"group\" aria-label=\"Lanes of the run\">\n",
-    )
+    put(out, picture_begins())
 }
 
 /// Adds what stands between the picture and the moments.
