@@ -13,6 +13,10 @@ trap 'rm -f "$made"' EXIT
 commit=$(git describe --always --dirty --exclude '*')
 program=${X10CLOCK:-crates/x10clock/out/x10clock}
 status=0
+[ -x "$program" ] || {
+    echo "all.sh: no program $program" >&2
+    exit 2
+}
 
 # heading: when the results were made, and of what.
 heading() {

@@ -5,10 +5,10 @@
 
 Both have to print the same bytes. The machine is built nine times: the builds differ in where the functions stand
 alone, and so by half in the time that one loop takes. Beside each of them four runs are made in turn, of which the
-least counts. Each line (bench/results.py) has the seconds of processor time, the least of ours and the one of the middle
-build by hand; the ratio beside the middle build; the ratios beside the fastest and the slowest; and the most memory of
-each. A run of less than a twentieth of a second is marked as short: its ratio says little. Memory counts from what the
-measuring process held, some 15 MB.
+least counts. Each line (bench/results.py) has the seconds of processor time, the least of ours and the one of the
+middle build by hand; the ratio beside the middle build; the ratios beside the fastest and the slowest; and the most
+memory of each. A run of less than a twentieth of a second is marked as short: its ratio says little. Memory counts from
+what the measuring process held, some 15 MB.
 """
 
 from __future__ import annotations

@@ -5,8 +5,8 @@ outcomes of the examples and of two more.
 
     python3 -m bench.looks [--program PATH]
 
-Prints for each call a line (bench/results.py): the least processor time of three, the most memory that it took (GNU time
-is needed), how many bytes it told, and its status.
+Prints for each call a line (bench/results.py): the least processor time of three, the most memory that it took (GNU
+time is needed), how many bytes it told, and its status.
 """
 
 from __future__ import annotations

@@ -5,8 +5,8 @@ partial order reduction, and with it.
     python3 -m bench.spin [MODEL ..]
 
 Needs `spin` and `gcc`. Prints for each model a line (bench/results.py): how many lists of numbers there are, and for
-both searches the states that were stored and the processor time of one search. `spin -o2`, since else it hides an array that is only written; no
-compression.
+both searches the states that were stored and the processor time of one search. `spin -o2`, since else it hides an array
+that is only written; no compression.
 """
 from __future__ import annotations
 

@@ -4,9 +4,9 @@ programs.
 
     python3 -m bench.texts [--program PATH] [--count]
 
-Prints for each text a line (bench/results.py): its bytes, the least processor time of five calls, which what else the machine does changes little,
-and how the answer begins. With `--count` it prints the instructions of one call as callgrind counts them (valgrind is
-needed), and how many of these are spent on memory: taking, giving back, copying.
+Prints for each text a line (bench/results.py): its bytes, the least processor time of five calls, which what else the
+machine does changes little, and how the answer begins. With `--count` it prints the instructions of one call as
+callgrind counts them (valgrind is needed), and how many of these are spent on memory: taking, giving back, copying.
 """
 
 from __future__ import annotations
