@@ -15,7 +15,7 @@ FIGURE = re.compile(r"(?P<what>\w+) (?P<number>-?[\d,]+(?:\.\d+)?)")
 Figures = dict[str, float]
 
 
-def show(name: str, *told: str, **figures: float) -> None:
+def show(name: str, /, *told: str, **figures: float) -> None:
     """Prints a line: what was measured, its figures, and what else the reader is told."""
     forms = ((what, number, "," if isinstance(number, int) else ".3f") for what, number in figures.items())
     each = [f"{what} {number:{form}}" for what, number, form in forms]
