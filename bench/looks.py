@@ -99,13 +99,14 @@ class Looker:
         show(name, seconds=least.seconds, **taken, **figures)
 
     def texts(self) -> None:
-        """What is told of large texts: of accepted ones, and of the same with a fault at the end."""
+        """What is told of large texts: of accepted ones, and of the same with a fault at the end, in the text or a clock
+        that is lost in a loop."""
         for name in ("methods", "expressions", "calls"):
             right, wrong, leaking = (self.folder / f"{name}{part}.x10" for part in ("", "-f", "-v"))
             text = texts.TEXTS[name]
             right.write_text(text)
             wrong.write_text(text.rstrip()[:-1] + " x = ; }\n")
-            leaking.write_text(text.rstrip()[:-1] + " val c = Clock.make(); }\n")
+            leaking.write_text(text.rstrip()[:-1] + " for (k in 1..2) { val c = Clock.make(); } }\n")
             for command in ("check", "explain", "listing"):
                 self.timed(f"{name}: {command}", command, right)
             for kind, path in (("F2", wrong), ("V13", leaking)):
