@@ -99,8 +99,8 @@ class Looker:
         show(name, seconds=least.seconds, **taken, **figures)
 
     def texts(self) -> None:
-        """What is told of large texts: of accepted ones, and of the same with a fault at the end, in the text or a clock
-        that is lost in a loop."""
+        """What is told of large texts: of accepted ones, and of the same with a fault at the end: a statement that is
+        none, or a clock that is lost in a loop."""
         for name in ("methods", "expressions", "calls"):
             right, wrong, leaking = (self.folder / f"{name}{part}.x10" for part in ("", "-f", "-v"))
             text = texts.TEXTS[name]
