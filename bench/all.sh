@@ -3,18 +3,58 @@
 #
 #     sh bench/all.sh
 #
-# Needs rustc, valgrind, lua5.4, spin and gcc, and five minutes in which the machine has nothing else to do.
+# Keeps what each script prints in bench/results/, and makes the page's tables from that (bench/tables.py). Needs rustc,
+# valgrind, GNU time, lua5.4, spin and gcc, and six minutes in which the machine has nothing else to do. Where a tool
+# isn't here, or a script fails, that is said, and the results of before stay.
 set -eu
 cd "$(dirname "$0")/.."
-date -u
-sed -n 's/^model name[^:]*: //p' /proc/cpuinfo | sort | uniq -c
-for script in beside bench logs texts looks workers lua; do
-    printf '\n== %s\n' "$script"
-    python3 -m "bench.$script"
-done
-printf '\n== instructions\n'
-python3 -m bench.instructions
-python3 -m bench.texts --count
-printf '\n== spin\n'
-python3 -m bench.spin
-date -u
+made=$(mktemp)
+trap 'rm -f "$made"' EXIT
+commit=$(git describe --always --dirty --exclude '*')
+program=${X10CLOCK:-crates/x10clock/out/x10clock}
+status=0
+[ -x "$program" ] || {
+    echo "all.sh: no program $program" >&2
+    exit 2
+}
+
+# heading: when the results were made, and of what.
+heading() {
+    echo "# date $(date -u '+%Y-%m-%d %H:%M')"
+    echo "# commit $commit, $("$program" --version | head -n 1)"
+    echo "# processor $(sed -n 's/^model name[^:]*: //p' /proc/cpuinfo | sort | uniq -c | sed 's/^ *//; s/ / of /')"
+}
+
+# section NAME TOOLS WORDS..: keeps in bench/results/NAME.txt what a script prints that needs these tools.
+section() {
+    name=$1 tools=$2
+    shift 2
+    printf '\n== %s\n' "$name"
+    for tool in $tools; do
+        command -v "$tool" >/dev/null || {
+            echo "$name: no $tool is here: its results stay as they were"
+            return
+        }
+    done
+    if heading >"$made" && python3 -m "$@" >>"$made"; then
+        cat "$made"
+        cat "$made" >"bench/results/$name.txt"
+    else
+        echo "$name: python3 -m $* failed: its results stay as they were"
+        status=1
+    fi
+}
+
+section beside rustc bench.beside
+section bench '' bench.bench
+section logs '' bench.logs
+section texts '' bench.texts
+section looks /usr/bin/time bench.looks
+section workers '' bench.workers
+section lua lua5.4 bench.lua
+section instructions 'rustc valgrind' bench.instructions
+section counts valgrind bench.texts --count
+section spin 'spin gcc' bench.spin
+printf '\n== tables\n'
+python3 -m bench.tables || status=1
+exit "$status"

@@ -4,7 +4,7 @@ activities in each order; and checks of many great units.
 
     python3 -m bench.bench [--program PATH]
 
-Prints seconds and the most memory that a process took.
+Prints for each call a line (bench/results.py) with the seconds that passed and the most memory that it took.
 """
 
 from __future__ import annotations
@@ -25,6 +25,7 @@ from bench.modules import (
     starting_in_finish,
     unit,
 )
+from bench.results import show
 from bench.spent import spent
 from tests import harness
 
@@ -81,24 +82,21 @@ class Timer:
     def __init__(self, program: pathlib.Path) -> None:
         self.program = program
 
-    def timed(self, name: str, command: str, text: str, words: tuple[str, ...] = ()) -> float:
-        """The seconds that a call takes."""
+    def timed(self, name: str, command: str, text: str, words: tuple[str, ...] = (), many: int = 0) -> None:
+        """Prints what a call takes, and how many things it does in a second, where it does so many."""
         with tempfile.NamedTemporaryFile("w", suffix=".json") as file:
             file.write(text)
             file.flush()
             took = spent([self.program, command, *words, "--module", file.name])
-        said = (took.out + took.err).decode().strip().replace("\n", " | ")
-        print(f"{name}: {took.passed:.2f} s, {took.megabytes:.0f} MB, status {took.status}: {said}")
-        return took.passed
+        said = (took.out + took.err).decode().strip().replace("\n", "; ")
+        each = {"each_second": round(many / took.passed)} if many else {}
+        show(name, said, seconds=took.passed, megabytes=round(took.megabytes), status=took.status, **each)
 
     def runs(self) -> None:
         """Runs of many steps, calls, finishes and activities."""
-        seconds = self.timed("run of 100,010,002 steps", "run", counting(9999))
-        print(f"steps a second: {100_010_002 / seconds:,.0f}")
-        seconds = self.timed("run of 24,995,000 calls", "run", calling(4999))
-        print(f"calls a second: {24_995_000 / seconds:,.0f}")
-        seconds = self.timed("run of 24,995,000 finishes", "run", finishing(4999))
-        print(f"finishes a second: {24_995_000 / seconds:,.0f}")
+        self.timed("run of 100,010,002 steps", "run", counting(9999), many=100_010_002)
+        self.timed("run of 24,995,000 calls", "run", calling(4999), many=24_995_000)
+        self.timed("run of 24,995,000 finishes", "run", finishing(4999), many=24_995_000)
         for count in (4_000, 16_000, 64_000):
             self.timed(f"run of {count} activities, each in a finish", "run", gathering(count))
         for order in ORDERS:

@@ -4,11 +4,11 @@
     python3 -m bench.beside [--program PATH] [--only WORD] [--rounds N] [--builds N]
 
 Both have to print the same bytes. The machine is built nine times: the builds differ in where the functions stand
-alone, and so by half in the time that one loop takes. Beside each of them three runs are made in turn, of which the
-least counts. Each row has the seconds of processor time, the least of ours and the one of the middle build by hand; the
-ratio beside the middle build; the ratios beside the fastest and the slowest; and the most memory of each. A run of less
-than a twentieth of a second is marked as short: its ratio says little. Memory counts from what the measuring process
-held, some 15 MB.
+alone, and so by half in the time that one loop takes. Beside each of them four runs are made in turn, of which the
+least counts. Each line (bench/results.py) has the seconds of processor time, the least of ours and the one of the
+middle build by hand; the ratio beside the middle build; the ratios beside the fastest and the slowest; and the most
+memory of each. A run of less than a twentieth of a second is marked as short: its ratio says little. Memory counts from
+what the measuring process held, some 15 MB.
 """
 
 from __future__ import annotations
@@ -21,6 +21,7 @@ import tempfile
 
 from bench.by_hand import built
 from bench.modules import ROWS
+from bench.results import show
 from bench.spent import spent
 from tests import harness
 
@@ -45,18 +46,23 @@ def in_turn(
 
 
 def row(name: str, order: str, program: pathlib.Path, machines: list[str], path: str, rounds: int) -> None:
-    """Prints the row of a module in an order."""
+    """Prints the line of a module in an order."""
     ours = [program, "run", "--order", order, "--module", path]
     printed, seconds, memory = zip(*(in_turn(ours, machine, path, order, rounds) for machine in machines))
     ratios = [own / max(other, 1e-6) for own, other in seconds]
     own, other = min(pair[0] for pair in seconds), statistics.median(pair[1] for pair in seconds)
-    short = " (short)" if min(own, other) < SHORT else ""
-    held = " | ".join(f"{min(sizes):.0f}" for sizes in zip(*memory))
-    steps, middle = int(printed[0].split()[-1]), statistics.median(ratios)
-    print(
-        f"| {name} | {order} | {steps:,} | {own:.3f} | {other:.3f} | {middle:.2f}{short} "
-        f"| {min(ratios):.2f} to {max(ratios):.2f} | {held} |",
-        flush=True,
+    held, held_by_hand = (round(min(sizes)) for sizes in zip(*memory))
+    show(
+        f"{name}, {order}",
+        *(["short"] if min(own, other) < SHORT else []),
+        steps=int(printed[0].split()[-1]),
+        ours=own,
+        by_hand=other,
+        ratio=statistics.median(ratios),
+        least=min(ratios),
+        most=max(ratios),
+        megabytes=held,
+        megabytes_by_hand=held_by_hand,
     )
 
 
@@ -64,12 +70,10 @@ def main() -> None:
     parser = argparse.ArgumentParser()
     harness.add_program(parser)
     parser.add_argument("--only", default="")
-    parser.add_argument("--rounds", type=int, default=3)
+    parser.add_argument("--rounds", type=int, default=4)
     parser.add_argument("--builds", type=int, default=9)
     given = parser.parse_args()
     machines = [built(f"plain-{number}") for number in range(1, given.builds + 1)]
-    print("| Module | Order | Steps | Ours | By hand | Ratio | Over the builds | MB | MB by hand |")
-    print("|---|---|---|---|---|---|---|---|---|")
     for name, make, orders in ROWS:
         if given.only not in name:
             continue

@@ -21,6 +21,7 @@ from dataclasses import dataclass
 
 from bench import modules
 from bench.by_hand import ORDERS, built
+from bench.results import show
 from tests import harness
 
 FIRST = ("first",)
@@ -84,16 +85,16 @@ class Side:
 
 @dataclass(frozen=True)
 class Row:
-    """A row of a table: what is counted, in which order, and the two sides that are compared."""
+    """What is counted, in which order, and the two sides that are compared, the program's and another one."""
 
     name: str
     order: str
-    left: Side
-    right: Side
+    ours: Side
+    other: Side
 
-    def line(self) -> str:
-        left, right = self.left.instructions(), self.right.instructions()
-        return f"| {self.name} | {self.order} | {left:,} | {right:,} | {left / right:.2f} |"
+    def counted(self) -> tuple[int, int]:
+        """The instructions of both sides."""
+        return self.ours.instructions(), self.other.instructions()
 
 
 def run_of(program: pathlib.Path, order: str) -> tuple[object, ...]:
@@ -122,14 +123,11 @@ def rows_of_limits(program: pathlib.Path, only: str) -> list[Row]:
     ]
 
 
-def print_table(head: str, rows: list[Row]) -> None:
-    """A table of rows, in their order; nothing where there are none."""
-    if not rows:
-        return
-    print(f"| What | Order | {head} | Ratio |\n|---|---|---|---|---|")
+def show_rows(other: str, rows: list[Row]) -> None:
+    """Prints a line for each row, in their order, with the other side's name."""
     with concurrent.futures.ThreadPoolExecutor(2) as pool:
-        for line in pool.map(Row.line, rows):
-            print(line, flush=True)
+        for row, (left, right) in zip(rows, pool.map(Row.counted, rows)):
+            show(f"{row.name}, {row.order}", **{"ours": left, other: right, "ratio": left / right})
 
 
 def main() -> None:
@@ -137,8 +135,8 @@ def main() -> None:
     harness.add_program(parser)
     parser.add_argument("--only", default="")
     given = parser.parse_args()
-    print_table("Ours | By hand", rows_by_hand(given.program, given.only))
-    print_table("With a limit | Without", rows_of_limits(given.program, given.only))
+    show_rows("by_hand", rows_by_hand(given.program, given.only))
+    show_rows("without", rows_of_limits(given.program, given.only))
 
 
 if __name__ == "__main__":

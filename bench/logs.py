@@ -4,8 +4,8 @@ a plain copy of the log; and logs that claim much.
 
     python3 -m bench.logs [--program PATH]
 
-Prints for each call its seconds of processor time, the seconds that passed, the most memory that it took, and its
-status.
+Prints for each call a line (bench/results.py): its seconds of processor time, the seconds that passed, the most memory
+that it took, and its status; and first what this process held, from which memory counts.
 """
 
 from __future__ import annotations
@@ -14,9 +14,11 @@ import argparse
 import itertools
 import os
 import pathlib
+import resource
 import tempfile
 
 from bench.modules import clocks_in_turn, counting, in_step
+from bench.results import show
 from bench.spent import spent
 from tests import harness
 
@@ -24,18 +26,16 @@ from tests import harness
 INNER = 1_000
 
 
-def timed(name: str, words: list[object], out: str | None = None) -> None:
+def timed(name: str, words: list[object], out: str | None = None, **figures: float) -> None:
     """A call, and what it takes; its standard output goes to the file, if one is given."""
     with open(out or os.devnull, "wb") as sink:
         took = spent(words, sink)
-    memory, said = f"{took.megabytes:.0f} MB", took.err.decode().strip()
-    print(
-        f"{name}: {took.seconds:.2f} s, {took.passed:.2f} s passed, {memory}, status {took.status} {said}", flush=True
-    )
+    taken = {"seconds": took.seconds, "passed": took.passed, "megabytes": round(took.megabytes), "status": took.status}
+    show(name, took.err.decode().strip(), **taken, **figures)
 
 
-def size(path: str | pathlib.Path) -> str:
-    return f"{pathlib.Path(path).stat().st_size:,} bytes"
+def size(path: str | pathlib.Path) -> int:
+    return pathlib.Path(path).stat().st_size
 
 
 def whole(program: pathlib.Path, name: str, text: str, folder: pathlib.Path) -> None:
@@ -43,15 +43,15 @@ def whole(program: pathlib.Path, name: str, text: str, folder: pathlib.Path) -> 
     a row are one entry."""
     file, log, chart, joined = (str(folder / part) for part in ("module", "log", "chart", "joined"))
     pathlib.Path(file).write_text(text)
-    print(f"-- {name}")
-    timed("run", [program, "run", "--module", file])
-    timed("run --log", [program, "run", "--module", "--log", log, file])
-    timed(f"a copy of the log, {size(log)}", ["cat", log], joined)
-    timed("replay", [program, "replay", "--module", file, log])
-    timed("chart", [program, "chart", "--module", file, log], chart)
-    print(f"the chart: {size(chart)}")
+    steps = int(spent([program, "run", "--module", file]).out.split()[-1])
+    timed(f"{name}: run", [program, "run", "--module", file], steps=steps)
+    timed(f"{name}: run --log", [program, "run", "--module", "--log", log, file])
+    timed(f"{name}: a copy of the log", ["cat", log], joined, bytes=size(log))
+    timed(f"{name}: replay", [program, "replay", "--module", file, log])
+    timed(f"{name}: chart", [program, "chart", "--module", file, log], chart)
+    show(f"{name}: the chart", bytes=size(chart))
     join(log, joined)
-    timed(f"replay, entries joined, {size(joined)}", [program, "replay", "--module", file, joined])
+    timed(f"{name}: replay, entries joined", [program, "replay", "--module", file, joined], bytes=size(joined))
 
 
 def join(log: str, joined: str) -> None:
@@ -76,13 +76,13 @@ def hostile(program: pathlib.Path, folder: pathlib.Path) -> None:
     """Logs of which little is true."""
     file, log = folder / "module", folder / "log"
     file.write_text(counting(100, INNER))
-    print("-- logs that claim much, of a program of 200,000 steps")
+    claims = "a log that claims much"
 
     def replayed(name: str, *parts: tuple[bytes, int]) -> None:
         with log.open("wb") as write:
             for part, times in parts:
                 write.writelines(itertools.repeat(part, times))
-        timed(f"{name}, {size(log)}", [program, "replay", "--module", file, log])
+        timed(f"{claims}: {name}", [program, "replay", "--module", file, log], bytes=size(log))
 
     head, many = (b"x10log 1\n", 1), 10_000_000
     replayed("end 1000000000 and no entry", head, (b"end 1000000000\n", 1))
@@ -91,16 +91,16 @@ def hostile(program: pathlib.Path, folder: pathlib.Path) -> None:
         "10,000,000 entries that nobody can take", head, (b"4294967295 4294967295\n", many), (b"end %d\n" % many, 1)
     )
     replayed("10,000,000 entries, and no last line", head, (b"0 1\n", many))
-    timed("/dev/zero", [program, "replay", "--module", file, "/dev/zero"])
+    timed(f"{claims}: /dev/zero", [program, "replay", "--module", file, "/dev/zero"])
     file.write_text(counting(499_000, INNER))
-    print("-- of a program of 999,000,000 steps")
-    replayed("one entry of 4294967295 steps", head, (b"0 4294967295\nend 1\n", 1))
+    replayed("one entry of 4294967295 steps, of a program of 999,000,000", head, (b"0 4294967295\nend 1\n", 1))
 
 
 def main() -> None:
     parser = argparse.ArgumentParser()
     harness.add_program(parser)
     program = parser.parse_args().program
+    show("this process", megabytes=round(resource.getrusage(resource.RUSAGE_SELF).ru_maxrss / 1024))
     with tempfile.TemporaryDirectory() as name:
         folder = pathlib.Path(name)
         whole(program, "1,000,000 steps of one activity", counting(499, INNER), folder)

@@ -14,6 +14,7 @@ import tempfile
 
 from bench.beside import ran
 from bench.modules import counting
+from bench.results import show
 from tests import harness
 
 TURNS = 9999
@@ -35,7 +36,7 @@ def main() -> None:
     if ours[0][0].split()[0] != lua[0][0].split()[0]:
         raise SystemExit(f"{ours[0][0]!r} beside {lua[0][0]!r}")
     seconds = [min(run[1] for run in runs) for runs in (ours, lua)]
-    print(f"ours {seconds[0]:.3f} lua {seconds[1]:.3f} ratio {seconds[0] / seconds[1]:.2f}")
+    show("a sum of fifty million numbers", ours=seconds[0], lua=seconds[1], ratio=seconds[0] / seconds[1])
 
 
 if __name__ == "__main__":

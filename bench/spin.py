@@ -4,9 +4,9 @@ partial order reduction, and with it.
 
     python3 -m bench.spin [MODEL ..]
 
-Needs `spin` and `gcc`. Prints for each model how many lists of numbers there are, and for both searches the states that
-were stored and the processor time of one search. `spin -o2`, since else it hides an array that is only written; no
-compression.
+Needs `spin` and `gcc`. Prints for each model a line (bench/results.py): how many lists of numbers there are, and for
+both searches the states that were stored and the processor time of one search. `spin -o2`, since else it hides an array
+that is only written; no compression.
 """
 from __future__ import annotations
 
@@ -16,6 +16,8 @@ import resource
 import subprocess
 import sys
 import tempfile
+
+from bench.results import show
 
 MODELS = pathlib.Path(__file__).resolve().parent / "spin"
 
@@ -47,9 +49,9 @@ def main() -> None:
                 ["spin", "-o2", "-a", MODELS / f"{name}.pml"], cwd=folder, check=True, stdout=subprocess.DEVNULL
             )
             (lists, states, seconds), (again, fewer, less) = searched(folder, "-DNOREDUCE"), searched(folder)
-        same = "" if lists == again else f", but {len(again)} with reduction"
-        reduced = f"{fewer:,} with reduction in {less:.2f} s"
-        print(f"{name}: {len(lists)} lists{same}; {states:,} states in {seconds:.2f} s, {reduced}", flush=True)
+        if lists != again:
+            sys.exit(f"spin: {name} has {len(lists)} lists, but {len(again)} with reduction")
+        show(name, lists=len(lists), states=states, reduced=fewer, seconds=seconds, seconds_reduced=less)
 
 
 if __name__ == "__main__":

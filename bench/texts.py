@@ -4,9 +4,9 @@ programs.
 
     python3 -m bench.texts [--program PATH] [--count]
 
-Prints for each text its bytes, the least processor time of five calls, which what else the machine does changes little,
-and how the answer begins. With `--count` it prints the instructions of one call as callgrind counts them (valgrind is
-needed), and how many of these are spent on memory: taking, giving back, copying.
+Prints for each text a line (bench/results.py): its bytes, the least processor time of five calls, which what else the
+machine does changes little, and how the answer begins. With `--count` it prints the instructions of one call as
+callgrind counts them (valgrind is needed), and how many of these are spent on memory: taking, giving back, copying.
 """
 
 from __future__ import annotations
@@ -18,6 +18,7 @@ import re
 import subprocess
 import tempfile
 
+from bench.results import show
 from bench.spent import spent
 from tests import harness
 
@@ -110,12 +111,11 @@ def main() -> None:
             path.write_text(text)
             if given.count:
                 total, memory = counted(given.program, path)
-                counts = f"{total:,} instructions, {total / len(text):.0f} a byte, {memory:,} of them for memory"
-                print(f"{name}: {len(text)} bytes, {counts}", flush=True)
+                show(name, bytes=len(text), instructions=total, memory=memory)
                 continue
             times = [called(given.program, path) for _ in range(5)]
         seconds, out = min(times)
-        print(f"{name}: {len(text)} bytes, {seconds:.3f} s: {out[:60]!r}", flush=True)
+        show(name, repr(out[:60]), bytes=len(text), seconds=seconds)
 
 
 if __name__ == "__main__":

@@ -4,8 +4,8 @@ that advance together.
 
     python3 -m bench.workers [--program PATH] [--rounds N]
 
-Prints for each module the seconds that passed, the least of three runs: in the order `first`, and by 1, 2 and 4
-workers.
+Prints for each module a line (bench/results.py) with the seconds that passed, the least of three runs: in the order
+`first`, and by 1, 2 and 4 workers.
 """
 
 from __future__ import annotations
@@ -15,6 +15,7 @@ import os
 import tempfile
 
 from bench.modules import counting_beside, module, unit
+from bench.results import show
 from bench.spent import spent
 from tests import harness
 
@@ -37,7 +38,7 @@ def in_step_with_sums(activities: int, phases: int) -> str:
 ROWS = [
     ("two activities with a loop of 100 million steps each", counting_beside(2, 10_000)),
     ("four activities with a loop of 50 million steps each", counting_beside(4, 5_000)),
-    ("1,000 activities that take some ten local steps, and advance together, 100 times", in_step_with_sums(1_000, 100)),
+    ("1,000 activities that take ten local steps, and advance together, 100 times", in_step_with_sums(1_000, 100)),
 ]
 
 
@@ -55,15 +56,13 @@ def main() -> None:
     harness.add_program(parser)
     parser.add_argument("--rounds", type=int, default=3)
     given = parser.parse_args()
-    print("| Program | `first` | 1 worker | 2 | 4 |")
-    print("|---|---|---|---|---|")
     for name, text in ROWS:
         with tempfile.NamedTemporaryFile("w", suffix=".json") as file:
             file.write(text)
             file.flush()
-            ways = [[], *(["--workers", str(count)] for count in (1, 2, 4))]
-            seconds = [passed([given.program, "run", *way, "--module", file.name], given.rounds) for way in ways]
-        print(f"| {name} | " + " | ".join(f"{second:.2f}" for second in seconds) + " |", flush=True)
+            ways = {"first": [], **{f"workers_{count}": ["--workers", str(count)] for count in (1, 2, 4)}}
+            calls = {way: [given.program, "run", *words, "--module", file.name] for way, words in ways.items()}
+            show(name, **{way: passed(words, given.rounds) for way, words in calls.items()})
 
 
 if __name__ == "__main__":

@@ -22,6 +22,7 @@ STATIC = (
     "python3 tests/prover/bugs.py --applies",
     "python3 tests/prover/wrong_bodies.py",
     "python3 tests/prover/tables.py --check",
+    "python3 -m bench.tables --check",
     "python3 -m tests.gate.links",
     "python3 -m tests.gate.scripts",
     "python3 -m compileall -q bench dist tests",

@@ -21,7 +21,7 @@ import itertools
 import re
 import sys
 import textwrap
-from collections.abc import Callable, Iterator
+from collections.abc import Callable, Iterator, Sequence
 from dataclasses import dataclass
 from pathlib import Path
 
@@ -68,11 +68,12 @@ class Times:
 
 @dataclass(frozen=True)
 class Part:
-    """A part of a page: its name, and how its text is made from the repository and its text so far."""
+    """A part of a page: its name, how its text is made from the repository and its text so far, and by which script."""
 
     page: str
     name: str
     made: Callable[[Path, str], str]
+    script: str = "tests/prover/tables.py"
 
 
 def families(top: Path) -> list[Family]:
@@ -216,19 +217,20 @@ def look(top: Path, part: Part, is_check: bool) -> str | None:
     if after == before:
         return None
     if is_check:
-        return f"{part.page}: the part `{part.name}` isn't as tests/prover/tables.py writes it: call that"
+        return f"{part.page}: the part `{part.name}` isn't as {part.script} writes it: call that"
     path.write_text(after, encoding="utf-8")
     return None
 
 
-def main() -> int:
-    parser = argparse.ArgumentParser(description=__doc__, formatter_class=argparse.RawDescriptionHelpFormatter)
+def main(parts: Sequence[Part] = PARTS, about: str | None = __doc__) -> int:
+    """Writes these parts, or looks at them, as the call asks."""
+    parser = argparse.ArgumentParser(description=about, formatter_class=argparse.RawDescriptionHelpFormatter)
     parser.add_argument("--check", action="store_true")
     parser.add_argument("top", nargs="?", type=Path, default=Path(__file__).resolve().parents[2])
     given = parser.parse_args()
-    wrong = [what for part in PARTS if (what := look(given.top, part, given.check))]
+    wrong = [what for part in parts if (what := look(given.top, part, given.check))]
     print(*wrong, sep="\n", end="\n" if wrong else "")
-    print(f"tables: {len(PARTS)} parts of pages, {len(wrong)} with a fault")
+    print(f"tables: {len(parts)} parts of pages, {len(wrong)} with a fault")
     return 1 if wrong else 0
 
 
