@@ -1,4 +1,4 @@
-# Completions of x10clock 1.1.0 for fish, which dist/manual.py writes. Fish finds them in
+# Completions of x10clock 1.2.0 for fish, which dist/manual.py writes. Fish finds them in
 # ~/.config/fish/completions.
 complete -c x10clock -f
 complete -c x10clock -n __fish_use_subcommand -a check -d 'Says whether a program is accepted.'
@@ -40,7 +40,7 @@ complete -c x10clock -n '__fish_seen_subcommand_from run' -l arg -x -d 'A number
 complete -c x10clock -n '__fish_seen_subcommand_from run' -s h -l help -d 'Print help'
 complete -c x10clock -n '__fish_seen_subcommand_from outcomes' -F
 complete -c x10clock -n '__fish_seen_subcommand_from outcomes' -l module -d 'FILE is a module text'
-complete -c x10clock -n '__fish_seen_subcommand_from outcomes' -l limit -x -d 'The search stops once so many worlds are kept, or so many outcomes are told: 40000 where nothing is said, and fewer where there may be many activities'
+complete -c x10clock -n '__fish_seen_subcommand_from outcomes' -l limit -x -d 'The search stops once more worlds are kept, or so many outcomes are told: 40000 where nothing is said, and fewer where there may be many activities'
 complete -c x10clock -n '__fish_seen_subcommand_from outcomes' -l pick -x -d 'The outcome whose log is written, counted from 1: the first where nothing is said'
 complete -c x10clock -n '__fish_seen_subcommand_from outcomes' -l log -r -F -d 'The file that the log of the run goes to'
 complete -c x10clock -n '__fish_seen_subcommand_from outcomes' -l sets -d 'Tells outcomes with the same numbers, in whatever order, as one'
