@@ -214,12 +214,11 @@ def page_cell(found: Results, run: str) -> str:
 
 
 def rows_of_looks(found: Results) -> Iterator[list[str]]:
-    """What each look took and printed."""
+    """What each look took and printed. Status 6 of `races` says that there are some, and not that a text is cut."""
     for name, run in LOOKS:
-        events, lanes, where, races = (
-            look_cell(found.get(f"{run}: {command}")) for command in ("events", "lanes", "where", "races")
-        )
-        yield [name, events, lanes, page_cell(found, run), where, races]
+        events, lanes, where = (look_cell(found.get(f"{run}: {command}")) for command in ("events", "lanes", "where"))
+        races = found.get(f"{run}: races")
+        yield [name, events, lanes, page_cell(found, run), where, look_cell(races and {**races, "status": 0})]
 
 
 def rows_of_outcomes(found: Results) -> Iterator[list[str]]:
