@@ -34,8 +34,8 @@ MOST = {
     "pub": 74,
     "clauses": 0,
     "code": 253,
-    "proofs": 6682,
-    "docs": 71,
+    "proofs": 6680,
+    "docs": 70,
     "scripts": 0,
     "files": 0,
 }
