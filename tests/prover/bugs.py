@@ -89,7 +89,7 @@ def read_bugs(path: str) -> list[Bug]:
             file = rest
         elif word == "old":
             bugs[-1].changes.append(Change(file, rest))
-        elif word == "new":
+        elif word == "new" and not bugs[-1].changes[-1].new:
             bugs[-1].changes[-1].new = rest
         else:
             sys.exit(f"{path}:{number}: not understood: {line}")
@@ -99,6 +99,8 @@ def read_bugs(path: str) -> list[Bug]:
     for bug in bugs:
         if not bug.why or not bug.changes or not all(change.file for change in bug.changes):
             sys.exit(f"{path}: {bug.name} has no why, no file, or nothing that it changes")
+        if any(change.old == change.new for change in bug.changes):
+            sys.exit(f"{path}: {bug.name} changes nothing")
     return bugs
 
 
