@@ -1,6 +1,6 @@
 #!/usr/bin/env python3
-"""Whether the machine in bench/plain prints what the program prints: on the modules of tests/answers/rows, the accepted
-rows of tests/answers/programs, and modules that nobody wrote (tests/generated/generated.py), in each order, byte for
+"""Whether the machine in bench/plain prints what the program prints: on the modules of tests/program/rows, the accepted
+rows of tests/program/programs, and modules that nobody wrote (tests/generated/generated.py), in each order, byte for
 byte.
 
     python3 -m bench.same [CASES] [SEED] [--program PATH | --alone]
@@ -29,7 +29,7 @@ MOST_STEPS, MOST_WORK = 20_000, 2_000_000
 
 def row_texts() -> Iterator[bytes]:
     """The texts of the rows of modules."""
-    for path in sorted((TOP / "tests/answers/programs").glob("*.rows")):
+    for path in sorted((TOP / "tests/program/programs").glob("*.rows")):
         if not path.name.startswith("sources"):
             yield from mutations.row_texts(path)
 

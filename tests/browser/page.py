@@ -4,7 +4,7 @@
     python3 -m tests.browser.page [--program PATH] [--shots FOLDER]
     python3 -m tests.browser.page [--program PATH] --picture    # makes the picture of the pages, and tries nothing
 
-The runs are those of tests/answers/html_pages.py. At each moment: what the page says was done with `events`, how things
+The runs are those of tests/program/html_pages.py. At each moment: what the page says was done with `events`, how things
 stand, and which lines are marked, with `where` behind the log cut to so many steps, the printed numbers and the framed
 box with the events up to there. Then the keys and the buttons, and whether all fits into a wide window and a phone's.
 Into the folder go screenshots of these, in light and dark. Where no browser is found it says so, and the status is 0.
@@ -26,7 +26,7 @@ import tempfile
 from typing import Any
 
 from tests import harness
-from tests.answers.html_pages import RUNS, Run, Wrong, made, same
+from tests.program.html_pages import RUNS, Run, Wrong, made, same
 from tests.harness import TOP
 
 BROWSERS = ("chromium", "chromium-browser", "google-chrome", "chrome")

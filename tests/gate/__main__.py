@@ -32,15 +32,15 @@ STATIC = (
 # What the built program answers, alone and with growths refused; what the reference says of schedules, of logs, of what
 # texts mean, and of modules and texts that nobody wrote; what the program does where files and the system fail it.
 ASK = (
-    "sh tests/answers/answers.sh",
-    "sh tests/answers/transcripts.sh",
-    "python3 -m tests.answers.pages",
-    "python3 -m tests.answers.exercises",
-    "python3 -m tests.answers.html_pages",
-    "python3 -m tests.answers.editors",
-    "python3 -m tests.answers.refused_growths",
-    "sh tests/answers/workers.sh",
-    "python3 -m tests.answers.schedules",
+    "sh tests/program/answers.sh",
+    "sh tests/program/transcripts.sh",
+    "python3 -m tests.program.pages",
+    "python3 -m tests.program.exercises",
+    "python3 -m tests.program.html_pages",
+    "python3 -m tests.program.editors",
+    "python3 -m tests.program.refused_growths",
+    "sh tests/program/workers.sh",
+    "python3 -m tests.program.schedules",
     "python3 -m tests.generated.logs 200 1",
     "python3 -m tests.generated.meaning_bugs",
     "python3 -m tests.reference.meaning 200 1",
@@ -52,10 +52,10 @@ ASK = (
     "python3 -m tests.generated.by_chance",
     "python3 -m tests.generated.split_phases",
     "python3 -m tests.generated.operands",
-    "python3 -m tests.answers.failing_devices",
-    "python3 -m tests.answers.hostile",
-    "python3 -m tests.answers.wants",
-    "python3 -m tests.answers.release",
+    "python3 -m tests.program.failing_devices",
+    "python3 -m tests.program.hostile",
+    "python3 -m tests.program.wants",
+    "python3 -m tests.program.release",
 )
 
 

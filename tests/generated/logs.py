@@ -1,6 +1,6 @@
 #!/usr/bin/env python3
 """Logs and what is told of them: whether the reference (tests/reference/logs.py, runs.py) says what the rows of
-tests/answers/logs.rows want, and, with `--program`, whether the program says the same of these rows, and of logs that
+tests/program/logs.rows want, and, with `--program`, whether the program says the same of these rows, and of logs that
 nobody wrote.
 
     python3 -m tests.generated.logs [CASES] [SEED] [--program PATH | --alone] [--jobs N] [--tally]
@@ -36,8 +36,8 @@ from tests.reference import logs, modules, runs, source
 from tests.reference.logs import Answer, Entry, Fault, Log
 from tests.reference.modules import Accepted, Arguments, ByChance, Order, Refused, Way
 
-ROWS = TOP / "tests/answers/logs.rows"
-IN_STEP = TOP / "tests/answers/rows/in-step.x10"
+ROWS = TOP / "tests/program/logs.rows"
+IN_STEP = TOP / "tests/program/rows/in-step.x10"
 NEW_LINE = b"\n"
 MOST_STEPS = 600
 # Of the edges of a log all but the replay and the chart is asked for at one in so many.

@@ -2,7 +2,7 @@
 """Feeds the built program modules that nobody wrote, and compares each answer with the reference
 (tests/reference/modules.py).
 
-The modules are those of tests/answers/rows and whole programs that are made up here, as they are, with a rule broken,
+The modules are those of tests/program/rows and whole programs that are made up here, as they are, with a rule broken,
 or changed operand by operand and byte by byte (tests/generated/generated.py). `check` and `run`, the latter in each
 order, also by chance, and with numbers by chance where main takes some, and `explain`, have to answer what the
 reference answers, byte for byte, and so have `explain --json` and `listing` of one text in ten, and `events`, `lanes`
@@ -10,7 +10,7 @@ and `page` of a run of one accepted program in five; where there are several wal
 one is taken too, and counted. Of an accepted module with few worlds the reference goes through all schedules, and looks
 whether the promises hold; of one such module in ten `outcomes` has to print what these schedules print. With `--source`
 the texts are programs in the language (tests/generated/generated_source.py) and those of
-tests/answers/programs/sources*.rows and of examples, and `compile` is compared too, with what tests/reference/source.py
+tests/program/programs/sources*.rows and of examples, and `compile` is compared too, with what tests/reference/source.py
 makes of them. Some runs of the module are compared with what the text means (tests/reference/meaning.py). Needs the
 built program and python3. The gate runs it with 2,000 cases.
 
@@ -164,7 +164,7 @@ def row_texts(path: pathlib.Path) -> list[bytes]:
 def source_texts() -> list[bytes]:
     """The texts of the rows of sources, and of the examples."""
     found = [
-        text for path in sorted((TOP / "tests/answers/programs").glob("sources*.rows")) for text in row_texts(path)
+        text for path in sorted((TOP / "tests/program/programs").glob("sources*.rows")) for text in row_texts(path)
     ]
     return found + [path.read_bytes() for path in sorted((TOP / "examples").glob("*.x10"))]
 
@@ -172,7 +172,7 @@ def source_texts() -> list[bytes]:
 def seed_texts(is_source: bool) -> list[bytes]:
     if is_source:
         return source_texts()
-    return [path.read_bytes() for path in sorted((TOP / "tests/answers/rows").glob("*.json"))] + [
+    return [path.read_bytes() for path in sorted((TOP / "tests/program/rows").glob("*.json"))] + [
         sharing(*form) for form in SHARING
     ]
 

@@ -5,7 +5,7 @@ what the program says.
     python3 -m tests.generated.operands [--jobs N] [--program PATH]
 
 2 jobs and crates/x10clock/out/x10clock where nothing else is said. The modules are what some texts of
-tests/answers/rows are compiled to. A number becomes 0 and one more; where it may have no sign also the greatest of 16
+tests/program/rows are compiled to. A number becomes 0 and one more; where it may have no sign also the greatest of 16
 bits, one beyond it, and -1; where it may also both ends of 64 bits and one beyond each. A name becomes each other name,
 a comparison each other one, a letter of `params` the other, and each instruction is left out, and doubled. Each of
 these modules is refused as the reference says (tests/reference/modules.py), or runs in the three orders and by chance
@@ -34,10 +34,10 @@ from tests.reference.modules import Accepted, ByChance, Order, Role, Way
 
 # Two in step; a clock dropped on one of two ways; activities that add; a loop with a limit, whose main takes a number.
 TEXTS = [
-    (TOP / "tests/answers/rows/in-step.x10").read_bytes(),
+    (TOP / "tests/program/rows/in-step.x10").read_bytes(),
     b"def main() { val c = Clock.make(); val n = 1; if (n == 1) { c.drop(); } c.resume(); }",
-    (TOP / "tests/answers/rows/shared-sum.x10").read_bytes(),
-    (TOP / "tests/answers/rows/as-many.x10").read_bytes(),
+    (TOP / "tests/program/rows/shared-sum.x10").read_bytes(),
+    (TOP / "tests/program/rows/as-many.x10").read_bytes(),
 ]
 ROW = (
     b'{"version":1,"shared":[],"units":[{"kind":"main","params":"","slots":3,'

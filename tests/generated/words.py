@@ -41,7 +41,7 @@ from tests.reference.outcomes import Answer
 MANY, ANSWERED = 500, ("outcomes", "events", "lanes", "page")
 CHUNK = 50
 SHOWN = 5
-IN_STEP, AS_MANY = ((TOP / f"tests/answers/rows/{name}.x10").read_bytes() for name in ("in-step", "as-many"))
+IN_STEP, AS_MANY = ((TOP / f"tests/program/rows/{name}.x10").read_bytes() for name in ("in-step", "as-many"))
 LOG = b"x10log 1\n" + b"".join(b"%d 1\n" % who for who in (0, 0, 0, 1, 0, 0, 0, 0, 1, 1, 1, 1)) + b"end 12\n"
 # Of a run with three activities beside main, as with each number from 3 on.
 LOG_OF_MANY = logs.text_of(logs.log_of(source.judge(AS_MANY).module, Order.LAST, (3,)))

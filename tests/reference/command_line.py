@@ -1,6 +1,6 @@
 """The reference for the command line: what words ask for, or why they are no job; and what a job on files is answered.
 
-Of clap's texts it has the first line, and help by its place in tests/answers/words.txt. The words are taken one after
+Of clap's texts it has the first line, and help by its place in tests/program/words.txt. The words are taken one after
 another, and the first that is wrong is reported; what an option is given is looked at when the next argument begins,
 and what is missing at the end. Files are opened, in this order: FILE, LOG or the list of `--expect`, and PATH of
 `--log`, which is emptied; then FILE is read.
@@ -319,10 +319,10 @@ def of_all(word: str) -> Exception:
 
 
 def help_text(command: str) -> str:
-    """The text of help, which stands in tests/answers/words.txt."""
+    """The text of help, which stands in tests/program/words.txt."""
     call = f"$ x10clock {command} --help\n".replace("  ", " ")
     return re.split(
-        r"^\$ ", (TOP / "tests/answers/words.txt").read_text().partition(call)[2], maxsplit=1, flags=re.MULTILINE
+        r"^\$ ", (TOP / "tests/program/words.txt").read_text().partition(call)[2], maxsplit=1, flags=re.MULTILINE
     )[0]
 
 

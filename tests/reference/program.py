@@ -2,7 +2,7 @@
 """Answers as x10clock does, by the reference: so that scripts, pages and transcripts can be tried without the built
 program.
 
-    X10CLOCK=tests/reference/program.py sh tests/answers/answers.sh tests/answers/programs/sources.rows
+    X10CLOCK=tests/reference/program.py sh tests/program/answers.sh tests/program/programs/sources.rows
 
 Of clap's texts it knows the help, and of each other the first line.
 """

@@ -42,7 +42,7 @@ settled_one now c = by (is_ready c)
     by true = refl
     by false = refl
 
-settled_all : (now : ℕ) (cs : List Clock) → map plain_clock (map (settled_clock now) cs) ≡ map resettled (map plain_clock cs)
+pub settled_all : (now : ℕ) (cs : List Clock) → map plain_clock (map (settled_clock now) cs) ≡ map resettled (map plain_clock cs)
 settled_all now [] = refl
 settled_all now (c ∷ cs) = rw (settled_one now c, settled_all now cs)
 
@@ -53,26 +53,26 @@ same_settled w v h = same_plain (settled w) (settled v) (ap (λ z. z.activities)
 
 -- ---- changes
 
-moved_plain : (a : ℕ) (change : ℕ → Standing → Standing) (cs : List Clock) → map plain_clock (moved a change (map plain_clock cs)) ≡ map plain_clock (moved a change cs)
+pub moved_plain : (a : ℕ) (change : ℕ → Standing → Standing) (cs : List Clock) → map plain_clock (moved a change (map plain_clock cs)) ≡ map plain_clock (moved a change cs)
 moved_plain a change [] = refl
 moved_plain a change (c ∷ cs) = ap (λ zs. plain_clock (moved_on a (change 0) c) ∷ zs) (moved_plain a (λ k. change (suc k)) cs)
 
-joined_plain : (a : ℕ) (given : ℕ → Bool) (cs : List Clock) → map plain_clock (joined a given (map plain_clock cs)) ≡ map plain_clock (joined a given cs)
+pub joined_plain : (a : ℕ) (given : ℕ → Bool) (cs : List Clock) → map plain_clock (joined a given (map plain_clock cs)) ≡ map plain_clock (joined a given cs)
 joined_plain a given [] = refl
 joined_plain a given (c ∷ cs) = ap (λ zs. plain_clock (joined_on a (given 0) c) ∷ zs) (joined_plain a (λ k. given (suc k)) cs)
 
-clocks_twice : (cs : List Clock) → map plain_clock (map plain_clock cs) ≡ map plain_clock cs
+pub clocks_twice : (cs : List Clock) → map plain_clock (map plain_clock cs) ≡ map plain_clock cs
 clocks_twice [] = refl
 clocks_twice (c ∷ cs) = ap (λ zs. plain_clock c ∷ zs) (clocks_twice cs)
 
 -- ---- what is looked at
 
-registers_plain : (cs : List Clock) (a k : ℕ) → registers (map plain_clock cs) a k ≡ registers cs a k
+pub registers_plain : (cs : List Clock) (a k : ℕ) → registers (map plain_clock cs) a k ≡ registers cs a k
 registers_plain [] a k = refl
 registers_plain (c ∷ cs) a zero = refl
 registers_plain (c ∷ cs) a (suc k) = registers_plain cs a k
 
-any_plain : (a : ℕ) (cs : List Clock) → list_any (λ (c : Clock). is_signalled (standing_of c a)) (map plain_clock cs) ≡ list_any (λ (c : Clock). is_signalled (standing_of c a)) cs
+pub any_plain : (a : ℕ) (cs : List Clock) → list_any (λ (c : Clock). is_signalled (standing_of c a)) (map plain_clock cs) ≡ list_any (λ (c : Clock). is_signalled (standing_of c a)) cs
 any_plain a [] = refl
 any_plain a (c ∷ cs) = ap (λ p. is_signalled (standing_of c a) || p) (any_plain a cs)
 

@@ -40,11 +40,11 @@ activities_many : (x : Exchange) (w : World) → length (exchanged x w).activiti
 activities_many (OfClocks k) w = length-map w.activities _
 activities_many (OfActivities k) w = length-acts k w.activities
 
-clocks_all : (xs : List Exchange) (w : World) → length (all_exchanged xs w).clocks ≡ length w.clocks
+pub clocks_all : (xs : List Exchange) (w : World) → length (all_exchanged xs w).clocks ≡ length w.clocks
 clocks_all [] w = refl
 clocks_all (x ∷ xs) w = clocks_all xs (exchanged x w) ∙ clocks_many x w
 
-activities_all : (xs : List Exchange) (w : World) → length (all_exchanged xs w).activities ≡ length w.activities
+pub activities_all : (xs : List Exchange) (w : World) → length (all_exchanged xs w).activities ≡ length w.activities
 activities_all [] w = refl
 activities_all (x ∷ xs) w = activities_all xs (exchanged x w) ∙ activities_many x w
 
@@ -54,7 +54,7 @@ pair_more : (x : Exchange) (w v : World) → length w.clocks ≤ length v.clocks
 pair_more (OfClocks k) w v p q h = omega arith
 pair_more (OfActivities k) w v p q h = omega arith
 
-pairs_more : (xs : List Exchange) (w v : World) → length w.clocks ≤ length v.clocks → length w.activities ≤ length v.activities
+pub pairs_more : (xs : List Exchange) (w v : World) → length w.clocks ≤ length v.clocks → length w.activities ≤ length v.activities
     → ArePairs xs w → ArePairs xs v
 pairs_more [] w v p q h = tt
 pairs_more (x ∷ xs) w v p q h = (pair_more x w v p q h.0, pairs_more xs w v p q h.1)
@@ -72,11 +72,11 @@ alike_all : (xs : List Exchange) (w v : World) → AreAlike w v → AreAlike (al
 alike_all [] w v h = h
 alike_all (x ∷ xs) w v h = alike_all xs (exchanged x w) (exchanged x v) (alike_one x w v h)
 
-all_append : (xs ys : List Exchange) (w : World) → all_exchanged (xs ++ ys) w ≡ all_exchanged ys (all_exchanged xs w)
+pub all_append : (xs ys : List Exchange) (w : World) → all_exchanged (xs ++ ys) w ≡ all_exchanged ys (all_exchanged xs w)
 all_append [] ys w = refl
 all_append (x ∷ xs) ys w = all_append xs ys (exchanged x w)
 
-pairs_append : (xs ys : List Exchange) (w : World) → ArePairs xs w → ArePairs ys w → ArePairs (xs ++ ys) w
+pub pairs_append : (xs ys : List Exchange) (w : World) → ArePairs xs w → ArePairs ys w → ArePairs (xs ++ ys) w
 pairs_append [] ys w h g = g
 pairs_append (x ∷ xs) ys w h g = (h.0, pairs_append xs ys w h.1 g)
 

@@ -142,7 +142,7 @@ same_given s p q standing.Ahead h g = some_given s (stage_by p standing.Ahead) (
 abbrev pub stage_in : List Clock → ℕ → ℕ → ℕ
 stage_in cs k a = option_map_or (λ c. stage_of c a) (slice_get cs k) 0
 
-settled_in : (now : ℕ) (cs : List Clock) (k a : ℕ) → stage_in (map (settled_clock now) cs) k a ≡ stage_in cs k a
+pub settled_in : (now : ℕ) (cs : List Clock) (k a : ℕ) → stage_in (map (settled_clock now) cs) k a ≡ stage_in cs k a
 settled_in now [] k a = refl
 settled_in now (c ∷ cs) zero a = settled_stage now c a
 settled_in now (c ∷ cs) (suc k) a = settled_in now cs k a
@@ -176,7 +176,7 @@ pushed_own (c ∷ cs) new zero a opens = stays_there (stage_of c a)
 pushed_own (c ∷ cs) new (suc k) a opens = pushed_own cs new k a opens
 
 -- where an activity is started
-joined_old : (a b : ℕ) (given : ℕ → Bool) (cs : List Clock) (k : ℕ) → Each (λ j (c : Clock). b < length c.standings) cs
+pub joined_old : (a b : ℕ) (given : ℕ → Bool) (cs : List Clock) (k : ℕ) → Each (λ j (c : Clock). b < length c.standings) cs
     → stage_in (joined a given cs) k b ≡ stage_in cs k b
 joined_old a b given [] k inside = refl
 joined_old a b given (c ∷ cs) zero inside = ap (stage_by c.phase) (stand_joined_old a b (given 0) c (inside 0 c refl))

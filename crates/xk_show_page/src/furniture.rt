@@ -5,7 +5,7 @@ ghost use Rattle.std.specs.Prelude.{◌≡◌};
 ghost use Rattle.xk_show_page.specs.Page.{page_top, picture_begins, source_begins, source_ends, style_ends};
 
 /// The page's first lines. Its policy has the sums of its script and of both styles: whoever changes one of these is told
-/// the new sum by tests/answers/html_pages.py.
+/// the new sum by tests/program/html_pages.py.
 #[tactic(auto, unfolding(crate::specs::Page::page_top))]
 pub(crate) fn top() -> &'static str
     ensures { result.now ≡ page_top }

@@ -1,7 +1,7 @@
 //! Makes public calls over small programs, each again where it was refused memory, and prints one line: made again, a call has to succeed.
 //! These are the calls that hand back what they were given, or go on, and those from a text to the text of its module. What they answer, and
 //! what they leave as it was, their contracts say. That the other calls are refused memory only where there is none, `x10clock` shows.
-//! Run it with growths refused, one at a time: `tests/answers/refused_growths.py` does.
+//! Run it with growths refused, one at a time: `tests/program/refused_growths.py` does.
 #![tactic(auto)]
 
 mod fixtures;

@@ -16,8 +16,8 @@ use Rattle.xk_types.specs.Walk.{IsEdge, IsVisited, entry_kinds}
 use Rattle.xk_typestate.specs.KindSet.{KindsValue, kinds_have, kinds_with, no_kinds}
 use Rattle.xk_typestate.specs.Place.{visit}
 use Rattle.xk_typestate.specs.Search.{IsClosed, IsFound, Came, AreSearched, IsSearched, IsComplete, IsPut, Extends, HasEntries, HasBegun, HasPut, CanCome, NotBehind, IsLatest, IsPrompt, holds, kinds_absent}
-use Rattle.xk_typestate.specs.declared.search.Found.{Found}
-use Rattle.xk_typestate.specs.declared.search.Search.{Search}
+use Rattle.xk_typestate.specs.declared.fixed_point.Found.{Found}
+use Rattle.xk_typestate.specs.declared.fixed_point.Search.{Search}
 use Rattle.xk_typestate.proofs.KindSetLemmas.{have_added, have_kept, have_only, absent_with, none_have}
 use Rattle.xk_typestate.proofs.EdgeLemmas.{same_visit, edge_inside}
 use Rattle.xk_types.proofs.WalkLemmas.{visited_start, visited_closed, visited_on}

@@ -10,8 +10,8 @@ use Rattle.xk_typestate.specs.Place.{visit}
 use Rattle.xk_typestate.specs.Search.{IsFound, Came, NotBehind, IsComplete}
 use Rattle.xk_typestate.specs.SearchStops.{StopsBack, IsFirstPlaceOf}
 use Rattle.xk_typestate.specs.LeastRefusal.{IsShortest}
-use Rattle.xk_typestate.specs.declared.search.Found.{Found}
-use Rattle.xk_typestate.specs.declared.search.Search.{Search}
+use Rattle.xk_typestate.specs.declared.fixed_point.Found.{Found}
+use Rattle.xk_typestate.specs.declared.fixed_point.Search.{Search}
 use Rattle.xk_typestate.proofs.EdgeLemmas.{same_visit}
 use Rattle.xk_typestate.proofs.WalkBackLemmas.{same_found}
 

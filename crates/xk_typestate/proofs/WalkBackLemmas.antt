@@ -8,7 +8,7 @@ use Rattle.xk_types.specs.Code.{UnitValue, ModuleValue}
 use Rattle.xk_types.specs.Walk.{IsEdge, IsWalk, Continues, last_of, EndsAt}
 use Rattle.xk_typestate.specs.Search.{IsFound, Came}
 use Rattle.xk_typestate.specs.SearchStops.{IsPlaceOf, HasCome}
-use Rattle.xk_typestate.specs.declared.search.Found.{Found}
+use Rattle.xk_typestate.specs.declared.fixed_point.Found.{Found}
 
 pub same_found : (found : List Found) (n : ℕ) (f g : Found) → IsFound found n f → IsFound found n g → f ≡ g
 same_found found n f g h k = same_Some f g (sym h ∙ k)

@@ -8,8 +8,8 @@ use Rattle.xk_types.specs.Order.{Has}
 use Rattle.xk_types.specs.Walk.{IsEdge, entry_kinds, successors}
 use Rattle.xk_typestate.specs.KindSet.{KindsValue, kinds_have, no_kinds, kinds_with}
 use Rattle.xk_typestate.specs.Place.{visit}
-use Rattle.xk_typestate.specs.declared.search.Found.{Found}
-use Rattle.xk_typestate.specs.declared.search.Search.{Search}
+use Rattle.xk_typestate.specs.declared.fixed_point.Found.{Found}
+use Rattle.xk_typestate.specs.declared.fixed_point.Search.{Search}
 
 -- there is code, and every instruction leads to places inside it
 pub record IsClosed (u : UnitValue) : Type 0 where

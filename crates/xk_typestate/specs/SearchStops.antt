@@ -3,7 +3,7 @@ use Rattle.std.specs.Prelude.{◌≡◌, ℕ, zero, suc, ◌<◌, List, Option, 
 use Rattle.xk_types.specs.declared.rules.Visit.{Visit}
 use Rattle.xk_types.specs.Code.{UnitValue, ModuleValue}
 use Rattle.xk_typestate.specs.Search.{IsFound, Came}
-use Rattle.xk_typestate.specs.declared.search.Found.{Found}
+use Rattle.xk_typestate.specs.declared.fixed_point.Found.{Found}
 
 -- the stop stands there
 abbrev pub IsPlaceOf : List Found → Visit → ℕ → Type 0

@@ -7,7 +7,7 @@ ghost use Rattle.xk_typestate.specs.Search.{IsClosed};
 ghost use Rattle.xk_typestate.specs.KindTable.{AreSlotKinds, IsKindTable, kinds_in};
 
 use crate::kind_set::KindSet;
-use crate::search::search_slot;
+use crate::fixed_point::search_slot;
 use std::alloc::{AllocError, Global};
 use std::marker::Model;
 use xk_shape::Blocks;

@@ -2,12 +2,12 @@
 #![tactic(auto)]
 
 mod fault;
+mod fixed_point;
 mod kind_check;
 mod kind_set;
 mod kind_table;
 mod least_refusal;
 mod module_kinds;
-mod search;
 mod transfer;
 mod walk;
 

@@ -8,7 +8,7 @@ ghost use Rattle.xk_typestate.specs.Search.{IsClosed};
 ghost use Rattle.xk_typestate.specs.LeastRefusal.{IsShortest};
 ghost use Rattle.xk_typestate.specs.SearchStops.{IsPlaceOf, IsFirstPlaceOf, IsNowhere, ComesFromBefore, HasCome, StopsBack};
 
-use crate::search::{Found, search_slot};
+use crate::fixed_point::{Found, search_slot};
 use std::alloc::{AllocError, Global};
 use xk_shape::Blocks;
 use xk_types::{Module, Unit, Visit};

@@ -5,7 +5,7 @@ use Rattle.std.proofs.lemmas.Option.{slice_get-get_or}
 use Rattle.xk_types.specs.declared.rules.Kind.TheVariants as kind
 use Rattle.xk_typestate.specs.Place.{visit}
 use Rattle.xk_typestate.specs.SearchStops.{StopsBack}
-use Rattle.xk_typestate.specs.declared.search.Found.{Found}
+use Rattle.xk_typestate.specs.declared.fixed_point.Found.{Found}
 use Rattle.xk_typestate.proofs.WalkBackLemmas.{IsBack, back_more}
 use Rattle.xk_typestate.proofs.walk.walk_back.Goals as goal
 
