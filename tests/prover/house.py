@@ -31,7 +31,7 @@ MOST = {
     "prover": 0,
     "uncited": 0,
     "twice": 27,
-    "pub": 74,
+    "pub": 87,
     "clauses": 0,
     "code": 253,
     "proofs": 6680,

@@ -1,4 +1,4 @@
-//! The fixed point of what a slot may hold at each place, through branches and loops: all that walks of one slot come to, found breadth-first.
+//! The fixed point of what a slot may hold at each place, through branches and loops, found breadth-first.
 
 ghost use Rattle.std.specs.Prelude.{◌≡◌, ℕ, ◌+◌, ◌<◌, ◌≤◌, length, IfOk, replicate, []};
 ghost use Rattle.xk_types.specs.Code.{UnitValue, ModuleValue};

@@ -6,8 +6,8 @@ ghost use Rattle.xk_typestate.specs.KindSet.{no_kinds};
 ghost use Rattle.xk_typestate.specs.Search.{IsClosed};
 ghost use Rattle.xk_typestate.specs.KindTable.{AreSlotKinds, IsKindTable, kinds_in};
 
-use crate::kind_set::KindSet;
 use crate::fixed_point::search_slot;
+use crate::kind_set::KindSet;
 use std::alloc::{AllocError, Global};
 use std::marker::Model;
 use xk_shape::Blocks;
