@@ -37,7 +37,7 @@ MOST_BYTES = 65536
 TURNLESS = "this loop has no turn: it goes up, and begins above its end"
 CLOCKLESS = "this advanceAll waits for nobody: its activity is on no clock"
 UNJOINED_FINISH = "nobody joins the clock of this `clocked finish`; `clocked async` starts an activity on it"
-BESIDE = "this activity isn't on the clock of the `clocked finish` around it: no advance of others waits for it"
+BESIDE = "this activity isn't on the clock of the `clocked finish` around it: no advance of that clock waits for it"
 UNJOINED = "is given to no activity and to no method: nobody is on it but its maker"
 
 

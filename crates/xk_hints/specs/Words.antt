@@ -14,7 +14,8 @@ pub record HintValue : Type 0 where
 abbrev pub opening : Matter → List ℕ
 opening matter.Turnless = codes "hint: this loop has no turn: it goes up, and begins above its end"
 opening matter.UnjoinedFinish = codes "hint: nobody joins the clock of this `clocked finish`; `clocked async` starts an activity on it"
-opening matter.Beside = codes "hint: this activity isn't on the clock of the `clocked finish` around it: no advance of others waits for it"
+opening matter.Beside =
+    codes "hint: this activity isn't on the clock of the `clocked finish` around it: no advance of that clock waits for it"
 opening matter.Clockless = codes "hint: this advanceAll waits for nobody: its activity is on no clock"
 opening _ = codes "hint: `"
 

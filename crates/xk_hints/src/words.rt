@@ -41,7 +41,7 @@ fn opening(matter: Matter) -> &'static str
             "hint: nobody joins the clock of this `clocked finish`; `clocked async` starts an activity on it"
         }
         Matter::Beside => {
-            "hint: this activity isn't on the clock of the `clocked finish` around it: no advance of others waits for it"
+            "hint: this activity isn't on the clock of the `clocked finish` around it: no advance of that clock waits for it"
         }
         Matter::Clockless => "hint: this advanceAll waits for nobody: its activity is on no clock",
         Matter::Unused => "hint: `",
