@@ -1,17 +1,16 @@
 -- Small programs: what is told of them, by evaluation.
-use Rattle.std.proofs.Common.{◌≡◌, ℕ, pos, Bool, true, false, List, [], ◌∷◌, refl, Option, Some, None, replicate}
+use Rattle.std.proofs.Common.{◌≡◌, ℕ, pos, List, [], ◌∷◌, refl, Option, Some, None}
 use Rattle.std.specs.Prelude.{codes}
-use Rattle.xk_types.specs.declared.unit.ParamKind.TheVariants as param
 use Rattle.xk_tree.specs.declared.tree.Binding.TheVariants as binding
 use Rattle.xk_tree.specs.declared.tree.Number.{Number}
 use Rattle.xk_tree.specs.declared.tree.Verb.{Verb}
 use Rattle.xk_tree.specs.declared.tree.Written.TheVariants as written
-use Rattle.xk_tree.specs.Tree.{Word, Clocks, Literal, Named, Make, Value, UpTo, MethodValue, SharedValue, TreeValue, Statement}
+use Rattle.xk_tree.specs.Tree.{Word, Clocks, Literal, Named, Make, Value, UpTo, MethodValue, SharedValue, TreeValue}
 use Rattle.xk_tree.specs.Tree.{Statements, Done, More, Block, Declare, Assign, For, Async, Finish, Drop, AdvanceAll, Print}
 use Rattle.xk_hints.specs.declared.remark.Matter.TheVariants as matter
 use Rattle.xk_hints.specs.Deeds.{some_in_method}
-use Rattle.xk_hints.specs.Hints.{RemarkValue, here, method_remarks, on, remarks, shared_remarks}
-use Rattle.xk_hints.specs.Words.{HintValue, hints, words}
+use Rattle.xk_hints.specs.Hints.{here, method_remarks, on, remarks, shared_remarks}
+use Rattle.xk_hints.specs.Words.{hints, words}
 
 abbrev verb : Verb
 verb = record { at = 0; paren = 0 }
