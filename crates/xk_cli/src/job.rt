@@ -70,6 +70,13 @@ pub enum Command<'a> {
     Where {
         /// The log's path.
         log: &'a str,
+        /// `--at`: the step after which things are told, where that was given; 0 is before the first.
+        at: Option<u64>,
+    },
+    /// `span`: print how much of the run of FILE that a log has can go on side by side, and what takes longest.
+    Span {
+        /// The log's path.
+        log: &'a str,
     },
     /// `races`: print which steps of a run of FILE race with one another.
     Races {
@@ -112,7 +119,8 @@ impl<'a> Command<'a> {
             | Command::Events { log }
             | Command::Lanes { log, .. }
             | Command::Page { log, .. }
-            | Command::Where { log } => Some(log),
+            | Command::Where { log, .. }
+            | Command::Span { log } => Some(log),
             Command::Expected { list, .. } => Some(list),
             Command::Races { log } => log,
             Command::Check
@@ -142,6 +150,7 @@ impl<'a> Command<'a> {
             | Command::Lanes { .. }
             | Command::Page { .. }
             | Command::Where { .. }
+            | Command::Span { .. }
             | Command::Races { .. }
             | Command::Expected { .. } => None,
         }
@@ -164,6 +173,7 @@ impl<'a> Command<'a> {
             | Command::Lanes { .. }
             | Command::Page { .. }
             | Command::Where { .. }
+            | Command::Span { .. }
             | Command::Races { .. }
             | Command::Outcomes { .. }
             | Command::Expected { .. } => None,
@@ -181,6 +191,7 @@ impl<'a> Command<'a> {
             | Command::Lanes { .. }
             | Command::Page { .. }
             | Command::Where { .. }
+            | Command::Span { .. }
             | Command::Races { .. } => true,
             Command::Check
             | Command::Compile
@@ -262,7 +273,7 @@ impl Workers {
 pub struct Job<'a> {
     pub command: Command<'a>,
     pub form: Form,
-    /// The file's path; `-` is standard input.
+    /// The file's path; `-` is standard input. Of `explain` it may be the code of a rule.
     pub file: &'a str,
     /// `--arg`: the numbers that main is given, in order. `check`, `compile`, `explain` and `listing` are given none.
     pub arguments: Vec<i64>,
