@@ -11,7 +11,8 @@ use Rattle.xk_serve.specs.Answer.{Task, reads_more, task_of}
 use Rattle.xk_program.specs.Bytes.{kept}
 use Rattle.xk_serve.specs.Devices.{Answered, IfKnown, Tells, read_of}
 use Rattle.xk_serve.proofs.ReplyLemmas.{of_known}
-use Rattle.xk_answers.proofs.LogLemmas.{of_each}
+use Rattle.xk_answers.proofs.LogLemmas.{of_each, some_each}
+use Rattle.xk_log.specs.Reading.{OfSome}
 use Rattle.xk_serve_ask.specs.AskedRun.{IsHandReply}
 use Rattle.xk_serve_ask.proofs.AskedRunLemmas.{unread_ends}
 use Rattle.x10clock.specs.Requests.{AnswersHand, AnswersTask, EndsIn, IsAnswered, IsAnsweredBySome, IsByHand, IsServed, IsToldOver, input_line}
@@ -117,6 +118,13 @@ without : (reads : Bool) (known : Option (List ℕ)) (P : List ℕ → Type 0) �
 without true known P h = tt
 without false known P h = h
 
+-- the same, or else of some
+without_some : (reads : Bool) (known : Option (List ℕ)) (P : List ℕ → Type 0) → OfSome (if reads then known else Some []) P
+    → OfSome (if reads then None else Some []) P
+without_some true None P h = h
+without_some true (Some xs) P h = (xs, h)
+without_some false known P h = h
+
 less_known : (t : Task) (program known : Option (List ℕ)) (P : List ℕ → List ℕ → Type 0) → IfKnown t program known P → IfKnown t program None P
 less_known t None known P h = tt
 less_known t (Some bytes) known P h = without (reads_more t.doing) known (P bytes) h
@@ -146,7 +154,7 @@ some_unlogged (request.Job job) p i j s out out_new err err_new log log_new h =
     record {
       bytes = h.bytes;
       are = h.are;
-      answered = of_each (λ logged. Answered t h.bytes logged s out out_new err err_new log log_new)
+      answered = some_each (λ logged. Answered t h.bytes logged s out out_new err err_new log log_new)
           (λ logged. Answered t h.bytes logged s out out_new err err_new None None) (read_of t i)
           (λ logged a. answered_unlogged t h.bytes logged s out out_new err err_new log log_new a) h.answered;
     }
@@ -166,7 +174,7 @@ some_unread (request.Job job) p i j s out out_new err err_new log log_new Told (
     inl (record {
       bytes = h.bytes;
       are = h.are;
-      answered = without (reads_more t.doing) i (λ logged. Answered t h.bytes logged s out out_new err err_new log log_new) h.answered;
+      answered = without_some (reads_more t.doing) i (λ logged. Answered t h.bytes logged s out out_new err err_new log log_new) h.answered;
     })
 some_unread (request.ByHand run) p i j s out out_new err err_new log log_new Told (inl h) = inl (record {
   bytes = h.bytes;

@@ -1,6 +1,7 @@
 //! What is told of the run that a log has.
 
-ghost use Rattle.std.specs.Prelude.{◌≡◌, ◌≢◌, ℕ, List, true, IfOk, IfErr, IfSome, OnOk};
+ghost use Rattle.std.specs.Prelude.{◌≡◌, ◌≢◌, ℕ, List, true, IfOk, IfErr, OnOk};
+ghost use Rattle.xk_log.specs.Reading.{OfSome};
 ghost use Rattle.xk_types.specs.Acceptance.{IsAccepted};
 ghost use Rattle.xk_types.specs.World.{AreArguments};
 ghost use Rattle.xk_cli.specs.Status.{status_program};
@@ -8,7 +9,7 @@ ghost use Rattle.xk_cli.specs.declared.job.Form.{Form as FormValue};
 ghost use Rattle.xk_answers.specs.Results.{Draw, IsTelling, IsText, lanes_given, picture_told, shows_origins, window_given};
 ghost use Rattle.xk_answers.specs.Refusals.{AgainstModule, AgainstRun};
 ghost use Rattle.xk_program.specs.Origins.{IsFrom};
-ghost use Rattle.xk_answers.specs.Explanation.{events_told, image_told, lanes_told, page_told, races_told};
+ghost use Rattle.xk_answers.specs.Explanation.{events_told, image_told, lanes_told, page_told, races_told, span_told};
 ghost use Rattle.xk_program.specs.Lines.{status_of};
 
 use crate::job_result::Done;
@@ -23,6 +24,7 @@ use xk_show_events::{module_events, source_events};
 use xk_show_lanes::{Window, module_lanes, source_lanes};
 use xk_show_page::{module_page, source_page};
 use xk_show_picture::{module_picture, source_picture};
+use xk_show_span::{module_span, source_span};
 use xk_types::Source;
 
 /// What is told of a run.
@@ -40,6 +42,8 @@ pub enum Picture {
     Page(Window),
     /// Its races.
     Races,
+    /// How long it had to take.
+    Span,
 }
 
 /// What is told, and whether that is a whole answer.
@@ -82,7 +86,7 @@ pub fn drawn<L: Source>(
 ) -> Result<Done, Fault>
     ensures done { (form : FormValue) (file bytes : List ℕ)
         → IsFrom (shows_origins picture) form bytes program.entry.from
-        → IfOk result (λ d. IfSome (L.remaining log_in.old) (λ logged. IsText
+        → IfOk result (λ d. OfSome (L.remaining log_in.old) (λ logged. IsText
         (IsTelling (Draw picture) form file bytes program.entry.module arguments.now logged) d)) }
     ensures no_fault { OnOk result (L.fault_count log_in.new ≡ L.fault_count log_in.old) }
     ensures fault { IfErr result (AgainstModule program.entry.module arguments.now
@@ -107,7 +111,7 @@ fn drawn_by<L: Source>(
     requires taken { AreArguments verified.now arguments.now }
     ensures done { (form : FormValue) (file bytes : List ℕ)
         → IsFrom (shows_origins picture) form bytes from.now
-        → IfOk result (λ d. IfSome (L.remaining log_in.old) (λ logged. IsText
+        → IfOk result (λ d. OfSome (L.remaining log_in.old) (λ logged. IsText
         (IsTelling (Draw picture) form file bytes verified.now arguments.now logged) d)) }
     ensures no_fault { OnOk result (L.fault_count log_in.new ≡ L.fault_count log_in.old) }
     ensures fault { IfErr result (AgainstRun verified.now arguments.now (L.remaining log_in.old)
@@ -144,6 +148,7 @@ fn picture_of(
         Picture::Image(window) => image_of(alloc, from, ended, window),
         Picture::Page(window) => page_of(alloc, from, ended, window),
         Picture::Races => races_of(alloc, from, ended),
+        Picture::Span => span_of(alloc, from, ended),
     }
 }
 
@@ -239,6 +244,22 @@ pub(crate) fn races_of(
     let report = match &from.origins {
         Some(origins) => source_races(alloc, from.text, origins.units(), ended)?,
         None => module_races(alloc, ended)?,
+    };
+    Ok(Tale {
+        text: report.text,
+        whole: report.free,
+    })
+}
+
+/// How long a run had to take that came to its end.
+fn span_of(alloc: Global, from: &Provenance<'_>, ended: &Ended<'_>) -> Result<Tale, AllocError>
+    ensures { IfOk result (λ tale. (tale.text.items, tale.whole)
+        ≡ span_told from.now.text.now ended.now.module.now
+        ended.now.core.world.arguments ended.now.log.items from.now.origins) }
+{
+    let report = match &from.origins {
+        Some(origins) => source_span(alloc, from.text, origins.units(), ended)?,
+        None => module_span(alloc, ended)?,
     };
     Ok(Tale {
         text: report.text,

@@ -15,7 +15,7 @@ use Rattle.xk_answers.specs.declared.picture.Picture.{Picture}
 use Rattle.xk_answers.specs.declared.picture.Picture.TheVariants as picture
 use Rattle.xk_answers.specs.Results.{Check, Compile, Doing, Draw, Expected, Explain, IsPicture, IsTelling, Listing, Outcomes, Races, Replay, Run, Tally, Where}
 use Rattle.xk_program.specs.Origins.{HaveOrigins, IsByOrigins}
-use Rattle.xk_answers.specs.Explanation.{IsListed, Tale, acceptance_told, events_told, image_told, lanes_told, page_told, races_told, where_told}
+use Rattle.xk_answers.specs.Explanation.{IsListed, Tale, acceptance_told, events_told, image_told, lanes_told, page_told, races_told, span_told, where_told}
 use Rattle.xk_cli.specs.declared.job.Order.TheVariants as order
 use Rattle.xk_program.specs.Programs.{Gives}
 use Rattle.xk_types.specs.World.{World}
@@ -58,6 +58,7 @@ picture_once picture.Events kind bytes m args es last a b given h k = by_origins
 picture_once (picture.Lanes window) kind bytes m args es last a b given h k = by_origins_once kind bytes m (lanes_told bytes window m es last) a b given h k
 picture_once (picture.Image window) kind bytes m args es last a b given h k = by_origins_once kind bytes m (image_told bytes window m es last) a b given h k
 picture_once (picture.Page window) kind bytes m args es last a b given h k = by_origins_once kind bytes m (page_told bytes window m es last) a b given h k
+picture_once picture.Span kind bytes m args es last a b given h k = by_origins_once kind bytes m (span_told bytes m args es) a b given h k
 picture_once picture.Races kind bytes m args es last a b given h k = by_origins_once kind bytes m (races_told bytes m args es) a b given h k
 
 pub telling_once : (what : Doing) (kind : Form) (file bytes : List ℕ) (m : ModuleValue) (args : List ℤ) (logged : List ℕ) (a b : Tale) → Gives kind bytes m
@@ -71,11 +72,11 @@ telling_once (Draw picture) kind file bytes m args logged a b given h k =
     let last = last_once m args k.1.0 h.1.0 same k.1.2 h.1.2 in
     picture_once picture kind bytes m args h.1.0 h.1.2.last a b given h.1.3
     (subst (λ w. IsPicture picture kind bytes m args h.1.0 w b) last (subst (λ es. IsPicture picture kind bytes m args es k.1.2.last b) same k.1.3))
-telling_once Where kind file bytes m args logged a b given h k =
+telling_once (Where at) kind file bytes m args logged a b given h k =
     let here = h.1.1 in
     let there = k.1.1 in
     let same = text_once logged there.0 here.0 there.1 here.1 in
-    by_origins_once kind bytes m (where_told bytes m args here.0) a b given here.2 (subst (λ es. IsByOrigins kind bytes (where_told bytes m args es) b) same there.2)
+    by_origins_once kind bytes m (where_told bytes m args at here.0) a b given here.2 (subst (λ es. IsByOrigins kind bytes (where_told bytes m args at es) b) same there.2)
 telling_once Races kind file bytes m args logged a b given h k =
     let here = h.1 in
     let there = k.1 in
