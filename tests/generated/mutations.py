@@ -396,8 +396,8 @@ class Comparer:
             self.draws(text, judged, outcome)
 
     def draws(self, text: bytes, judged: Accepted, outcome: Outcome) -> None:
-        """`events`, `lanes`, its picture, `page`, `races` and `where` tell of a run by its log, unless it is a large
-        one."""
+        """`events`, `lanes`, its picture, `page`, `races`, `span` and `where` tell of a run by its log, unless it is a
+        large one."""
         way, given = random.Random(text).choice(ways(text, judged))
         log = logs.log_of(judged.module, way, given)
         if len(log) * judged.bounds.activities > MOST_DRAWN:
@@ -406,10 +406,27 @@ class Comparer:
         outcome.counts["runs drawn"] += 1
         with tempfile.NamedTemporaryFile() as file:
             pathlib.Path(file.name).write_bytes(logs.text_of(log))
-            for command, *flags in (["events"], ["lanes"], ["lanes", "--svg"], ["page"], ["races"], ["where"]):
+            step = random.Random(text).randrange(sum(entry.steps for entry in log) + 2)
+            for command, *flags in (
+                ["events"],
+                ["lanes"],
+                ["lanes", "--svg"],
+                ["page"],
+                ["races"],
+                ["span"],
+                ["where"],
+                ["where", f"--at={step}"],
+            ):
                 told = Answer(
                     *runs.answer(
-                        command, judged, text, not self.source, logs.text_of(log), given, is_picture=bool(flags)
+                        command,
+                        judged,
+                        text,
+                        not self.source,
+                        logs.text_of(log),
+                        given,
+                        is_picture=flags == ["--svg"],
+                        at=step if flags and command == "where" else None,
                     )
                 )
                 answer = self.ask(text, command, *flags, *words_of(given), log=file.name)

@@ -1,7 +1,9 @@
 -- An answer on open devices, told where less is known of them.
-use Rattle.std.proofs.Common.{◌≡◌, ◌≢◌, ℕ, ℤ, Bool, true, false, if◌then◌else◌, List, [], Option, None, Some, codes, inl, inr}
-use Rattle.std.specs.Prelude.{◌⊎◌, IfSome, is_some}
+use Rattle.std.proofs.Common.{◌≡◌, ◌∙◌, ◌≢◌, ap, ℕ, ℤ, Bool, true, false, if◌then◌else◌, List, [], Option, None, Some, codes, inl, inr, subst, sym}
+use Rattle.std.specs.Prelude.{◌⊎◌, IfSome, is_some, unwrap_or}
 use Rattle.std.specs.Io.KnownBytes.{Appends}
+use Rattle.xk_types.specs.Device.{Rose}
+use Rattle.xk_program.specs.Lines.{device_line}
 use Rattle.xk_cli.specs.declared.job.Form.{Form}
 use Rattle.xk_cli.specs.CommandLine.{asked_value}
 use Rattle.xk_cli.specs.Status.{status_words}
@@ -12,10 +14,10 @@ use Rattle.xk_program.specs.Bytes.{kept}
 use Rattle.xk_serve.specs.Devices.{Answered, IfKnown, Tells, read_of}
 use Rattle.xk_serve.proofs.ReplyLemmas.{of_known}
 use Rattle.xk_answers.proofs.LogLemmas.{of_each, some_each}
-use Rattle.xk_log.specs.Reading.{OfSome}
+use Rattle.xk_log.specs.SomeBytes.{OfSome}
 use Rattle.xk_serve_ask.specs.AskedRun.{IsHandReply}
 use Rattle.xk_serve_ask.proofs.AskedRunLemmas.{unread_ends}
-use Rattle.x10clock.specs.Requests.{AnswersHand, AnswersTask, EndsIn, IsAnswered, IsAnsweredBySome, IsByHand, IsServed, IsToldOver, input_line}
+use Rattle.x10clock.specs.Requests.{AnswersHand, AnswersTask, EndsIn, IsAnswered, IsAnsweredBySome, IsByHand, IsDeviceTold, IsGiven, IsPageWritten, IsServed, IsToldOver, IsToldUnopened, input_line, rule_page}
 
 -- ---- a run by hand
 
@@ -213,6 +215,29 @@ pub input_served : (r : Request) (s : ℕ) (out out_new err err_new : Option (Li
     → Tells input_line status_words err err_new e g s → IsServed r s out out_new err err_new e g
 input_served r s out out_new err err_new e g hand file told memory device = inr (inr (hand, file, told))
 
+-- ---- the page of a rule
+
+-- a rule's code stands for FILE
+pub page_given : (r : Request) (page : List ℕ) (s : ℕ) (out out_new err err_new : Option (List ℕ)) (e g : ℕ) → rule_page r ≡ Some page
+    → (s ≢ 5 → IsPageWritten page s out out_new err err_new) → IsGiven r s out out_new err err_new e g
+page_given r page s out out_new err err_new e g is written = inr (page, is, written)
+
+-- the page that was found is the one that is asked for
+pub same_page : (page found : List ℕ) (s : ℕ) (out out_new err err_new o : Option (List ℕ)) → o ≡ Some page → o ≡ Some found
+    → IsPageWritten found s out out_new err err_new → IsPageWritten page s out out_new err err_new
+same_page page found s out out_new err err_new o is e h =
+    subst (λ p. IsPageWritten p s out out_new err err_new) (ap (λ x. unwrap_or x found) (sym e ∙ is)) h
+
+-- where there is none, none is written
+pub none_written : (page : List ℕ) (A : Type 0) (o : Option (List ℕ)) → o ≡ None → o ≡ Some page → A
+none_written page A None none is = cc
+none_written page A (Some x) none is = cc
+
+-- and no memory is wanted for it
+pub never_memory : (s : ℕ) (A : Type 0) → (s ≡ 0) ⊎ (s ≡ 5) → s ≡ 4 → A
+never_memory s A (inl zero) memory = cc
+never_memory s A (inr five) memory = cc
+
 pub none_served : (r : Request) (s : ℕ) (out out_new err err_new : Option (List ℕ)) (e g : ℕ) → (s ≡ 4) ⊎ (s ≡ 5)
     → IsServed r s out out_new err err_new e g
 none_served r s out out_new err err_new e g is memory device = absurd (not_both s is memory device)
@@ -228,3 +253,23 @@ pub alone_ends_or : (r : Request) (p i : Option (List ℕ)) (line : List ℕ) (o
     → Appends old new line ⊎ Other → EndsIn r p i line old new ⊎ Other
 alone_ends_or r p i line old new Other (inl wrote) = inl (alone_ends r p i line old new wrote)
 alone_ends_or r p i line old new Other (inr other) = inr other
+
+-- ---- where a device failed
+
+-- of an open file, or of standard error
+pub device_told : (r : Request) (p i : Option (List ℕ)) (old new : Option (List ℕ)) (e g : ℕ) → EndsIn r p i device_line old new ⊎ Rose e g
+    → IsDeviceTold r p i old new e g
+device_told r p i old new e g h = inl h
+
+-- or a file couldn't be opened
+pub unopened_told : (r : Request) (p i : Option (List ℕ)) (old new : Option (List ℕ)) (e g : ℕ) → Rose e g ⊎ IsToldUnopened r old new
+    → IsDeviceTold r p i old new e g
+unopened_told r p i old new e g (inl rose) = inl (inr rose)
+unopened_told r p i old new e g (inr told) = inr told
+
+-- the same where nothing is known of what is read
+pub told_unread : (r : Request) (p i j : Option (List ℕ)) (old new : Option (List ℕ)) (e g : ℕ) → (EndsIn r p i device_line old new → EndsIn r p j device_line old new)
+    → IsDeviceTold r p i old new e g → IsDeviceTold r p j old new e g
+told_unread r p i j old new e g f (inl (inl ends)) = inl (inl (f ends))
+told_unread r p i j old new e g f (inl (inr rose)) = inl (inr rose)
+told_unread r p i j old new e g f (inr told) = inr told

@@ -1,13 +1,17 @@
 -- What the program does with what its words ask for, on open devices: a job is served, and a run by hand is played. This project's own.
-use Rattle.std.specs.Prelude.{◌≡◌, ◌≢◌, ℕ, ◌⊎◌, Bool, List, ◌++◌, codes, true, false, Option, None, Some, Result, Ok, Err, IfSome, is_some, option_map, if◌then◌else◌}
+use Rattle.std.specs.Prelude.{◌≡◌, ◌≢◌, ℕ, ◌⊎◌, Bool, List, [], ◌++◌, codes, true, false, Option, None, Some, Result, Ok, Err, IfSome, is_some, option_map, if◌then◌else◌}
 use Rattle.std.specs.Io.KnownBytes.{Appends}
 use Rattle.std.specs.declared.io.ErrorKind.{ErrorKind}
 use Rattle.std.specs.declared.io.ErrorKind.TheVariants as kind
 use Rattle.xk_types.specs.Device.{Rose}
 use Rattle.xk_lines.specs.Signs.{shown_signs, signs}
-use Rattle.xk_cli.specs.Status.{status_device, status_memory, status_words}
+use Rattle.xk_cli.specs.Status.{status_device, status_done, status_memory, status_words}
 use Rattle.xk_cli.specs.CommandLine.{asked_value}
+use Rattle.xk_cli.specs.CommandAnswers.{explanation}
 use Rattle.xk_cli.specs.CommandFiles.{read_path, written_path}
+use Rattle.xk_cli.specs.declared.job.Form.{Form}
+use Rattle.xk_cli.specs.declared.job.Form.TheVariants as form
+use Rattle.xk_rules.specs.Pages.{rule_text}
 use Rattle.xk_cli.specs.declared.job.Command.{Command}
 use Rattle.xk_cli.specs.declared.job.Command.TheVariants as command
 use Rattle.xk_cli.specs.declared.job.HandRun.{HandRun}
@@ -175,6 +179,22 @@ ReadsNoMore (request.ByHand run) = ⊥
 abbrev pub IsLastLine : List ℕ → Option (List ℕ) → Option (List ℕ) → Type 0
 IsLastLine line old new = (said : List ℕ) × Appends old new (said ++ line)
 
+-- ---- the page of a rule
+
+-- what `explain` is asked for is the page of this rule: it is to be no JSON value, and FILE no module
+abbrev pub page_asked : Option Bool → Form → List ℕ → Option (List ℕ)
+page_asked (Some false) form.Source file = rule_text file
+page_asked _ _ _ = None
+
+abbrev pub rule_page : Request → Option (List ℕ)
+rule_page (request.Job job) = page_asked (explanation job.command) job.form job.file.now
+rule_page (request.ByHand run) = None
+
+-- that page was written, and nothing to standard error
+abbrev pub IsPageWritten : List ℕ → ℕ → Option (List ℕ) → Option (List ℕ) → Option (List ℕ) → Option (List ℕ) → Type 0
+IsPageWritten page status out_old out_new err_old err_new =
+    (status ≡ status_done) × Appends out_old out_new page × Appends err_old err_new []
+
 -- ---- what is asked for
 
 -- Where neither memory nor a device fails, status and texts answer what is asked for on some bytes of FILE, of which nothing is known
@@ -186,3 +206,10 @@ IsServed r status out_old out_new err_old err_new faults_old faults_new =
     → IsAnsweredBySome r None None None status out_old out_new err_old err_new None None
     ⊎ (IsToldOver r err_old err_new faults_old faults_new status
     ⊎ (IsByHand r × ((asked_value r).file ≡ codes "-") × Tells input_line status_words err_old err_new faults_old faults_new status))
+
+-- The same, or, where a rule's code stands for FILE, what that rule means is told.
+abbrev pub IsGiven : Request → ℕ → Option (List ℕ) → Option (List ℕ) → Option (List ℕ) → Option (List ℕ) → ℕ → ℕ → Type 0
+IsGiven r status out_old out_new err_old err_new faults_old faults_new =
+    IsServed r status out_old out_new err_old err_new faults_old faults_new
+    ⊎ ((page : List ℕ) × (rule_page r ≡ Some page)
+    × (status ≢ status_device → IsPageWritten page status out_old out_new err_old err_new))

@@ -1,18 +1,18 @@
 //! The program: words to a job, files and streams to devices, and the status that serving it answers.
 #![tactic(auto)]
 
-ghost use Rattle.std.specs.Prelude.{◌≡◌, ◌≢◌, ◌⊎◌, [], None, Some, map, option_map, codes, string_bytes, IfOk};
+ghost use Rattle.std.specs.Prelude.{◌≡◌, ◌≢◌, ◌⊎◌, ℕ, List, [], None, Some, map, option_map, codes, string_bytes, IfOk};
 ghost use Rattle.std.specs.Io.KnownBytes.{Appends};
 ghost use Rattle.std.specs.IoError.{error_kind};
 ghost use Rattle.xk_types.specs.Device.{Rose};
 ghost use Rattle.xk_cli.specs.CommandLine.{asked_value, texts};
-ghost use Rattle.xk_cli.specs.Status.{status_device, status_memory, status_program, status_words};
+ghost use Rattle.xk_cli.specs.Status.{status_device, status_done, status_memory, status_program, status_words};
 ghost use Rattle.xk_program.specs.Lines.{device_line};
 ghost use Rattle.xk_messages.specs.Lines.{memory_line};
 ghost use Rattle.xk_serve.specs.Devices.{Reports, Tells, TellsWords};
 ghost use Rattle.xk_program.specs.declared.fault.Fault.TheVariants as fault;
 ghost use Rattle.x10clock.specs.CommandLine.{AreTold, AskForHand, IsWantOfMemory, no_text_line};
-ghost use Rattle.x10clock.specs.Requests.{EndsIn, IsByHand, IsDeviceTold, IsLastLine, IsToldUnopened, ErrIsBegun, IsAnswered, IsAnsweredBySome, IsServed, IsToldOver, OutIsBegun, ReadsNoMore, input_line, log_path, is_left_open, names_files, over_line, over_read_line, path_of, reason_of, told_path, unopened_lines, what_over};
+ghost use Rattle.x10clock.specs.Requests.{EndsIn, IsByHand, IsDeviceTold, IsLastLine, IsToldUnopened, IsPageWritten, IsGiven, ErrIsBegun, IsAnswered, IsAnsweredBySome, IsServed, IsToldOver, OutIsBegun, ReadsNoMore, input_line, log_path, is_left_open, names_files, over_line, over_read_line, page_asked, path_of, reason_of, rule_page, told_path, unopened_lines, what_over};
 
 mod files;
 
@@ -24,11 +24,12 @@ use std::process::ExitCode;
 use std::sync::Wait;
 use std::thread::Threads;
 use std::{env, fs, io};
-use xk_cli::{Command, Request, WordsFault, read_job, status};
+use xk_cli::{Command, Form, Request, WordsFault, read_job, status};
 use xk_io::write_all;
 use xk_lines::shown;
 use xk_messages::MEMORY_LINE;
 use xk_program::{DEVICE_LINE, Fault};
+use xk_rules::rule_text;
 use xk_serve::{report, serve, tell, tell_words};
 use xk_serve_ask::serve_asked;
 use xk_types::{Counted, Sink, Source};
@@ -77,7 +78,7 @@ fn no_words<E: Sink>(alloc: Global, e: &io::Error, err: &mut E) -> u8
 /// Does what the words ask for, or says why they ask for nothing.
 fn on_words<R: Runtime, O: Sink, E: Sink>(rt: &R, words: &[String], out: &mut O, err: &mut E) -> u8
     ensures told { AreTold (map string_bytes words.now)
-        (λ r. IsServed r result (O.contents out.old) (O.contents out.new)
+        (λ r. IsGiven r result (O.contents out.old) (O.contents out.new)
         (E.contents err.old) (E.contents err.new) (E.fault_count err.old) (E.fault_count err.new))
         (λ f. TellsWords f
         (λ text status. (err.new ≡ err.old)
@@ -101,7 +102,7 @@ fn on_words<R: Runtime, O: Sink, E: Sink>(rt: &R, words: &[String], out: &mut O,
         return tell_words(&WordsFault::OutOfMemory, out, err);
     };
     match read_job(rt.alloc(), &texts) {
-        Ok(request) => on_request(rt, &request, out, err),
+        Ok(request) => on_asked(rt, &request, out, err),
         Err(fault) => tell_words(&fault, out, err),
     }
 }
@@ -115,6 +116,38 @@ fn texts_of<'a>(alloc: Global, words: &'a [String]) -> Result<Vec<&'a str>, Allo
         found.push(word.as_str())?;
     }
     Ok(found)
+}
+
+/// Tells of the rule whose code stands for FILE, or does what is asked for.
+fn on_asked<R: Runtime, O: Sink, E: Sink>(
+    rt: &R,
+    request: &Request<'_>,
+    out: &mut O,
+    err: &mut E,
+) -> u8
+    ensures given { IsGiven request.now result (O.contents out.old) (O.contents out.new)
+        (E.contents err.old) (E.contents err.new) (E.fault_count err.old) (E.fault_count err.new) }
+    ensures page { (page : List ℕ) → rule_page request.now ≡ Some page
+        → result ≢ status_device → IsPageWritten page result
+        (O.contents out.old) (O.contents out.new) (E.contents err.old) (E.contents err.new) }
+    ensures served { rule_page request.now ≡ None
+        → IsServed request.now result (O.contents out.old) (O.contents out.new)
+        (E.contents err.old) (E.contents err.new) (E.fault_count err.old) (E.fault_count err.new) }
+    ensures memory_out { result ≡ status_memory
+        → Appends (O.contents out.old) (O.contents out.new) [] }
+    ensures memory_err { result ≡ status_memory → EndsIn request.now None None memory_line
+        (E.contents err.old) (E.contents err.new) }
+    ensures faults { result ≢ status_device
+        → (O.fault_count out.new ≡ O.fault_count out.old)
+        × (E.fault_count err.new ≡ E.fault_count err.old) }
+    ensures device_err { result ≡ status_device → IsDeviceTold request.now None None
+        (E.contents err.old) (E.contents err.new)
+        (E.fault_count err.old) (E.fault_count err.new) }
+{
+    match rule_page(request) {
+        Some(page) => tell_page(page, out, err),
+        None => on_request(rt, request, out, err),
+    }
 }
 
 /// Opens FILE, and does what is asked for.
@@ -148,6 +181,48 @@ fn on_request<R: Runtime, O: Sink, E: Sink>(
     match open_file(rt, file, names_files(request)) {
         Ok(program) => on_program(rt, request, program, out, err),
         Err(e) => not_opened(rt, request, Which::Program, &e, err),
+    }
+}
+
+/// The page of the rule whose code stands for FILE, where `explain` is asked for that.
+fn rule_page(request: &Request<'_>) -> Option<&'static str>
+    ensures { option_map (λ page. page.now) result ≡ rule_page request.now }
+{
+    match request {
+        Request::Job(job) => page_asked(job.command.explanation(), job.form, job.file),
+        Request::ByHand(_) => None,
+    }
+}
+
+/// The same of what an explanation is to be, if one is asked for, and of FILE.
+fn page_asked(explanation: Option<bool>, form: Form, file: &str) -> Option<&'static str>
+    ensures { option_map (λ page. page.now) result ≡ page_asked explanation form file.now }
+{
+    let json = explanation?;
+    if json {
+        return None;
+    }
+    match form {
+        Form::Source => rule_text(file),
+        Form::Module => None,
+    }
+}
+
+/// Writes the page of a rule. Where that fails, says so.
+fn tell_page<O: Sink, E: Sink>(page: &str, out: &mut O, err: &mut E) -> u8
+    ensures told { result ≢ status_device → IsPageWritten page.now result
+        (O.contents out.old) (O.contents out.new) (E.contents err.old) (E.contents err.new) }
+    ensures known { (result ≡ status_done) ⊎ (result ≡ status_device) }
+    ensures faults { result ≢ status_device
+        → (O.fault_count out.new ≡ O.fault_count out.old)
+        × (E.fault_count err.new ≡ E.fault_count err.old) }
+    ensures device_err { result ≡ status_device
+        → Appends (E.contents err.old) (E.contents err.new) device_line
+        ⊎ Rose (E.fault_count err.old) (E.fault_count err.new) }
+{
+    match write_all(out, page.as_bytes()) {
+        Ok(()) => status::DONE,
+        Err(_) => tell(DEVICE_LINE, status::DEVICE, err),
     }
 }
 
@@ -385,8 +460,9 @@ fn not_opened<R: AllocGlobal, E: Sink>(
         → Tells (unopened_lines (told_path request.now which) (error_kind e.now)) status_device
         (E.contents err.old) (E.contents err.new)
         (E.fault_count err.old) (E.fault_count err.new) result
-        ⊎ Tells memory_line status_memory (E.contents err.old) (E.contents err.new)
-        (E.fault_count err.old) (E.fault_count err.new) result }
+        ⊎ ((told_path request.now which ≢ None)
+        × Tells memory_line status_memory (E.contents err.old) (E.contents err.new)
+        (E.fault_count err.old) (E.fault_count err.new) result) }
     ensures memory_err { result ≡ status_memory
         → Appends (E.contents err.old) (E.contents err.new) memory_line }
     ensures faults { result ≢ status_device → E.fault_count err.new ≡ E.fault_count err.old }

@@ -2,7 +2,8 @@
 use Rattle.std.proofs.Common.{◌≡◌, ◌≤◌, ℕ, ℤ, List, [], length, take, Option, Some, None, Result, Ok, Err, IfErr, inr, subst, sym}
 use Rattle.std.specs.Prelude.{IfSome}
 use Rattle.std.proofs.lemmas.List.{take_all}
-use Rattle.xk_log.specs.Reading.{CountsDevice, OfSome, Tells}
+use Rattle.xk_log.specs.Reading.{CountsDevice, Tells}
+use Rattle.xk_log.specs.SomeBytes.{OfSome}
 use Rattle.xk_log.specs.declared.fault.LogFault.{LogFault}
 use Rattle.xk_log.specs.declared.fault.LogFault.TheVariants as log
 use Rattle.xk_types.specs.declared.world.Entry.{Entry}

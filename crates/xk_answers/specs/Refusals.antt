@@ -6,7 +6,7 @@ use Rattle.xk_types.specs.Device.{Rose}
 use Rattle.xk_types.specs.World.{AreArguments}
 use Rattle.xk_program.specs.declared.fault.Fault.{Fault}
 use Rattle.xk_program.specs.declared.fault.Fault.TheVariants as fault
-use Rattle.xk_log.specs.Reading.{OfSome}
+use Rattle.xk_log.specs.SomeBytes.{OfSome}
 use Rattle.xk_log.specs.Verdicts.{IsTruncated, IsWrongAt}
 use Rattle.xk_outcomes.specs.Expected.{stray_line}
 use Rattle.xk_answers.specs.Results.{IsNoRun, list_in}

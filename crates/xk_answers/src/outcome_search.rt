@@ -1,7 +1,7 @@
 //! What a module can print.
 
 ghost use Rattle.std.specs.Prelude.{◌≡◌, ◌≢◌, ℕ, List, IfOk, IfErr, None, OnOk, option_map, unwrap_or};
-ghost use Rattle.xk_log.specs.Reading.{OfSome};
+ghost use Rattle.xk_log.specs.SomeBytes.{OfSome};
 ghost use Rattle.xk_types.specs.World.{AreArguments};
 ghost use Rattle.xk_answers.specs.Results.{ComesTo, Expected, IsFoundOut, IsHeldOut, Outcomes, kept_log, longest_list};
 ghost use Rattle.xk_program.specs.Refusals.{IsNotRun};

@@ -1,7 +1,7 @@
 //! How things stand behind a log, or behind so many of its steps. It need not be that of a whole run.
 
 ghost use Rattle.std.specs.Prelude.{◌≡◌, ◌≢◌, ℕ, List, true, IfOk, IfErr, OnOk};
-ghost use Rattle.xk_log.specs.Reading.{OfSome};
+ghost use Rattle.xk_log.specs.SomeBytes.{OfSome};
 ghost use Rattle.xk_types.specs.Acceptance.{IsAccepted};
 ghost use Rattle.xk_types.specs.World.{AreArguments};
 ghost use Rattle.xk_cli.specs.declared.job.Form.{Form as FormValue};

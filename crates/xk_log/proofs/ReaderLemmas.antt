@@ -13,7 +13,8 @@ use Rattle.xk_log.specs.declared.progress.Stage.{Stage}
 use Rattle.xk_log.specs.declared.progress.Stage.TheVariants as stage
 use Rattle.xk_log.specs.LogText.{Lacks, isnt, line_feed, head_line, entry_line, end_line, ended, entry_lines, log_text, FitsEntry}
 use Rattle.xk_log.specs.Verdicts.{Place, Start, Within, Behind, before, IsPlace, line_at, IsOneLine, longest_line, IsWrong, Misfit, TooLong, Surplus, IsWrongAt, Verdict, Whole, Wrong, Cut, Says}
-use Rattle.xk_log.specs.Reading.{HasEntry, Tells, Answers, CountsDevice, place_of, IsReadyAt, Refuses, StopsAt, IsNoneBehind, HasSurplus, Finishes, OfSome}
+use Rattle.xk_log.specs.Reading.{HasEntry, Tells, Answers, CountsDevice, place_of, IsReadyAt, Refuses, StopsAt, IsNoneBehind, HasSurplus, Finishes}
+use Rattle.xk_log.specs.SomeBytes.{OfSome}
 use Rattle.xk_log.proofs.LineLemmas.{lacks_parts, front_lacks, front_ends}
 use Rattle.xk_log.proofs.NumberLemmas.{number_short}
 use Rattle.xk_log.proofs.VerdictLemmas.{entry_short, one_verdict}

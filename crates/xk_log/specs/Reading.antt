@@ -1,5 +1,5 @@
 -- What reading a log answers. This project's own, as the format is.
-use Rattle.std.specs.Prelude.{◌≡◌, ℕ, ◌<◌, ⊤, List, [], ◌++◌, Option, Some, None, Result, Ok, Err}
+use Rattle.std.specs.Prelude.{◌≡◌, ℕ, ◌<◌, ⊤, List, [], ◌++◌, Result, Ok, Err}
 use Rattle.xk_types.specs.declared.world.Entry.{Entry}
 use Rattle.xk_types.specs.Device.{Rose}
 use Rattle.xk_log.specs.declared.fault.LogFault.{LogFault}
@@ -26,11 +26,6 @@ Tells text (Err (fault.Grammar line)) = Says (Wrong line) text
 Tells text (Err fault.Truncated) = Says Cut text
 Tells text (Err fault.Device) = ⊤
 Tells text (Err fault.OutOfMemory) = HasEntry text
-
--- this holds of the bytes, where they are known, and else of some
-abbrev pub OfSome : Option (List ℕ) → (List ℕ → Type 0) → Type 0
-OfSome None P = (bytes : List ℕ) × P bytes
-OfSome (Some bytes) P = P bytes
 
 -- an answer is this verdict, or there is none because a device failed or memory was refused
 abbrev pub Answers : Verdict → Result (List Entry) LogFault → Type 0

@@ -2,7 +2,8 @@
 
 ghost use Rattle.std.specs.Prelude.{◌≡◌, ◌≤◌, ◌++◌, length, take, IfOk, IfErr, IfSome, OnOk};
 ghost use Rattle.xk_log.specs.Verdicts.{Verdict, before, IsOneLine, longest_line, Says};
-ghost use Rattle.xk_log.specs.Reading.{place, Answers, CountsDevice, IsNoneBehind, IsReady, OfSome, StopsAt, Tells};
+ghost use Rattle.xk_log.specs.Reading.{place, Answers, CountsDevice, IsNoneBehind, IsReady, StopsAt, Tells};
+ghost use Rattle.xk_log.specs.SomeBytes.{OfSome};
 
 use crate::fault::LogFault;
 use crate::log::Log;

@@ -25,7 +25,7 @@ use Rattle.xk_tree.specs.declared.fault.FrontRule.TheVariants as rule
 use Rattle.xk_serve.specs.Devices.{AgainstLog, IfKnown, IsRead, Reads, StandsAgainst, read_of}
 use Rattle.xk_explain.specs.Explanations.{has_place}
 use Rattle.xk_answers.proofs.LogLemmas.{if_known, of_each}
-use Rattle.xk_log.specs.Reading.{OfSome}
+use Rattle.xk_log.specs.SomeBytes.{OfSome}
 
 -- a front that is shorter than it may be is the whole
 whole : (n : ℕ) (bytes known : List ℕ) → bytes ≡ take (n + 1) known → length bytes ≤ n → bytes ≡ known

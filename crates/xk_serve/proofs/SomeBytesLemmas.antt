@@ -1,7 +1,7 @@
 -- The answer is that of some bytes of FILE, whatever is known of them.
 use Rattle.std.proofs.Common.{◌≡◌, ◌≢◌, ◌⊎◌, ℕ, List, [], Option, Some, None, Result, Ok, Err, inl, inr, refl, subst}
 use Rattle.std.specs.Prelude.{IfErr, IfOk}
-use Rattle.xk_log.specs.Reading.{OfSome}
+use Rattle.xk_log.specs.SomeBytes.{OfSome}
 use Rattle.std.specs.Io.KnownBytes.{Appends}
 use Rattle.xk_cli.specs.declared.job.Form.{Form}
 use Rattle.xk_answers.specs.declared.explanation.Refused.{Refused}

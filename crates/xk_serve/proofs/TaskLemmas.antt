@@ -1,6 +1,6 @@
 -- From what is said of a module to what is said of the task on the bytes that give it.
 use Rattle.std.proofs.Common.{◌≡◌, ◌∙◌, ◌||◌, ℕ, ℤ, List, [], Bool, true, false, Option, Some, Result, Ok, Err, IfOk, IfErr, if◌then◌else◌, inl, inr, refl, ap, sym, subst}
-use Rattle.xk_log.specs.Reading.{OfSome}
+use Rattle.xk_log.specs.SomeBytes.{OfSome}
 use Rattle.xk_types.specs.Acceptance.{IsAccepted}
 use Rattle.xk_types.specs.Code.{ModuleValue}
 use Rattle.xk_types.specs.World.{AreArguments}

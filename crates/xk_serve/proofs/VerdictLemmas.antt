@@ -1,6 +1,6 @@
 -- That the answer of `explain` is one to its task, what stands against it stands against the task, and is said of it.
 use Rattle.std.proofs.Common.{◌≡◌, ℕ, Bool, true, List, Option, Result, Ok, Err, IfOk, IfErr, inl, inr, refl, sym, ap, subst}
-use Rattle.xk_log.specs.Reading.{OfSome}
+use Rattle.xk_log.specs.SomeBytes.{OfSome}
 use Rattle.xk_types.specs.Code.{ModuleValue}
 use Rattle.xk_answers.specs.declared.explanation.Refused.{Refused}
 use Rattle.xk_answers.specs.declared.job_result.Done.{Done}

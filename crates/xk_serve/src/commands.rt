@@ -1,7 +1,7 @@
 //! The answer to a job, over values.
 
 ghost use Rattle.std.specs.Prelude.{◌≡◌, ℕ, ℤ, List, None, false, true, IfOk, IfErr, OnOk};
-ghost use Rattle.xk_log.specs.Reading.{OfSome};
+ghost use Rattle.xk_log.specs.SomeBytes.{OfSome};
 ghost use Rattle.xk_answers.specs.Results.{Check, ComesTo, Compile, IsTelling, IsText, Listing, Run, way_given};
 ghost use Rattle.xk_program.specs.Refusals.{IsNotRun, IsRefusal};
 ghost use Rattle.xk_serve.specs.Answer.{Succeeds, reads_more, task_of};

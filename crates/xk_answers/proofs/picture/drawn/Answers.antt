@@ -1,5 +1,5 @@
 use Rattle.std.proofs.Common.{IfOk, subst}
-use Rattle.xk_log.specs.Reading.{OfSome}
+use Rattle.xk_log.specs.SomeBytes.{OfSome}
 use Rattle.xk_answers.specs.Results.{Draw, IsTelling, IsText}
 use Rattle.xk_answers.proofs.LogLemmas.{run_stands}
 use Rattle.xk_answers.proofs.picture.drawn.Goals as goal

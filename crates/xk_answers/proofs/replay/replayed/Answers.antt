@@ -1,5 +1,5 @@
 use Rattle.std.proofs.Common.{IfOk, subst}
-use Rattle.xk_log.specs.Reading.{OfSome}
+use Rattle.xk_log.specs.SomeBytes.{OfSome}
 use Rattle.xk_answers.specs.Results.{ComesTo, Replay}
 use Rattle.xk_answers.proofs.LogLemmas.{run_stands}
 use Rattle.xk_answers.proofs.replay.replayed.Goals as goal

@@ -1,5 +1,5 @@
 use Rattle.std.proofs.Common.{IfOk, subst}
-use Rattle.xk_log.specs.Reading.{OfSome}
+use Rattle.xk_log.specs.SomeBytes.{OfSome}
 use Rattle.xk_answers.specs.Results.{IsTelling, IsText, Where}
 use Rattle.xk_answers.proofs.LogLemmas.{text_stands}
 use Rattle.xk_answers.proofs.whereabouts.stood.Goals as goal
