@@ -7,7 +7,7 @@ import re
 from functools import cache
 
 from tests.harness import TOP
-from tests.reference import declarations, expected, origins, sums
+from tests.reference import declarations, expected, hints, origins, sums
 from tests.reference.sums import Note
 
 PAGE = TOP / "docs/EXPLAIN.md"
@@ -294,6 +294,11 @@ def explained(file: str, text: bytes, line: str, kinds: list[str], is_module: bo
     return ""
 
 
+def notes_on_accepted(text: bytes, is_module: bool) -> list[Note]:
+    """The notes on a program that is accepted: what its numbers come from, and hints."""
+    return [*sums.of_accepted(text, is_module), *hints.of_accepted(text, is_module)]
+
+
 def accepted(text: bytes, line: str, is_module: bool) -> str:
     """What is said of a program of which `check` says this line."""
-    return line + note_lines(text, sums.of_accepted(text, is_module))
+    return line + note_lines(text, notes_on_accepted(text, is_module))

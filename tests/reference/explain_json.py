@@ -7,7 +7,7 @@ import json
 import re
 from collections.abc import Iterable
 
-from tests.reference import origins, sums
+from tests.reference import origins
 from tests.reference.explain import (
     BOUND,
     FRONT,
@@ -15,6 +15,7 @@ from tests.reference.explain import (
     TEXT,
     WITHOUT_PLACE,
     notes_on,
+    notes_on_accepted,
     place_title,
     position,
     repair_at,
@@ -95,5 +96,5 @@ def accepted(file: str, text: bytes, line: str, is_module: bool) -> str:
     return line_of(
         {"accepted": True, "file": file}
         | numbers
-        | notes_of(None if is_module else text, sums.of_accepted(text, is_module))
+        | notes_of(None if is_module else text, notes_on_accepted(text, is_module))
     )

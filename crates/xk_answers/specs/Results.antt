@@ -32,7 +32,8 @@ use Rattle.xk_random.specs.Runs.{IsTallyText}
 use Rattle.xk_replay.specs.Replay.{IsStoppedAt, IsUnfinished}
 use Rattle.xk_answers.specs.OrderedRun.{IsLoggedRun, IsOrderedRun, IsReplay, IsSomeRun, IsWholeRun}
 use Rattle.xk_program.specs.Origins.{IsByOrigins}
-use Rattle.xk_answers.specs.Explanation.{IsProgramListed, Tale, acceptance_told, all_told, events_told, image_told, lanes_told, page_told, races_told, span_told, where_told}
+use Rattle.xk_hints.specs.Words.{HintValue}
+use Rattle.xk_answers.specs.Explanation.{HaveHints, IsProgramListed, Tale, acceptance_told, all_told, events_told, image_told, lanes_told, page_told, races_told, span_told, where_told}
 
 -- what is to be done with a module; what is explained is a JSON value or not; a run is in an order, or by workers, and has its log kept or not; some
 -- picture is drawn of one; it is told how things stand behind a log, or behind so many of its steps, which races the run in the order `first` has, or how often so many runs by chance,
@@ -180,9 +181,10 @@ abbrev pub IsTallied : ModuleValue → List ℤ → ℕ → ℕ → Tale → Typ
 IsTallied m args seed runs told = IsTallyText m args seed runs told.0 × (told.1 ≡ true)
 
 -- What is told of the module that the bytes give, by their lines and names where they are a source text: for `explain`, where the module is accepted,
--- its bounds, and for `listing` its instructions; for all others, where it is accepted, the run that the log has, or the runs in their orders.
+-- its bounds and hints, and for `listing` its instructions; for all others, where it is accepted, the run that the log has, or the runs in their orders.
 abbrev pub IsTelling : Doing → Form → List ℕ → List ℕ → ModuleValue → List ℤ → List ℕ → Tale → Type 0
-IsTelling (Explain json) kind file bytes m args logged told = IsAccepted m × IsByOrigins kind bytes (acceptance_told json file bytes m) told
+IsTelling (Explain json) kind file bytes m args logged told =
+    IsAccepted m × ((hs : List HintValue) × HaveHints kind bytes hs × IsByOrigins kind bytes (acceptance_told json file bytes m hs) told)
 IsTelling Listing kind file bytes m args logged told = IsProgramListed kind bytes m told.0 × (told.1 ≡ true)
 IsTelling (Draw picture) kind file bytes m args logged told = IsAccepted m × OfRun m args logged (λ es last. IsPicture picture kind bytes m args es last told)
 IsTelling (Where at) kind file bytes m args logged told = IsAccepted m × IsWhereabouts at kind bytes m args logged told
