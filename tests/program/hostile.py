@@ -232,7 +232,7 @@ def strange_files(tried: Tried) -> None:
     tried.answers("exec $x listing /dev/zero", 1, err="x10clock: F4 TooLong at 0\n")
     tried.answers("exec $x listing --module /dev/zero", 1, err="x10clock: M3 Limit\n")
     tried.answers("exec $x listing /dev/null", 1, err="x10clock: F9 NoMain at 0\n")
-    for command in ("replay", "chart", "events", "lanes", "lanes --svg", "page", "where", "where --at 2", "races", "span"):
+    for command in ("replay", "chart", "events", "lanes", "lanes --svg", "page", "where", "where --at 2", "races"):
         tried.answers(f"exec $x {command} in-step.x10 .", 5, err=unopened(command, ".", "it is a folder"))
         tried.answers(f"exec $x {command} in-step.x10 no", 5, err=unopened(command, "no", "no such file or folder"))
         tried.answers(f"exec $x {command} in-step.x10 /dev/zero", 3, err="x10clock: L1 Grammar line 1\n")

@@ -28,7 +28,6 @@ use Rattle.xk_show_picture.specs.Picture.{is_drawn, picture_text}
 use Rattle.xk_show_page.specs.Page.{page_text}
 use Rattle.xk_races.specs.Races.{is_race_free}
 use Rattle.xk_races.specs.Text.{races_text}
-use Rattle.xk_show_span.specs.Text.{span_text}
 use Rattle.xk_show_where.specs.Where.{are_steps_legal, where_text}
 use Rattle.xk_answers.specs.Beginnings.{first_steps, steps_in}
 use Rattle.xk_types.specs.declared.world.Entry.{Entry}
@@ -155,10 +154,6 @@ image_told text window m log last origins = (picture_text (places_in text origin
 -- the same as a page
 abbrev pub page_told : List ℕ → Window → ModuleValue → List Entry → World → Option (List UnitOrigins) → Tale
 page_told text window m log last origins = (page_text (places_in text origins) window m log last, is_drawn window m log last)
-
--- how long it had to take, and what takes longest
-abbrev pub span_told : List ℕ → ModuleValue → List ℤ → List Entry → Option (List UnitOrigins) → Tale
-span_told text m args log origins = (span_text (places_in text origins) m args log, is_race_free m args log)
 
 -- its races
 abbrev pub races_told : List ℕ → ModuleValue → List ℤ → List Entry → Option (List UnitOrigins) → Tale

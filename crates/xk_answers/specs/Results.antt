@@ -33,7 +33,7 @@ use Rattle.xk_replay.specs.Replay.{IsStoppedAt, IsUnfinished}
 use Rattle.xk_answers.specs.OrderedRun.{IsLoggedRun, IsOrderedRun, IsReplay, IsSomeRun, IsWholeRun}
 use Rattle.xk_program.specs.Origins.{IsByOrigins}
 use Rattle.xk_hints.specs.Words.{HintValue}
-use Rattle.xk_answers.specs.Explanation.{HaveHints, IsProgramListed, Tale, acceptance_told, all_told, events_told, image_told, lanes_told, page_told, races_told, span_told, where_told}
+use Rattle.xk_answers.specs.Explanation.{HaveHints, IsProgramListed, Tale, acceptance_told, all_told, events_told, image_told, lanes_told, page_told, races_told, where_told}
 
 -- what is to be done with a module; what is explained is a JSON value or not; a run is in an order, or by workers, and has its log kept or not; some
 -- picture is drawn of one; it is told how things stand behind a log, or behind so many of its steps, which races the run in the order `first` has, or how often so many runs by chance,
@@ -141,7 +141,7 @@ ComesTo (Expected sets limit) m args logged d = IsAccepted m × IsHeldOut m args
 ComesTo _ m args logged _ = ⊥
 
 -- What is told of a run of the module that the bytes give, by their lines where they are a source text: its chart, what others see of its steps, the
--- same with a lane for each activity, as a text, as an image or as a page, its races, or how long it had to take.
+-- same with a lane for each activity, as a text, as an image or as a page, or its races.
 abbrev pub IsPicture : Picture → Form → List ℕ → ModuleValue → List ℤ → List Entry → World → Tale → Type 0
 IsPicture picture.Chart kind bytes m args es last told = told ≡ all_told (chart_text m args es)
 IsPicture picture.Events kind bytes m args es last told = IsByOrigins kind bytes (events_told bytes m args es) told
@@ -149,7 +149,6 @@ IsPicture (picture.Lanes window) kind bytes m args es last told = IsByOrigins ki
 IsPicture (picture.Image window) kind bytes m args es last told = IsByOrigins kind bytes (image_told bytes window m es last) told
 IsPicture (picture.Page window) kind bytes m args es last told = IsByOrigins kind bytes (page_told bytes window m es last) told
 IsPicture picture.Races kind bytes m args es last told = IsByOrigins kind bytes (races_told bytes m args es) told
-IsPicture picture.Span kind bytes m args es last told = IsByOrigins kind bytes (span_told bytes m args es) told
 
 -- whether it is told by the lines of a source text
 abbrev pub shows_origins : Picture → Bool
@@ -164,7 +163,6 @@ picture_told (picture.Lanes window) bytes m args es last origins = lanes_told by
 picture_told (picture.Image window) bytes m args es last origins = image_told bytes window m es last origins
 picture_told (picture.Page window) bytes m args es last origins = page_told bytes window m es last origins
 picture_told picture.Races bytes m args es last origins = races_told bytes m args es origins
-picture_told picture.Span bytes m args es last origins = span_told bytes m args es origins
 
 -- Where things stand behind the steps of a log, or behind so many, is told by the lines of a source text. The log need not be that of a whole run.
 abbrev pub IsWhereabouts : Option ℕ → Form → List ℕ → ModuleValue → List ℤ → List ℕ → Tale → Type 0

@@ -73,11 +73,6 @@ pub enum Command<'a> {
         /// `--at`: the step after which things are told, where that was given; 0 is before the first.
         at: Option<u64>,
     },
-    /// `span`: print how much of the run of FILE that a log has can go on side by side, and what takes longest.
-    Span {
-        /// The log's path.
-        log: &'a str,
-    },
     /// `races`: print which steps of a run of FILE race with one another.
     Races {
         /// The path of the log of the run that is looked at, where that was given.
@@ -119,8 +114,7 @@ impl<'a> Command<'a> {
             | Command::Events { log }
             | Command::Lanes { log, .. }
             | Command::Page { log, .. }
-            | Command::Where { log, .. }
-            | Command::Span { log } => Some(log),
+            | Command::Where { log, .. } => Some(log),
             Command::Expected { list, .. } => Some(list),
             Command::Races { log } => log,
             Command::Check
@@ -150,7 +144,6 @@ impl<'a> Command<'a> {
             | Command::Lanes { .. }
             | Command::Page { .. }
             | Command::Where { .. }
-            | Command::Span { .. }
             | Command::Races { .. }
             | Command::Expected { .. } => None,
         }
@@ -173,7 +166,6 @@ impl<'a> Command<'a> {
             | Command::Lanes { .. }
             | Command::Page { .. }
             | Command::Where { .. }
-            | Command::Span { .. }
             | Command::Races { .. }
             | Command::Outcomes { .. }
             | Command::Expected { .. } => None,
@@ -191,7 +183,6 @@ impl<'a> Command<'a> {
             | Command::Lanes { .. }
             | Command::Page { .. }
             | Command::Where { .. }
-            | Command::Span { .. }
             | Command::Races { .. } => true,
             Command::Check
             | Command::Compile
