@@ -4,6 +4,9 @@ use Rattle.std.specs.Prelude.{◌⊎◌, IfSome, is_some, unwrap_or}
 use Rattle.std.specs.Io.KnownBytes.{Appends}
 use Rattle.xk_types.specs.Device.{Rose}
 use Rattle.xk_program.specs.Lines.{device_line}
+use Rattle.xk_messages.specs.Lines.{memory_line}
+use Rattle.std.specs.declared.io.ErrorKind.{ErrorKind}
+use Rattle.x10clock.specs.declared.files.Which.{Which}
 use Rattle.xk_cli.specs.declared.job.Form.{Form}
 use Rattle.xk_cli.specs.CommandLine.{asked_value}
 use Rattle.xk_cli.specs.Status.{status_words}
@@ -17,7 +20,7 @@ use Rattle.xk_answers.proofs.LogLemmas.{of_each, some_each}
 use Rattle.xk_log.specs.SomeBytes.{OfSome}
 use Rattle.xk_serve_ask.specs.AskedRun.{IsHandReply}
 use Rattle.xk_serve_ask.proofs.AskedRunLemmas.{unread_ends}
-use Rattle.x10clock.specs.Requests.{AnswersHand, AnswersTask, EndsIn, IsAnswered, IsAnsweredBySome, IsByHand, IsDeviceTold, IsGiven, IsPageWritten, IsServed, IsToldOver, IsToldUnopened, input_line, rule_page}
+use Rattle.x10clock.specs.Requests.{AnswersHand, AnswersTask, EndsIn, IsAnswered, IsAnsweredBySome, IsByHand, IsDeviceTold, IsGiven, IsPageWritten, IsServed, IsToldOver, IsToldUnopened, TellsUnopened, input_line, rule_page, told_path}
 
 -- ---- a run by hand
 
@@ -273,3 +276,41 @@ pub told_unread : (r : Request) (p i j : Option (List ℕ)) (old new : Option (L
 told_unread r p i j old new e g f (inl (inl ends)) = inl (inl (f ends))
 told_unread r p i j old new e g f (inl (inr rose)) = inl (inr rose)
 told_unread r p i j old new e g f (inr told) = inr told
+
+-- ---- a file that can't be opened
+
+-- what was told of a path and a kind of error was told of the same
+pub unopened_of : (path o : Option (List ℕ)) (why k : ErrorKind) (old new : Option (List ℕ)) (e g s : ℕ) → path ≡ o → why ≡ k
+    → TellsUnopened path why old new e g s → TellsUnopened o k old new e g s
+unopened_of path o why k old new e g s p q h =
+    subst (λ x. TellsUnopened x k old new e g s) p (subst (λ x. TellsUnopened path x old new e g s) q h)
+
+-- with the status of a device it is told of one of the files, or standard error failed
+pub unopened_file : (r : Request) (w : Which) (k : ErrorKind) (old new : Option (List ℕ)) (e g s : ℕ) → TellsUnopened (told_path r w) k old new e g s → s ≡ 5
+    → Rose e g ⊎ IsToldUnopened r old new
+unopened_file r w k old new e g s (inl (inl t)) five = inr (w, k, t.1)
+unopened_file r w k old new e g s (inl (inr t)) five = inl t.2
+unopened_file r w k old new e g s (inr (named, inl t)) five = cc
+unopened_file r w k old new e g s (inr (named, inr t)) five = inl t.2
+
+-- with that of want of memory its line is
+pub unopened_memory : (o : Option (List ℕ)) (k : ErrorKind) (old new : Option (List ℕ)) (e g s : ℕ) → TellsUnopened o k old new e g s → s ≡ 4
+    → Appends old new memory_line
+unopened_memory o k old new e g s (inl (inl t)) four = cc
+unopened_memory o k old new e g s (inl (inr t)) four = cc
+unopened_memory o k old new e g s (inr (named, inl t)) four = t.1
+unopened_memory o k old new e g s (inr (named, inr t)) four = cc
+
+-- no other status is
+pub unopened_status : (o : Option (List ℕ)) (k : ErrorKind) (old new : Option (List ℕ)) (e g s : ℕ) → TellsUnopened o k old new e g s → (s ≡ 4) ⊎ (s ≡ 5)
+unopened_status o k old new e g s (inl (inl t)) = inr t.0
+unopened_status o k old new e g s (inl (inr t)) = inr t.0
+unopened_status o k old new e g s (inr (named, inl t)) = inl t.0
+unopened_status o k old new e g s (inr (named, inr t)) = inr t.0
+
+-- and with another than that of a device standard error didn't fail
+pub unopened_whole : (o : Option (List ℕ)) (k : ErrorKind) (old new : Option (List ℕ)) (e g s : ℕ) → TellsUnopened o k old new e g s → s ≢ 5 → g ≡ e
+unopened_whole o k old new e g s (inl (inl t)) device = t.2
+unopened_whole o k old new e g s (inl (inr t)) device = absurd (device t.0)
+unopened_whole o k old new e g s (inr (named, inl t)) device = t.2
+unopened_whole o k old new e g s (inr (named, inr t)) device = absurd (device t.0)

@@ -20,6 +20,7 @@ use Rattle.xk_cli.specs.declared.job.Request.TheVariants as request
 use Rattle.xk_serve.specs.Answer.{Task, reads_more, task_of}
 use Rattle.xk_program.specs.Bytes.{kept}
 use Rattle.xk_program.specs.Lines.{device_line}
+use Rattle.xk_messages.specs.Lines.{memory_line}
 use Rattle.xk_serve.specs.Devices.{Answered, AnsweredBySome, ErrBegins, IfKnown, OutBegins, Tells}
 use Rattle.x10clock.specs.declared.files.Which.{Which}
 use Rattle.x10clock.specs.declared.files.Which.TheVariants as which
@@ -96,6 +97,12 @@ reason_of _ = codes ": the system can't open it\n"
 abbrev pub unopened_lines : Option (List ℕ) → ErrorKind → List ℕ
 unopened_lines (Some path) why = codes "x10clock: can't open " ++ (shown_signs (signs path) ++ (reason_of why ++ device_line))
 unopened_lines None why = device_line
+
+-- that was told; or, where a path is told, want of memory for it
+abbrev pub TellsUnopened : Option (List ℕ) → ErrorKind → Option (List ℕ) → Option (List ℕ) → ℕ → ℕ → ℕ → Type 0
+TellsUnopened path why old new faults_old faults_new status =
+    Tells (unopened_lines path why) status_device old new faults_old faults_new status
+    ⊎ ((is_some path ≡ true) × Tells memory_line status_memory old new faults_old faults_new status)
 
 -- that was told of one of the files
 abbrev pub IsToldUnopened : Request → Option (List ℕ) → Option (List ℕ) → Type 0

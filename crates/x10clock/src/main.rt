@@ -12,7 +12,7 @@ ghost use Rattle.xk_messages.specs.Lines.{memory_line};
 ghost use Rattle.xk_serve.specs.Devices.{Reports, Tells, TellsWords};
 ghost use Rattle.xk_program.specs.declared.fault.Fault.TheVariants as fault;
 ghost use Rattle.x10clock.specs.CommandLine.{AreTold, AskForHand, IsWantOfMemory, no_text_line};
-ghost use Rattle.x10clock.specs.Requests.{EndsIn, IsByHand, IsDeviceTold, IsLastLine, IsToldUnopened, IsPageWritten, IsGiven, ErrIsBegun, IsAnswered, IsAnsweredBySome, IsServed, IsToldOver, OutIsBegun, ReadsNoMore, input_line, log_path, is_left_open, names_files, over_line, over_read_line, page_asked, path_of, reason_of, rule_page, told_path, unopened_lines, what_over};
+ghost use Rattle.x10clock.specs.Requests.{EndsIn, IsByHand, IsDeviceTold, IsLastLine, IsToldUnopened, TellsUnopened, IsPageWritten, IsGiven, ErrIsBegun, IsAnswered, IsAnsweredBySome, IsServed, IsToldOver, OutIsBegun, ReadsNoMore, input_line, log_path, is_left_open, names_files, over_line, over_read_line, page_asked, path_of, reason_of, rule_page, told_path, unopened_lines, what_over};
 
 mod files;
 
@@ -457,12 +457,9 @@ fn not_opened<R: AllocGlobal, E: Sink>(
         (E.contents err.old) (E.contents err.new)
         (E.fault_count err.old) (E.fault_count err.new) result }
     ensures device { ¬ IsWantOfMemory e.now
-        → Tells (unopened_lines (told_path request.now which) (error_kind e.now)) status_device
+        → TellsUnopened (told_path request.now which) (error_kind e.now)
         (E.contents err.old) (E.contents err.new)
-        (E.fault_count err.old) (E.fault_count err.new) result
-        ⊎ ((told_path request.now which ≢ None)
-        × Tells memory_line status_memory (E.contents err.old) (E.contents err.new)
-        (E.fault_count err.old) (E.fault_count err.new) result) }
+        (E.fault_count err.old) (E.fault_count err.new) result }
     ensures memory_err { result ≡ status_memory
         → Appends (E.contents err.old) (E.contents err.new) memory_line }
     ensures faults { result ≢ status_device → E.fault_count err.new ≡ E.fault_count err.old }
@@ -473,10 +470,27 @@ fn not_opened<R: AllocGlobal, E: Sink>(
     if e.kind() == ErrorKind::OutOfMemory {
         return tell(MEMORY_LINE, status::MEMORY, err);
     }
-    let Some(path) = told_path(request, which) else {
-        return tell(DEVICE_LINE, status::DEVICE, err);
-    };
-    match unopened_lines(rt.alloc(), path, e.kind()) {
+    tell_unopened(rt.alloc(), told_path(request, which), e.kind(), err)
+}
+
+/// The same of a file whose path is told or not, where the system gave this kind of error.
+fn tell_unopened<E: Sink>(alloc: Global, path: Option<&str>, why: ErrorKind, err: &mut E) -> u8
+    ensures { TellsUnopened (option_map (λ path. path.now) path.entry) why
+        (E.contents err.old) (E.contents err.new)
+        (E.fault_count err.old) (E.fault_count err.new) result }
+{
+    match path {
+        Some(path) => tell_named(alloc, path, why, err),
+        None => tell(DEVICE_LINE, status::DEVICE, err),
+    }
+}
+
+/// The same of a file whose path is told.
+fn tell_named<E: Sink>(alloc: Global, path: &str, why: ErrorKind, err: &mut E) -> u8
+    ensures { TellsUnopened (Some path.now) why (E.contents err.old) (E.contents err.new)
+        (E.fault_count err.old) (E.fault_count err.new) result }
+{
+    match unopened_lines(alloc, path, why) {
         Ok(lines) => tell_bytes(&lines, status::DEVICE, err),
         Err(_) => tell(MEMORY_LINE, status::MEMORY, err),
     }
