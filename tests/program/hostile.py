@@ -35,6 +35,7 @@ OUTCOMES = "outcome 1 prints 1 2\noutcome 2 prints 2 1\noutcomes 2 complete\n"
 DEVICE, MEMORY = "x10clock: device\n", "x10clock: out of memory\n"
 # Of these commands nothing is told of a file that can't be opened but that.
 FIXED = ("check", "compile", "run", "replay", "chart")
+FOLDER, MISSING, OTHER = "it is a folder", "no such file or folder", "the system can't open it"
 TOO_LONG = """/dev/zero: F4 TooLong: the text has more than 1048576 bytes
    = usual repair: write a shorter one: a method is written once, however often it is called
 """
@@ -211,15 +212,15 @@ def strange_files(tried: Tried) -> None:
         "check", "explain", "explain --json", "listing", "compile", "run", "outcomes", "outcomes --sets", "races",
         "run --order random --runs 2", "check --module",
     ):  # fmt: skip
-        tried.answers(f"exec $x {command} .", 5, err=unopened(command, ".", "it is a folder"))
-        tried.answers(f"exec $x {command} no-file", 5, err=unopened(command, "no-file", "no such file or folder"))
-        tried.answers(f"exec $x {command} bad.x10/in", 5, err=unopened(command, "bad.x10/in", "the system can't open it"))
+        tried.answers(f"exec $x {command} .", 5, err=unopened(command, ".", FOLDER))
+        tried.answers(f"exec $x {command} no-file", 5, err=unopened(command, "no-file", MISSING))
+        tried.answers(f"exec $x {command} bad.x10/in", 5, err=unopened(command, "bad.x10/in", OTHER))
     tried.answers(
-        "exec $x listing \"$(printf 'a\\033[2Jb')\"", 5, err=unopened("listing", "a\\x1b[2Jb", "no such file or folder")
+        "exec $x listing \"$(printf 'a\\033[2Jb')\"", 5, err=unopened("listing", "a\\x1b[2Jb", MISSING)
     )
-    tried.answers("exec $x outcomes --log no/log in-step.x10", 5, err=unopened("outcomes", "no/log", "no such file or folder"))
-    tried.answers("exec $x outcomes --log . in-step.x10", 5, err=unopened("outcomes", ".", "it is a folder"))
-    tried.answers("exec $x outcomes --expect no in-step.x10", 5, err=unopened("outcomes", "no", "no such file or folder"))
+    tried.answers("exec $x outcomes --log no/log in-step.x10", 5, err=unopened("outcomes", "no/log", MISSING))
+    tried.answers("exec $x outcomes --log . in-step.x10", 5, err=unopened("outcomes", ".", FOLDER))
+    tried.answers("exec $x outcomes --expect no in-step.x10", 5, err=unopened("outcomes", "no", MISSING))
     if os.geteuid() != 0:
         tried.file("shut", "").chmod(0)
         tried.answers("exec $x listing shut", 5, err=unopened("listing", "shut", "no permission"))
@@ -233,8 +234,8 @@ def strange_files(tried: Tried) -> None:
     tried.answers("exec $x listing --module /dev/zero", 1, err="x10clock: M3 Limit\n")
     tried.answers("exec $x listing /dev/null", 1, err="x10clock: F9 NoMain at 0\n")
     for command in ("replay", "chart", "events", "lanes", "lanes --svg", "page", "where", "where --at 2", "races"):
-        tried.answers(f"exec $x {command} in-step.x10 .", 5, err=unopened(command, ".", "it is a folder"))
-        tried.answers(f"exec $x {command} in-step.x10 no", 5, err=unopened(command, "no", "no such file or folder"))
+        tried.answers(f"exec $x {command} in-step.x10 .", 5, err=unopened(command, ".", FOLDER))
+        tried.answers(f"exec $x {command} in-step.x10 no", 5, err=unopened(command, "no", MISSING))
         tried.answers(f"exec $x {command} in-step.x10 /dev/zero", 3, err="x10clock: L1 Grammar line 1\n")
         tried.answers(f"exec $x {command} in-step.x10 /dev/null", 3, err="x10clock: L2 Truncated\n")
 
