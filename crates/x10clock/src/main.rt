@@ -151,7 +151,7 @@ fn on_asked<R: Runtime, O: Sink, E: Sink>(
 }
 
 /// Opens FILE, and does what is asked for.
-#[tactic(auto, using(crate::proofs::AnswerLemmas::served, crate::proofs::AnswerLemmas::none_served))]
+#[tactic(auto, using(crate::proofs::AnswerLemmas::served, crate::proofs::AnswerLemmas::none_served, crate::proofs::AnswerLemmas::unopened_told))]
 fn on_request<R: Runtime, O: Sink, E: Sink>(
     rt: &R,
     request: &Request<'_>,
@@ -330,6 +330,7 @@ fn on_program<R: Runtime, P: Read + Drop, O: Sink, E: Sink>(
 }
 
 /// Makes the file of the log that is written, or empties it, where there is to be one, and does what is asked for on an open program.
+#[tactic(auto, using(crate::proofs::AnswerLemmas::device_told))]
 fn on_log<R: Runtime, P: Read + Drop, L: Source, O: Sink, E: Sink>(
     rt: &R,
     request: &Request<'_>,

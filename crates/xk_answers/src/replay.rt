@@ -69,6 +69,7 @@ fn numbers_of(ended: Ended<'_>) -> Done
 }
 
 /// The whole run again with these arguments that the log has.
+#[tactic(auto, using(crate::proofs::LogLemmas::log_stands))]
 pub(crate) fn run_again<'m, L: Source>(
     alloc: Global,
     verified: &'m Verified,

@@ -14,7 +14,8 @@ ghost use Rattle.xk_program.specs.Faults.{GivesNoModule};
 ghost use Rattle.xk_program.specs.Programs.{Gives, IsSource};
 
 use crate::explanation::{
-    Reading, Refused, acceptance, fault_of_text, fault_of_tree, module_said, refusal_of_module, told, unsaid,
+    Reading, Refused, acceptance, fault_of_text, fault_of_tree, module_said, refusal_of_module,
+    told, unsaid,
 };
 use crate::job_result::Done;
 use std::alloc::{AllocError, Global};

@@ -47,6 +47,7 @@ pub fn stood<L: Source>(
 }
 
 /// The same of an accepted module.
+#[tactic(auto, using(crate::proofs::LogLemmas::reading_stands))]
 fn stood_by<L: Source>(
     alloc: Global,
     from: &Provenance<'_>,

@@ -204,9 +204,11 @@ stands : (t : Task) (known logged : Option (List ℕ)) (bytes : List ℕ) (n : R
     → IfSome known (λ k. bytes ≡ kept t.form k) → OfSome (read_of t logged) (λ log. FailsBy t bytes log f) → IsSaidOf t bytes f said
     → IsRead n × IfKnown t known logged (λ k log. FailsBy t k log f × IsSaidOf t k f said)
 stands t None logged bytes n f said s l e h is = ((s, l), tt)
-stands t (Some k) logged bytes n f said s l e h is =
-    ((s, l), of_each _ _ (read_of t logged) (λ log p. (kept_fails t bytes k log f e p, said_kept t bytes k log said f e p is))
-    (if_known (λ log. FailsBy t bytes log f) (read_of t logged) h))
+stands t (Some k) logged bytes n f said s l e h is = (
+  (s, l),
+  of_each _ _ (read_of t logged) (λ log p. (kept_fails t bytes k log f e p, said_kept t bytes k log said f e p is))
+      (if_known (λ log. FailsBy t bytes log f) (read_of t logged) h),
+)
 
 -- a fault with the bytes kept is one with those that are known
 pub told_stands : (t : Task) (known logged : Option (List ℕ)) (bytes : List ℕ) (n : Reads) (f : Fault) (said : List ℕ)
