@@ -147,7 +147,7 @@ fn reading_of<'t>(
     origins: Origins<'t>,
 ) -> Result<Reading<'t>, AllocError>
     requires source { IsSource bytes.now (tree_value tree.now) }
-    requires origins { HaveOrigins form.Source bytes.now (Some origins.entry) }
+    requires origins { HaveOrigins form.Source bytes.now (Some origins) }
     ensures origins { IfOk result (λ r. HaveOrigins form.Source bytes.now r.origins) }
     ensures hints { IfOk result (λ r. HaveHints form.Source bytes.now r.hints.items) }
 {

@@ -100,7 +100,7 @@ fn whereabouts(
 /// What is told up to this step, with a line where the log ends before it.
 fn told_to(alloc: Global, step: u64, log: &[Entry], tale: Tale) -> Result<Tale, AllocError>
     ensures { IfOk result (λ told. (told.text.items, told.whole)
-        ≡ told_to step log.now (tale.entry.text.items, tale.entry.whole)) }
+        ≡ told_to step log.now (tale.text.items, tale.whole)) }
 {
     let lacking = lacking(log, step);
     if lacking == 0 {

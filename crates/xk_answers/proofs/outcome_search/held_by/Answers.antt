@@ -1,5 +1,5 @@
-use Rattle.std.proofs.Common.{subst, ◌∙◌}
-use Rattle.xk_outcomes.specs.Expected.{AreExpected}
+use Rattle.std.proofs.Common.{◌≡◌, Some, subst, ◌∙◌}
+use Rattle.xk_outcomes.specs.Expected.{AreExpected, IsStrayIn, stray_line}
 use Rattle.xk_answers.proofs.LogLemmas.{front_of, some_each}
 use Rattle.xk_answers.proofs.outcome_search.held_by.Goals as goal
 
@@ -12,3 +12,12 @@ returns-in-Ok-clause-done g c =
           (c.deref.ensures.value ∙ is) c.in-Ok.ensures.held,
     ))
     (front_of _ _ _ c.in_ok-bytes.ensures.few c.in_ok-bytes.ensures.front)
+
+pub returns-in-Stray-clause-fault : goal.returns-in-Stray-clause-fault
+returns-in-Stray-clause-fault g c =
+    let stray = subst (IsStrayIn c.deref.result.now) c.in-Stray.is c.in-Err.ensures.stray in (
+      c.in_ok-bytes.ensures.no_fault,
+      some_each _ _ (g.L.Source.remaining c.args.source.now)
+          (λ all is. subst (λ bytes. stray_line bytes ≡ Some c.in-Stray.line) (c.deref.ensures.value ∙ is) stray)
+          (front_of _ _ _ c.in_ok-bytes.ensures.few c.in_ok-bytes.ensures.front),
+    )
