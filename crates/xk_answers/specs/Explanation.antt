@@ -1,6 +1,6 @@
 -- What is told of a program by its lines and names: what `explain` says of what stands against it and of one that is accepted, and its listing. This
 -- project's own.
-use Rattle.std.specs.Prelude.{◌≡◌, ℕ, ℤ, Bool, true, false, List, [], ◌++◌, map, Option, Some, None}
+use Rattle.std.specs.Prelude.{◌≡◌, ℕ, ℤ, nat_lt, Bool, true, false, List, [], ◌++◌, map, Option, Some, None, if◌then◌else◌}
 use Rattle.std.specs.Option.{option_map_or}
 use Rattle.xk_types.specs.Code.{ModuleValue}
 use Rattle.xk_types.specs.World.{World}
@@ -29,12 +29,13 @@ use Rattle.xk_show_page.specs.Page.{page_text}
 use Rattle.xk_races.specs.Races.{is_race_free}
 use Rattle.xk_races.specs.Text.{races_text}
 use Rattle.xk_show_where.specs.Where.{are_steps_legal, where_text}
+use Rattle.xk_answers.specs.Beginnings.{first_steps, steps_in}
 use Rattle.xk_types.specs.declared.world.Entry.{Entry}
 use Rattle.xk_cli.specs.declared.job.Form.{Form}
 use Rattle.xk_cli.specs.declared.job.Form.TheVariants as form
 use Rattle.xk_program.specs.declared.fault.Fault.{Fault}
 use Rattle.xk_program.specs.declared.fault.Fault.TheVariants as fault
-use Rattle.xk_messages.specs.Lines.{accepted_line}
+use Rattle.xk_messages.specs.Lines.{accepted_line, log_end_line}
 use Rattle.xk_program.specs.Origins.{HaveOrigins, Program, IsByProgram, IsByTree}
 use Rattle.xk_program.specs.Programs.{IsSource}
 
@@ -159,5 +160,14 @@ abbrev pub races_told : List ℕ → ModuleValue → List ℤ → List Entry →
 races_told text m args log origins = (races_text (places_in text origins) m args log, is_race_free m args log)
 
 -- how things stand behind the steps of a log, as far as they can be taken
-abbrev pub where_told : List ℕ → ModuleValue → List ℤ → List Entry → Option (List UnitOrigins) → Tale
-where_told text m args log origins = (where_text (places_in text origins) m args log, are_steps_legal m args log)
+abbrev pub stand_told : List ℕ → ModuleValue → List ℤ → List Entry → Option (List UnitOrigins) → Tale
+stand_told text m args log origins = (where_text (places_in text origins) m args log, are_steps_legal m args log)
+
+-- a log that ends before step n: a line says so, and the answer isn't whole
+abbrev pub told_to : ℕ → List Entry → Tale → Tale
+told_to n log told = if nat_lt (steps_in log) n then (told.0 ++ log_end_line (steps_in log), false) else told
+
+-- the same behind all steps of the log, or behind the first n of them
+abbrev pub where_told : List ℕ → ModuleValue → List ℤ → Option ℕ → List Entry → Option (List UnitOrigins) → Tale
+where_told text m args None log origins = stand_told text m args log origins
+where_told text m args (Some n) log origins = told_to n log (stand_told text m args (first_steps n log) origins)

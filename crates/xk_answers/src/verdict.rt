@@ -14,7 +14,8 @@ ghost use Rattle.xk_program.specs.Faults.{GivesNoModule};
 ghost use Rattle.xk_program.specs.Programs.{Gives, IsSource};
 
 use crate::explanation::{
-    Reading, Refused, acceptance, fault_of_text, fault_of_tree, module_said, refusal_of_module, told, unsaid,
+    Reading, Refused, acceptance, fault_of_text, fault_of_tree, module_said, refusal_of_module,
+    told, unsaid,
 };
 use crate::job_result::Done;
 use std::alloc::{AllocError, Global};
@@ -146,7 +147,7 @@ fn reading_of<'t>(
     origins: Origins<'t>,
 ) -> Result<Reading<'t>, AllocError>
     requires source { IsSource bytes.now (tree_value tree.now) }
-    requires origins { HaveOrigins form.Source bytes.now (Some origins.entry) }
+    requires origins { HaveOrigins form.Source bytes.now (Some origins) }
     ensures origins { IfOk result (λ r. HaveOrigins form.Source bytes.now r.origins) }
     ensures hints { IfOk result (λ r. HaveHints form.Source bytes.now r.hints.items) }
 {

@@ -80,11 +80,11 @@ telling_once (Draw picture) kind file bytes m args logged a b given h k =
     let last = last_once m args k.1.0 h.1.0 same k.1.2 h.1.2 in
     picture_once picture kind bytes m args h.1.0 h.1.2.last a b given h.1.3
     (subst (λ w. IsPicture picture kind bytes m args h.1.0 w b) last (subst (λ es. IsPicture picture kind bytes m args es k.1.2.last b) same k.1.3))
-telling_once Where kind file bytes m args logged a b given h k =
+telling_once (Where at) kind file bytes m args logged a b given h k =
     let here = h.1.1 in
     let there = k.1.1 in
     let same = text_once logged there.0 here.0 there.1 here.1 in
-    by_origins_once kind bytes m (where_told bytes m args here.0) a b given here.2 (subst (λ es. IsByOrigins kind bytes (where_told bytes m args es) b) same there.2)
+    by_origins_once kind bytes m (where_told bytes m args at here.0) a b given here.2 (subst (λ es. IsByOrigins kind bytes (where_told bytes m args at es) b) same there.2)
 telling_once Races kind file bytes m args logged a b given h k =
     let here = h.1 in
     let there = k.1 in

@@ -1,4 +1,5 @@
-use Rattle.x10clock.proofs.AnswerLemmas.{some_unread, unread}
+use Rattle.x10clock.proofs.AnswerLemmas.{some_unread, unopened_told, unread}
+use Rattle.std.proofs.Common.{None}
 use Rattle.x10clock.proofs.on_program.Goals as goal
 
 pub returns-in_default-clause-answered : goal.returns-in_default-clause-answered
@@ -19,3 +20,8 @@ returns-in_default-read_path-clause-by_some g c memory device =
     some_unread c.args.request.now (g.P.Read.remaining c.args.program) _ _ done.result
     (g.O.Sink.contents c.args.out.now) (g.O.Sink.contents done.new.out) (g.E.Sink.contents c.args.err.now) (g.E.Sink.contents done.new.err)
     _ _ _ (done.ensures.by_some memory device)
+
+pub returns-in-Err-clause-device_err : goal.returns-in-Err-clause-device_err
+returns-in-Err-clause-device_err g c failed =
+    unopened_told c.args.request.now (g.P.Read.remaining c.args.program) None (g.E.Sink.contents c.args.err.now)
+    (g.E.Sink.contents c.not_opened.new.err) _ _ (c.not_opened.ensures.device_err failed)
