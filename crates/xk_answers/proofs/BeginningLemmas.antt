@@ -49,18 +49,3 @@ first_steps_taken n (e ∷ es) = one_taken (nat_le e.steps n) n e es refl (first
 pub cut_is : (n : ℕ) (e : Entry) (some : 0 < n) → entry_of e.act n some ∷ [] ≡ cut_entry n e
 cut_is zero e some = absurd (not-suc-le-zero some)
 cut_is (suc k) e some = ap (λ p. entry_of e.act (suc k) p ∷ []) (le_prop some (zero-lt-suc k))
-
-pub none_cut : (n : ℕ) (e : Entry) → n ≡ 0 → ◌≡◌ {A = List Entry} [] (cut_entry n e)
-none_cut zero e is = refl
-none_cut (suc k) e is = cc
-
--- the first steps of a log that begins with this entry
-pub whole_first : (n : ℕ) (e : Entry) (es : List Entry) → e.steps ≤ n → first_steps n (e ∷ es) ≡ e ∷ first_steps (n - e.steps) es
-whole_first n e es h = ap (λ b. if b then e ∷ first_steps (n - e.steps) es else cut_entry n e) (le-leb e.steps n h)
-
-pub cut_first : (n : ℕ) (e : Entry) (es : List Entry) → n < e.steps → first_steps n (e ∷ es) ≡ cut_entry n e
-cut_first n e es h = ap (λ b. if b then e ∷ first_steps (n - e.steps) es else cut_entry n e) (lt-leb e.steps n h)
-
--- the steps of one entry more
-pub one_more : (e : Entry) (es : List Entry) → steps_in (e ∷ es) ≡ e.steps + steps_in es
-one_more e es = length-append (replicate e.steps e.act) (schedule_of es) ∙ ap (λ k. k + steps_in es) (length-replicate e.steps e.act)

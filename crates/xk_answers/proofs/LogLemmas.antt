@@ -21,11 +21,6 @@ use Rattle.xk_answers.specs.Refusals.{AgainstExpected, AgainstList, AgainstModul
 
 -- ---- logs that may be known
 
--- what holds of each list holds of the one that is known, if any is
-pub of_any : (P : List ℕ → Type 0) (known : Option (List ℕ)) → ((xs : List ℕ) → P xs) → IfSome known P
-of_any P None h = tt
-of_any P (Some xs) h = h xs
-
 -- what follows for each list follows for the one that is known
 pub of_each : (P Q : List ℕ → Type 0) (known : Option (List ℕ)) → ((xs : List ℕ) → P xs → Q xs) → IfSome known P → IfSome known Q
 of_each P Q None f h = tt
