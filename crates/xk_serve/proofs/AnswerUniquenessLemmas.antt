@@ -251,26 +251,26 @@ telling_whole picture kind file bytes m args logged told h =
     let r = h.1.2 in (h.1.0, h.1.1, record { last = r.last; leads = r.leads; given = r.given; over = r.over })
 
 -- a text of a log that need not be that of a whole run isn't refused
-text_stands : (m : ModuleValue) (args : List ℤ) (logged : List ℕ) (es : List Entry) (f : Fault) → IsLogText logged es → IsNoRun m args logged f → MayStand Where f
+text_stands : (at : Option ℕ) (m : ModuleValue) (args : List ℤ) (logged : List ℕ) (es : List Entry) (f : Fault) → IsLogText logged es → IsNoRun m args logged f → MayStand (Where at) f
     → status_of f ≢ 4 → ⊥
-text_stands m args logged es (fault.NotEnabled i) text told_by may not4 = false≢true may
-text_stands m args logged es fault.NotEnded text told_by may not4 = false≢true may
-text_stands m args logged es (fault.NoOutcome line) text told_by may not4 = told_by
-text_stands m args logged es (fault.Grammar line) text told_by may not4 = text_not_wrong logged line es text told_by
-text_stands m args logged es fault.Truncated text told_by may not4 = text_not_cut logged es text told_by
-text_stands m args logged es fault.OutOfMemory text told_by may not4 = not4 refl
-text_stands m args logged es (fault.Text f) text told_by may not4 = told_by
-text_stands m args logged es (fault.Front f) text told_by may not4 = told_by
-text_stands m args logged es (fault.Refused r) text told_by may not4 = told_by
-text_stands m args logged es (fault.Arguments wants has) text told_by may not4 = told_by
-text_stands m args logged es fault.Device text told_by may not4 = told_by
+text_stands at m args logged es (fault.NotEnabled i) text told_by may not4 = false≢true may
+text_stands at m args logged es fault.NotEnded text told_by may not4 = false≢true may
+text_stands at m args logged es (fault.NoOutcome line) text told_by may not4 = told_by
+text_stands at m args logged es (fault.Grammar line) text told_by may not4 = text_not_wrong logged line es text told_by
+text_stands at m args logged es fault.Truncated text told_by may not4 = text_not_cut logged es text told_by
+text_stands at m args logged es fault.OutOfMemory text told_by may not4 = not4 refl
+text_stands at m args logged es (fault.Text f) text told_by may not4 = told_by
+text_stands at m args logged es (fault.Front f) text told_by may not4 = told_by
+text_stands at m args logged es (fault.Refused r) text told_by may not4 = told_by
+text_stands at m args logged es (fault.Arguments wants has) text told_by may not4 = told_by
+text_stands at m args logged es fault.Device text told_by may not4 = told_by
 
 -- a log of which something is told isn't refused
 telling_stands : (what : Doing) (kind : Form) (file bytes : List ℕ) (m : ModuleValue) (args : List ℤ) (logged : List ℕ) (told : Tale) (f : Fault) → reads_log what ≡ true
     → IsTelling what kind file bytes m args logged told → IsNoRun m args logged f → MayStand what f → status_of f ≢ 4 → ⊥
 telling_stands (Draw picture) kind file bytes m args logged told f reads h told_by may not4 =
     let whole = telling_whole picture kind file bytes m args logged told h in whole_not_refused m args logged f whole.0 told_by not4 whole.1 whole.2
-telling_stands (Where at) kind file bytes m args logged told f reads h told_by may not4 = text_stands m args logged h.1.1.0 f h.1.1.1 told_by may not4
+telling_stands (Where at) kind file bytes m args logged told f reads h told_by may not4 = text_stands at m args logged h.1.1.0 f h.1.1.1 told_by may not4
 telling_stands Races kind file bytes m args logged told f reads h told_by may not4 = false≢true reads
 telling_stands (Tally seed count) kind file bytes m args logged told f reads h told_by may not4 = false≢true reads
 telling_stands (Explain json) kind file bytes m args logged told f reads h told_by may not4 = false≢true reads
