@@ -127,7 +127,7 @@ impl RulePage {
             RulePage::Home => "V8",
             RulePage::Registers => "V9",
             RulePage::SameClock => "V10",
-            RulePage::Use => "V12",
+            RulePage::Use => "V11",
             RulePage::Held => "V12",
             RulePage::Leak => "V13",
             RulePage::Steps => "V14",
@@ -159,7 +159,7 @@ pub(crate) fn page_named(code: &str) -> Option<RulePage>
         "F7" => Some(RulePage::WrongKind),
         "F8" => Some(RulePage::NotCaptured),
         "F9" => Some(RulePage::NoMain),
-        "F10" => Some(RulePage::Token),
+        "F10" => Some(RulePage::Recursive),
         "F11" => Some(RulePage::Arity),
         "F12" => Some(RulePage::SameClockTwice),
         "F13" => Some(RulePage::Literal),
@@ -212,7 +212,7 @@ pub(crate) fn run_named(code: &str) -> Option<RulePage>
     ensures { result ≡ run_named code.now }
 {
     match code {
-        "A1" => None,
+        "A1" => Some(RulePage::Arguments),
         "L1" => Some(RulePage::Grammar),
         "L2" => Some(RulePage::Truncated),
         "L3" => Some(RulePage::Device),

@@ -22,7 +22,7 @@ pub fn rule_text(code: &str) -> Option<&'static str>
 fn page_text(page: RulePage) -> &'static str
     ensures { result.now ≡ page_text page }
 {
-    let run = run_page(RulePage::Token, "");
+    let run = run_page(page, "");
     let verifier = verifier_page(page, run);
     let module = module_page(page, verifier);
     source_page(page, module)

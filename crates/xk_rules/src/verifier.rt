@@ -18,7 +18,7 @@ pub(crate) fn verifier_page(page: RulePage, other: &'static str) -> &'static str
         RulePage::Loop => v6(),
         RulePage::End => v7(),
         RulePage::Home => v8(),
-        RulePage::Registers => v10(),
+        RulePage::Registers => v9(),
         RulePage::SameClock => v10(),
         RulePage::Use => v11(),
         RulePage::Held => v12(),
