@@ -36,6 +36,7 @@ ASK = (
     "sh tests/program/transcripts.sh",
     "python3 -m tests.program.pages",
     "python3 -m tests.program.exercises",
+    "python3 -m tests.program.repairs",
     "python3 -m tests.program.html_pages",
     "python3 -m tests.program.editors",
     "python3 -m tests.program.refused_growths",

@@ -1,6 +1,6 @@
 -- What is told beside what is wrong: each note is a line of its own, with the place in the text that it speaks of, if it has one there. This project's
 -- own.
-use Rattle.std.specs.Prelude.{ℕ, min, List, ◌++◌, length, Option, codes, decimal}
+use Rattle.std.specs.Prelude.{ℕ, min, nat_lt, List, [], ◌++◌, length, take, Option, codes, decimal, if◌then◌else◌}
 use Rattle.std.specs.List.{flat_map}
 use Rattle.std.specs.Option.{option_map_or}
 use Rattle.xk_lines.specs.declared.lines.Position.{Position}
@@ -35,3 +35,10 @@ note_lines text notes = flat_map (note_line text) notes
 -- the same where there is no text: notes have no place then
 abbrev pub plain_lines : List NoteValue → List ℕ
 plain_lines notes = flat_map (λ n. plain_line n.text) notes
+
+-- a name inside a line: no more than 60 signs of it, with `..` for the others
+abbrev pub name_mark : List ℕ → List ℕ
+name_mark name = if nat_lt 60 (length name) then codes ".." else []
+
+abbrev pub told_name : List ℕ → List ℕ
+told_name name = take 60 name ++ name_mark name

@@ -19,7 +19,7 @@ pub use messages::{
     front_message, kind_message, module_message, module_repair, rule_message, rule_repair,
 };
 pub use module_rule::ModuleRule;
-pub use note::{Note, note_lines, place_title, plain_lines};
+pub use note::{Note, note_lines, place_title, plain_lines, told_name};
 pub use refusals::explain_refusal;
 pub use source_refusals::{explain_source, origin_at};
 pub use source_text::SourceText;

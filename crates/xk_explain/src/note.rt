@@ -1,7 +1,7 @@
 //! Notes: what is told beside what is wrong.
 
-ghost use Rattle.std.specs.Prelude.{◌≡◌, ◌++◌, IfOk, OnOk, string_bytes};
-ghost use Rattle.xk_explain.specs.Notes.{note_line, note_lines, place_title, placed_line, plain_line, plain_lines};
+ghost use Rattle.std.specs.Prelude.{◌≡◌, ◌++◌, take, IfOk, OnOk, string_bytes};
+ghost use Rattle.xk_explain.specs.Notes.{name_mark, note_line, note_lines, place_title, placed_line, plain_line, plain_lines, told_name};
 
 use crate::lines::push_text;
 use crate::source_text::SourceText;
@@ -123,5 +123,35 @@ pub fn plain_lines(alloc: Global, notes: &[Note]) -> Result<Vec<u8>, AllocError>
     for note in notes {
         push_plain(alloc, &mut out, note)?;
     }
+    Ok(out)
+}
+
+/// How many signs of a name are shown inside a line.
+const SHOWN: usize = 60;
+
+/// What stands for the other signs of a name, if it has more.
+fn name_mark(name: &[u8]) -> &'static str
+    ensures { result.now ≡ name_mark name.now }
+{
+    if name.len() > SHOWN {
+        return "..";
+    }
+    ""
+}
+
+/// The first signs of a name.
+fn first_signs(name: &[u8]) -> &[u8]
+    ensures { result.now ≡ take 60 name.now }
+{
+    &name[..name.len().min(SHOWN)]
+}
+
+/// A name as it is shown inside a line: no more than 60 signs of it, with `..` for the others. Err where memory was refused.
+pub fn told_name(alloc: Global, name: &[u8]) -> Result<Vec<u8>, AllocError>
+    ensures { IfOk result (λ v. v.items ≡ told_name name.now) }
+{
+    let mut out = Vec::new(alloc);
+    out.extend_from_slice(first_signs(name))?;
+    push_text(&mut out, name_mark(name))?;
     Ok(out)
 }

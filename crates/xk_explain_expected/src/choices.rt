@@ -111,7 +111,7 @@ fn is_within(group: Group, t: Terminal) -> bool
 }
 
 /// What is told one by one, in this order.
-fn told_alone() -> &'static [Terminal]
+pub(crate) fn told_alone() -> &'static [Terminal]
     ensures { result.now ≡ told_alone }
 {
     &[

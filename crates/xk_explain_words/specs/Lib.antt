@@ -1,0 +1,5 @@
+pub mod Words
+pub mod Comments
+pub mod NearNames
+pub mod Signs
+pub mod Heads
