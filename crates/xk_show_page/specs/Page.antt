@@ -29,9 +29,9 @@ page_top =
     ++ (codes "<meta charset=\"utf-8\">\n"
     ++ (codes "<meta name=\"viewport\" content=\"width=device-width, initial-scale=1\">\n"
     ++ (codes "<meta http-equiv=\"Content-Security-Policy\" content=\"default-src 'none'; "
-    ++ (codes "style-src 'sha256-rqDgg6Gohj15oatNQVa5x4nb+K1EYRUrQ0bAL6oBY4I=' "
+    ++ (codes "style-src 'sha256-afzZlw2dFEfRCy2le3IDMk4XNiTfzJCsWiolFL6YS4M=' "
     ++ (codes "'sha256-1Mhn6nywKkLaXR5W9I5AIbKxhh5lqmYSXkp8j1iVKwY='; "
-    ++ (codes "script-src 'sha256-fBcH5/Pwr1itfiMf+3bU2CB/fcDG5ilunBXqbLlij8Q='\">\n"
+    ++ (codes "script-src 'sha256-qdiy2MPjdfjZjPkmzhIWa/LyNQmxh5MHPQxPnNHgWlw='\">\n"
     ++ (codes "<title>A run, step by step</title>\n"
     ++ (codes "<style>\n"))))))))))
 
