@@ -8,7 +8,7 @@ use Rattle.xk_types.specs.Code.{ModuleValue}
 use Rattle.xk_types.specs.World.{opening}
 use Rattle.xk_types.specs.Schedule.{printed}
 use Rattle.xk_types.proofs.Examples.Notation.{main_with, body_with, module_with}
-use Rattle.xk_show_events.specs.Events.{no_text}
+use Rattle.xk_show_events.specs.Places.{no_text}
 use Rattle.xk_ask.specs.Answers.{answers}
 use Rattle.xk_ask.specs.Play.{able_line, all_said, played, question, unread}
 

@@ -16,7 +16,7 @@ use Rattle.xk_core.specs.Core.{CoreValue, opening_core}
 use Rattle.xk_scheduler.proofs.EnabledSetLemmas.{going}
 use Rattle.xk_io.specs.Writing.{AppendsBeginning}
 use Rattle.xk_io.proofs.DeviceLemmas.{appends_then, beginning_more, beginning_then}
-use Rattle.xk_show_events.specs.Events.{PlacesValue}
+use Rattle.xk_show_events.specs.Places.{PlacesValue}
 use Rattle.xk_ask.specs.Answers.{answers, answers_read, behind_lines, most_bytes}
 use Rattle.xk_ask.specs.Asking.{BeginsByAnswers, BeginsSome, EndAlike, FollowsSome, IsByAnswers, Leaves, TakesAnswer, TakesLine, to_come}
 use Rattle.xk_ask.specs.Play.{all_said, behind, looked_at, picked, played, played_log, question, said, taken, told_by, told_text, unread, unread_from}

@@ -11,7 +11,7 @@ use Rattle.xk_ask.specs.declared.fault.AskFault.{AskFault}
 use Rattle.xk_ask.specs.declared.fault.AskFault.TheVariants as fault
 use Rattle.xk_ask.specs.Answers.{AreAnswers, answers}
 use Rattle.xk_ask.specs.Play.{log_by, played, told_by}
-use Rattle.xk_show_events.specs.Events.{PlacesValue}
+use Rattle.xk_show_events.specs.Places.{PlacesValue}
 use Rattle.xk_io.specs.Writing.{AppendsBeginning}
 
 -- the bytes that are still to come, of those that a source has left: no more than may still be read

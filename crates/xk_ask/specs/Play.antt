@@ -12,7 +12,7 @@ use Rattle.xk_types.specs.Logs.{schedule_of, one_step_of}
 use Rattle.xk_activity.specs.Activities.{act_at}
 use Rattle.xk_scheduler.specs.Choosers.{enabled_in}
 use Rattle.xk_show_events.specs.Worlds.{last_world}
-use Rattle.xk_show_events.specs.Events.{PlacesValue, origin_of, place_words}
+use Rattle.xk_show_events.specs.Places.{PlacesValue, origin_of, place_words}
 use Rattle.xk_ask.specs.Answers.{answers_read, behind_lines, most_bytes}
 
 -- ---- a turn

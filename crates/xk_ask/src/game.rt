@@ -7,7 +7,7 @@ ghost use Rattle.xk_types.specs.World.{AreArguments};
 ghost use Rattle.xk_types.specs.Logs.{one_step_of};
 ghost use Rattle.xk_types.specs.Schedule.{all_ended};
 ghost use Rattle.xk_io.specs.Writing.{AppendsBeginning};
-ghost use Rattle.xk_show_events.specs.Events.{no_text, places_of};
+ghost use Rattle.xk_show_events.specs.Places.{no_text, places_of};
 ghost use Rattle.xk_ask.specs.Answers.{answers, most_bytes};
 ghost use Rattle.xk_ask.specs.Play.{IsPlayed, all_said, behind, picked, played, played_log, question, said, taken, told_text, unread, unread_from};
 ghost use Rattle.xk_ask.specs.Asking.{BeginsByAnswers, BeginsSome, FailsToAsk, FailsToWrite, FollowsSome, IsByAnswers, Leaves, TakesAnswer, TakesLine, to_come};

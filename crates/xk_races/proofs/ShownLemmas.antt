@@ -5,7 +5,7 @@ use Rattle.std.specs.Prelude.{flat_map, nat_le, if◌then◌else◌}
 use Rattle.std.specs.List.{list_any}
 use Rattle.std.proofs.lemmas.Bool.{leb-true, leb-false, lt-leb}
 use Rattle.std.proofs.lemmas.List.{append_assoc, append-nil, length-take, take-append-le, take-take}
-use Rattle.xk_show_events.specs.Events.{PlacesValue}
+use Rattle.xk_show_events.specs.Places.{PlacesValue}
 use Rattle.xk_races.specs.declared.pairs.Race.{Race}
 use Rattle.xk_races.specs.declared.pairs.Gap.{Gap}
 use Rattle.xk_races.specs.Knowledge.{Sight}

@@ -4,7 +4,8 @@ use Rattle.std.specs.Prelude.{Option, Some, None}
 use Rattle.xk_types.specs.declared.world.Entry.{Entry}
 use Rattle.xk_types.specs.Code.{ModuleValue}
 use Rattle.xk_show_events.specs.declared.steps.RunStep.{RunStep}
-use Rattle.xk_show_events.specs.Events.{PlacesValue, event_words, origin_of, place_words}
+use Rattle.xk_show_events.specs.Events.{event_words}
+use Rattle.xk_show_events.specs.Places.{PlacesValue, origin_of, place_words}
 use Rattle.xk_races.specs.declared.pairs.Race.{Race}
 use Rattle.xk_races.specs.declared.pairs.Gap.{Gap}
 use Rattle.xk_races.specs.Races.{races_in, gap_in, sights_of_run}

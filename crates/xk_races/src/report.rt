@@ -1,7 +1,7 @@
 //! The whole report.
 
 ghost use Rattle.std.specs.Prelude.{◌≡◌, IfOk};
-ghost use Rattle.xk_show_events.specs.Events.{no_text, places_of};
+ghost use Rattle.xk_show_events.specs.Places.{no_text, places_of};
 ghost use Rattle.xk_races.specs.Races.{is_race_free};
 ghost use Rattle.xk_races.specs.Text.{races_text};
 

@@ -7,7 +7,8 @@ use Rattle.xk_types.specs.declared.unit.ParamKind.TheVariants as param
 use Rattle.xk_types.specs.declared.world.Entry.{Entry}
 use Rattle.xk_types.specs.Code.{ModuleValue}
 use Rattle.xk_types.proofs.Examples.Notation.{main_with, body_with, module_with}
-use Rattle.xk_show_events.specs.Events.{event_line, event_words, events_text, no_text}
+use Rattle.xk_show_events.specs.Places.{no_text}
+use Rattle.xk_show_events.specs.Events.{change_words, clock_word, event_words, events_text, seen_line, shared_word, step_words, value_words}
 
 abbrev entry : (a n : ℕ) → 0 < n → Entry
 entry a n some = record { act = a; steps = n; at_least_one = some }
@@ -25,6 +26,18 @@ abbrev log : List Entry
 log = entry 0 3 (lit< tt) ∷ entry 1 1 (lit< tt) ∷ entry 0 4 (lit< tt) ∷ entry 1 4 (lit< tt) ∷ []
 
 -- of a module alone
-in_step_alone : events_text no_text in_step [] log ≡ codes "step 1 act 0 unit 0 place 0 make 0\nstep 2 act 0 unit 0 place 1 async 1\nstep 3 act 0 unit 0 place 2 arrive\nstep 4 act 1 unit 1 place 0 arrive\nstep 5 act 0 unit 0 place 2 pass\nstep 7 act 0 unit 0 place 4 print 1\nstep 8 act 0 unit 0 place 5 end\nstep 9 act 1 unit 1 place 0 pass\nstep 11 act 1 unit 1 place 2 print 2\nstep 12 act 1 unit 1 place 3 end\n"
-unfolding event_line event_words digits
+in_step_alone : events_text no_text in_step [] log ≡ codes "step 1 act 0 unit 0 place 0 make clock 0\nstep 2 act 0 unit 0 place 1 async 1\nstep 3 act 0 unit 0 place 2 arrive\nstep 4 act 1 unit 1 place 0 arrive\nstep 5 act 0 unit 0 place 2 pass\nstep 7 act 0 unit 0 place 4 print 1\nstep 8 act 0 unit 0 place 5 end\nstep 9 act 1 unit 1 place 0 pass\nstep 11 act 1 unit 1 place 2 print 2\nstep 12 act 1 unit 1 place 3 end\n"
+unfolding seen_line step_words event_words value_words clock_word digits
 in_step_alone = refl
+
+-- ---- a shared number, which is 3 at first
+
+abbrev doubled : ModuleValue
+doubled = record (module_with (
+    main_with 2 (instr.Get 0 0 ∷ instr.AddTo 0 0 ∷ instr.Get 1 0 ∷ instr.Print 1 ∷ instr.Ret ∷ [])
+    ∷ [])) { shared = pos 3 ∷ [] }
+
+-- what is read, and who wrote it
+doubled_alone : events_text no_text doubled [] (entry 0 5 (lit< tt) ∷ []) ≡ codes "step 1 act 0 unit 0 place 0 read shared 0 3 (opening)\nstep 2 act 0 unit 0 place 1 add shared 0 3 -> 6\nstep 3 act 0 unit 0 place 2 read shared 0 6 (step 2)\nstep 4 act 0 unit 0 place 3 print 6\nstep 5 act 0 unit 0 place 4 end\n"
+unfolding seen_line step_words event_words value_words change_words shared_word digits
+doubled_alone = refl

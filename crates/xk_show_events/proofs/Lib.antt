@@ -1,3 +1,6 @@
 pub mod StepLemmas
 pub mod AdvanceLemmas
+pub mod SubjectLemmas
+pub mod WriterLemmas
+pub mod ClockNameLemmas
 mod EventExamples

@@ -1,15 +1,40 @@
 -- The steps of a run that other activities can see, a line each. This project's own.
-use Rattle.std.specs.Prelude.{ℕ, ℤ, List, [], ◌++◌, length, min, flat_map, Option, Some, None, option_map, slice_get, codes, decimal}
+use Rattle.std.specs.Prelude.{ℕ, nat_eq, ℤ, List, [], ◌∷◌, ◌++◌, length, take, Option, Some, None, slice_get, codes, decimal, if◌then◌else◌}
 use Rattle.std.specs.Fmt.{signed_decimal}
+use Rattle.std.specs.Option.{option_map_or}
+use Rattle.std.specs.Str.Lossy.{utf8_lossy}
 use Rattle.xk_types.specs.declared.world.Entry.{Entry}
 use Rattle.xk_types.specs.declared.world.Event.{Event}
 use Rattle.xk_types.specs.declared.world.Event.TheVariants as event
 use Rattle.xk_types.specs.Code.{ModuleValue}
-use Rattle.xk_lines.specs.Lines.{position_of}
-use Rattle.xk_lines.specs.declared.lines.Position.{Position}
-use Rattle.xk_origins.specs.UnitOrigins.{UnitOrigins, offsets_at}
+use Rattle.xk_origins.specs.UnitOrigins.{UnitOrigins}
+use Rattle.xk_show_events.specs.declared.accounts.Account.{Account}
+use Rattle.xk_show_events.specs.declared.accounts.Subject.{Subject}
+use Rattle.xk_show_events.specs.declared.accounts.Subject.TheVariants as subject
 use Rattle.xk_show_events.specs.declared.steps.RunStep.{RunStep}
-use Rattle.xk_show_events.specs.Steps.{seen_steps}
+use Rattle.xk_show_events.specs.Accounts.{seen_steps, writer_for}
+use Rattle.xk_show_events.specs.ClockNames.{clock_names, cut_name}
+use Rattle.xk_show_events.specs.Places.{PlacesValue, named, no_text, origin_of, place_words, places_of}
+use Rattle.xk_show_events.specs.Worlds.{each_below}
+
+-- ---- names
+
+-- where the shared numbers have these names, and clocks those that they were made under in the run that a log stands for
+abbrev pub names_in_run : List ℕ → List UnitOrigins → List (List ℕ) → ModuleValue → List ℤ → List Entry → PlacesValue
+names_in_run text origins shared m args log = named (places_of text origins) shared (clock_names (places_of text origins) m args log)
+
+-- a shared number by its name, or `shared 0`
+unfoldable pub shared_word : PlacesValue → ℕ → List ℕ
+shared_word p s = option_map_or (λ name. utf8_lossy (cut_name name)) (slice_get p.shared s) (codes "shared " ++ decimal s)
+
+-- a clock by its name, or `clock 0`
+unfoldable pub clock_word : PlacesValue → ℕ → List ℕ
+clock_word p c = option_map_or utf8_lossy (slice_get p.clocks c) (codes "clock " ++ decimal c)
+
+abbrev pub subject_word : PlacesValue → Subject → List ℕ
+subject_word p subject.Nothing = []
+subject_word p (subject.Clock c) = clock_word p c
+subject_word p (subject.Shared s) = shared_word p s
 
 -- ---- what a step did
 
@@ -29,47 +54,65 @@ event_name event.Arrived = codes "arrive"
 event_name event.Passed = codes "pass"
 event_name event.Ended = codes "end"
 
--- the number that was printed; that of the clock, or of the activity, that was made, which is how many there were
-abbrev pub operand : ℕ → ℕ → Event → List ℕ
-operand clocks activities (event.Printed n) = codes " " ++ signed_decimal n
-operand clocks activities event.Made = codes " " ++ decimal clocks
-operand clocks activities event.Spawned = codes " " ++ decimal activities
-operand clocks activities _ = []
+-- a number, after a blank
+abbrev pub number_word : Option ℤ → List ℕ
+number_word None = []
+number_word (Some n) = codes " " ++ signed_decimal n
 
--- `make 0`, `arrive`, `print -5`
-unfoldable pub event_words : RunStep → List ℕ
-event_words s = event_name s.event ++ operand s.clocks s.activities s.event
+-- ` total 2`: what a step was about, and what the shared number was behind it
+unfoldable pub value_words : PlacesValue → Account → List ℕ
+value_words p a = codes " " ++ (subject_word p a.subject ++ number_word a.after)
 
--- ---- where it was taken
+-- ` total 3 -> 8`: and what it was before
+unfoldable pub change_words : PlacesValue → Account → List ℕ
+change_words p a = codes " " ++ (subject_word p a.subject ++ (number_word a.before ++ (codes " ->" ++ number_word a.after)))
 
--- A source text, and where the instructions of its units come from. A module alone has neither.
-pub record PlacesValue : Type 0 where
-  pub text : List ℕ
-  pub origins : List UnitOrigins
+-- the number that was printed; that of the activity that was made, which is how many there were; the clock; the shared number and what it was
+abbrev pub operand : PlacesValue → Account → Event → List ℕ
+operand p a (event.Printed n) = codes " " ++ signed_decimal n
+operand p a event.Spawned = codes " " ++ decimal a.step.activities
+operand p a event.Made = value_words p a
+operand p a event.Resumed = value_words p a
+operand p a event.Dropped = value_words p a
+operand p a event.Got = value_words p a
+operand p a event.Put = value_words p a
+operand p a event.Added = change_words p a
+operand p a _ = []
 
-abbrev pub places_of : List ℕ → List UnitOrigins → PlacesValue
-places_of text origins = record { text = text; origins = origins }
-
-abbrev pub no_text : PlacesValue
-no_text = places_of [] []
-
--- the line and column that an instruction comes from, no further than where the text ends, if the origins say it
-abbrev pub origin_of : PlacesValue → ℕ → ℕ → Option Position
-origin_of p unit place = option_map (λ at. position_of p.text (min at (length p.text))) (slice_get (offsets_at p.origins unit) place)
-
--- `at 6:5`; where no origin says it, `unit 0 place 3`
-abbrev pub place_words : ℕ → ℕ → Option Position → List ℕ
-place_words unit place (Some p) = codes "at " ++ (decimal p.line ++ (codes ":" ++ decimal p.column))
-place_words unit place None = codes "unit " ++ (decimal unit ++ (codes " place " ++ decimal place))
+-- `make c`, `arrive`, `print -5`, `read total 2`
+unfoldable pub event_words : PlacesValue → Account → List ℕ
+event_words p a = event_name a.step.event ++ operand p a a.step.event
 
 -- ---- the text
 
+-- `step 4 act 0 at 6:5`
+unfoldable pub step_words : PlacesValue → RunStep → List ℕ
+step_words p s = codes "step " ++ (decimal s.number ++ (codes " act " ++ (decimal s.act ++ (codes " " ++ place_words s.unit s.place (origin_of p s.unit s.place)))))
+
 -- `step 4 act 0 at 6:5 print 10`
-unfoldable pub event_line : PlacesValue → RunStep → List ℕ
-event_line p s =
-    codes "step " ++ (decimal s.number ++ (codes " act " ++ (decimal s.act
-    ++ (codes " " ++ (place_words s.unit s.place (origin_of p s.unit s.place) ++ (codes " " ++ (event_words s ++ codes "\n")))))))
+unfoldable pub event_line : PlacesValue → Account → List ℕ
+event_line p a = step_words p a.step ++ (codes " " ++ (event_words p a ++ codes "\n"))
+
+-- ` (step 3)`: which step wrote what is read
+abbrev pub writer_words : ℕ → List ℕ
+writer_words n = if nat_eq n 0 then codes " (opening)" else codes " (step " ++ (decimal n ++ codes ")")
+
+abbrev pub source_by : ℕ → Event → List ℕ
+source_by n event.Got = writer_words n
+source_by n _ = []
+
+-- `step 9 act 1 at 7:9 read total 2 (step 3)`, where step n wrote last what it is about
+unfoldable pub seen_line : PlacesValue → ℕ → Account → List ℕ
+seen_line p n a = step_words p a.step ++ (codes " " ++ (event_words p a ++ (source_by n a.step.event ++ codes "\n")))
+
+-- the line of step k of these
+abbrev pub line_at : PlacesValue → List Account → ℕ → List ℕ
+line_at p steps k = option_map_or (λ a. seen_line p (writer_for (take k steps) a.subject) a) (slice_get steps k) []
+
+-- a line for each of these steps
+abbrev pub lines_of : PlacesValue → List Account → List ℕ
+lines_of p steps = each_below (line_at p steps) (length steps)
 
 -- a line for each step of a run that other activities can see
 abbrev pub events_text : PlacesValue → ModuleValue → List ℤ → List Entry → List ℕ
-events_text p m args log = flat_map (event_line p) (seen_steps m args log)
+events_text p m args log = lines_of p (seen_steps m args log)

@@ -1,12 +1,12 @@
 -- The steps of a run, one after another, and what is told of them. What a step is, `xk_types` says in `Step.antt`; that it is told so is this
 -- project's own.
-use Rattle.std.specs.Prelude.{◌≡◌, ◌<◌, ℕ, ℤ, List, [], ◌∷◌, ◌++◌, length, if◌then◌else◌}
+use Rattle.std.specs.Prelude.{◌≡◌, ◌<◌, ℕ, ℤ, List, [], ◌∷◌, ◌++◌, length}
 use Rattle.xk_types.specs.declared.world.Entry.{Entry}
 use Rattle.xk_types.specs.declared.world.Event.{Event}
 use Rattle.xk_types.specs.Code.{ModuleValue}
 use Rattle.xk_types.specs.World.{World, opening}
 use Rattle.xk_types.specs.Step.{Outcome, Blocked, Wrong, Stepped, step}
-use Rattle.xk_types.specs.Schedule.{Through, run, is_local}
+use Rattle.xk_types.specs.Schedule.{Through, run}
 use Rattle.xk_types.specs.Logs.{schedule_of}
 use Rattle.xk_core.specs.Core.{CoreValue}
 use Rattle.xk_activity.specs.Activities.{act_at}
@@ -54,18 +54,3 @@ run_step a w v e = record {
   activities = length w.activities;
   event = e;
 }
-
--- who tells of a step by the world that it led to
-abbrev pub tell_by : {X : Type 0} → (World → RunStep → List X) → Teller X
-tell_by describe a w v e = describe v (run_step a w v e)
-
--- the step, if other activities can see it
-abbrev pub if_seen : RunStep → List RunStep
-if_seen s = if is_local s.event then [] else s ∷ []
-
-abbrev pub tell_seen : Teller RunStep
-tell_seen = tell_by (λ v s. if_seen s)
-
--- the steps of a run that other activities can see
-abbrev pub seen_steps : ModuleValue → List ℤ → List Entry → List RunStep
-seen_steps m args log = told_of_run tell_seen m args log

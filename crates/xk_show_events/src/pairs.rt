@@ -4,9 +4,10 @@ ghost use Rattle.std.specs.Prelude.{◌≡◌, true, ◌++◌, replicate, IfOk, 
 ghost use Rattle.xk_types.specs.Code.{ModuleValue};
 ghost use Rattle.xk_types.specs.Schedule.{Through, is_enabled, run};
 ghost use Rattle.xk_core.specs.Core.{StepsTo};
-ghost use Rattle.xk_show_events.specs.Steps.{IsLegalFrom, IsSilentAfter, tell_by, told, told_of_run};
+ghost use Rattle.xk_show_events.specs.Accounts.{tell_by};
+ghost use Rattle.xk_show_events.specs.Steps.{IsLegalFrom, IsSilentAfter, told, told_of_run};
 
-use crate::steps::take_step;
+use crate::accounts::take_account;
 use crate::walk::Describe;
 use std::alloc::{AllocError, Global};
 use xk_core::Core;
@@ -32,17 +33,17 @@ fn push_step_by_both<X, Y, A: Describe<X>, B: Describe<Y>>(
     requires { is_enabled core.old.module_run core.old.world act ≡ true }
     ensures stepped { IfOk result (StepsTo core.old act core.new) }
     ensures first { IfOk result (λ e. firsts.new.items ≡ firsts.old.items
-        ++ tell_by (A.describe both.now.first.now core.old.module_run)
+        ++ tell_by core.old.module_run (A.describe both.now.first.now core.old.module_run)
         act core.old.world core.new.world e) }
     ensures second { IfOk result (λ e. seconds.new.items ≡ seconds.old.items
-        ++ tell_by (B.describe both.now.second.now core.old.module_run)
+        ++ tell_by core.old.module_run (B.describe both.now.second.now core.old.module_run)
         act core.old.world core.new.world e) }
     ensures same_module { core.new.module_run ≡ core.old.module_run }
 {
-    let step = take_step(core, act)?;
-    both.first.push(alloc, firsts, core, &step)?;
-    both.second.push(alloc, seconds, core, &step)?;
-    Ok(step.event)
+    let account = take_account(core, act)?;
+    both.first.push(alloc, firsts, core, &account)?;
+    both.second.push(alloc, seconds, core, &account)?;
+    Ok(account.step.event)
 }
 
 /// Takes the steps of an entry, and adds what each of the two tells of them.
@@ -56,10 +57,10 @@ fn push_entry_by_both<X, Y, A: Describe<X>, B: Describe<Y>>(
 ) -> Result<(), AllocError>
     requires { IsLegalFrom core.old (replicate entry.steps entry.act) }
     ensures first { OnOk result (firsts.new.items ≡ firsts.old.items
-        ++ told (tell_by (A.describe both.now.first.now core.old.module_run))
+        ++ told (tell_by core.old.module_run (A.describe both.now.first.now core.old.module_run))
         core.old.module_run (replicate entry.steps entry.act) core.old.world) }
     ensures second { OnOk result (seconds.new.items ≡ seconds.old.items
-        ++ told (tell_by (B.describe both.now.second.now core.old.module_run))
+        ++ told (tell_by core.old.module_run (B.describe both.now.second.now core.old.module_run))
         core.old.module_run (replicate entry.steps entry.act) core.old.world) }
     ensures led { OnOk result (run core.old.module_run (replicate entry.steps entry.act)
         core.old.world ≡ Through core.new.world) }
@@ -74,9 +75,9 @@ fn push_entry_by_both<X, Y, A: Describe<X>, B: Describe<Y>>(
 /// Whether neither tells anything of the steps behind the first so many of a run.
 fn are_silent_after<X, Y, A: Describe<X>, B: Describe<Y>>(both: &Both<'_, A, B>, steps: u64) -> bool
     ensures first { result ≡ true → (m : ModuleValue)
-        → IsSilentAfter (tell_by (A.describe both.now.first.now m)) steps }
+        → IsSilentAfter (tell_by m (A.describe both.now.first.now m)) steps }
     ensures second { result ≡ true → (m : ModuleValue)
-        → IsSilentAfter (tell_by (B.describe both.now.second.now m)) steps }
+        → IsSilentAfter (tell_by m (B.describe both.now.second.now m)) steps }
 {
     both.first.is_silent_after(steps) && both.second.is_silent_after(steps)
 }
@@ -91,10 +92,10 @@ pub fn describe_run_by_both<X, Y, A: Describe<X>, B: Describe<Y>>(
     ended: &Ended<'_>,
 ) -> Result<(), AllocError>
     ensures first { OnOk result (firsts.new.items ≡ firsts.old.items
-        ++ told_of_run (tell_by (A.describe both.now.first.now ended.now.module.now))
+        ++ told_of_run (tell_by ended.now.module.now (A.describe both.now.first.now ended.now.module.now))
         ended.now.module.now ended.now.core.world.arguments ended.now.log.items) }
     ensures second { OnOk result (seconds.new.items ≡ seconds.old.items
-        ++ told_of_run (tell_by (B.describe both.now.second.now ended.now.module.now))
+        ++ told_of_run (tell_by ended.now.module.now (B.describe both.now.second.now ended.now.module.now))
         ended.now.module.now ended.now.core.world.arguments ended.now.log.items) }
 {
     let mut core = Core::open(alloc, ended.module, ended.core.arguments())?;

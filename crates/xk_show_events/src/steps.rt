@@ -1,15 +1,12 @@
 //! The steps of a run, one by one.
 
-ghost use Rattle.std.specs.Prelude.{◌≡◌, true, ◌++◌, IfOk, OnErr, OnOk};
+ghost use Rattle.std.specs.Prelude.{◌≡◌, true, IfOk, OnErr};
 ghost use Rattle.xk_types.specs.Schedule.{is_enabled};
 ghost use Rattle.xk_core.specs.Core.{StepsTo, WantsMemory};
-ghost use Rattle.xk_show_events.specs.Steps.{if_seen, run_step, seen_steps};
+ghost use Rattle.xk_show_events.specs.Steps.{run_step};
 
-use crate::walk::{Describe, describe_run};
-use crate::words::is_seen;
-use std::alloc::{AllocError, Global};
+use std::alloc::AllocError;
 use xk_core::Core;
-use xk_scheduler::Ended;
 use xk_types::{Act, Event};
 
 /// A step of a run.
@@ -58,34 +55,4 @@ pub fn take_step(core: &mut Core<'_>, act: Act) -> Result<RunStep, AllocError>
         activities,
         event,
     })
-}
-
-/// Tells of the steps that other activities can see.
-struct SeenSteps;
-
-impl Describe<RunStep> for SeenSteps {
-    ghost describe = { λ describer m v s. if_seen s };
-
-    fn push(
-        &self,
-        _alloc: Global,
-        out: &mut Vec<RunStep>,
-        _core: &Core<'_>,
-        step: &RunStep,
-    ) -> Result<(), AllocError> {
-        if is_seen(step.event) {
-            out.push(*step)?;
-        }
-        Ok(())
-    }
-}
-
-/// The steps of a run that other activities can see, in their order. The log is played again for it. Err where memory was refused.
-pub fn seen_steps(alloc: Global, ended: &Ended<'_>) -> Result<Vec<RunStep>, AllocError>
-    ensures { IfOk result (λ v. v.items ≡ seen_steps
-        ended.now.module.now ended.now.core.world.arguments ended.now.log.items) }
-{
-    let mut list = Vec::new(alloc);
-    describe_run(&SeenSteps, alloc, &mut list, ended)?;
-    Ok(list)
 }

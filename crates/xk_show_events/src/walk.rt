@@ -5,10 +5,11 @@ ghost use Rattle.xk_types.specs.Code.{ModuleValue};
 ghost use Rattle.xk_types.specs.Schedule.{Through, is_enabled, run};
 ghost use Rattle.xk_types.specs.World.{World};
 ghost use Rattle.xk_core.specs.Core.{StepsTo};
-ghost use Rattle.xk_show_events.specs.declared.steps.RunStep.{RunStep};
-ghost use Rattle.xk_show_events.specs.Steps.{IsLegalFrom, IsSilentAfter, Teller, tell_by, told, told_of_run};
+ghost use Rattle.xk_show_events.specs.declared.accounts.Account.{Account};
+ghost use Rattle.xk_show_events.specs.Accounts.{tell_by};
+ghost use Rattle.xk_show_events.specs.Steps.{IsLegalFrom, IsSilentAfter, Teller, told, told_of_run};
 
-use crate::steps::{RunStep, take_step};
+use crate::accounts::{Account, take_account};
 use std::alloc::{AllocError, Global};
 use xk_core::Core;
 use xk_scheduler::Ended;
@@ -88,7 +89,7 @@ pub fn tell_run<X, T: Tell<X>>(
 /// Tells of steps once they were taken, each by some items.
 pub trait Describe<X> {
     /// What it tells of a step that led to a world, in a run of a module.
-    ghost describe: { Self → ModuleValue → World → RunStep → List X };
+    ghost describe: { Self → ModuleValue → World → Account → List X };
 
     /// Adds what is told of a step that led to the core. Err where memory was refused.
     fn push(
@@ -96,15 +97,15 @@ pub trait Describe<X> {
         alloc: Global,
         out: &mut Vec<X>,
         core: &Core<'_>,
-        step: &RunStep,
+        account: &Account,
     ) -> Result<(), AllocError>
         ensures { OnOk result (out.new.items ≡ out.old.items
-            ++ describe self.now core.now.module_run core.now.world step.now) };
+            ++ describe self.now core.now.module_run core.now.world account.now) };
 
     /// Whether it tells nothing of the steps behind the first so many of a run.
     fn is_silent_after(&self, _steps: u64) -> bool
         ensures { result ≡ true → (m : ModuleValue)
-            → IsSilentAfter (tell_by (describe self.now m)) _steps }
+            → IsSilentAfter (tell_by m (describe self.now m)) _steps }
     {
         false
     }
@@ -117,7 +118,7 @@ struct Taking<'a, D> {
 }
 
 impl<X, D: Describe<X>> Tell<X> for Taking<'_, D> {
-    ghost tell = { λ taking m. tell_by (D.describe taking.describer.now m) };
+    ghost tell = { λ taking m. tell_by m (D.describe taking.describer.now m) };
 
     fn push_step(
         &self,
@@ -126,9 +127,9 @@ impl<X, D: Describe<X>> Tell<X> for Taking<'_, D> {
         core: &mut Core<'_>,
         act: Act,
     ) -> Result<Event, AllocError> {
-        let step = take_step(core, act)?;
-        self.describer.push(alloc, out, core, &step)?;
-        Ok(step.event)
+        let account = take_account(core, act)?;
+        self.describer.push(alloc, out, core, &account)?;
+        Ok(account.step.event)
     }
 
     fn is_silent_after(&self, steps: u64) -> bool {
@@ -145,7 +146,7 @@ pub fn describe_run<X, D: Describe<X>>(
     ended: &Ended<'_>,
 ) -> Result<(), AllocError>
     ensures { OnOk result (out.new.items ≡ out.old.items
-        ++ told_of_run (tell_by (D.describe describer.now ended.now.module.now))
+        ++ told_of_run (tell_by ended.now.module.now (D.describe describer.now ended.now.module.now))
         ended.now.module.now ended.now.core.world.arguments ended.now.log.items) }
 {
     tell_run(&Taking { describer }, alloc, out, ended)

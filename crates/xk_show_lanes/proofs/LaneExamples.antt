@@ -10,7 +10,8 @@ use Rattle.xk_types.specs.Schedule.{Through, run}
 use Rattle.xk_types.specs.World.{World, opening}
 use Rattle.xk_types.specs.Logs.{schedule_of}
 use Rattle.xk_types.proofs.Examples.Notation.{main_with, body_with, module_with}
-use Rattle.xk_show_events.specs.Events.{event_words, no_text}
+use Rattle.xk_show_events.specs.Events.{clock_word, event_words, value_words}
+use Rattle.xk_show_events.specs.Places.{no_text}
 use Rattle.xk_show_lanes.specs.Fields.{at_left, at_right, whole_line}
 use Rattle.xk_show_lanes.specs.declared.window.Window.{Window}
 use Rattle.xk_show_lanes.specs.Lanes.{spot, line_front, lane_line, row, bar_lane, bar_label, bar, lanes_text, whole_run}
@@ -34,8 +35,8 @@ log = entry 0 3 (lit< tt) ∷ entry 1 1 (lit< tt) ∷ entry 0 4 (lit< tt) ∷ en
 in_step_last : (w : World) × (run in_step (schedule_of log) (opening in_step []) ≡ Through w)
 in_step_last = (_, refl)
 
-in_step_lanes : lanes_text no_text whole_run in_step log in_step_last.0 ≡ codes "  step  at   main     act 1\n     1  0.0  make 0\n     2  0.1  async 1  |\n     3  0.2  arrive   |\n     4  1.0  |        arrive\n             +========+        clock 0 phase 1 by 1\n     5  0.2  pass     |\n     7  0.4  print 1  |\n     8  0.5  end      |\n     9  1.0           pass\n    11  1.2           print 2\n    12  1.3           end\n"
-unfolding at_left at_right whole_line spot line_front lane_line row bar_lane bar_label bar event_words digits in_step_last
+in_step_lanes : lanes_text no_text whole_run in_step log in_step_last.0 ≡ codes "  step  at   main          act 1\n     1  0.0  make clock 0\n     2  0.1  async 1       |\n     3  0.2  arrive        |\n     4  1.0  |             arrive\n             +=============+             clock 0 phase 1 by 1\n     5  0.2  pass          |\n     7  0.4  print 1       |\n     8  0.5  end           |\n     9  1.0                pass\n    11  1.2                print 2\n    12  1.3                end\n"
+unfolding at_left at_right whole_line spot line_front lane_line row bar_lane bar_label bar event_words value_words clock_word digits in_step_last
 in_step_lanes = refl
 
 -- ---- one is held back, since the other prints before it comes to its `advance`
@@ -52,8 +53,8 @@ held_back_log = entry 0 2 (lit< tt) ∷ entry 1 1 (lit< tt) ∷ entry 0 3 (lit< 
 held_back_last : (w : World) × (run held_back (schedule_of held_back_log) (opening held_back []) ≡ Through w)
 held_back_last = (_, refl)
 
-held_back_lanes : lanes_text no_text whole_run held_back held_back_log held_back_last.0 ≡ codes "  step  at   main     act 1\n     1  0.0  make 0\n     2  0.1  async 1  |\n     3  1.0  |        arrive\n     5  0.3  print 1  :\n     6  0.4  arrive   |\n             +========+        clock 0 phase 1 by 0\n     7  1.0  |        pass\n     9  1.2  |        print 2\n    10  1.3  |        end\n    11  0.4  pass\n    12  0.5  end\n"
-unfolding at_left at_right whole_line spot line_front lane_line row bar_lane bar_label bar event_words digits held_back_last
+held_back_lanes : lanes_text no_text whole_run held_back held_back_log held_back_last.0 ≡ codes "  step  at   main          act 1\n     1  0.0  make clock 0\n     2  0.1  async 1       |\n     3  1.0  |             arrive\n     5  0.3  print 1       :\n     6  0.4  arrive        |\n             +=============+             clock 0 phase 1 by 0\n     7  1.0  |             pass\n     9  1.2  |             print 2\n    10  1.3  |             end\n    11  0.4  pass\n    12  0.5  end\n"
+unfolding at_left at_right whole_line spot line_front lane_line row bar_lane bar_label bar event_words value_words clock_word digits held_back_last
 held_back_lanes = refl
 
 -- ---- the same, from step 4 to step 6
@@ -62,5 +63,5 @@ abbrev middle : Window
 middle = record { first = 4; last = 6 }
 
 held_back_middle : lanes_text no_text middle held_back held_back_log held_back_last.0 ≡ codes "  step  at   main     act 1\n     5  0.3  print 1  :\n     6  0.4  arrive   |\n             +========+        clock 0 phase 1 by 0\n"
-unfolding at_left at_right whole_line spot line_front lane_line row bar_lane bar_label bar event_words digits held_back_last
+unfolding at_left at_right whole_line spot line_front lane_line row bar_lane bar_label bar event_words value_words clock_word digits held_back_last
 held_back_middle = refl

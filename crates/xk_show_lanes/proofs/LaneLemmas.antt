@@ -14,8 +14,9 @@ use Rattle.xk_types.specs.Schedule.{is_local}
 use Rattle.xk_types.specs.Logs.{schedule_of}
 use Rattle.xk_core.specs.Core.{advanced_now, has_advanced}
 use Rattle.xk_collections.proofs.RisingListLemmas.{member_passes}
-use Rattle.xk_show_events.specs.declared.steps.RunStep.{RunStep}
-use Rattle.xk_show_events.specs.Steps.{Teller, run_step, tell_by, tell_seen, told, told_on, told_of_run}
+use Rattle.xk_show_events.specs.declared.accounts.Account.{Account}
+use Rattle.xk_show_events.specs.Accounts.{account, tell_by, tell_seen}
+use Rattle.xk_show_events.specs.Steps.{Teller, told, told_on, told_of_run}
 use Rattle.xk_show_lanes.specs.declared.window.Window.{Window}
 use Rattle.xk_show_lanes.specs.Fields.{longest}
 use Rattle.xk_show_lanes.specs.Lanes.{if_asked, is_asked, steps_asked}
@@ -40,31 +41,31 @@ longest_more f xs i z most new inside is grown =
 pub none_asked : (window : Window) (k : ℕ) → window.last < k → is_asked window k ≡ false
 none_asked window k behind = grind (arith, nat_tests)
 
-kept : (p : RunStep → Bool) (s : RunStep) (b : Bool) → (if p s && not b then s ∷ [] else []) ≡ filter p (if b then [] else s ∷ [])
+kept : (p : Account → Bool) (s : Account) (b : Bool) → (if p s && not b then s ∷ [] else []) ≡ filter p (if b then [] else s ∷ [])
 kept p s b = grind arith
 
-abbrev tell_asked : Window → Teller RunStep
-tell_asked window = tell_by (λ v s. if_asked window s)
+abbrev tell_asked : Window → ModuleValue → Teller Account
+tell_asked window m = tell_by m (λ v a. if_asked window a)
 
 asked_from : (window : Window) (m : ModuleValue) (list : List ℕ) (w : World)
-    → told (tell_asked window) m list w ≡ filter (λ (s : RunStep). is_asked window s.number) (told tell_seen m list w)
+    → told (tell_asked window m) m list w ≡ filter (λ (a : Account). is_asked window a.step.number) (told (tell_seen m) m list w)
 asked_from window m [] w = refl
 asked_from window m (a ∷ list) w = of (step m w a) (asked_from window m list)
   where
-    p : RunStep → Bool
-    p s = is_asked window s.number
+    p : Account → Bool
+    p a = is_asked window a.step.number
 
-    of : (o : Outcome) → ((v : World) → told (tell_asked window) m list v ≡ filter (λ (s : RunStep). is_asked window s.number) (told tell_seen m list v))
-        → told_on (tell_asked window) a w o (told (tell_asked window) m list) ≡ filter (λ (s : RunStep). is_asked window s.number) (told_on tell_seen a w o (told tell_seen m list))
+    of : (o : Outcome) → ((v : World) → told (tell_asked window m) m list v ≡ filter (λ (a : Account). is_asked window a.step.number) (told (tell_seen m) m list v))
+        → told_on (tell_asked window m) a w o (told (tell_asked window m) m list) ≡ filter (λ (s : Account). is_asked window s.step.number) (told_on (tell_seen m) a w o (told (tell_seen m) m list))
     of Blocked rest = refl
     of (Wrong c) rest = refl
     of (Stepped v e) rest =
-        ap (λ l. l ++ told (tell_asked window) m list v) (kept p (run_step a w v e) (is_local e))
-        ∙ ap (λ l. filter p (tell_seen a w v e) ++ l) (rest v)
-        ∙ sym (filter-append p (tell_seen a w v e) (told tell_seen m list v))
+        ap (λ l. l ++ told (tell_asked window m) m list v) (kept p (account m a w v e) (is_local e))
+        ∙ ap (λ l. filter p (tell_seen m a w v e) ++ l) (rest v)
+        ∙ sym (filter-append p (tell_seen m a w v e) (told (tell_seen m) m list v))
 
 -- those that are asked for are told
-pub asked_told : (window : Window) (m : ModuleValue) (log : List Entry) (last : World) → told_of_run (tell_asked window) m last.arguments log ≡ steps_asked window m log last
+pub asked_told : (window : Window) (m : ModuleValue) (log : List Entry) (last : World) → told_of_run (tell_asked window m) m last.arguments log ≡ steps_asked window m log last
 asked_told window m log last = asked_from window m (schedule_of log) (opening m last.arguments)
 
 -- ---- clocks that advanced

@@ -5,12 +5,14 @@ use Rattle.xk_types.specs.declared.world.Entry.{Entry}
 use Rattle.xk_types.specs.Code.{ModuleValue}
 use Rattle.xk_types.specs.World.{World}
 use Rattle.xk_types.specs.Schedule.{is_enabled, is_local}
-use Rattle.xk_lines.specs.declared.lines.Position.{Position}
 use Rattle.xk_core.specs.Core.{advanced_now, is_living, is_registered_on}
 use Rattle.xk_show_events.specs.declared.steps.RunStep.{RunStep}
 use Rattle.xk_show_events.specs.Worlds.{each_below, phase_of}
-use Rattle.xk_show_events.specs.Steps.{seen_steps, tell_by, told_of_run}
-use Rattle.xk_show_events.specs.Events.{PlacesValue, event_words, origin_of}
+use Rattle.xk_show_events.specs.declared.accounts.Account.{Account}
+use Rattle.xk_show_events.specs.Accounts.{seen_steps, tell_by}
+use Rattle.xk_show_events.specs.Events.{clock_word, event_words}
+use Rattle.xk_show_events.specs.Places.{PlacesValue, origin_of, spot_by}
+use Rattle.xk_show_events.specs.Steps.{told_of_run}
 use Rattle.xk_show_lanes.specs.declared.grid.Grid.{Grid}
 use Rattle.xk_show_lanes.specs.declared.window.Window.{Window}
 use Rattle.xk_show_lanes.specs.Fields.{at_left, at_right, blanks, longest, whole_line}
@@ -26,21 +28,16 @@ abbrev pub whole_run : Window
 whole_run = record { first = 0; last = 2 ^ 64 - 1 }
 
 -- the steps of a run that are drawn, each with a row of its own: of those that are asked for, the ones that others can see
-abbrev pub steps_asked : Window → ModuleValue → List Entry → World → List RunStep
-steps_asked w m log last = filter (λ s. is_asked w s.number) (seen_steps m last.arguments log)
+abbrev pub steps_asked : Window → ModuleValue → List Entry → World → List Account
+steps_asked w m log last = filter (λ a. is_asked w a.step.number) (seen_steps m last.arguments log)
 
 -- the step, if it is one of them
-abbrev pub if_asked : Window → RunStep → List RunStep
-if_asked w s = if is_asked w s.number && not (is_local s.event) then s ∷ [] else []
+abbrev pub if_asked : Window → Account → List Account
+if_asked w a = if is_asked w a.step.number && not (is_local a.step.event) then a ∷ [] else []
 
 -- ---- columns
 
--- `6:5`; where no origin says it, unit and place, as `0.3`
-abbrev pub spot_by : ℕ → ℕ → Option Position → List ℕ
-spot_by unit place (Some p) = decimal p.line ++ (codes ":" ++ decimal p.column)
-spot_by unit place None = decimal unit ++ (codes "." ++ decimal place)
-
--- where a step was taken
+-- where a step was taken: `6:5`, or `0.3`
 unfoldable pub spot : PlacesValue → RunStep → List ℕ
 spot p s = spot_by s.unit s.place (origin_of p s.unit s.place)
 
@@ -50,11 +47,11 @@ most_lanes = 64
 
 -- Lanes of the first of so many activities. A column is two wider than the longest that stands in it, its title too: so a lane is no
 -- narrower than 8.
-abbrev pub grid_of : PlacesValue → Window → List RunStep → ℕ → Grid
+abbrev pub grid_of : PlacesValue → Window → List Account → ℕ → Grid
 grid_of p w steps n = record {
   window = w;
-  place = max 4 (2 + longest (map (spot p) steps));
-  lane = max 8 (2 + longest (map event_words steps));
+  place = max 4 (2 + longest (map (λ a. spot p a.step) steps));
+  lane = max 8 (2 + longest (map (event_words p) steps));
   lanes = min most_lanes n;
 }
 
@@ -81,16 +78,17 @@ head_line g = lane_line g (codes "step") (codes "at") title []
 abbrev pub mark : ModuleValue → World → ℕ → List ℕ
 mark m v b = if is_living v b then (if is_enabled m v b then codes "|" else codes ":") else []
 
--- behind a step that led to world v: in the lane of who took it, what was done
-abbrev pub cell : ModuleValue → World → RunStep → ℕ → List ℕ
-cell m v s b = if nat_eq b s.act then event_words s else mark m v b
+-- behind a step that led to world v, of which these words are told: in the lane of who took it, the words
+abbrev pub cell : List ℕ → ModuleValue → World → RunStep → ℕ → List ℕ
+cell words m v s b = if nat_eq b s.act then words else mark m v b
 
 -- behind all lanes: who took the step and what was done, as `act 70 print 3`, if that one has no lane
-abbrev pub words_behind : Grid → RunStep → List ℕ
-words_behind g s = if nat_lt s.act g.lanes then [] else title s.act ++ (codes " " ++ event_words s)
+abbrev pub words_behind : Grid → List ℕ → RunStep → List ℕ
+words_behind g words s = if nat_lt s.act g.lanes then [] else title s.act ++ (codes " " ++ words)
 
-unfoldable pub row : Grid → PlacesValue → ModuleValue → World → RunStep → List ℕ
-row g p m v s = lane_line g (decimal s.number) (spot p s) (cell m v s) (words_behind g s)
+unfoldable pub row : Grid → PlacesValue → ModuleValue → World → Account → List ℕ
+row g p m v a =
+    lane_line g (decimal a.step.number) (spot p a.step) (cell (event_words p a) m v a.step) (words_behind g (event_words p a) a.step)
 
 -- ---- a bar
 
@@ -115,25 +113,25 @@ is_on v c b = nat_lt b (length v.activities) && is_registered_on v b c
 unfoldable pub bar_lane : Grid → World → ℕ → ℕ → List ℕ
 bar_lane g v c b = bar_cell g.lane (is_on v c b) (any_below (is_on v c) b) (any_behind (is_on v c) b g.lanes)
 
--- `clock 0 phase 1 by 1`: the phase from then on, and in whose step the clock advanced
-unfoldable pub bar_label : World → ℕ → ℕ → List ℕ
-bar_label v a c = codes "clock " ++ (decimal c ++ (codes " phase " ++ (decimal (phase_of v c) ++ (codes " by " ++ decimal a))))
+-- `c phase 1 by 1`: the phase from then on, and in whose step the clock advanced
+unfoldable pub bar_label : PlacesValue → World → ℕ → ℕ → List ℕ
+bar_label p v a c = clock_word p c ++ (codes " phase " ++ (decimal (phase_of v c) ++ (codes " by " ++ decimal a)))
 
-unfoldable pub bar : Grid → World → ℕ → ℕ → List ℕ
-bar g v a c = ((blanks 8 ++ blanks g.place) ++ each_below (bar_lane g v c) g.lanes) ++ (bar_label v a c ++ codes "\n")
+unfoldable pub bar : Grid → PlacesValue → World → ℕ → ℕ → List ℕ
+bar g p v a c = ((blanks 8 ++ blanks g.place) ++ each_below (bar_lane g v c) g.lanes) ++ (bar_label p v a c ++ codes "\n")
 
 -- ---- the text
 
-abbrev pub row_if_seen : Grid → PlacesValue → ModuleValue → World → RunStep → List ℕ
-row_if_seen g p m v s = if is_local s.event then [] else row g p m v s
+abbrev pub row_if_seen : Grid → PlacesValue → ModuleValue → World → Account → List ℕ
+row_if_seen g p m v a = if is_local a.step.event then [] else row g p m v a
 
 -- its row, if others can see it, and a bar for each clock that advanced in it
-abbrev pub row_and_bars : Grid → PlacesValue → ModuleValue → World → RunStep → List ℕ
-row_and_bars g p m v s = row_if_seen g p m v s ++ flat_map (bar g v s.act) (advanced_now v)
+abbrev pub row_and_bars : Grid → PlacesValue → ModuleValue → World → Account → List ℕ
+row_and_bars g p m v a = row_if_seen g p m v a ++ flat_map (bar g p v a.step.act) (advanced_now v)
 
 -- of a step that is asked for
-abbrev pub lanes_of_step : Grid → PlacesValue → ModuleValue → World → RunStep → List ℕ
-lanes_of_step g p m v s = if is_asked g.window s.number then row_and_bars g p m v s else []
+abbrev pub lanes_of_step : Grid → PlacesValue → ModuleValue → World → Account → List ℕ
+lanes_of_step g p m v a = if is_asked g.window a.step.number then row_and_bars g p m v a else []
 
 -- how many of so many activities have no lane
 abbrev pub left_out_by : ℕ → List ℕ
@@ -145,7 +143,7 @@ are_lanes_whole last = nat_le (length last.activities) most_lanes
 
 abbrev pub lanes_in : Grid → PlacesValue → ModuleValue → List Entry → World → List ℕ
 lanes_in g p m log last =
-    (head_line g ++ told_of_run (tell_by (lanes_of_step g p m)) m last.arguments log) ++ left_out_by (length last.activities - most_lanes)
+    (head_line g ++ told_of_run (tell_by m (lanes_of_step g p m)) m last.arguments log) ++ left_out_by (length last.activities - most_lanes)
 
 -- the columns for these steps of the run that a log stands for, which ends in this world
 abbrev pub grid_for : PlacesValue → Window → ModuleValue → List Entry → World → Grid

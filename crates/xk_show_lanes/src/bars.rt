@@ -7,9 +7,10 @@ ghost use Rattle.xk_show_lanes.specs.Lanes.{any_behind, any_below, bar, bar_cell
 
 use crate::fields::{push_text, push_times};
 use crate::grid::Grid;
+use crate::lanes::LaneTeller;
 use std::alloc::{AllocError, Global};
 use xk_core::Core;
-use xk_show_events::advanced;
+use xk_show_events::{Places, advanced, clock_word};
 use xk_types::{Act, ClockId};
 
 /// Whether an activity has started, and is registered on the clock.
@@ -106,21 +107,22 @@ fn push_bar_lanes(
     Ok(())
 }
 
-/// What stands behind a bar: `clock 0 phase 1 by 1`.
+/// What stands behind a bar: `c phase 1 by 1`.
 #[tactic(auto, unfolding(crate::specs::Lanes::bar_label))]
 pub fn bar_label(
     alloc: Global,
     core: &Core<'_>,
+    places: &Places<'_>,
     act: u32,
     clock: ClockId,
 ) -> Result<String, AllocError>
     requires { clock < length core.now.world.clocks }
     ensures { IfOk result (λ text. string_bytes text
-        ≡ bar_label core.now.world act clock) }
+        ≡ bar_label places.now core.now.world act clock) }
 {
-    let number = clock.0;
+    let name = clock_word(alloc, places, clock.0)?;
     let phase = core.phase(clock);
-    format!(in alloc; "clock {number} phase {phase} by {act}")
+    format!(in alloc; "{name} phase {phase} by {act}")
 }
 
 /// Adds the bar of a clock that advanced in the last step, which this activity took.
@@ -129,18 +131,18 @@ fn push_bar(
     alloc: Global,
     out: &mut Vec<u8>,
     core: &Core<'_>,
-    grid: Grid,
+    teller: &LaneTeller<'_, '_>,
     act: u32,
     clock: ClockId,
 ) -> Result<(), AllocError>
     requires { clock < length core.now.world.clocks }
-    ensures { OnOk result (out.new.items
-        ≡ out.old.items ++ bar grid core.now.world act clock) }
+    ensures { OnOk result (out.new.items ≡ out.old.items
+        ++ bar teller.now.grid teller.now.places.now core.now.world act clock) }
 {
-    let label = bar_label(alloc, core, act, clock)?;
+    let label = bar_label(alloc, core, teller.places, act, clock)?;
     push_times(out, b' ', 8)?;
-    push_times(out, b' ', grid.place)?;
-    push_bar_lanes(out, core, grid, clock)?;
+    push_times(out, b' ', teller.grid.place)?;
+    push_bar_lanes(out, core, teller.grid, clock)?;
     push_text(out, label.as_str())?;
     push_text(out, "\n")
 }
@@ -150,16 +152,16 @@ fn push_bars_of(
     alloc: Global,
     out: &mut Vec<u8>,
     core: &Core<'_>,
-    grid: Grid,
+    teller: &LaneTeller<'_, '_>,
     act: u32,
     clocks: &[u32],
 ) -> Result<(), AllocError>
     requires { clocks.now ≡ advanced_now core.now.world }
-    ensures { OnOk result (out.new.items
-        ≡ out.old.items ++ flat_map (bar grid core.now.world act) clocks.now) }
+    ensures { OnOk result (out.new.items ≡ out.old.items ++ flat_map
+        (bar teller.now.grid teller.now.places.now core.now.world act) clocks.now) }
 {
     for clock in clocks {
-        push_bar(alloc, out, core, grid, act, ClockId(*clock))?;
+        push_bar(alloc, out, core, teller, act, ClockId(*clock))?;
     }
     Ok(())
 }
@@ -169,12 +171,13 @@ pub(crate) fn push_bars(
     alloc: Global,
     out: &mut Vec<u8>,
     core: &Core<'_>,
-    grid: Grid,
+    teller: &LaneTeller<'_, '_>,
     act: u32,
 ) -> Result<(), AllocError>
-    ensures { OnOk result (out.new.items ≡ out.old.items
-        ++ flat_map (bar grid core.now.world act) (advanced_now core.now.world)) }
+    ensures { OnOk result (out.new.items ≡ out.old.items ++ flat_map
+        (bar teller.now.grid teller.now.places.now core.now.world act)
+        (advanced_now core.now.world)) }
 {
     let clocks = advanced(alloc, core)?;
-    push_bars_of(alloc, out, core, grid, act, &clocks)
+    push_bars_of(alloc, out, core, teller, act, &clocks)
 }

@@ -1,7 +1,8 @@
 //! The whole text: head, rows and bars.
 
-ghost use Rattle.std.specs.Prelude.{◌≡◌, ◌++◌, IfOk, OnOk};
-ghost use Rattle.xk_show_events.specs.Events.{no_text, places_of};
+ghost use Rattle.std.specs.Prelude.{◌≡◌, ◌++◌, map, IfOk, OnOk};
+ghost use Rattle.xk_show_events.specs.Events.{names_in_run};
+ghost use Rattle.xk_show_events.specs.Places.{no_text};
 ghost use Rattle.xk_show_lanes.specs.Lanes.{are_lanes_whole, grid_for, if_asked, lanes_in, lanes_of_step, lanes_text, left_out_by, row_and_bars, steps_asked};
 
 use crate::bars::push_bars;
@@ -13,7 +14,7 @@ use std::alloc::{AllocError, Global};
 use xk_core::Core;
 use xk_origins::UnitOrigins;
 use xk_scheduler::Ended;
-use xk_show_events::{Describe, Places, RunStep, describe_run, is_seen};
+use xk_show_events::{Account, Describe, Places, describe_run, is_seen};
 
 /// What is drawn, and whether it is whole: no lane is left out. (A step that wasn't asked for isn't left out.)
 #[derive(Debug, Drop)]
@@ -22,27 +23,26 @@ pub struct Drawing {
     pub whole: bool,
 }
 
+/// Tells of the steps that are asked for, by their rows and bars.
+#[derive(Drop)]
+pub(crate) struct LaneTeller<'a, 't> {
+    pub grid: Grid,
+    pub places: &'a Places<'t>,
+}
+
 /// Adds the row and bars of a step that led to the core.
 fn push_row_and_bars(
     alloc: Global,
     out: &mut Vec<u8>,
     core: &Core<'_>,
-    grid: Grid,
-    places: &Places<'_>,
-    step: &RunStep,
+    teller: &LaneTeller<'_, '_>,
+    account: &Account,
 ) -> Result<(), AllocError>
-    ensures { OnOk result (out.new.items ≡ out.old.items
-        ++ row_and_bars grid places.now core.now.module_run core.now.world step.now) }
+    ensures { OnOk result (out.new.items ≡ out.old.items ++ row_and_bars
+        teller.now.grid teller.now.places.now core.now.module_run core.now.world account.now) }
 {
-    push_row_if_seen(alloc, out, core, grid, places, step)?;
-    push_bars(alloc, out, core, grid, step.act)
-}
-
-/// Tells of the steps that are asked for, by their rows and bars.
-#[derive(Drop)]
-struct LaneTeller<'a, 't> {
-    grid: Grid,
-    places: &'a Places<'t>,
+    push_row_if_seen(alloc, out, core, teller.grid, teller.places, account)?;
+    push_bars(alloc, out, core, teller, account.step.act)
 }
 
 impl Describe<u8> for LaneTeller<'_, '_> {
@@ -53,10 +53,10 @@ impl Describe<u8> for LaneTeller<'_, '_> {
         alloc: Global,
         out: &mut Vec<u8>,
         core: &Core<'_>,
-        step: &RunStep,
+        account: &Account,
     ) -> Result<(), AllocError> {
-        if self.grid.window.asks(step.number) {
-            push_row_and_bars(alloc, out, core, self.grid, self.places, step)?;
+        if self.grid.window.asks(account.step.number) {
+            push_row_and_bars(alloc, out, core, self, account)?;
         }
         Ok(())
     }
@@ -107,18 +107,18 @@ pub struct AskedSteps {
     pub window: Window,
 }
 
-impl Describe<RunStep> for AskedSteps {
+impl Describe<Account> for AskedSteps {
     ghost describe = { λ asked m v s. if_asked asked.window s };
 
     fn push(
         &self,
         _alloc: Global,
-        out: &mut Vec<RunStep>,
+        out: &mut Vec<Account>,
         _core: &Core<'_>,
-        step: &RunStep,
+        account: &Account,
     ) -> Result<(), AllocError> {
-        if self.window.asks(step.number) && is_seen(step.event) {
-            out.push(*step)?;
+        if self.window.asks(account.step.number) && is_seen(account.step.event) {
+            out.push(*account)?;
         }
         Ok(())
     }
@@ -130,7 +130,7 @@ impl Describe<RunStep> for AskedSteps {
 }
 
 /// The steps of a run that are asked for, and that others can see. The log is played again for it.
-fn steps_asked(alloc: Global, ended: &Ended<'_>, window: Window) -> Result<Vec<RunStep>, AllocError>
+fn steps_asked(alloc: Global, ended: &Ended<'_>, window: Window) -> Result<Vec<Account>, AllocError>
     ensures { IfOk result (λ v. v.items ≡ steps_asked window ended.now.module.now
         ended.now.log.items ended.now.core.world) }
 {
@@ -174,20 +174,23 @@ fn lanes(
 /// that others can see, with its number, where it was taken, and what was done in the lane of who did it. Behind a step
 /// an activity that could go on shows `|`, one that is held back `:`, and one that hasn't started or has ended nothing.
 /// Where a clock advanced, a bar joins the lanes of those who are registered on it, and says in whose step that was. It
-/// is whole where each activity has a lane. Err where memory was refused.
+/// is whole where each activity has a lane. Shared numbers are told by these names, and clocks by those that they were made under. Err where memory was
+/// refused.
 pub fn source_lanes(
     alloc: Global,
     text: &[u8],
     origins: &[UnitOrigins<'_>],
+    shared: &[&[u8]],
     ended: &Ended<'_>,
     window: Window,
 ) -> Result<Drawing, AllocError>
-    ensures text { IfOk result (λ d. d.text.items
-        ≡ lanes_text (places_of text.now origins.now) window
+    ensures text { IfOk result (λ d. d.text.items ≡ lanes_text
+        (names_in_run text.now origins.now (map (λ x. x.now) shared.now)
+        ended.now.module.now ended.now.core.world.arguments ended.now.log.items) window
         ended.now.module.now ended.now.log.items ended.now.core.world) }
     ensures whole { IfOk result (λ d. d.whole ≡ are_lanes_whole ended.now.core.world) }
 {
-    let places = Places::of_source(alloc, text, origins)?;
+    let places = Places::of_run(alloc, text, origins, shared, ended)?;
     lanes(alloc, &places, ended, window)
 }
 

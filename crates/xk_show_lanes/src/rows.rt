@@ -1,7 +1,6 @@
 //! The rows of steps, and the head above them.
 
 ghost use Rattle.std.specs.Prelude.{◌≡◌, ◌++◌, decimal, IfOk, OnOk, string_bytes};
-ghost use Rattle.xk_show_events.specs.Events.{event_words};
 ghost use Rattle.xk_show_events.specs.Worlds.{each_below};
 ghost use Rattle.xk_show_lanes.specs.Fields.{at_left, at_right};
 ghost use Rattle.xk_show_lanes.specs.Lanes.{cell, head_line, lane_line, line_front, mark, row, row_if_seen, spot, title, words_behind};
@@ -10,7 +9,7 @@ use crate::fields::{push_at_left, push_at_right, push_line, push_text};
 use crate::grid::{Grid, spot};
 use std::alloc::{AllocError, Global};
 use xk_core::Core;
-use xk_show_events::{Places, RunStep, event_words, is_seen};
+use xk_show_events::{Account, Places, RunStep, event_words, is_seen};
 use xk_types::Act;
 
 /// A line's first two fields.
@@ -84,9 +83,9 @@ fn push_cell(
     words: &[u8],
     lane: u32,
 ) -> Result<(), AllocError>
-    requires { words.now ≡ event_words step.now }
     ensures { OnOk result (line.new.items ≡ line.old.items
-        ++ at_left grid.lane (cell core.now.module_run core.now.world step.now lane)) }
+        ++ at_left grid.lane
+        (cell words.now core.now.module_run core.now.world step.now lane)) }
 {
     if lane == step.act {
         return push_at_left(line, grid.lane, words);
@@ -102,9 +101,8 @@ fn push_cells(
     step: &RunStep,
     words: &[u8],
 ) -> Result<(), AllocError>
-    requires { words.now ≡ event_words step.now }
     ensures { OnOk result (line.new.items ≡ line.old.items ++ each_below
-        (λ b. at_left grid.lane (cell core.now.module_run core.now.world step.now b))
+        (λ b. at_left grid.lane (cell words.now core.now.module_run core.now.world step.now b))
         grid.lanes) }
 {
     for lane in 0..grid.lanes {
@@ -137,8 +135,8 @@ fn push_words_behind(
     step: &RunStep,
     words: &[u8],
 ) -> Result<(), AllocError>
-    requires { words.now ≡ event_words step.now }
-    ensures { OnOk result (line.new.items ≡ line.old.items ++ words_behind grid step.now) }
+    ensures { OnOk result (line.new.items
+        ≡ line.old.items ++ words_behind grid words.now step.now) }
 {
     if step.act < grid.lanes {
         return Ok(());
@@ -156,12 +154,13 @@ fn push_row(
     core: &Core<'_>,
     grid: Grid,
     places: &Places<'_>,
-    step: &RunStep,
+    account: &Account,
 ) -> Result<(), AllocError>
     ensures { OnOk result (out.new.items ≡ out.old.items
-        ++ row grid places.now core.now.module_run core.now.world step.now) }
+        ++ row grid places.now core.now.module_run core.now.world account.now) }
 {
-    let words = event_words(alloc, step)?;
+    let step = &account.step;
+    let words = event_words(alloc, places, account)?;
     let mut line = row_front(alloc, grid, places, step)?;
     push_cells(&mut line, core, grid, step, words.as_bytes())?;
     push_words_behind(alloc, &mut line, grid, step, words.as_bytes())?;
@@ -175,13 +174,13 @@ pub(crate) fn push_row_if_seen(
     core: &Core<'_>,
     grid: Grid,
     places: &Places<'_>,
-    step: &RunStep,
+    account: &Account,
 ) -> Result<(), AllocError>
     ensures { OnOk result (out.new.items ≡ out.old.items
-        ++ row_if_seen grid places.now core.now.module_run core.now.world step.now) }
+        ++ row_if_seen grid places.now core.now.module_run core.now.world account.now) }
 {
-    if is_seen(step.event) {
-        return push_row(alloc, out, core, grid, places, step);
+    if is_seen(account.step.event) {
+        return push_row(alloc, out, core, grid, places, account);
     }
     Ok(())
 }

@@ -10,7 +10,8 @@ use Rattle.xk_types.specs.Schedule.{Through, run}
 use Rattle.xk_types.specs.World.{World, opening}
 use Rattle.xk_types.specs.Logs.{schedule_of}
 use Rattle.xk_types.proofs.Examples.Notation.{main_with, body_with, module_with}
-use Rattle.xk_show_events.specs.Events.{event_line, event_words, no_text}
+use Rattle.xk_show_events.specs.Events.{clock_word, event_line, event_words, step_words, value_words}
+use Rattle.xk_show_events.specs.Places.{no_text}
 use Rattle.xk_show_lanes.specs.declared.window.Window.{Window}
 use Rattle.xk_show_where.specs.Where.{act_line, clock_line, clock_words, held_words, listed, place_of, registration, steps_line}
 use Rattle.xk_show_page.specs.Page.{escaped, moments}
@@ -41,7 +42,7 @@ told_middle : moments middle no_text held_back log last.0
     ++ (codes "step 5 act 0 unit 0 place 3 print 1\n"
     ++ (codes "step 6 act 0 unit 0 place 4 arrive\nsteps 6\nact 0 unit 0 place 4 can step, clock 0 ahead\n"
     ++ codes "act 1 unit 1 place 0 can step, clock 0 ahead\nclock 0 phase 1\n"))
-unfolding last event_line event_words digits act_line clock_line clock_words held_words listed place_of registration steps_line
+unfolding last event_line step_words event_words value_words clock_word digits act_line clock_line clock_words held_words listed place_of registration steps_line
 told_middle = refl
 
 -- `a<b&c`, and the two bytes that end its line

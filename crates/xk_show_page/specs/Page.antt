@@ -9,8 +9,11 @@ use Rattle.xk_types.specs.Code.{ModuleValue}
 use Rattle.xk_types.specs.World.{World, opening}
 use Rattle.xk_types.specs.Schedule.{is_local}
 use Rattle.xk_show_events.specs.declared.steps.RunStep.{RunStep}
-use Rattle.xk_show_events.specs.Steps.{tell_by, told_of_run}
-use Rattle.xk_show_events.specs.Events.{PlacesValue, event_line}
+use Rattle.xk_show_events.specs.declared.accounts.Account.{Account}
+use Rattle.xk_show_events.specs.Accounts.{tell_by}
+use Rattle.xk_show_events.specs.Events.{event_line}
+use Rattle.xk_show_events.specs.Places.{PlacesValue}
+use Rattle.xk_show_events.specs.Steps.{told_of_run}
 use Rattle.xk_show_lanes.specs.declared.window.Window.{Window}
 use Rattle.xk_show_lanes.specs.Lanes.{is_asked}
 use Rattle.xk_show_picture.specs.Picture.{is_drawn, picture_text}
@@ -86,21 +89,21 @@ abbrev pub is_moment : Window → RunStep → Bool
 is_moment window r = not (is_local r.event) && is_asked window r.number
 
 -- what was done in a step that led to world v, and how things stand there
-abbrev pub moment : PlacesValue → ModuleValue → World → RunStep → List ℕ
-moment p m v r = event_line p r ++ standings_text p m v None
+abbrev pub moment : PlacesValue → ModuleValue → World → Account → List ℕ
+moment p m v a = event_line p a ++ standings_text p m v None
 
 -- of a step that isn't told so: that it printed, if it did, and the last step that is asked for isn't behind
-abbrev pub print_by : Window → PlacesValue → RunStep → Event → List ℕ
-print_by window p r (event.Printed n) = if nat_le r.number window.last then event_line p r else []
-print_by window p r _ = []
+abbrev pub print_by : Window → PlacesValue → Account → Event → List ℕ
+print_by window p a (event.Printed n) = if nat_le a.step.number window.last then event_line p a else []
+print_by window p a _ = []
 
-abbrev pub told_step : Window → PlacesValue → ModuleValue → World → RunStep → List ℕ
-told_step window p m v r = if is_moment window r then moment p m v r else print_by window p r r.event
+abbrev pub told_step : Window → PlacesValue → ModuleValue → World → Account → List ℕ
+told_step window p m v a = if is_moment window a.step then moment p m v a else print_by window p a a.step.event
 
 -- how things stand before the first step, and what is told of each
 abbrev pub moments : Window → PlacesValue → ModuleValue → List Entry → World → List ℕ
 moments window p m log last =
-    standings_text p m (opening m last.arguments) None ++ told_of_run (tell_by (told_step window p m)) m last.arguments log
+    standings_text p m (opening m last.arguments) None ++ told_of_run (tell_by m (told_step window p m)) m last.arguments log
 
 -- ---- the page
 

@@ -10,7 +10,7 @@ use crate::texts::put;
 use std::alloc::{AllocError, Global};
 use xk_core::Core;
 use xk_scheduler::Ended;
-use xk_show_events::{Describe, Places, RunStep, event_line, is_seen};
+use xk_show_events::{Account, Describe, Places, RunStep, event_line, is_seen};
 use xk_show_lanes::Window;
 use xk_show_where::standings_text;
 use xk_types::Event;
@@ -27,11 +27,11 @@ fn push_line(
     alloc: Global,
     out: &mut Vec<u8>,
     places: &Places<'_>,
-    step: &RunStep,
+    account: &Account,
 ) -> Result<(), AllocError>
-    ensures { OnOk result (out.new.items ≡ out.old.items ++ event_line places.now step.now) }
+    ensures { OnOk result (out.new.items ≡ out.old.items ++ event_line places.now account.now) }
 {
-    let line = event_line(alloc, places, step)?;
+    let line = event_line(alloc, places, account)?;
     put(out, line.as_str())
 }
 
@@ -55,12 +55,12 @@ fn push_moment(
     out: &mut Vec<u8>,
     core: &Core<'_>,
     places: &Places<'_>,
-    step: &RunStep,
+    account: &Account,
 ) -> Result<(), AllocError>
     ensures { OnOk result (out.new.items ≡ out.old.items
-        ++ moment places.now core.now.module_run core.now.world step.now) }
+        ++ moment places.now core.now.module_run core.now.world account.now) }
 {
-    push_line(alloc, out, places, step)?;
+    push_line(alloc, out, places, account)?;
     push_standings(alloc, out, places, core)
 }
 
@@ -70,16 +70,16 @@ fn push_print(
     out: &mut Vec<u8>,
     window: Window,
     places: &Places<'_>,
-    step: &RunStep,
+    account: &Account,
     event: Event,
 ) -> Result<(), AllocError>
     ensures { OnOk result (out.new.items ≡ out.old.items
-        ++ print_by window places.now step.now event) }
+        ++ print_by window places.now account.now event) }
 {
     match event {
         Event::Printed(_) => {
-            if step.number <= window.last {
-                return push_line(alloc, out, places, step);
+            if account.step.number <= window.last {
+                return push_line(alloc, out, places, account);
             }
             Ok(())
         }
@@ -102,12 +102,19 @@ impl Describe<u8> for MomentTeller<'_, '_> {
         alloc: Global,
         out: &mut Vec<u8>,
         core: &Core<'_>,
-        step: &RunStep,
+        account: &Account,
     ) -> Result<(), AllocError> {
-        if is_moment(self.window, step) {
-            return push_moment(alloc, out, core, self.places, step);
+        if is_moment(self.window, &account.step) {
+            return push_moment(alloc, out, core, self.places, account);
         }
-        push_print(alloc, out, self.window, self.places, step, step.event)
+        push_print(
+            alloc,
+            out,
+            self.window,
+            self.places,
+            account,
+            account.step.event,
+        )
     }
 }
 

@@ -1,7 +1,8 @@
 //! The whole page.
 
-ghost use Rattle.std.specs.Prelude.{◌≡◌, ◌++◌, length, IfOk, OnOk};
-ghost use Rattle.xk_show_events.specs.Events.{no_text, places_of};
+ghost use Rattle.std.specs.Prelude.{◌≡◌, ◌++◌, length, map, IfOk, OnOk};
+ghost use Rattle.xk_show_events.specs.Events.{names_in_run};
+ghost use Rattle.xk_show_events.specs.Places.{no_text};
 ghost use Rattle.xk_show_picture.specs.Picture.{is_drawn, picture_in, picture_text};
 ghost use Rattle.xk_show_page.specs.Page.{behind_picture, behind_source, escaped, moments, page_by, page_head, page_of, page_tail, page_text};
 
@@ -121,16 +122,18 @@ pub fn source_page(
     alloc: Global,
     text: &[u8],
     origins: &[UnitOrigins<'_>],
+    shared: &[&[u8]],
     ended: &Ended<'_>,
     window: Window,
 ) -> Result<Drawing, AllocError>
-    ensures text { IfOk result (λ d. d.text.items
-        ≡ page_text (places_of text.now origins.now) window
+    ensures text { IfOk result (λ d. d.text.items ≡ page_text
+        (names_in_run text.now origins.now (map (λ x. x.now) shared.now)
+        ended.now.module.now ended.now.core.world.arguments ended.now.log.items) window
         ended.now.module.now ended.now.log.items ended.now.core.world) }
     ensures whole { IfOk result (λ d. d.whole ≡ is_drawn window
         ended.now.module.now ended.now.log.items ended.now.core.world) }
 {
-    let places = Places::of_source(alloc, text, origins)?;
+    let places = Places::of_run(alloc, text, origins, shared, ended)?;
     page(alloc, text, &places, ended, window)
 }
 

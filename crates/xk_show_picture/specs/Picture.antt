@@ -10,8 +10,11 @@ use Rattle.xk_types.specs.World.{World}
 use Rattle.xk_types.specs.Schedule.{is_enabled, is_local}
 use Rattle.xk_core.specs.Core.{advanced_now, is_living, is_quiet}
 use Rattle.xk_show_events.specs.declared.steps.RunStep.{RunStep}
-use Rattle.xk_show_events.specs.Steps.{tell_by, told_of_run}
-use Rattle.xk_show_events.specs.Events.{PlacesValue, event_words}
+use Rattle.xk_show_events.specs.declared.accounts.Account.{Account}
+use Rattle.xk_show_events.specs.Accounts.{tell_by}
+use Rattle.xk_show_events.specs.Events.{event_words}
+use Rattle.xk_show_events.specs.Places.{PlacesValue}
+use Rattle.xk_show_events.specs.Steps.{told_of_run}
 use Rattle.xk_show_lanes.specs.declared.window.Window.{Window}
 use Rattle.xk_show_events.specs.Worlds.{each_below, phase_of}
 use Rattle.xk_show_lanes.specs.Lanes.{any_behind, any_below, bar_label, grid_for, is_asked, is_on, most_lanes, spot, title}
@@ -34,7 +37,7 @@ rows_told window v e = if is_shown window v e then v.steps ∷ replicate (length
 
 -- the rows of a run, from the top: for each the number of its step
 abbrev pub rows_of : Window → ModuleValue → List ℤ → List Entry → List ℕ
-rows_of window m args log = told_of_run (tell_by (λ v s. rows_told window v s.event)) m args log
+rows_of window m args log = told_of_run (tell_by m (λ v a. rows_told window v a.step.event)) m args log
 
 -- How many rows are drawn at most: where there are more there is no picture (`fits`), and so no row of one stands further down.
 abbrev pub most_rows : ℕ
@@ -100,12 +103,14 @@ start_by s k r _ = []
 abbrev pub other_line : Sheet → ModuleValue → World → RunStep → ℕ → ℕ → List ℕ
 other_line s m v r k b = if nat_eq b r.act then [] else line s m v k b
 
-unfoldable pub drawn_row : Sheet → PlacesValue → ModuleValue → World → RunStep → ℕ → List ℕ
-drawn_row s p m v r k =
-    (((each_below (other_line s m v r k) s.lanes ++ bands s v k) ++ front (top k + 16) r.number (spot p r)) ++ boxed s k r (spot p r) (event_words r)) ++ start_by s k r r.event
+-- of a step, with these words
+unfoldable pub drawn_row : Sheet → List ℕ → List ℕ → ModuleValue → World → RunStep → ℕ → List ℕ
+drawn_row s place words m v r k =
+    (((each_below (other_line s m v r k) s.lanes ++ bands s v k) ++ front (top k + 16) r.number place) ++ boxed s k r place words) ++ start_by s k r r.event
 
-abbrev pub step_row : Sheet → List ℕ → PlacesValue → ModuleValue → World → RunStep → List ℕ
-step_row s rows p m v r = if is_local r.event then [] else drawn_row s p m v r (row_of rows r.number)
+abbrev pub step_row : Sheet → List ℕ → PlacesValue → ModuleValue → World → Account → List ℕ
+step_row s rows p m v a =
+    if is_local a.step.event then [] else drawn_row s (spot p a.step) (event_words p a) m v a.step (row_of rows a.step.number)
 
 -- ---- the row of a bar
 
@@ -124,21 +129,22 @@ bar_piece s k b here before behind =
 abbrev pub lane_strokes : Sheet → World → ℕ → ℕ → ℕ → List ℕ
 lane_strokes s v c k b = bar_piece s k b (is_on v c b) (any_below (is_on v c) b) (any_behind (is_on v c) b s.lanes)
 
-unfoldable pub drawn_bar : Sheet → ModuleValue → World → ℕ → ℕ → ℕ → List ℕ
-drawn_bar s m v a c k =
-    ((each_below (line s m v k) s.lanes ++ bands s v k) ++ each_below (lane_strokes s v c k) s.lanes) ++ label (labels s) (top k + 16) (bar_label v a c)
+-- with this label
+unfoldable pub drawn_bar : Sheet → List ℕ → ModuleValue → World → ℕ → ℕ → List ℕ
+drawn_bar s words m v c k =
+    ((each_below (line s m v k) s.lanes ++ bands s v k) ++ each_below (lane_strokes s v c k) s.lanes) ++ label (labels s) (top k + 16) words
 
-abbrev pub clock_bar : Sheet → List ℕ → ModuleValue → World → ℕ → ℕ → List ℕ
-clock_bar s rows m v a c = drawn_bar s m v a c (bar_row rows v c)
+abbrev pub clock_bar : Sheet → List ℕ → PlacesValue → ModuleValue → World → ℕ → ℕ → List ℕ
+clock_bar s rows p m v a c = drawn_bar s (bar_label p v a c) m v c (bar_row rows v c)
 
 -- ---- the picture
 
-abbrev pub rows_of_step : Sheet → List ℕ → PlacesValue → ModuleValue → World → RunStep → List ℕ
-rows_of_step s rows p m v r = step_row s rows p m v r ++ flat_map (clock_bar s rows m v r.act) (advanced_now v)
+abbrev pub rows_of_step : Sheet → List ℕ → PlacesValue → ModuleValue → World → Account → List ℕ
+rows_of_step s rows p m v a = step_row s rows p m v a ++ flat_map (clock_bar s rows p m v a.step.act) (advanced_now v)
 
 -- of a step that is shown: its row, and below it the bars
-abbrev pub drawn_step : Sheet → List ℕ → PlacesValue → ModuleValue → World → RunStep → List ℕ
-drawn_step s rows p m v r = if is_shown s.window v r.event then rows_of_step s rows p m v r else []
+abbrev pub drawn_step : Sheet → List ℕ → PlacesValue → ModuleValue → World → Account → List ℕ
+drawn_step s rows p m v a = if is_shown s.window v a.step.event then rows_of_step s rows p m v a else []
 
 abbrev pub lane_head : Sheet → ℕ → List ℕ
 lane_head s b = lane_title (middle s b) (title b)
@@ -165,7 +171,7 @@ picture_end = codes "</svg>\n"
 
 abbrev pub picture_in : Sheet → List ℕ → PlacesValue → ModuleValue → List Entry → World → List ℕ
 picture_in s rows p m log last =
-    (head s (length last.activities) (length rows) ++ told_of_run (tell_by (drawn_step s rows p m)) m last.arguments log) ++ picture_end
+    (head s (length last.activities) (length rows) ++ told_of_run (tell_by m (drawn_step s rows p m)) m last.arguments log) ++ picture_end
 
 -- it isn't too large to be drawn
 abbrev pub is_drawn : Window → ModuleValue → List Entry → World → Bool

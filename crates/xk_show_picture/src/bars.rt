@@ -3,11 +3,12 @@
 ghost use Rattle.std.specs.Prelude.{◌≡◌, ◌<◌, ◌++◌, length, flat_map, IfOk, OnOk, string_bytes};
 ghost use Rattle.xk_core.specs.Core.{advanced_now};
 ghost use Rattle.xk_show_events.specs.Worlds.{each_below};
+ghost use Rattle.xk_show_lanes.specs.Lanes.{bar_label};
 ghost use Rattle.xk_show_picture.specs.Picture.{bar_piece, clock_bar, drawn_bar, lane_strokes, ring_if, stroke_if};
 
 use crate::layout::bar_row;
 use crate::lines::{push_bands, push_lines, put};
-use crate::picture::Plan;
+use crate::picture::PictureTeller;
 use crate::shapes::{label, shape, stroke, top};
 use crate::sheet::{Sheet, labels, lane_left, middle};
 use std::alloc::{AllocError, Global};
@@ -120,15 +121,18 @@ fn push_bar_at(
     alloc: Global,
     out: &mut Vec<u8>,
     core: &Core<'_>,
-    sheet: Sheet,
+    teller: &PictureTeller<'_, '_>,
     bar: Bar,
 ) -> Result<(), AllocError>
     requires { bar.clock < length core.now.world.clocks }
     ensures { OnOk result (out.new.items ≡ out.old.items
-        ++ drawn_bar sheet core.now.module_run core.now.world bar.act bar.clock bar.row) }
+        ++ drawn_bar teller.now.plan.now.sheet
+        (bar_label teller.now.places.now core.now.world bar.act bar.clock)
+        core.now.module_run core.now.world bar.clock bar.row) }
 {
     let row = bar.row;
-    let words = bar_label(alloc, core, bar.act, bar.clock)?;
+    let sheet = teller.plan.sheet;
+    let words = bar_label(alloc, core, teller.places, bar.act, bar.clock)?;
     let text = label(alloc, labels(sheet), top(row) + 16, words.as_str())?;
     push_lines(alloc, out, core, sheet, row)?;
     push_bands(alloc, out, core, sheet, row)?;
@@ -141,21 +145,22 @@ fn push_bars_of(
     alloc: Global,
     out: &mut Vec<u8>,
     core: &Core<'_>,
-    plan: &Plan,
+    teller: &PictureTeller<'_, '_>,
     act: u32,
     clocks: &[u32],
 ) -> Result<(), AllocError>
     requires { clocks.now ≡ advanced_now core.now.world }
-    ensures { OnOk result (out.new.items ≡ out.old.items ++ flat_map (clock_bar plan.now.sheet
-        plan.now.rows.items core.now.module_run core.now.world act) clocks.now) }
+    ensures { OnOk result (out.new.items ≡ out.old.items ++ flat_map
+        (clock_bar teller.now.plan.now.sheet teller.now.plan.now.rows.items teller.now.places.now
+        core.now.module_run core.now.world act) clocks.now) }
 {
     for clock in clocks {
         let bar = Bar {
             clock: ClockId(*clock),
             act,
-            row: bar_row(&plan.rows, core, clocks, *clock),
+            row: bar_row(&teller.plan.rows, core, clocks, *clock),
         };
-        push_bar_at(alloc, out, core, plan.sheet, bar)?;
+        push_bar_at(alloc, out, core, teller, bar)?;
     }
     Ok(())
 }
@@ -165,13 +170,13 @@ pub(crate) fn push_bars(
     alloc: Global,
     out: &mut Vec<u8>,
     core: &Core<'_>,
-    plan: &Plan,
+    teller: &PictureTeller<'_, '_>,
     act: u32,
 ) -> Result<(), AllocError>
-    ensures { OnOk result (out.new.items ≡ out.old.items ++ flat_map (clock_bar plan.now.sheet
-        plan.now.rows.items core.now.module_run core.now.world act)
-        (advanced_now core.now.world)) }
+    ensures { OnOk result (out.new.items ≡ out.old.items ++ flat_map
+        (clock_bar teller.now.plan.now.sheet teller.now.plan.now.rows.items teller.now.places.now
+        core.now.module_run core.now.world act) (advanced_now core.now.world)) }
 {
     let clocks = advanced(alloc, core)?;
-    push_bars_of(alloc, out, core, plan, act, &clocks)
+    push_bars_of(alloc, out, core, teller, act, &clocks)
 }

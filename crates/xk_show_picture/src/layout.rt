@@ -8,7 +8,7 @@ ghost use Rattle.xk_show_picture.specs.Picture.{bar_row, is_shown, row_of, rows_
 use std::alloc::{AllocError, Global};
 use xk_core::Core;
 use xk_scheduler::Ended;
-use xk_show_events::{Both, Describe, RunStep, advanced, describe_run_by_both, is_seen};
+use xk_show_events::{Account, Both, Describe, advanced, describe_run_by_both, is_seen};
 use xk_show_lanes::{AskedSteps, Window};
 use xk_types::Event;
 
@@ -45,16 +45,16 @@ struct RowTeller {
 }
 
 impl Describe<u64> for RowTeller {
-    ghost describe = { λ teller m v s. rows_told teller.window v s.event };
+    ghost describe = { λ teller m v a. rows_told teller.window v a.step.event };
 
     fn push(
         &self,
         alloc: Global,
         out: &mut Vec<u64>,
         core: &Core<'_>,
-        step: &RunStep,
+        account: &Account,
     ) -> Result<(), AllocError> {
-        if !is_shown(core, self.window, step.event) {
+        if !is_shown(core, self.window, account.step.event) {
             return Ok(());
         }
         let clocks = advanced(alloc, core)?;
@@ -71,7 +71,7 @@ impl Describe<u64> for RowTeller {
 #[derive(Drop)]
 pub(crate) struct Layout {
     pub rows: Vec<u64>,
-    pub steps: Vec<RunStep>,
+    pub steps: Vec<Account>,
 }
 
 /// The layout of a run's picture. The log is played again for it.

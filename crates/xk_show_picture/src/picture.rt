@@ -1,7 +1,8 @@
 //! The whole picture.
 
-ghost use Rattle.std.specs.Prelude.{◌≡◌, ◌++◌, length, IfOk, OnOk};
-ghost use Rattle.xk_show_events.specs.Events.{no_text, places_of};
+ghost use Rattle.std.specs.Prelude.{◌≡◌, ◌++◌, length, map, IfOk, OnOk};
+ghost use Rattle.xk_show_events.specs.Events.{names_in_run};
+ghost use Rattle.xk_show_events.specs.Places.{no_text};
 ghost use Rattle.xk_show_events.specs.Worlds.{each_below};
 ghost use Rattle.xk_show_lanes.specs.Lanes.{steps_asked};
 ghost use Rattle.xk_show_picture.specs.Picture.{IsPlanned, drawn_step, fits, furniture, head, high, is_drawn, lane_head, picture_end, picture_in, picture_text, rows_of_step, sheet_for};
@@ -17,7 +18,7 @@ use std::alloc::{AllocError, Global};
 use xk_core::Core;
 use xk_origins::UnitOrigins;
 use xk_scheduler::Ended;
-use xk_show_events::{Describe, Places, RunStep, describe_run};
+use xk_show_events::{Account, Describe, Places, describe_run};
 use xk_show_lanes::{Drawing, Window, grid_of, title};
 
 /// The most rows that are drawn.
@@ -32,14 +33,14 @@ fn push_row_and_bars(
     out: &mut Vec<u8>,
     core: &Core<'_>,
     teller: &PictureTeller<'_, '_>,
-    step: &RunStep,
+    account: &Account,
 ) -> Result<(), AllocError>
     ensures { OnOk result (out.new.items ≡ out.old.items ++ rows_of_step
         teller.now.plan.now.sheet teller.now.plan.now.rows.items teller.now.places.now
-        core.now.module_run core.now.world step.now) }
+        core.now.module_run core.now.world account.now) }
 {
-    push_row(alloc, out, core, teller, step)?;
-    push_bars(alloc, out, core, teller.plan, step.act)
+    push_row(alloc, out, core, teller, account)?;
+    push_bars(alloc, out, core, teller, account.step.act)
 }
 
 /// Tells of the steps that are shown, by their rows.
@@ -58,10 +59,10 @@ impl Describe<u8> for PictureTeller<'_, '_> {
         alloc: Global,
         out: &mut Vec<u8>,
         core: &Core<'_>,
-        step: &RunStep,
+        account: &Account,
     ) -> Result<(), AllocError> {
-        if is_shown(core, self.plan.sheet.window, step.event) {
-            push_row_and_bars(alloc, out, core, self, step)?;
+        if is_shown(core, self.plan.sheet.window, account.step.event) {
+            push_row_and_bars(alloc, out, core, self, account)?;
         }
         Ok(())
     }
@@ -165,7 +166,7 @@ fn sheet_for(
     places: &Places<'_>,
     ended: &Ended<'_>,
     window: Window,
-    steps: &[RunStep],
+    steps: &[Account],
 ) -> Result<Sheet, AllocError>
     requires { steps.now ≡ steps_asked window ended.now.module.now
         ended.now.log.items ended.now.core.world }
@@ -246,16 +247,18 @@ pub fn source_picture(
     alloc: Global,
     text: &[u8],
     origins: &[UnitOrigins<'_>],
+    shared: &[&[u8]],
     ended: &Ended<'_>,
     window: Window,
 ) -> Result<Drawing, AllocError>
-    ensures text { IfOk result (λ d. d.text.items
-        ≡ picture_text (places_of text.now origins.now) window
+    ensures text { IfOk result (λ d. d.text.items ≡ picture_text
+        (names_in_run text.now origins.now (map (λ x. x.now) shared.now)
+        ended.now.module.now ended.now.core.world.arguments ended.now.log.items) window
         ended.now.module.now ended.now.log.items ended.now.core.world) }
     ensures whole { IfOk result (λ d. d.whole ≡ is_drawn window
         ended.now.module.now ended.now.log.items ended.now.core.world) }
 {
-    let places = Places::of_source(alloc, text, origins)?;
+    let places = Places::of_run(alloc, text, origins, shared, ended)?;
     picture(alloc, &places, ended, window)
 }
 

@@ -13,7 +13,7 @@ use crate::shapes::{arrow, box_frame, box_head, box_words, front, top};
 use crate::sheet::{Sheet, lane_left, middle};
 use std::alloc::{AllocError, Global};
 use xk_core::Core;
-use xk_show_events::{Places, RunStep, event_words, is_seen};
+use xk_show_events::{Account, RunStep, event_words, is_seen};
 use xk_show_lanes::spot;
 use xk_types::Event;
 
@@ -82,18 +82,21 @@ fn start_by(
 fn push_step_itself(
     alloc: Global,
     out: &mut Vec<u8>,
-    sheet: Sheet,
-    places: &Places<'_>,
-    step: &RunStep,
+    teller: &PictureTeller<'_, '_>,
+    account: &Account,
     row: u32,
 ) -> Result<(), AllocError>
     ensures { OnOk result (out.new.items ≡ ((out.old.items
-        ++ front (top row + 16) step.now.number (spot places.now step.now))
-        ++ boxed sheet row step.now (spot places.now step.now) (event_words step.now))
-        ++ start_by sheet row step.now step.now.event) }
+        ++ front (top row + 16) account.now.step.number (spot teller.now.places.now account.now.step))
+        ++ boxed teller.now.plan.now.sheet row account.now.step
+        (spot teller.now.places.now account.now.step)
+        (event_words teller.now.places.now account.now))
+        ++ start_by teller.now.plan.now.sheet row account.now.step account.now.step.event) }
 {
-    let spot = spot(alloc, places, step)?;
-    let words = event_words(alloc, step)?;
+    let step = &account.step;
+    let sheet = teller.plan.sheet;
+    let spot = spot(alloc, teller.places, step)?;
+    let words = event_words(alloc, teller.places, account)?;
     let front = front(alloc, top(row) + 16, step.number, spot.as_str())?;
     let frame = box_of(alloc, sheet, row, step, spot.as_str(), words.as_str())?;
     let start = start_by(alloc, sheet, row, step, step.event)?;
@@ -109,17 +112,18 @@ fn push_row_at(
     out: &mut Vec<u8>,
     core: &Core<'_>,
     teller: &PictureTeller<'_, '_>,
-    step: &RunStep,
+    account: &Account,
     row: u32,
 ) -> Result<(), AllocError>
     ensures { OnOk result (out.new.items ≡ out.old.items
-        ++ drawn_row teller.now.plan.now.sheet teller.now.places.now
-        core.now.module_run core.now.world step.now row) }
+        ++ drawn_row teller.now.plan.now.sheet (spot teller.now.places.now account.now.step)
+        (event_words teller.now.places.now account.now)
+        core.now.module_run core.now.world account.now.step row) }
 {
     let sheet = teller.plan.sheet;
-    push_other_lines(alloc, out, core, sheet, step, row)?;
+    push_other_lines(alloc, out, core, sheet, &account.step, row)?;
     push_bands(alloc, out, core, sheet, row)?;
-    push_step_itself(alloc, out, sheet, teller.places, step, row)
+    push_step_itself(alloc, out, teller, account, row)
 }
 
 /// Adds the row of a step that led to the core, if others can see it.
@@ -128,15 +132,15 @@ pub(crate) fn push_row(
     out: &mut Vec<u8>,
     core: &Core<'_>,
     teller: &PictureTeller<'_, '_>,
-    step: &RunStep,
+    account: &Account,
 ) -> Result<(), AllocError>
     ensures { OnOk result (out.new.items ≡ out.old.items
         ++ step_row teller.now.plan.now.sheet teller.now.plan.now.rows.items
-        teller.now.places.now core.now.module_run core.now.world step.now) }
+        teller.now.places.now core.now.module_run core.now.world account.now) }
 {
-    if !is_seen(step.event) {
+    if !is_seen(account.step.event) {
         return Ok(());
     }
-    let row = row_of(&teller.plan.rows, step.number);
-    push_row_at(alloc, out, core, teller, step, row)
+    let row = row_of(&teller.plan.rows, account.step.number);
+    push_row_at(alloc, out, core, teller, account, row)
 }

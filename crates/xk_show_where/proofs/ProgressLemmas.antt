@@ -17,7 +17,7 @@ use Rattle.xk_show_where.specs.declared.progress.Stop.{Stop}
 use Rattle.xk_show_events.specs.Worlds.{last_world}
 use Rattle.xk_show_where.specs.Progress.{IsTold, course_of, is_through, step_behind}
 use Rattle.xk_show_where.specs.Where.{standings_text, where_text}
-use Rattle.xk_show_events.specs.Events.{PlacesValue}
+use Rattle.xk_show_events.specs.Places.{PlacesValue}
 
 -- ---- runs
 

@@ -8,7 +8,7 @@ use Rattle.xk_types.specs.declared.world.Entry.{Entry}
 use Rattle.xk_types.specs.Code.{ModuleValue}
 use Rattle.xk_types.specs.Step.{under_within}
 use Rattle.xk_types.proofs.Examples.Notation.{main_with, body_with, module_with}
-use Rattle.xk_show_events.specs.Events.{no_text}
+use Rattle.xk_show_events.specs.Places.{no_text}
 use Rattle.xk_show_where.specs.Where.{act_line, are_steps_legal, clock_line, clock_words, held_words, listed, place_of, registration, steps_line, stop_line, where_text}
 
 abbrev entry : (a n : ℕ) → 0 < n → Entry

@@ -13,7 +13,7 @@ use Rattle.xk_types.specs.Schedule.{is_enabled}
 use Rattle.xk_activity.specs.Activities.{act_at}
 use Rattle.xk_core.specs.Core.{is_living, is_waiting}
 use Rattle.xk_show_events.specs.Worlds.{each_below, phase_of, those_below}
-use Rattle.xk_show_events.specs.Events.{PlacesValue, origin_of, place_words}
+use Rattle.xk_show_events.specs.Places.{PlacesValue, origin_of, place_words}
 use Rattle.xk_show_where.specs.declared.condition.Condition.{Condition}
 use Rattle.xk_show_where.specs.declared.condition.Condition.TheVariants as condition
 use Rattle.xk_show_where.specs.declared.progress.Stop.{Stop}

@@ -2,7 +2,7 @@
 
 ghost use Rattle.std.specs.Prelude.{◌≡◌, ◌<◌, ◌++◌, length, is_none, IfOk, OnOk};
 ghost use Rattle.xk_types.specs.World.{AreArguments};
-ghost use Rattle.xk_show_events.specs.Events.{no_text, places_of};
+ghost use Rattle.xk_show_events.specs.Places.{no_text, places_of};
 ghost use Rattle.xk_show_events.specs.Worlds.{each_below};
 ghost use Rattle.xk_show_where.specs.Where.{are_steps_legal, clock_line, shared_line, standings_text, steps_line, stop_line, stop_text, where_text};
 

@@ -1,6 +1,6 @@
 use Rattle.std.proofs.Common.{subst}
 use Rattle.std.specs.Prelude.{IfOk, IfSome}
-use Rattle.xk_show_events.specs.Events.{PlacesValue, places_of}
+use Rattle.xk_show_events.specs.Places.{PlacesValue, places_of}
 use Rattle.xk_io.specs.Writing.{AppendsBeginning}
 use Rattle.xk_ask.specs.Asking.{BeginsByAnswers, IsByAnswers}
 use Rattle.xk_ask.specs.Play.{told_text}

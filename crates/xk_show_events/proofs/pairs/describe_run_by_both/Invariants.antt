@@ -1,7 +1,7 @@
 use Rattle.std.proofs.Common.{drop}
 use Rattle.xk_types.specs.World.{opening}
 use Rattle.xk_types.specs.Logs.{schedule_of}
-use Rattle.xk_show_events.specs.Steps.{tell_by}
+use Rattle.xk_show_events.specs.Accounts.{tell_by}
 use Rattle.xk_show_events.proofs.StepLemmas.{IsLeft}
 use Rattle.xk_show_events.proofs.pairs.describe_run_by_both.Given as goal
 
@@ -12,5 +12,5 @@ invariant-loop-entry g l =
     let log = l.ended.log.items in
     let w = opening m l.ended.core.world.arguments in
     let left = schedule_of (drop l.entry-index log) in
-    IsLeft (tell_by (g.A.Describe.describe l.fn.both.first.now m)) m (schedule_of log) w l.fn.firsts.items left l.core l.firsts.items
-    × IsLeft (tell_by (g.B.Describe.describe l.fn.both.second.now m)) m (schedule_of log) w l.fn.seconds.items left l.core l.seconds.items
+    IsLeft (tell_by m (g.A.Describe.describe l.fn.both.first.now m)) m (schedule_of log) w l.fn.firsts.items left l.core l.firsts.items
+    × IsLeft (tell_by m (g.B.Describe.describe l.fn.both.second.now m)) m (schedule_of log) w l.fn.seconds.items left l.core l.seconds.items

@@ -1,5 +1,5 @@
 use Rattle.std.proofs.Common.{◌-◌, ◌+◌, replicate, arith}
-use Rattle.xk_show_events.specs.Steps.{tell_by}
+use Rattle.xk_show_events.specs.Accounts.{tell_by}
 use Rattle.xk_show_events.proofs.StepLemmas.{can_step, step_told}
 use Rattle.xk_show_events.proofs.pairs.push_entry_by_both.Goals as goal
 
@@ -9,7 +9,7 @@ push_step_by_both-requires g c =
     let w = c.args.core.now.world in
     let a = c.args.entry.act in
     let n = c.args.entry.steps in
-    let tell = tell_by (g.A.Describe.describe c.args.both.now.first.now m) in
+    let tell = tell_by m (g.A.Describe.describe c.args.both.now.first.now m) in
     can_step tell m (replicate n a) w c.requires.0 c.args.firsts.now.items a (n - c.loop-done._done)
     c.loop-done.core c.loop-done.firsts.items (omega arith) c.requires.1 c.loop-done.invariant.0
 
@@ -26,8 +26,8 @@ loop-done-preserved g c =
     let e = c.in_ok-push_step_by_both.field-0 in
     let taken = c.in_ok-push_step_by_both.ensures in
     let same = c.push_step_by_both.ensures.same_module in
-    let tell = tell_by (g.A.Describe.describe c.args.both.now.first.now m) in
-    let tell2 = tell_by (g.B.Describe.describe c.args.both.now.second.now m) in (
+    let tell = tell_by m (g.A.Describe.describe c.args.both.now.first.now m) in
+    let tell2 = tell_by m (g.B.Describe.describe c.args.both.now.second.now m) in (
       step_told tell m all w c.args.firsts.now.items a (n - done) (n - (done + 1)) old.core new.core e
           old.firsts.items new.firsts.items (omega arith) taken.stepped same
           (rw old.invariant.0.same_module at taken.first) old.invariant.0,

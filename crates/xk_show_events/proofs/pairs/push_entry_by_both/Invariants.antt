@@ -1,5 +1,5 @@
 use Rattle.std.proofs.Common.{◌-◌, replicate}
-use Rattle.xk_show_events.specs.Steps.{tell_by}
+use Rattle.xk_show_events.specs.Accounts.{tell_by}
 use Rattle.xk_show_events.proofs.StepLemmas.{IsLeft}
 use Rattle.xk_show_events.proofs.pairs.push_entry_by_both.Given as goal
 
@@ -9,5 +9,5 @@ invariant-loop-done g l =
     let m = l.fn.core.module_run in
     let left = replicate (l.fn.entry.steps - l._done) l.fn.entry.act in
     let all = replicate l.fn.entry.steps l.fn.entry.act in
-    IsLeft (tell_by (g.A.Describe.describe l.fn.both.first.now m)) m all l.fn.core.world l.fn.firsts.items left l.core l.firsts.items
-    × IsLeft (tell_by (g.B.Describe.describe l.fn.both.second.now m)) m all l.fn.core.world l.fn.seconds.items left l.core l.seconds.items
+    IsLeft (tell_by m (g.A.Describe.describe l.fn.both.first.now m)) m all l.fn.core.world l.fn.firsts.items left l.core l.firsts.items
+    × IsLeft (tell_by m (g.B.Describe.describe l.fn.both.second.now m)) m all l.fn.core.world l.fn.seconds.items left l.core l.seconds.items

@@ -5,4 +5,4 @@ use Rattle.xk_show_lanes.proofs.bars.push_bars_of.Given as goal
 
 -- the bars of the clocks so far were added
 abbrev pub invariant-loop-clock : goal.invariant-loop-clock
-invariant-loop-clock l = l.out.items ≡ l.fn.out.items ++ flat_map (bar l.grid l.core.world l.act) (take l.clock-index l.clocks)
+invariant-loop-clock l = l.out.items ≡ l.fn.out.items ++ flat_map (bar l.teller.grid l.teller.places.now l.core.world l.act) (take l.clock-index l.clocks)

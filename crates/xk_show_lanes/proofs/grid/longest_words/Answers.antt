@@ -4,11 +4,11 @@ use Rattle.xk_show_events.specs.Events.{event_words}
 use Rattle.xk_show_lanes.proofs.LaneLemmas.{longest_more}
 use Rattle.xk_show_lanes.proofs.grid.longest_words.Goals as goal
 
-pub loop-step-preserved : goal.loop-step-preserved
-loop-step-preserved c =
+pub loop-account-preserved : goal.loop-account-preserved
+loop-account-preserved c =
     let text = c.in_ok-text.text in
     let long : c.len.result ≡ text.bytes.len = c.len.ensures in (
-      longest_more event_words c.args.steps.now c.loop-step.step-index _ c.loop-step.most c.greater-most.result c.loop-step-test.true c.loop-step.invariant.0
-          (c.greater-most.ensures ∙ ap (max c.loop-step.most) (long ∙ text.bytes.ok.0 ∙ ap length c.in_ok-text.ensures)),
-      omega (arith, c.greater-most.ensures, c.loop-step.invariant.1, long, text.bytes.ok.1, text.bytes.small),
+      longest_more (event_words c.args.places.now) c.args.steps.now c.loop-account.account-index _ c.loop-account.most c.greater-most.result c.loop-account-test.true c.loop-account.invariant.0
+          (c.greater-most.ensures ∙ ap (max c.loop-account.most) (long ∙ text.bytes.ok.0 ∙ ap length c.in_ok-text.ensures)),
+      omega (arith, c.greater-most.ensures, c.loop-account.invariant.1, long, text.bytes.ok.1, text.bytes.small),
     )
