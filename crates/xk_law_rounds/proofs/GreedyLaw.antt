@@ -25,9 +25,9 @@ module _ (m : ModuleValue) (args : List ℤ) (limits : IsWithinLimits m) (ok : I
     (s : List ℕ) (z y : World) (edges : List (StepName × StepName)) (t : List ℕ)
     (one : IsWholeRun m args s z) (sound : AreSound m (opening m args) s edges) (whole : AreOneClass m (opening m args) s t)
     (complete : (k : StepName) → IsTaken s k → (before after : List ℕ) (v : World) → t ≡ before ++ after
-        → run m before (opening m args) ≡ Through v
-        → turns_of (name_in whole k.0) before ≡ k.1 → is_enabled m v (name_in whole k.0) ≡ false
-        → (x : StepName) × IsEdge edges x k × (IsTaken before (name_in whole x.0, x.1) → ⊥)) where
+    → run m before (opening m args) ≡ Through v
+    → turns_of (name_in whole k.0) before ≡ k.1 → is_enabled m v (name_in whole k.0) ≡ false
+    → (x : StepName) × IsEdge edges x k × (IsTaken before (name_in whole x.0, x.1) → ⊥)) where
   abbrev w : World
   w = opening m args
 
@@ -133,9 +133,9 @@ module _ (m : ModuleValue) (args : List ℤ) (limits : IsWithinLimits m) (ok : I
       let k = next_step before a.0 in
       let front = turns_on a.0 before q in
       let taken : IsTaken (before ++ q) (name_in whole k.0.0, k.0.1) =
-          subst (λ b. k.0.1 < turns_of b (before ++ q)) (sym k.1) (omega (arith, front, a.1, k.2)) in
+      subst (λ b. k.0.1 < turns_of b (before ++ q)) (sym k.1) (omega (arith, front, a.1, k.2)) in
       let lower : turns_of (name_in whole k.0.0) before ≤ k.0.1 =
-          subst (λ b. turns_of b before ≤ k.0.1) (sym k.1) (omega (arith, k.2)) in
+      subst (λ b. turns_of b before ≤ k.0.1) (sym k.1) (omega (arith, k.2)) in
       let c = new k.0 lower taken in
       inr (k.0, c.0, c.1, taken_here (before ++ q) [] k.0 (is ∙ sym (append-nil (before ++ q))) taken, c.2)
 

@@ -120,8 +120,8 @@ module _ (m : ModuleValue) (args : List ℤ) (limits : IsWithinLimits m) (ok : I
       omega (arith, a)
   all_rounds (r ∷ rest) before v n is leads rounds none k xs chain taken =
       let a = all_rounds rest (before ++ r) rounds.0 (suc n) (is ∙ sym (append_assoc before r (steps_in rest)))
-          (run_then m before r w v leads ∙ rounds.1.leads) rounds.2
-          (one_more before r (steps_in rest) v rounds.0 n is leads rounds.1 none) k xs chain taken in
+      (run_then m before r w v leads ∙ rounds.1.leads) rounds.2
+      (one_more before r (steps_in rest) v rounds.0 n is leads rounds.1 none) k xs chain taken in
       omega (arith, a)
 
   -- each activity takes as many steps in both

@@ -1,5 +1,5 @@
 -- Shares of steps: how many there are to a round, and how many rounds so many take. This project's own.
-use Rattle.std.specs.Prelude.{ℕ, zero, suc, ◌+◌, ◌*◌, ◌/◌, ◌%◌, max, nat_eq, List, [], ◌∷◌, if◌then◌else◌}
+use Rattle.std.specs.Prelude.{ℕ, suc, ◌+◌, ◌*◌, ◌/◌, ◌%◌, max, nat_eq, List, [], ◌∷◌, if◌then◌else◌}
 use Rattle.xk_races.specs.declared.deeds.Deed.{Deed}
 use Rattle.xk_races.specs.Lists.{number_at}
 use Rattle.xk_span.specs.Steps.{is_step}
@@ -7,8 +7,7 @@ use Rattle.xk_show_span.specs.Counts.{counted}
 
 -- how many hundredths n of d are, to the nearest one, half of one up; of nothing none
 abbrev pub hundredths : ℕ → ℕ → ℕ
-hundredths n zero = 0
-hundredths n (suc d) = (200 * n + suc d) / (2 * suc d)
+hundredths n d = if nat_eq d 0 then 0 else (200 * n + d) / (2 * d)
 
 -- ---- widths
 

@@ -111,10 +111,14 @@ count_words c = codes " " ++ (decimal c.number ++ (codes " with " ++ decimal c.m
 abbrev pub more_words : Count → List ℕ
 more_words c = codes "," ++ count_words c
 
--- `path lines 4 with 52, 10 with 10`: the five lines with the most steps
+-- `path lines 4 with 52, 10 with 10`
+abbrev pub line_of : Count → List Count → List ℕ
+line_of c list = ((codes "path lines" ++ count_words c) ++ flat_map more_words list) ++ codes "\n"
+
+-- the five lines with the most steps
 abbrev pub lines_line : List Count → List ℕ
 lines_line [] = []
-lines_line (c ∷ list) = ((codes "path lines" ++ count_words c) ++ flat_map more_words list) ++ codes "\n"
+lines_line (c ∷ list) = line_of c list
 
 abbrev pub lines_text : PlacesValue → List RunStep → List ℕ
 lines_text p path = lines_line (greatest_few 5 (lines_of p path))

@@ -1,7 +1,6 @@
 -- Where activities waited, and how long. This project's own.
-use Rattle.std.specs.Prelude.{ℕ, suc, ◌+◌, ◌-◌, nat_eq, Bool, true, false, not, ◌&&◌, List, [], ◌∷◌, ◌++◌, map}
+use Rattle.std.specs.Prelude.{ℕ, suc, ◌+◌, ◌-◌, nat_eq, Bool, true, false, ◌&&◌, List, [], ◌∷◌, ◌++◌, map}
 use Rattle.std.specs.Prelude.{Option, Some, None, slice_get, slice_set, if◌then◌else◌}
-use Rattle.std.specs.List.{prefix_len}
 use Rattle.xk_types.specs.declared.world.Event.{Event}
 use Rattle.xk_types.specs.declared.world.Event.TheVariants as event
 use Rattle.xk_show_events.specs.declared.steps.RunStep.{RunStep}
@@ -22,8 +21,13 @@ may_wait _ = false
 abbrev pub has_place : RunStep → Wait → Bool
 has_place s w = nat_eq w.step.unit s.unit && nat_eq w.step.place s.place
 
+abbrev pub place_from : RunStep → ℕ → List Wait → ℕ
+place_from s k [] = k
+place_from s k (w ∷ waits) = if has_place s w then k else place_from s (suc k) waits
+
+-- which of these it is; as many as there are, if it is none
 abbrev pub place_in : RunStep → List Wait → ℕ
-place_in s waits = prefix_len (λ w. not (has_place s w)) waits
+place_in s waits = place_from s 0 waits
 
 abbrev pub first_wait : RunStep → ℕ → Wait
 first_wait s n = record { step = s; rounds = n; times = 1 }

@@ -1,7 +1,7 @@
 //! A path by lines of the text.
 
 ghost use Rattle.std.specs.Prelude.{◌≡◌, ◌++◌, flat_map, IfOk, OnOk, string_bytes};
-ghost use Rattle.xk_show_span.specs.Text.{at_line, count_words, lines_line, lines_of, lines_text, more_words};
+ghost use Rattle.xk_show_span.specs.Text.{at_line, count_words, line_of, lines_line, lines_of, lines_text, more_words};
 
 use crate::counts::{Count, add_one, greatest_few};
 use std::alloc::{AllocError, Global};
@@ -19,11 +19,7 @@ fn add_at(counts: &mut Vec<usize>, position: Option<Position>) -> Result<(), All
 }
 
 /// How many steps of a path come from each line.
-fn lines_of(
-    alloc: Global,
-    places: &Places<'_>,
-    path: &[RunStep],
-) -> Result<Vec<usize>, AllocError>
+fn lines_of(alloc: Global, places: &Places<'_>, path: &[RunStep]) -> Result<Vec<usize>, AllocError>
     ensures { IfOk result (λ v. v.items ≡ lines_of places.now path.now) }
 {
     let mut counts = Vec::new(alloc);
@@ -63,19 +59,27 @@ fn push_each(alloc: Global, out: &mut Vec<u8>, counts: &[Count]) -> Result<(), A
     Ok(())
 }
 
+/// The line of one and these behind it.
+fn line_of(alloc: Global, first: Count, rest: &[Count]) -> Result<Vec<u8>, AllocError>
+    ensures { IfOk result (λ v. v.items ≡ line_of first rest.now) }
+{
+    let words = count_words(alloc, first)?;
+    let mut out = Vec::new(alloc);
+    out.extend_from_slice(b"path lines")?;
+    out.extend_from_slice(words.as_bytes())?;
+    push_each(alloc, &mut out, rest)?;
+    out.extend_from_slice(b"\n")?;
+    Ok(out)
+}
+
 /// The line of these, if there are any.
 fn lines_line(alloc: Global, counts: &[Count]) -> Result<Vec<u8>, AllocError>
     ensures { IfOk result (λ v. v.items ≡ lines_line counts.now) }
 {
-    let mut out = Vec::new(alloc);
-    if let [first, rest @ ..] = counts {
-        out.extend_from_slice(b"path lines")?;
-        let words = count_words(alloc, *first)?;
-        out.extend_from_slice(words.as_bytes())?;
-        push_each(alloc, &mut out, rest)?;
-        out.extend_from_slice(b"\n")?;
+    match counts {
+        [] => Ok(Vec::new(alloc)),
+        [first, rest @ ..] => line_of(alloc, *first, rest),
     }
-    Ok(out)
 }
 
 /// The lines with the most steps of a path.

@@ -35,11 +35,7 @@ fn cause_words(alloc: Global, behind: Option<u32>, event: Event) -> Result<Strin
 
 /// The line of a stretch.
 #[tactic(auto, unfolding(crate::specs::Text::stretch_line))]
-fn stretch_line(
-    alloc: Global,
-    places: &Places<'_>,
-    stretch: &Stretch,
-) -> Result<String, AllocError>
+fn stretch_line(alloc: Global, places: &Places<'_>, stretch: &Stretch) -> Result<String, AllocError>
     ensures { IfOk result (λ text. string_bytes text ≡ stretch_line places.now stretch.now) }
 {
     let start = stretch.start;
@@ -86,7 +82,11 @@ fn rest_line(alloc: Global, n: usize) -> Result<String, AllocError>
 }
 
 /// The lines of the first stretches, and how many more there are.
-pub(crate) fn path_text(alloc: Global, places: &Places<'_>, list: &[Stretch]) -> Result<Vec<u8>, AllocError>
+pub(crate) fn path_text(
+    alloc: Global,
+    places: &Places<'_>,
+    list: &[Stretch],
+) -> Result<Vec<u8>, AllocError>
     ensures { IfOk result (λ v. v.items ≡ path_text places.now list.now) }
 {
     let shown = &list[..list.len().min(most_shown())];

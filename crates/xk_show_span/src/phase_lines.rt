@@ -15,7 +15,7 @@ fn last_round(list: &[Arrival]) -> usize
 {
     let mut round = 0;
     for arrival in list {
-        round = arrival.round.max(round);
+        round = round.max(arrival.round);
     }
     round
 }
@@ -135,11 +135,7 @@ fn push_earlier(
 }
 
 /// The last ones of a phase, at most eight.
-fn lasts_text(
-    alloc: Global,
-    places: &Places<'_>,
-    list: &[Arrival],
-) -> Result<Vec<u8>, AllocError>
+fn lasts_text(alloc: Global, places: &Places<'_>, list: &[Arrival]) -> Result<Vec<u8>, AllocError>
     ensures { IfOk result (λ v. v.items
         ≡ flat_map (last_words places.now) (take 8 list.now) ++ more_of (length list.now - 8)) }
 {

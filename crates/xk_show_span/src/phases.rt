@@ -9,6 +9,7 @@ use crate::counts::{add_one, number_at, sum};
 use crate::phase_lines::phase_line;
 use std::alloc::{AllocError, Global};
 use std::marker::Model;
+use std::mem;
 use xk_races::{Deed, Part};
 use xk_show_events::{Places, RunStep};
 
@@ -152,7 +153,7 @@ impl Coming {
         add_one(&mut self.phases, c as usize)?;
         let rest = staying(alloc, c, &self.arrivals)?;
         self.advances = advances;
-        self.arrivals = rest;
+        drop(mem::replace(&mut self.arrivals, rest));
         Ok(())
     }
 
@@ -167,12 +168,7 @@ impl Coming {
     }
 
     /// The line of an advance of clock c, if it is shown.
-    fn shown_line(
-        &self,
-        alloc: Global,
-        places: &Places<'_>,
-        c: u32,
-    ) -> Result<Vec<u8>, AllocError>
+    fn shown_line(&self, alloc: Global, places: &Places<'_>, c: u32) -> Result<Vec<u8>, AllocError>
         ensures { IfOk result (λ v. v.items ≡ phase_line_if_shown places.now
             self.now.advances c (number_at self.now.phases c + 1)
             (flat_map (if_awaited c) self.now.arrivals)) }
@@ -186,12 +182,7 @@ impl Coming {
     }
 
     /// The line of a deed, if it is an advance.
-    fn line_of(
-        &self,
-        alloc: Global,
-        places: &Places<'_>,
-        part: Part,
-    ) -> Result<Vec<u8>, AllocError>
+    fn line_of(&self, alloc: Global, places: &Places<'_>, part: Part) -> Result<Vec<u8>, AllocError>
         ensures { IfOk result (λ v. v.items ≡ line_of places.now part self.now) }
     {
         match part {

@@ -21,10 +21,10 @@ pub(crate) fn hundredths(n: usize, d: usize) -> u128
 fn add_width(widths: &mut Vec<usize>, deed: &Deed, round: usize) -> Result<(), AllocError>
     ensures { OnOk result (widths.new.items ≡ width_with deed.now round widths.old.items) }
 {
-    match deed.part {
-        Part::Print => add_one(widths, round),
-        _ => Ok(()),
+    if matches!(deed.part, Part::Print) {
+        return add_one(widths, round);
     }
+    Ok(())
 }
 
 /// How many steps each round has.

@@ -23,10 +23,10 @@ use xk_span::Timing;
 fn work_with(deed: &Deed, n: usize) -> Result<usize, AllocError>
     ensures { IfOk result (λ m. m ≡ work_with deed.now n) }
 {
-    match deed.part {
-        Part::Print => sum(n, 1),
-        _ => Ok(n),
+    if matches!(deed.part, Part::Print) {
+        return sum(n, 1);
     }
+    Ok(n)
 }
 
 /// How many steps there are.

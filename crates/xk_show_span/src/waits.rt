@@ -36,11 +36,16 @@ fn has_place(step: &RunStep, wait: &Wait) -> bool
     wait.step.unit == step.unit && wait.step.place == step.place
 }
 
-/// Which of these is at the instruction of a step.
+/// Which of these is at the instruction of a step; as many as there are, if none is.
 fn place_in(step: &RunStep, waits: &[Wait]) -> usize
     ensures { result ≡ place_in step.now waits.now }
 {
-    waits.iter().take_while(|w| !has_place(step, w)).count()
+    for (k, wait) in waits.iter().enumerate() {
+        if has_place(step, wait) {
+            return k;
+        }
+    }
+    waits.len()
 }
 
 /// Wait number k, if there is one.
@@ -117,10 +122,7 @@ fn add_wait_if_any(waits: &mut Vec<Wait>, step: &RunStep, n: usize) -> Result<()
 fn may_have_waited(deed: &Deed) -> bool
     ensures { result ≡ (is_step deed.now.part && may_wait deed.now.step.event) }
 {
-    match deed.part {
-        Part::Print => may_wait(deed.step.event),
-        _ => false,
-    }
+    matches!(deed.part, Part::Print) && may_wait(deed.step.event)
 }
 
 /// With what a deed in a round waited, behind its activity's step before it.
@@ -143,10 +145,10 @@ fn add_waits(
 fn set_last(lasts: &mut Vec<usize>, deed: &Deed, round: usize) -> Result<(), AllocError>
     ensures { OnOk result (lasts.new.items ≡ lasts_with deed.now round lasts.old.items) }
 {
-    match deed.part {
-        Part::Print => set_number(lasts, deed.step.act as usize, round),
-        _ => Ok(()),
+    if matches!(deed.part, Part::Print) {
+        return set_number(lasts, deed.step.act as usize, round);
     }
+    Ok(())
 }
 
 /// Where activities waited.

@@ -27,11 +27,7 @@ fn push_back(path: &mut Vec<usize>, links: &[Mark], j: usize) -> Result<(), Allo
 }
 
 /// The deeds of the chain that a mark ends, the last one first.
-pub(crate) fn path_back(
-    alloc: Global,
-    links: &[Mark],
-    last: Mark,
-) -> Result<Vec<usize>, AllocError>
+pub(crate) fn path_back(alloc: Global, links: &[Mark], last: Mark) -> Result<Vec<usize>, AllocError>
     ensures { IfOk result (λ v. v.items ≡ path_back links.now last) }
 {
     let mut path = Vec::new(alloc);

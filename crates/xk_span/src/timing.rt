@@ -1,8 +1,7 @@
 //! How long a run had to take.
 
 ghost use Rattle.std.specs.Prelude.{◌≡◌, IfOk};
-ghost use Rattle.xk_span.specs.Steps.{critical_steps, steps_of_run, steps_span, steps_weigh};
-ghost use Rattle.xk_span.specs.Times.{times_of};
+ghost use Rattle.xk_span.specs.Steps.{critical_steps, steps_of_run, steps_span, steps_times};
 
 use crate::pass::along;
 use crate::paths::{path_back, steps_at};
@@ -28,8 +27,7 @@ pub struct Timing {
 /// The times of these deeds.
 fn timed(alloc: Global, deeds: Vec<Deed>) -> Result<Timing, AllocError>
     ensures deeds { IfOk result (λ t. t.deeds.items ≡ deeds.entry.items) }
-    ensures times { IfOk result (λ t. t.times.items
-        ≡ times_of (steps_weigh deeds.entry.items) deeds.entry.items) }
+    ensures times { IfOk result (λ t. t.times.items ≡ steps_times deeds.entry.items) }
     ensures span { IfOk result (λ t. t.span ≡ steps_span deeds.entry.items) }
     ensures path { IfOk result (λ t. t.path.items ≡ critical_steps deeds.entry.items) }
 {
@@ -54,8 +52,7 @@ fn timed(alloc: Global, deeds: Vec<Deed>) -> Result<Timing, AllocError>
 pub fn time_run(alloc: Global, ended: &Ended<'_>) -> Result<Timing, AllocError>
     ensures deeds { IfOk result (λ t. t.deeds.items ≡ steps_of_run
         ended.now.module.now ended.now.core.world.arguments ended.now.log.items) }
-    ensures times { IfOk result (λ t. t.times.items
-        ≡ times_of (steps_weigh t.deeds.items) t.deeds.items) }
+    ensures times { IfOk result (λ t. t.times.items ≡ steps_times t.deeds.items) }
     ensures span { IfOk result (λ t. t.span ≡ steps_span t.deeds.items) }
     ensures path { IfOk result (λ t. t.path.items ≡ critical_steps t.deeds.items) }
 {
