@@ -92,8 +92,8 @@ all m (a ∷ list) w z n h =
     ∙ ap (λ k. work_from k (there x.0)) this
     ∙ omega (arith, rest)
 
-pub work_is_steps : (m : ModuleValue) (args : List ℤ) (log : List Entry) (z : World) → run m (schedule_of log)
-(opening m args) ≡ Through z
+pub work_is_steps : (m : ModuleValue) (args : List ℤ) (log : List Entry) (z : World)
+    → run m (schedule_of log) (opening m args) ≡ Through z
     → work_of (steps_of_run m args log) ≡ length (schedule_of log)
 work_is_steps m args log z h = all m (schedule_of log) (opening m args) z 0 h ∙ omega arith
 

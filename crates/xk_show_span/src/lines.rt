@@ -90,7 +90,7 @@ pub(crate) fn lines_text(
 ) -> Result<Vec<u8>, AllocError>
     ensures { IfOk result (λ v. v.items ≡ lines_text places.now path.now) }
 {
-    let mut counts = lines_of(alloc, places, path)?;
-    let few = greatest_few(alloc, &mut counts, 5)?;
+    let counts = lines_of(alloc, places, path)?;
+    let few = greatest_few(alloc, counts, 5)?;
     lines_line(alloc, &few)
 }

@@ -76,7 +76,7 @@ pub(crate) fn waits_text(
 ) -> Result<Vec<u8>, AllocError>
     ensures { IfOk result (λ v. v.items ≡ waits_text places.now waits.now) }
 {
-    let mut rounds = rounds_waited(alloc, waits)?;
-    let few = greatest_few(alloc, &mut rounds, 6)?;
+    let rounds = rounds_waited(alloc, waits)?;
+    let few = greatest_few(alloc, rounds, 6)?;
     wait_lines(alloc, places, waits, &few)
 }

@@ -47,7 +47,8 @@ links_rest ds w (x ∷ rest) n k is known zero d at =
 links_rest ds w (x ∷ rest) n k is known (suc i) d at =
     let e : suc n + i ≡ n + suc i = omega arith in
     subst (λ m. Tells ds w (mark_at (links_from w (suc n) rest (after n (w n) x k)) i) (λ j. Edge ds j m)) e
-    (links_rest ds w rest (suc n) (after n (w n) x k) (rest_tail ds n x rest is) (known_more ds w n x k (rest_head ds n x rest is) known) i d at)
+    (links_rest ds w rest (suc n) (after n (w n) x k) (rest_tail ds n x rest is)
+    (known_more ds w n x k (rest_head ds n x rest is) known) i d at)
 
 pub links_tell : (w : Weights) (ds : List Deed) (j : ℕ) (d : Deed) → IsAt ds j d
     → Tells ds w (mark_at (links_of w ds) j) (λ m. Edge ds m j)
