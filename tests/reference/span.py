@@ -100,7 +100,8 @@ def waits(program: Program, played: Played, of: dict[int, Chain]) -> list[str]:
             first.setdefault((frame.unit, frame.place), taken)
     longest = sorted(waited, key=lambda place: -sum(waited[place]))[:PLACES]
     return [
-        f"waited {sum(waited[at])} rounds {place_words(program, first[at])}, {len(waited[at])} times\n" for at in longest
+        f"waited {sum(waited[at])} rounds {place_words(program, first[at])}, {len(waited[at])} times\n"
+        for at in longest
     ]
 
 
