@@ -9,10 +9,9 @@ use Rattle.xk_types.specs.World.{World, AreArguments, opening}
 use Rattle.xk_types.specs.Step.{step}
 use Rattle.xk_types.specs.Schedule.{Through, run, all_ended, is_enabled}
 use Rattle.xk_types.proofs.RunLemmas.{run_then}
-use Rattle.xk_law_schedules.proofs.ReachabilityLemmas.{same_through, first_step, opening_reached}
+use Rattle.xk_law_schedules.proofs.ReachabilityLemmas.{first_step, opening_reached}
 use Rattle.xk_law_commute.proofs.ExplorationLaw.{nobody_steps}
 use Rattle.xk_law_names.specs.Names.{all_named}
-use Rattle.xk_law_names.proofs.ActivityNameOrderLaw.{run_first}
 use Rattle.xk_law_traces.specs.Classes.{Turn, AreSwapped, AreJoined, AreOneClass, names_along, name_in, HasNoRace}
 use Rattle.xk_law_traces.specs.Edges.{StepName, turns_of, IsTaken, IsLink, AreSound}
 use Rattle.xk_law_traces.specs.OneRun.{GoesAsWell, IsBegun, IsWholeRun}
