@@ -1,7 +1,7 @@
 -- Who came last at each phase of a clock, and by how much earlier the others were. This project's own.
 use Rattle.std.specs.Prelude.{ℕ, suc, ◌+◌, ◌-◌, nat_eq, nat_lt, max, Bool, true, false, not, ◌&&◌, List, [], ◌∷◌, ◌++◌, length, take}
 use Rattle.std.specs.Prelude.{flat_map, codes, decimal, if◌then◌else◌}
-use Rattle.xk_show_events.specs.Events.{PlacesValue, origin_of}
+use Rattle.xk_show_events.specs.Events.{PlacesValue}
 use Rattle.xk_races.specs.declared.deeds.Deed.{Deed}
 use Rattle.xk_races.specs.declared.deeds.Part.{Part}
 use Rattle.xk_races.specs.declared.deeds.Part.TheVariants as part

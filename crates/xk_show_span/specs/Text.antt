@@ -1,5 +1,5 @@
 -- What is told of how long a run had to take. This project's own.
-use Rattle.std.specs.Prelude.{ℕ, suc, ℤ, ◌+◌, ◌-◌, ◌/◌, ◌%◌, nat_eq, Bool, true, false, List, [], ◌∷◌, ◌++◌, length, take, flat_map}
+use Rattle.std.specs.Prelude.{ℕ, ℤ, ◌-◌, ◌/◌, ◌%◌, nat_eq, Bool, true, false, List, [], ◌∷◌, ◌++◌, length, take, flat_map}
 use Rattle.std.specs.Prelude.{Option, Some, None, slice_get, codes, decimal, if◌then◌else◌}
 use Rattle.xk_types.specs.declared.world.Entry.{Entry}
 use Rattle.xk_types.specs.declared.world.Event.{Event}
@@ -9,7 +9,6 @@ use Rattle.xk_lines.specs.declared.lines.Position.{Position}
 use Rattle.xk_show_events.specs.declared.steps.RunStep.{RunStep}
 use Rattle.xk_show_events.specs.Events.{PlacesValue, event_words, origin_of, place_words}
 use Rattle.xk_races.specs.declared.deeds.Deed.{Deed}
-use Rattle.xk_races.specs.Lists.{number_at}
 use Rattle.xk_races.specs.Races.{is_race_free}
 use Rattle.xk_span.specs.Steps.{critical_steps, steps_of_run, steps_span, steps_times, work_of}
 use Rattle.xk_show_span.specs.declared.counts.Count.{Count}

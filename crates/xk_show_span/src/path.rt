@@ -1,6 +1,6 @@
 //! A path by stretches, a line each.
 
-ghost use Rattle.std.specs.Prelude.{◌≡◌, ◌++◌, ◌-◌, length, take, flat_map, IfOk, string_bytes};
+ghost use Rattle.std.specs.Prelude.{◌≡◌, flat_map, IfOk, string_bytes};
 ghost use Rattle.xk_show_span.specs.Text.{cause, cause_words, most_shown, path_text, rest_line, stretch_line};
 
 use crate::spots::spot;

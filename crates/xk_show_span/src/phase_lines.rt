@@ -1,8 +1,8 @@
 //! Phases of clocks, a line each.
 
-ghost use Rattle.std.specs.Prelude.{◌≡◌, ◌-◌, ◌++◌, length, take, flat_map, max, IfOk, OnOk, string_bytes};
+ghost use Rattle.std.specs.Prelude.{◌≡◌, ◌-◌, ◌++◌, length, take, flat_map, IfOk, OnOk, string_bytes};
 ghost use Rattle.xk_show_span.specs.Phases.{earlier_words, if_earlier, if_last, last_round, last_words, more_of, phase_line};
-ghost use Rattle.xk_show_span.specs.Phases.{phase_line_in, phase_line_of, phase_words};
+ghost use Rattle.xk_show_span.specs.Phases.{phase_line_in, phase_words};
 
 use crate::phases::Arrival;
 use crate::spots::spot;

@@ -1,6 +1,6 @@
 //! Where activities waited, and how long.
 
-ghost use Rattle.std.specs.Prelude.{◌≡◌, ◌&&◌, slice_get, slice_set, map, IfOk, OnOk};
+ghost use Rattle.std.specs.Prelude.{◌≡◌, ◌&&◌, slice_get, slice_set, IfOk, OnOk};
 ghost use Rattle.xk_span.specs.Steps.{is_step};
 ghost use Rattle.xk_show_span.specs.Waits.{first_wait, has_place, lasts_with, may_wait, more_rounds, place_in, rounds_waited};
 ghost use Rattle.xk_show_span.specs.Waits.{waits_of, waits_with, with_wait, with_wait_if_any};

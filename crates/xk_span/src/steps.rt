@@ -1,8 +1,6 @@
 //! The steps of a run as deeds.
 
-ghost use Rattle.std.specs.Prelude.{◌≡◌, true, [], ◌∷◌, ◌++◌, flat_map, if◌then◌else◌, IfOk, OnOk};
-ghost use Rattle.xk_types.specs.Schedule.{is_enabled};
-ghost use Rattle.xk_core.specs.Core.{StepsTo};
+ghost use Rattle.std.specs.Prelude.{◌≡◌, ◌++◌, flat_map, IfOk, OnOk};
 ghost use Rattle.xk_span.specs.Steps.{if_lets_go, if_waits, lets_go, steps_of_run, tell_step, waits};
 
 use std::alloc::{AllocError, Global};

@@ -1,4 +1,4 @@
-use Rattle.std.proofs.Common.{◌≡◌, map, take}
+use Rattle.std.proofs.Common.{◌≡◌, take}
 use Rattle.xk_show_span.specs.Waits.{rounds_waited}
 use Rattle.xk_show_span.proofs.waits.rounds_waited.Given as goal
 
