@@ -7,7 +7,7 @@ use Rattle.xk_races.specs.declared.deeds.Part.{Part}
 use Rattle.xk_races.specs.declared.deeds.Part.TheVariants as part
 use Rattle.xk_races.specs.Lists.{number_at}
 use Rattle.xk_show_span.specs.declared.phases.Arrival.{Arrival}
-use Rattle.xk_show_span.specs.Counts.{counted}
+use Rattle.xk_span_summary.specs.Counts.{counted}
 use Rattle.xk_show_span.specs.Spots.{spot}
 
 -- ---- who came

@@ -11,15 +11,15 @@ use Rattle.xk_show_events.specs.Events.{PlacesValue, event_words, origin_of, pla
 use Rattle.xk_races.specs.declared.deeds.Deed.{Deed}
 use Rattle.xk_races.specs.Races.{is_race_free}
 use Rattle.xk_span.specs.Steps.{critical_steps, steps_of_run, steps_span, steps_times, work_of}
-use Rattle.xk_show_span.specs.declared.counts.Count.{Count}
-use Rattle.xk_show_span.specs.declared.stretches.Stretch.{Stretch}
-use Rattle.xk_show_span.specs.declared.waits.Wait.{Wait}
-use Rattle.xk_show_span.specs.Counts.{counted, greatest, greatest_few}
+use Rattle.xk_span_summary.specs.declared.counts.Count.{Count}
+use Rattle.xk_span_summary.specs.declared.stretches.Stretch.{Stretch}
+use Rattle.xk_span_summary.specs.declared.waits.Wait.{Wait}
+use Rattle.xk_span_summary.specs.Counts.{counted, greatest, greatest_few}
 use Rattle.xk_show_span.specs.Phases.{phases_text}
-use Rattle.xk_show_span.specs.Shares.{hundredths, least_rounds, level_rounds, widths_of}
+use Rattle.xk_span_summary.specs.Shares.{hundredths, least_rounds, level_rounds, widths_of}
 use Rattle.xk_show_span.specs.Spots.{spot}
-use Rattle.xk_show_span.specs.Stretches.{stretches}
-use Rattle.xk_show_span.specs.Waits.{rounds_waited, waits_of}
+use Rattle.xk_span_summary.specs.Stretches.{stretches_of}
+use Rattle.xk_span_summary.specs.Waits.{rounds_waited, waits_of}
 
 -- ---- work and span
 
@@ -157,7 +157,7 @@ head_text free work span widths =
 -- of deeds and their times, by whether their run has no race
 abbrev pub text_by : PlacesValue → Bool → List Deed → List ℕ → List ℕ
 text_by p free ds times =
-    ((((head_text free (work_of ds) (steps_span ds) (widths_of times ds) ++ path_text p (stretches (critical_steps ds)))
+    ((((head_text free (work_of ds) (steps_span ds) (widths_of times ds) ++ path_text p (stretches_of (critical_steps ds)))
     ++ lines_text p (critical_steps ds)) ++ phases_text p times ds) ++ waits_text p (waits_of times ds)) ++ scope_line free
 
 abbrev pub span_text_of : PlacesValue → Bool → List Deed → List ℕ

@@ -3,10 +3,10 @@
 ghost use Rattle.std.specs.Prelude.{◌≡◌, ◌++◌, flat_map, IfOk, OnOk, string_bytes};
 ghost use Rattle.xk_show_span.specs.Text.{at_line, count_words, line_of, lines_line, lines_of, lines_text, more_words};
 
-use crate::counts::{Count, add_one, greatest_few};
 use std::alloc::{AllocError, Global};
 use xk_lines::Position;
 use xk_show_events::{Places, RunStep};
+use xk_span_summary::{Count, add_one, greatest_few};
 
 /// One more at the line of this position, if there is one.
 fn add_at(counts: &mut Vec<usize>, position: Option<Position>) -> Result<(), AllocError>

@@ -4,9 +4,9 @@ ghost use Rattle.std.specs.Prelude.{◌≡◌, flat_map, IfOk, string_bytes};
 ghost use Rattle.xk_show_span.specs.Text.{cause, cause_words, most_shown, path_text, rest_line, stretch_line};
 
 use crate::spots::spot;
-use crate::stretches::Stretch;
 use std::alloc::{AllocError, Global};
 use xk_show_events::Places;
+use xk_span_summary::Stretch;
 use xk_types::Event;
 
 /// Why the first step of a stretch comes behind one of another activity.

@@ -5,13 +5,13 @@ ghost use Rattle.xk_races.specs.Lists.{number_at};
 ghost use Rattle.xk_show_span.specs.Phases.{advanced, arrival, came, coming_with, if_awaited, if_staying, line_of};
 ghost use Rattle.xk_show_span.specs.Phases.{most_phases, nobody, phase_line_if_shown, phases_more, phases_text, staying};
 
-use crate::counts::{add_one, number_at, sum};
 use crate::phase_lines::phase_line;
 use std::alloc::{AllocError, Global};
 use std::marker::Model;
 use std::mem;
 use xk_races::{Deed, Part};
 use xk_show_events::{Places, RunStep};
+use xk_span_summary::{add_one, number_at, sum};
 
 /// Somebody ceased to be awaited by a clock.
 #[derive(Clone, Copy)]

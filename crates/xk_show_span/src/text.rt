@@ -2,22 +2,21 @@
 
 ghost use Rattle.std.specs.Prelude.{◌≡◌, ◌<◌, ◌++◌, IfOk, OnOk, string_bytes};
 ghost use Rattle.xk_span.specs.Steps.{critical_steps, steps_span, work_of, work_with};
-ghost use Rattle.xk_show_span.specs.Shares.{widths_of};
+ghost use Rattle.xk_span_summary.specs.Shares.{widths_of};
 ghost use Rattle.xk_show_span.specs.Text.{head_text, on_processors, processors_line, processors_text, scope_line, text_by};
 ghost use Rattle.xk_show_span.specs.Text.{two_decimals, work_line};
 
-use crate::counts::{greatest, sum};
 use crate::lines::lines_text;
 use crate::path::path_text;
 use crate::phases::phases_text;
-use crate::shares::{hundredths, least_rounds, level_rounds, widths_of};
-use crate::stretches::stretches;
 use crate::wait_lines::waits_text;
-use crate::waits::waits_of;
 use std::alloc::{AllocError, Global};
 use xk_races::{Deed, Part};
 use xk_show_events::Places;
 use xk_span::Timing;
+use xk_span_summary::{
+    greatest, hundredths, least_rounds, level_rounds, stretches_of, sum, waits_of, widths_of,
+};
 
 /// One more, if the deed is a step itself.
 fn work_with(deed: &Deed, n: usize) -> Result<usize, AllocError>
@@ -162,7 +161,7 @@ pub(crate) fn text_by(
         timing.now.deeds.items timing.now.times.items) }
 {
     let mut out = timing_head(alloc, free, timing)?;
-    let list = stretches(alloc, &timing.path)?;
+    let list = stretches_of(alloc, &timing.path)?;
     let path = path_text(alloc, places, &list)?;
     out.extend_from_slice(&path)?;
     let lines = lines_text(alloc, places, &timing.path)?;

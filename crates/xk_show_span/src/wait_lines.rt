@@ -3,10 +3,9 @@
 ghost use Rattle.std.specs.Prelude.{◌≡◌, ◌++◌, flat_map, IfOk, OnOk, string_bytes};
 ghost use Rattle.xk_show_span.specs.Text.{wait_line, wait_line_at, wait_line_if_any, waits_text};
 
-use crate::counts::{Count, greatest_few};
-use crate::waits::{Wait, rounds_waited, wait_at};
 use std::alloc::{AllocError, Global};
 use xk_show_events::{Places, event_words, place_words};
+use xk_span_summary::{Count, Wait, greatest_few, rounds_waited, wait_at};
 
 /// `waited 82 rounds at 11:17 pass, 4 times`.
 #[tactic(auto, unfolding(crate::specs::Text::wait_line))]

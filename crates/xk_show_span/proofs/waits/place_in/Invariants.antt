@@ -1,7 +1,0 @@
-use Rattle.std.proofs.Common.{◌≡◌, drop}
-use Rattle.xk_show_span.specs.Waits.{place_from, place_in}
-use Rattle.xk_show_span.proofs.waits.place_in.Given as goal
-
--- it is none so far
-abbrev pub invariant-loop-k : goal.invariant-loop-k
-invariant-loop-k l = place_from l.step l.k (drop l.k l.waits) ≡ place_in l.step l.waits

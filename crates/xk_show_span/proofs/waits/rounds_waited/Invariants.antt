@@ -1,7 +1,0 @@
-use Rattle.std.proofs.Common.{◌≡◌, take}
-use Rattle.xk_show_span.specs.Waits.{rounds_waited}
-use Rattle.xk_show_span.proofs.waits.rounds_waited.Given as goal
-
--- those so far
-abbrev pub invariant-loop-wait : goal.invariant-loop-wait
-invariant-loop-wait l = l.rounds.items ≡ rounds_waited (take l.wait-index l.waits)
