@@ -26,10 +26,10 @@ pub struct Timing {
 
 /// The times of these deeds.
 fn timed(alloc: Global, deeds: Vec<Deed>) -> Result<Timing, AllocError>
-    ensures deeds { IfOk result (λ t. t.deeds.items ≡ deeds.entry.items) }
-    ensures times { IfOk result (λ t. t.times.items ≡ steps_times deeds.entry.items) }
-    ensures span { IfOk result (λ t. t.span ≡ steps_span deeds.entry.items) }
-    ensures path { IfOk result (λ t. t.path.items ≡ critical_steps deeds.entry.items) }
+    ensures deeds { IfOk result (λ t. t.deeds.items ≡ deeds.items) }
+    ensures times { IfOk result (λ t. t.times.items ≡ steps_times deeds.items) }
+    ensures span { IfOk result (λ t. t.span ≡ steps_span deeds.items) }
+    ensures path { IfOk result (λ t. t.path.items ≡ critical_steps deeds.items) }
 {
     let told = along(alloc, &deeds)?;
     let back = path_back(alloc, &told.links, told.last)?;
