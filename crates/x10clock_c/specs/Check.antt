@@ -92,7 +92,7 @@ fault_told text origins _ = nothing_told
 
 -- ---- a check
 
--- TEMP
+-- the bytes give no module, or one that the verifier refuses (as in xk_answers, which this crate need not wait for)
 abbrev pub IsUnaccepted : Form → List ℕ → Fault → Type 0
 IsUnaccepted kind bytes f = GivesNoModule kind bytes f ⊎ ((m : ModuleValue) × Gives kind bytes m × IsRefusal m f)
 
