@@ -18,7 +18,7 @@ pub use job_result::Done;
 pub use outcome_search::{held, searched};
 pub use picture::{Picture, drawn, lanes_given, window_given};
 pub use replay::replayed;
-pub use runs::{Finished, run_as};
+pub use runs::{Finished, run_as, run_in_order};
 pub use tally::tallied;
 pub use verdict::explained;
 pub use whereabouts::stood;

@@ -4,7 +4,7 @@ ghost use Rattle.std.specs.Prelude.{◌≡◌, IfOk, None, Some, option_map, if�
 ghost use Rattle.xk_types.specs.World.{AreArguments, opening};
 ghost use Rattle.xk_scheduler.specs.Choosers.{Follows};
 ghost use Rattle.xk_scheduler.specs.WholeRuns.{IsLogThat, IsRunThat};
-ghost use Rattle.xk_cli.specs.CommandLine.{By, way_value};
+ghost use Rattle.xk_cli.specs.CommandLine.{By, In, way_value};
 ghost use Rattle.xk_answers.specs.OrderedRun.{IsFinished, IsFinishedBy};
 
 use std::alloc::{AllocError, Global};
@@ -43,21 +43,36 @@ pub fn run_as<R: Threads + Wait + Sync>(
         arguments.now run.printed.items run.steps (option_map (λ es. es.items) run.log)) }
 {
     match drive {
-        Drive::Order(order) => match order {
-            Order::First => run_by(alloc, keeps_log, verified, arguments, &mut First),
-            Order::Last => run_by(alloc, keeps_log, verified, arguments, &mut Last),
-            Order::Round => run_by(alloc, keeps_log, verified, arguments, &mut Round::new()),
-            Order::Random(seed) => {
-                run_by(
-                    alloc,
-                    keeps_log,
-                    verified,
-                    arguments,
-                    &mut Random::new(seed),
-                )
-            }
-        },
+        Drive::Order(order) => run_in_order(alloc, order, keeps_log, verified, arguments),
         Drive::Workers(workers) => run_with(rt, alloc, workers, keeps_log, verified, arguments),
+    }
+}
+
+/// Runs the module to its end in an order, with these arguments, and keeps the log where that is asked for.
+pub fn run_in_order(
+    alloc: Global,
+    order: Order,
+    keeps_log: bool,
+    verified: &Verified,
+    arguments: &[i64],
+) -> Result<Finished, AllocError>
+    requires { AreArguments verified.now arguments.now }
+    ensures { IfOk result (λ run. IsFinished (In order) keeps_log verified.now
+        arguments.now run.printed.items run.steps (option_map (λ es. es.items) run.log)) }
+{
+    match order {
+        Order::First => run_by(alloc, keeps_log, verified, arguments, &mut First),
+        Order::Last => run_by(alloc, keeps_log, verified, arguments, &mut Last),
+        Order::Round => run_by(alloc, keeps_log, verified, arguments, &mut Round::new()),
+        Order::Random(seed) => {
+            run_by(
+                alloc,
+                keeps_log,
+                verified,
+                arguments,
+                &mut Random::new(seed),
+            )
+        }
     }
 }
 

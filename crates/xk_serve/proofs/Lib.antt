@@ -1,4 +1,5 @@
 pub mod CommandLemmas
+pub mod CrewLemmas
 pub mod LongTextLemmas
 pub mod AnswerUniquenessLemmas
 pub mod LogUniquenessLemmas

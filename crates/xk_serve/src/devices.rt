@@ -1,11 +1,15 @@
 //! The program between its devices.
 
-ghost use Rattle.std.specs.Prelude.{◌≡◌, ◌≢◌, ◌⊎◌, false, [], IfOk, IfErr, OnOk, OnErr};
+ghost use Rattle.std.specs.Prelude.{◌≡◌, ◌≢◌, ◌⊎◌, false, [], option_map, IfOk, IfErr, OnOk, OnErr};
 ghost use Rattle.std.specs.Io.KnownBytes.{Appends};
 ghost use Rattle.xk_types.specs.Device.{Rose};
+ghost use Rattle.xk_types.specs.World.{AreArguments};
 ghost use Rattle.xk_io.specs.Writing.{AppendsBeginning};
+ghost use Rattle.xk_cli.specs.CommandLine.{way_value};
 ghost use Rattle.xk_cli.specs.Status.{status_device, status_done, status_memory, status_partial, status_program};
 ghost use Rattle.xk_serve.specs.Answer.{Succeeds, reads_more, task_of};
+ghost use Rattle.xk_serve.specs.Crews.{IsCrew};
+ghost use Rattle.xk_answers.specs.OrderedRun.{IsFinished};
 ghost use Rattle.xk_answers.specs.Printed.{done_status};
 ghost use Rattle.xk_program.specs.Bytes.{IsReadToLimit};
 ghost use Rattle.xk_program.specs.Lines.{device_line, status_of};
@@ -14,11 +18,14 @@ ghost use Rattle.xk_messages.specs.Lines.{memory_line};
 ghost use Rattle.xk_serve.specs.Devices.{Answered, AnsweredBySome, ErrBegins, Explained, IfKnown, IsBegun, IsListReadToLimit, IsOutcomeOfSome, IsQuiet, IsWritten, OutBegins, Reports, StandsAgainst, Tells, TellsWords, reads};
 
 use crate::commands::answer;
-use std::alloc::Global;
+use std::alloc::{AllocError, Global};
 use std::sync::Wait;
 use std::thread::Threads;
-use xk_answers::{Done, Refused, explained, unsaid};
-use xk_cli::{EXCLUDED_LINE, Job, LIST_LINE, PICK_LINE, RUNS_LINE, SEED_LINE, WordsFault, status};
+use xk_answers::{Done, Finished, Refused, explained, run_as, unsaid};
+use xk_bounds::Verified;
+use xk_cli::{
+    Drive, EXCLUDED_LINE, Job, LIST_LINE, PICK_LINE, RUNS_LINE, SEED_LINE, WordsFault, status,
+};
 use xk_io::{Device, write_all};
 use xk_log::write_entries;
 use xk_messages::MEMORY_LINE;
@@ -93,7 +100,12 @@ pub fn serve<R: Threads + Wait + Sync, P: Source, L: Source, O: Sink, E: Sink, K
     ensures list_no_further { IsListReadToLimit (task_of job.now).doing
         (L.remaining log_in.old) (L.remaining log_in.new) }
 {
-    match outcome(rt, alloc, job, program, log_in) {
+    let crew = |drive: Drive, keeps_log: bool, verified: &Verified, arguments: &[i64]|
+        requires { AreArguments verified.now arguments.now }
+        ensures { IfOk result (λ run. IsFinished (way_value drive) keeps_log verified.now
+            arguments.now run.printed.items run.steps (option_map (λ es. es.items) run.log)) }
+    { run_as(rt, alloc, drive, keeps_log, verified, arguments) };
+    match outcome(crew, alloc, job, program, log_in) {
         Ok(done) => match done.ending(alloc) {
             Ok(ending) => print(alloc, &done, ending.as_str(), out, err, log_out),
             Err(_) => report(alloc, &Fault::OutOfMemory, err),
@@ -103,13 +115,12 @@ pub fn serve<R: Threads + Wait + Sync, P: Source, L: Source, O: Sink, E: Sink, K
 }
 
 /// What the job comes to, or what stands against it, with what is said of that: only `explain` says more than the line.
-fn outcome<R: Threads + Wait + Sync, P: Source, L: Source>(
-    rt: &R,
-    alloc: Global,
-    job: &Job<'_>,
-    program: &mut P,
-    log_in: &mut L,
-) -> Result<Done, Refused>
+pub(crate) fn outcome<
+    F: FnOnce(Drive, bool, &Verified, &[i64]) -> Result<Finished, AllocError>,
+    P: Source,
+    L: Source,
+>(crew: F, alloc: Global, job: &Job<'_>, program: &mut P, log_in: &mut L) -> Result<Done, Refused>
+    requires crew { IsCrew (F.pre crew) (F.post crew) }
     ensures done { IfOk result (λ d.
         IfKnown (task_of job.now) (P.remaining program.old) (L.remaining log_in.old)
         (λ bytes logged. Succeeds (task_of job.now) bytes logged d)) }
@@ -137,7 +148,7 @@ fn outcome<R: Threads + Wait + Sync, P: Source, L: Source>(
     };
     match job.command.explanation() {
         Some(json) => explained(alloc, json, job.form, job.file, &bytes),
-        None => match answer(rt, alloc, job, &bytes, log_in) {
+        None => match answer(crew, alloc, job, &bytes, log_in) {
             Ok(done) => Ok(done),
             Err(fault) => Err(unsaid(alloc, fault)),
         },
@@ -145,7 +156,7 @@ fn outcome<R: Threads + Wait + Sync, P: Source, L: Source>(
 }
 
 /// Writes the result, and then the log of a run that is to have one. Where that fails, says so.
-fn print<O: Sink, E: Sink, K: Sink>(
+pub(crate) fn print<O: Sink, E: Sink, K: Sink>(
     alloc: Global,
     done: &Done,
     ending: &str,
@@ -217,7 +228,12 @@ fn write_log<K: Sink>(done: &Done, log_out: &mut K) -> Result<(), Device>
 
 /// Writes what is said of a fault to `out`, and then its line to `err`, and gives the status: the fault's, or 4 where memory for the line ran
 /// out, and then nothing was written before, or 5 where a write failed.
-fn refuse<O: Sink, E: Sink>(alloc: Global, refused: &Refused, out: &mut O, err: &mut E) -> u8
+pub(crate) fn refuse<O: Sink, E: Sink>(
+    alloc: Global,
+    refused: &Refused,
+    out: &mut O,
+    err: &mut E,
+) -> u8
     requires quiet { IsQuiet refused.now.fault refused.now.said.items }
     ensures { Explained refused.now.said.items refused.now.fault
         (O.contents out.old) (O.contents out.new) (O.fault_count out.old) (O.fault_count out.new)

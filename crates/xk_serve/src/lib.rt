@@ -4,5 +4,7 @@
 mod commands;
 mod devices;
 pub mod laws;
+mod lone_caller;
 
 pub use devices::{report, serve, tell, tell_words};
+pub use lone_caller::serve_alone;

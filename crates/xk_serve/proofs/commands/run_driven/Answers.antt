@@ -1,5 +1,6 @@
-use Rattle.std.proofs.Common.{◌∙◌, ap, subst}
+use Rattle.std.proofs.Common.{◌∙◌, Ok, ap, subst, sym}
 use Rattle.std.specs.Prelude.{option_map}
+use Rattle.xk_types.specs.World.{AreArguments}
 use Rattle.xk_cli.specs.CommandLine.{way_value}
 use Rattle.xk_answers.specs.OrderedRun.{IsFinished}
 use Rattle.xk_answers.specs.Results.{way_given}
@@ -14,6 +15,8 @@ returns-clause-done g c = λ logged.
     let log = option_map (λ es. es.items) run.log in
     let accepted = c.in_ok-verified.ensures.accepted in
     let driven = ap way_value c.unwrap_or-drive.ensures ∙ way_taken c.args.drive in
-    let of_module = subst (λ m. IsFinished (way_value c.unwrap_or-drive.result) keeps m args run.printed.items run.steps log) accepted.0 c.in_ok-run.ensures in
+    let taken = subst (λ m. AreArguments m args) (sym accepted.0) c.in_ok-verified.ensures.taken in
+    let finished = (c.requires.crew c.unwrap_or-drive.result keeps _ c.args.arguments taken).1 (Ok run) c.in_ok-run.ensures in
+    let of_module = subst (λ m. IsFinished (way_value c.unwrap_or-drive.result) keeps m args run.printed.items run.steps log) accepted.0 finished in
     rw c.of_run.ensures (finished_run (way_given c.args.drive) keeps c.args.m args logged run.printed run.steps run.log accepted.1
     (subst (λ way. IsFinished way keeps c.args.m args run.printed.items run.steps log) driven of_module))
