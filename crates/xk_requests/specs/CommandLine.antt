@@ -1,0 +1,30 @@
+-- What is made of words: a request, or why they are none. This project's own.
+use Rattle.std.specs.Prelude.{◌≡◌, ◌⊎◌, ℕ, List, [], Option, Some, codes}
+use Rattle.xk_cli.specs.CommandLine.{Asked, ByHand, IsRefused, WithOrders, asked_value, crowds_in, excludes_in, faults_in, job_of, misplaces_in, picks_in, strays_in}
+use Rattle.xk_cli.specs.declared.job.Request.{Request}
+use Rattle.xk_cli.specs.declared.words_fault.WordsFault.{WordsFault}
+use Rattle.xk_cli.specs.declared.words_fault.WordsFault.TheVariants as words
+
+-- the line where a word is no text
+abbrev pub no_text_line : List ℕ
+no_text_line = codes "x10clock: a word is not in UTF-8\n"
+
+-- `clap` finds no mistake in these words, and no request for help
+abbrev pub AreUnderstood : List (List ℕ) → Type 0
+AreUnderstood given = WithOrders (λ names. faults_in names given ≡ [])
+
+-- these words ask for this, of which that holds
+abbrev pub AskFor : List (List ℕ) → (Request → Type 0) → Type 0
+AskFor given P = AreUnderstood given × WithOrders (λ names. (r : Request) × (job_of names given ≡ Some (asked_value r)) × P r)
+
+-- they ask for a run by hand
+abbrev pub AskForHand : List (List ℕ) → Type 0
+AskForHand given = AreUnderstood given × WithOrders (λ names. (job : Asked) × (log : Option (List ℕ)) × (job_of names given ≡ Some job) × (job.task ≡ ByHand log))
+
+-- they are no job, for this reason
+abbrev pub AreNoJob : List (List ℕ) → WordsFault → Type 0
+AreNoJob given f = WithOrders (λ names. IsRefused (faults_in names given) (job_of names given) (excludes_in names given) (strays_in names given) (misplaces_in names given) (crowds_in names given) (picks_in names given) f)
+
+-- What words ask for is served so; words that ask for no job are told as that, for a reason that they have; or want of memory is told.
+abbrev pub AreTold : List (List ℕ) → (Request → Type 0) → (WordsFault → Type 0) → Type 0
+AreTold given Served Told = AskFor given Served ⊎ (((f : WordsFault) × AreNoJob given f × Told f) ⊎ Told words.OutOfMemory)
