@@ -8,7 +8,7 @@
 set -eu
 cd "$(dirname "$0")/.."
 git rev-parse --git-dir > /dev/null
-own="dist/release.sh dist/manual.py dist/sources.sh"
+own="dist/release.sh dist/library.py dist/manual.py dist/sources.sh"
 program=crates/x10clock/out/x10clock
 constants=crates/xk_cli/src/commands.rt
 

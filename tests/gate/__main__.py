@@ -55,6 +55,7 @@ ASK = (
     "python3 -m tests.program.failing_devices",
     "python3 -m tests.program.hostile",
     "python3 -m tests.program.wants",
+    "python3 -m tests.program.library",
     "python3 -m tests.program.release",
 )
 

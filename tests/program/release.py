@@ -32,7 +32,7 @@ from tests import harness
 from tests.harness import TOP
 
 DIST = TOP / "dist"
-SCRIPTS = {"release.sh", "manual.py", "sources.sh"}
+SCRIPTS = {"release.sh", "library.py", "manual.py", "sources.sh"}
 EXAMPLE = TOP / "examples/two-in-step.x10"
 PRINTED = "1\n2\n11\n12\nended steps 19\n"
 # What becomes of `editors/`.
