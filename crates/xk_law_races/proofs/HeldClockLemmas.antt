@@ -24,7 +24,7 @@ use Rattle.xk_law_commute.proofs.ChangeSquareLemmas.{found_of}
 use Rattle.xk_law_traces.specs.Edges.{standing_on, phase_of, held_in}
 use Rattle.xk_law_races.specs.Passes.{IsHeld}
 use Rattle.xk_law_races.proofs.PhaseLemmas.{phase_in, moved_phase, joined_phase, pushed_phase}
-use Rattle.xk_law_races.proofs.ClockStepLemmas.{lets_go, leaves_clocks, Changes, AreSettled, AtClocks, Moves, Makes, Starts, at_clocks}
+use Rattle.xk_closed.proofs.ClockStepLemmas.{lets_go, leaves_clocks, Changes, AreSettled, AtClocks, Moves, Makes, Starts, at_clocks}
 
 -- ---- standings
 

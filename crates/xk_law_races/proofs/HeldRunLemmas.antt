@@ -20,7 +20,7 @@ use Rattle.xk_races.specs.declared.deeds.Part.TheVariants as part
 use Rattle.xk_races.specs.Deeds.{awaits, gives_way, has_left}
 use Rattle.xk_law_races.specs.Passes.{IsHeld}
 use Rattle.xk_law_races.proofs.PhaseLemmas.{phase_grows, phase_shows}
-use Rattle.xk_law_races.proofs.ClockStepLemmas.{lets_go, leaves_clocks}
+use Rattle.xk_closed.proofs.ClockStepLemmas.{lets_go, leaves_clocks}
 use Rattle.xk_law_races.proofs.HeldClockLemmas.{held_least, one_of, others_hold, quiet_holds, signalled_holds, stays_registered, quiet_phase}
 use Rattle.xk_law_races.proofs.ToldDeedLemmas.{IsTold, signal_told, advance_told, leave_told}
 use Rattle.xk_law_races.proofs.LinkLemmas.{stands, pending_holds}

@@ -1,7 +1,6 @@
 pub mod TurnLemmas
 pub mod EdgeListLemmas
 pub mod PhaseLemmas
-pub mod ClockStepLemmas
 pub mod HeldClockLemmas
 pub mod NumberedFinishLemmas
 pub mod NestChangeLemmas

@@ -22,7 +22,7 @@ use Rattle.xk_races.specs.declared.deeds.Part.{Part}
 use Rattle.xk_races.specs.declared.deeds.Part.TheVariants as part
 use Rattle.xk_races.specs.Deeds.{awaits, awaiting, gives_way, has_resumed, resumed_by, has_left, deed, signal, leave, advance, pass, signals, leaves, tell_deeds}
 use Rattle.xk_law_races.proofs.TurnLemmas.{get_split, get_right}
-use Rattle.xk_law_races.proofs.ClockStepLemmas.{lets_go, leaves_clocks}
+use Rattle.xk_closed.proofs.ClockStepLemmas.{lets_go, leaves_clocks}
 use Rattle.xk_law_races.proofs.DeedPartLemmas.{Every, every_one, every_flat, every_if, is_advance, IsNoAdvance}
 
 -- ---- lists
