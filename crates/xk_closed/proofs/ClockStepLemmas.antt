@@ -1,5 +1,6 @@
 -- What a step does to where activities stand on clocks, by its event.
-use Rattle.std.proofs.Common.{◌≡◌, ℕ, ℤ, zero, suc, ◌+◌, ◌==◌, ◌⊎◌, inl, inr, Bool, true, false, true≢false, cond, List, [], ◌∷◌, ◌++◌, map, length, Some, None, Option, refl, sym, ap, subst}
+use Rattle.std.proofs.Common.{◌≡◌, ℕ, ℤ, zero, suc, ◌+◌, ◌==◌, ◌⊎◌, inl, inr, Bool, true, false, true≢false, cond, List, [], ◌∷◌, ◌++◌, map}
+use Rattle.std.proofs.Common.{length, Some, None, Option, refl, sym, ap, subst}
 use Rattle.std.specs.Prelude.{slice_get}
 use Rattle.xk_types.specs.declared.instr.Instr.{Instr}
 use Rattle.xk_types.specs.declared.instr.Instr.TheVariants as instr
@@ -13,7 +14,10 @@ use Rattle.xk_types.specs.declared.world.Event.{Event}
 use Rattle.xk_types.specs.declared.world.Event.TheVariants as event
 use Rattle.xk_types.specs.Code.{ModuleValue}
 use Rattle.xk_types.specs.World.{Frame, Activity, Clock, World, standing_of, instruction_at}
-use Rattle.xk_types.specs.Step.{Outcome, Blocked, Wrong, ClockUse, Stepped, is_signalled, is_pending, is_registered, resumed, passed, dropped, none, only, all, settled_clock, moved, joined, is_given, new_clock, number_in, cell_in, clock_in, registered_on, put_in, slot_at, closing, awaits, innermost, left, past, done, returning, waits, passing, carried_out, step}
+use Rattle.xk_types.specs.Step.{Outcome, Blocked, Wrong, ClockUse, Stepped, is_signalled, is_pending, is_registered, resumed, passed}
+use Rattle.xk_types.specs.Step.{dropped, none, only, all, settled_clock, moved, joined, is_given, new_clock, number_in, cell_in, clock_in}
+use Rattle.xk_types.specs.Step.{registered_on, put_in, slot_at, closing, awaits, innermost, left, past, done, returning, waits, passing}
+use Rattle.xk_types.specs.Step.{carried_out, step}
 use Rattle.xk_types.specs.Schedule.{is_step, is_local}
 use Rattle.xk_law_schedules.proofs.StepFormLemmas.{finishes_of, spawning_form, step_kind}
 use Rattle.xk_law_commute.proofs.ChangeSquareLemmas.{found_of}

@@ -1,7 +1,8 @@
 -- The first step that somebody of a closed set takes may be moved to the front of a schedule by which all have ended.
 -- So nothing is missed where from
 -- each world the steps of a closed set were taken, and one of several worlds that are the same was kept.
-use Rattle.std.proofs.Common.{◌≡◌, ℕ, ℤ, zero, suc, ◌≤◌, ◌⊎◌, inl, inr, not, Bool, true, false, true≢false, List, [], ◌∷◌, ◌++◌, length, filter, Option, None, refl, sym, ap, ◌∙◌, subst, append_assoc, arith}
+use Rattle.std.proofs.Common.{◌≡◌, ℕ, ℤ, zero, suc, ◌≤◌, ◌⊎◌, inl, inr, not, Bool, true, false, true≢false, List, [], ◌∷◌, ◌++◌, length}
+use Rattle.std.proofs.Common.{filter, Option, None, refl, sym, ap, ◌∙◌, subst, append_assoc, arith}
 use Rattle.std.specs.List.{filter_map}
 use Rattle.std.specs.Option.{option_to_list}
 use Rattle.std.proofs.lemmas.List.{append-nil}
@@ -11,7 +12,8 @@ use Rattle.xk_types.specs.Acceptance.{IsAccepted}
 use Rattle.xk_types.specs.Code.{ModuleValue, IsWithinLimits}
 use Rattle.xk_types.specs.World.{World, opening, AreArguments}
 use Rattle.xk_types.specs.Step.{Stepped, step}
-use Rattle.xk_types.specs.Schedule.{Through, run, run_on, IsReached, is_local, is_step, is_enabled, all_ended, events, events_on, number_printed, printed}
+use Rattle.xk_types.specs.Schedule.{Through, run, run_on, IsReached, is_local, is_step, is_enabled, all_ended, events, events_on}
+use Rattle.xk_types.specs.Schedule.{number_printed, printed}
 use Rattle.xk_law_schedules.proofs.ReachabilityLemmas.{same_through, first_step, run_arguments, reached_step, opening_reached}
 use Rattle.xk_law_commute.specs.Exploration.{IsLedTo, AreLedTo, NothingIsMissed}
 use Rattle.xk_law_commute.proofs.ChangeSquareLemmas.{same_step}
@@ -29,7 +31,8 @@ use Rattle.xk_closed.specs.Closed.{IsClosed, IsCarried, HasSame, HasNextSame, Ha
 
 prints_on : (b : ℕ) (e : Event) (rest : List (ℕ × Event))
     → filter_map (λ (p : ℕ × Event). number_printed p.1) (filter (λ (p : ℕ × Event). not (is_local p.1)) ((b, e) ∷ rest))
-    ≡ option_to_list (number_printed e) ++ filter_map (λ (p : ℕ × Event). number_printed p.1) (filter (λ (p : ℕ × Event). not (is_local p.1)) rest)
+    ≡ option_to_list (number_printed e) ++ filter_map (λ (p : ℕ × Event). number_printed p.1)
+    (filter (λ (p : ℕ × Event). not (is_local p.1)) rest)
 prints_on b event.Local rest = refl
 prints_on b (event.Printed n) rest = refl
 prints_on b _ rest = refl
@@ -37,7 +40,8 @@ prints_on b _ rest = refl
 pub printed_first : (m : ModuleValue) (list : List ℕ) (w v : World) (b : ℕ) (e : Event) → step m w b ≡ Stepped v e
     → printed m (b ∷ list) w ≡ option_to_list (number_printed e) ++ printed m list v
 printed_first m list w v b e h =
-    ap (λ o. filter_map (λ (p : ℕ × Event). number_printed p.1) (filter (λ (p : ℕ × Event). not (is_local p.1)) (events_on b o (events m list)))) h
+    ap
+    (λ o. filter_map (λ (p : ℕ × Event). number_printed p.1) (filter (λ (p : ℕ × Event). not (is_local p.1)) (events_on b o (events m list)))) h
     ∙ prints_on b e (events m list v)
 
 -- a world that a legal schedule leads to is reached
@@ -122,7 +126,8 @@ module _ (m : ModuleValue) (limits : IsWithinLimits m) (ok : IsAccepted m) where
   by_names : IsCarried m ByNames
   by_names = record {
     steps = λ w v u a e here same h.
-        (let r = (go_as_one m same.0 w v (reached_full m w limits ok here) same.1).steps u a e h in (all_named same.0 a, r.0, r.1, (same.0, r.2)));
+        (let r = (go_as_one m same.0 w v (reached_full m w limits ok here) same.1).steps u a e h in
+        (all_named same.0 a, r.0, r.1, (same.0, r.2)));
     ends = λ w v same. same_ends m same.0 w v same.1;
   }
 
@@ -181,7 +186,8 @@ module _ (m : ModuleValue) (limits : IsWithinLimits m) (ok : IsAccepted m) where
         let s = enabled_step (step m w a) free in
         let go = both_go w s.0 v a b s.1 f here closed inside outside s.2 hv in
         let there : IsReached m v = reached_step m w v b f here hv in
-        let r : HasFront list v = shorter v last a there (closed_behind w v b f here closed outside hv) inside (ap is_step go.3) runs ended in
+        let r : HasFront list v =
+        shorter v last a there (closed_behind w v b f here closed outside hv) inside (ap is_step go.3) runs ended in
         let t : Front m set r.0 v (printed m list v) = r.2 in
         let first : is_enabled m w t.act ≡ true =
         closed.held (b ∷ []) v t.there t.event (outside, tt) (ap (λ o. run_on w o (run m [])) hv) t.act t.inside t.takes in
@@ -189,7 +195,8 @@ module _ (m : ModuleValue) (limits : IsWithinLimits m) (ok : IsAccepted m) where
         let both = both_go w u.0 v t.act b u.1 f here closed t.inside outside u.2 hv in
         let one : (t.there ≡ both.1) × (t.event ≡ u.1) = same_step t.there both.1 t.event u.1 (sym t.takes ∙ both.3) in
         let rest : Goes m r.0 both.0 t.rest =
-        goes_same m ByNames by_names r.0 both.1 both.0 t.rest (reached_step m v both.1 t.act u.1 there both.3) (exchange_of m w b t.act, both.4)
+        goes_same m ByNames by_names r.0 both.1 both.0 t.rest (reached_step m v both.1 t.act u.1 there both.3)
+        (exchange_of m w b t.act, both.4)
         (subst (λ z. Goes m r.0 z t.rest) one.0 t.goes) in
         let p = closed.apart [] w tt refl t.act b t.inside outside u.0 v u.1 f u.2 hv in (
           suc r.0,
@@ -287,8 +294,10 @@ module _ (m : ModuleValue) (limits : IsWithinLimits m) (ok : IsAccepted m) where
         let f = first_step w last (step m w b) (run m list) runs in
         let more : List ℤ = option_to_list (number_printed f.1) in
         let met : IsMet ((before ++ more) ++ printed m list f.0) =
-        onward n finds list f.0 last (before ++ more) (omega (arith, short)) (reached_step m w f.0 b f.1 here f.2) (next f.0 f.1 f.2) f.3 ended in
-        subst IsMet (append_assoc before more (printed m list f.0) ∙ ap (λ ns. before ++ ns) (sym (printed_first m list w f.0 b f.1 f.2))) met
+        onward n finds list f.0 last (before ++ more) (omega (arith, short)) (reached_step m w f.0 b f.1 here f.2)
+        (next f.0 f.1 f.2) f.3 ended in
+        subst IsMet
+        (append_assoc before more (printed m list f.0) ∙ ap (λ ns. before ++ ns) (sym (printed_first m list w f.0 b f.1 f.2))) met
 
     finds_all : (n : ℕ) → Finds n
     finds_all n [] w last before short found runs ended =
@@ -306,5 +315,6 @@ pub closed_sets : (m : ModuleValue) (limits : IsWithinLimits m) (ok : IsAccepted
     → HasSame Same Found (opening m args) []
     → AreExploredBySets m Same Found → NothingIsMissed m args Found
 closed_sets m limits ok Same carried args Found taken led begun explored list w legal ended =
-    onward m limits ok Same carried args Found taken led explored (length list) (finds_all m limits ok Same carried args Found taken led explored (length list))
+    onward m limits ok Same carried args Found taken led explored (length list)
+    (finds_all m limits ok Same carried args Found taken led explored (length list))
     list (opening m args) w [] (omega arith) (opening_reached m args taken) begun legal ended

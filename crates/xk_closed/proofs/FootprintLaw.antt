@@ -1,5 +1,6 @@
 -- Tables of what may be carried out from each place on tell what others may do as long as nobody of a set moves.
-use Rattle.std.proofs.Common.{◌≡◌, ℕ, suc, zero, ◌+◌, ◌<◌, ◌≤◌, ◌⊎◌, inl, inr, Bool, true, false, true≢false, cond, List, [], ◌∷◌, ◌++◌, length, set, Option, Some, None, refl, sym, ap, ◌∙◌, subst, arith, length-set}
+use Rattle.std.proofs.Common.{◌≡◌, ℕ, suc, zero, ◌+◌, ◌<◌, ◌≤◌, ◌⊎◌, inl, inr, Bool, true, false, true≢false, cond, List, [], ◌∷◌, ◌++◌}
+use Rattle.std.proofs.Common.{length, set, Option, Some, None, refl, sym, ap, ◌∙◌, subst, arith, length-set}
 use Rattle.std.specs.Prelude.{slice_get, option_and_then}
 use Rattle.std.specs.Option.{option_map_or}
 use Rattle.std.proofs.lemmas.Option.{none-some, same_Some, slice_get_within}
@@ -16,7 +17,8 @@ use Rattle.xk_types.specs.declared.world.Event.TheVariants as event
 use Rattle.xk_types.specs.Acceptance.{IsAccepted}
 use Rattle.xk_types.specs.Code.{ModuleValue, IsWithinLimits}
 use Rattle.xk_types.specs.World.{Frame, Activity, Clock, World, standing_of, instruction_at, is_ended}
-use Rattle.xk_types.specs.Step.{Outcome, Blocked, Wrong, Stepped, is_registered, onward, child, past, arrived, ended, entered, left, called, back_in, with_slots, done, all, passed, moved, joined, new_clock, returning, carried_out, waits, step}
+use Rattle.xk_types.specs.Step.{Outcome, Blocked, Wrong, Stepped, is_registered, onward, child, past, arrived, ended, entered, left, called}
+use Rattle.xk_types.specs.Step.{back_in, with_slots, done, all, passed, moved, joined, new_clock, returning, carried_out, waits, step}
 use Rattle.xk_types.specs.Schedule.{Through, run, IsReached, is_step}
 use Rattle.xk_types.proofs.ListLemmas.{get-set_same, get-push_other, get_push, get-append_left}
 use Rattle.xk_law_schedules.proofs.Invariant.{Each}
@@ -128,7 +130,8 @@ module _ (m : ModuleValue) (rest phase : Table) (R : IsRest m rest) (P : IsPhase
     now_on : (i : Instr) → instruction_at m act.frame ≡ Some i → is_advance i ≡ false → (f : Frame) → f.unit ≡ act.frame.unit
         → IsBehind i act.frame.place f.place
         → (j : Instr) → (phase f.unit f.place j ≡ true) ⊎ RestOf rest act.callers j → MayDoNow rest phase act j
-    now_on i at plain f unit behind j (inl h) = inl (P.goes act.frame i j f.place at plain behind (subst (λ n. phase n f.place j ≡ true) unit h))
+    now_on i at plain f unit behind j (inl h) = inl
+        (P.goes act.frame i j f.place at plain behind (subst (λ n. phase n f.place j ≡ true) unit h))
     now_on i at plain f unit behind j (inr h) = inr h
 
     -- an instruction with an event that is no arrival isn't an `advance`
@@ -287,7 +290,8 @@ module _ (m : ModuleValue) (rest phase : Table) (R : IsRest m rest) (P : IsPhase
 
 -- ---- runs
 
-module _ (m : ModuleValue) (limits : IsWithinLimits m) (ok : IsAccepted m) (rest phase : Table) (R : IsRest m rest) (P : IsPhase m rest phase)
+module _ (m : ModuleValue) (limits : IsWithinLimits m) (ok : IsAccepted m) (rest phase : Table) (R : IsRest m rest)
+    (P : IsPhase m rest phase)
     (w : World) (here : IsReached m w) (set' : ℕ → Bool) (future : Instr → Bool) where
   -- held up, and not gone from the clock
   record Bounds (v : World) (y : ℕ) (act : Activity) : Type 0 where
@@ -388,7 +392,8 @@ module _ (m : ModuleValue) (limits : IsWithinLimits m) (ok : IsAccepted m) (rest
                 let d = drop_of i.0 (subst (λ f. shows f i.0 ≡ true) is (shown_at m v u b x.0 e x.1 takes runs i.0 i.1)) in
                 B.stays d.0 (inl (P.own x.0.frame (instr.Drop d.0) (i.1 ∙ ap (λ z. Some z) d.1)))
             of status.Arrived waiting =
-                true≢false (sym (ap leaves_clocks (passes_only (waits v b) (stepped_by m v u b x.0 e x.1 takes status.Arrived waiting) ∙ is)))
+                true≢false
+                (sym (ap leaves_clocks (passes_only (waits v b) (stepped_by m v u b x.0 e x.1 takes status.Arrived waiting) ∙ is)))
             of status.Ended over = true≢false (ap is_ended (sym over) ∙ lives)
 
         ret_of : (i : Instr) (f : Event) → shows f i ≡ true → ends f ≡ true → i ≡ instr.Ret
@@ -413,12 +418,14 @@ module _ (m : ModuleValue) (limits : IsWithinLimits m) (ok : IsAccepted m) (rest
                 let ret : i.0 ≡ instr.Ret = ret_of i.0 e (shown_at m v u b x.0 e x.1 takes runs i.0 i.1) h in
                 back x.0.callers (ap (carried_out m v b x.0) (sym ret) ∙ i.2)
             of status.Arrived waiting =
-                absurd (true≢false (sym h ∙ ap ends (sym (passes_only (waits v b) (stepped_by m v u b x.0 e x.1 takes status.Arrived waiting)))))
+                absurd
+                (true≢false (sym h ∙ ap ends (sym (passes_only (waits v b) (stepped_by m v u b x.0 e x.1 takes status.Arrived waiting)))))
             of status.Ended over = absurd (true≢false (ap is_ended (sym over) ∙ lives))
 
         by : (p : Bool) → ends e ≡ p → (q : Bool) → leaves_clocks e ≡ q → (is_ended moves.next.status ≡ true) ⊎ (0 < stage_at u B.clock b)
         by true g q h = inl (is_over g)
-        by false g false h = inr (stays_on m limits ok v u b B.clock e there (slice_get_within v.activities b x.0 x.1) takes h (stage B.alive))
+        by false g false h = inr
+            (stays_on m limits ok v u b B.clock e there (slice_get_within v.activities b x.0 x.1) takes h (stage B.alive))
         by false g true h = absurd (no_drop (dropped_only e g h))
 
     -- who takes the step
@@ -503,7 +510,8 @@ module _ (m : ModuleValue) (limits : IsWithinLimits m) (ok : IsAccepted m) (rest
     where
       by : (act : Activity) → slice_get v.activities b ≡ Some act → IsGood v b act → (o : Option Instr) → instruction_at m act.frame ≡ o
           → option_map_or future (next_instruction m v b) true ≡ true
-      by act at good None is = ap (λ p. option_map_or future p true) (ap (option_and_then (λ (z : Activity). instruction_at m z.frame)) at ∙ is)
+      by act at good None is = ap (λ p. option_map_or future p true)
+          (ap (option_and_then (λ (z : Activity). instruction_at m z.frame)) at ∙ is)
       by act at good (Some i) is =
           ap (λ p. option_map_or future p true) (ap (option_and_then (λ (z : Activity). instruction_at m z.frame)) at ∙ is) ∙ pass good
         where

@@ -1,7 +1,8 @@
 -- As long as somebody who holds a clock up takes no step, nobody passes an `advance` who is registered on that clock
 -- and isn't ahead on it, unless it has
 -- left the clock. For its stage there is beyond that of the holder, which stays, and so does the phase.
-use Rattle.std.proofs.Common.{◌≡◌, ℕ, suc, ◌+◌, ◌<◌, ◌≤◌, ◌⊎◌, inl, inr, Bool, true, false, true≢false, cond, List, [], ◌∷◌, length, Option, Some, None, refl, sym, ap, ◌∙◌, subst, arith}
+use Rattle.std.proofs.Common.{◌≡◌, ℕ, suc, ◌+◌, ◌<◌, ◌≤◌, ◌⊎◌, inl, inr, Bool, true, false, true≢false, cond, List, [], ◌∷◌, length, Option}
+use Rattle.std.proofs.Common.{Some, None, refl, sym, ap, ◌∙◌, subst, arith}
 use Rattle.std.specs.Prelude.{slice_get}
 use Rattle.std.specs.Option.{option_map_or}
 use Rattle.xk_types.specs.declared.world.Status.{Status}
@@ -144,7 +145,8 @@ module _ (m : ModuleValue) (limits : IsWithinLimits m) (ok : IsAccepted m) (p k 
           let least = unsignalled_stage v.clocks k b free in
           let stage : stage_in v.clocks k b ≡ suc (suc (suc (c.phase + c.phase))) =
           ap (λ o. option_map_or (λ (z : Clock). stage_by z.phase (standing_of z b)) o 0) at ∙ ap (stage_by c.phase) g in
-          let phase : option_map_or (λ (z : Clock). z.phase) (slice_get v.clocks k) 0 ≡ c.phase = ap (λ o. option_map_or (λ (z : Clock). z.phase) o 0) at in
+          let phase : option_map_or (λ (z : Clock). z.phase) (slice_get v.clocks k) 0 ≡ c.phase =
+          ap (λ o. option_map_or (λ (z : Clock). z.phase) o 0) at in
           absurd (omega (arith, least, stage, phase))
       stood c at standing.Ahead g =
           let stage : stage_at v k b ≡ suc (c.phase + c.phase) =
@@ -172,7 +174,8 @@ held_up m limits ok w v c b d list here h others legal =
 
 -- ---- who waits for the clock
 
-module _ (m : ModuleValue) (limits : IsWithinLimits m) (ok : IsAccepted m) (p k b d : ℕ) (set : ℕ → Bool) (inside : set d ≡ true) (act : Activity)
+module _ (m : ModuleValue) (limits : IsWithinLimits m) (ok : IsAccepted m) (p k b d : ℕ) (set : ℕ → Bool) (inside : set d ≡ true)
+    (act : Activity)
     (waits' : act.status ≡ status.Arrived) where
   record Waiting (v : World) : Type 0 where
     here : IsReached m v
@@ -188,7 +191,8 @@ module _ (m : ModuleValue) (limits : IsWithinLimits m) (ok : IsAccepted m) (p k 
   no_step : (v u : World) (e : Event) → Waiting v → step m v b ≡ Stepped u e → ⊥
   no_step v u e h takes =
       let is : event.Passed ≡ e = passes_only v u e (waits v b) (stepped_by m v u b act e h.waiter takes status.Arrived waits') in
-      let apart : standing_on v b k ≡ standing.Apart = passes_apart m limits ok p k b d v u h.here h.holds (takes ∙ ap (λ f. Stepped u f) (sym is)) in
+      let apart : standing_on v b k ≡ standing.Apart =
+      passes_apart m limits ok p k b d v u h.here h.holds (takes ∙ ap (λ f. Stepped u f) (sym is)) in
       let gone : stage_at v k b ≡ 0 = stage_is v k b ∙ ap (stage_by (phase_of v k)) apart in
       let more = h.stage in omega (arith, gone, more)
 
@@ -200,7 +204,8 @@ module _ (m : ModuleValue) (limits : IsWithinLimits m) (ok : IsAccepted m) (p k 
       by (inr differs) = record {
         here = reached_step m v u a e h.here takes;
         holds = holds_on m limits ok p k b d v u a e h.here (λ same. true≢false (sym inside ∙ ap set same ∙ outer)) takes h.holds;
-        stage = subst (λ n. 0 < n) (sym ((moves_on m limits ok v u a e h.here takes).others k b (slice_get_within v.activities b act h.waiter) differs)) h.stage;
+        stage = subst (λ n. 0 < n)
+            (sym ((moves_on m limits ok v u a e h.here takes).others k b (slice_get_within v.activities b act h.waiter) differs)) h.stage;
         waiter = others_stay m v u a b e act takes differs h.waiter;
       }
 

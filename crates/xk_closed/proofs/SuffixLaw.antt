@@ -1,5 +1,6 @@
 -- What is printed from a world to the end is what can be read along edges; and a search may be shared out by the steps of closed sets.
-use Rattle.std.proofs.Common.{◌≡◌, ℕ, ℤ, zero, suc, ◌⊎◌, inl, inr, Bool, true, List, [], ◌∷◌, ◌++◌, length, refl, sym, ap, ◌∙◌, subst, append_assoc, arith}
+use Rattle.std.proofs.Common.{◌≡◌, ℕ, ℤ, zero, suc, ◌⊎◌, inl, inr, Bool, true, List, [], ◌∷◌, ◌++◌, length, refl, sym, ap, ◌∙◌, subst}
+use Rattle.std.proofs.Common.{append_assoc, arith}
 use Rattle.std.specs.Option.{option_to_list}
 use Rattle.xk_types.specs.declared.world.Event.{Event}
 use Rattle.xk_types.specs.Acceptance.{IsAccepted}
@@ -34,7 +35,8 @@ module _ (m : ModuleValue) (limits : IsWithinLimits m) (ok : IsAccepted m) where
         prints = t.prints ∙ p.prints;
       }
 
-  module _ (Same : World → World → Type 0) (carried : IsCarried m Same) (back : IsCarried m (λ w v. Same v w)) (Found : World → Type 0) (Edge : World → List ℤ → World → Type 0)
+  module _ (Same : World → World → Type 0) (carried : IsCarried m Same) (back : IsCarried m (λ w v. Same v w)) (Found : World → Type 0)
+      (Edge : World → List ℤ → World → Type 0)
       (linked : AreLinked m Same Found Edge) where
     abbrev CanRead : World → List ℤ → Type 0
     CanRead w numbers = (n : ℕ) × Reads Edge n w numbers
@@ -87,7 +89,8 @@ module _ (m : ModuleValue) (limits : IsWithinLimits m) (ok : IsAccepted m) where
           let v : World = r.0 in
           let there : Found v = linked.within w v r.1 r.3 in
           let x = steps w v r.1 found r.3 in
-          let g : Goes m n x.1 r.2 = goes_same m (λ y z. Same z y) back n v x.1 r.2 (linked.reached v there) x.5 (all_shown n v r.2 there r.4) in
+          let g : Goes m n x.1 r.2 =
+          goes_same m (λ y z. Same z y) back n v x.1 r.2 (linked.reached v there) x.5 (all_shown n v r.2 there r.4) in
           record {
             list = x.0 ∷ g.list;
             long = ap suc g.long;

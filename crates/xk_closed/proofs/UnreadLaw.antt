@@ -1,5 +1,6 @@
 -- Worlds that differ in shared numbers that nobody can read any more go on alike.
-use Rattle.std.proofs.Common.{◌≡◌, ℕ, ℤ, pos, suc, zero, ◌+◌, ◌⊎◌, inl, inr, true, false, true≢false, List, [], ◌∷◌, map, length, set, get_or, Option, Some, None, option_map, is_some, refl, sym, ap, ◌∙◌, subst, arith, length-set, eqb-true}
+use Rattle.std.proofs.Common.{◌≡◌, ℕ, ℤ, pos, suc, zero, ◌+◌, ◌⊎◌, inl, inr, true, false, true≢false, List, [], ◌∷◌, map, length, set}
+use Rattle.std.proofs.Common.{get_or, Option, Some, None, option_map, is_some, refl, sym, ap, ◌∙◌, subst, arith, length-set, eqb-true}
 use Rattle.std.specs.Prelude.{slice_get}
 use Rattle.std.proofs.lemmas.Option.{same_Some}
 use Rattle.std.proofs.lemmas.List.{map-set}
@@ -99,7 +100,8 @@ module _ (m : ModuleValue) (rest : Table) (R : IsRest m rest) where
 
   -- ---- one world, and as it is with other numbers
 
-  module _ (w : World) (cs : List ℤ) (many : length w.cells ≡ length cs) (agree : (s : ℕ) → (slice_get w.cells s ≡ slice_get cs s) ⊎ IsUnread rest w s)
+  module _ (w : World) (cs : List ℤ) (many : length w.cells ≡ length cs)
+      (agree : (s : ℕ) → (slice_get w.cells s ≡ slice_get cs s) ⊎ IsUnread rest w s)
       (a : ℕ) (u : World) (e : Event) (takes : step m w a ≡ Stepped u e) where
     abbrev other : World
     other = record w { cells = cs }

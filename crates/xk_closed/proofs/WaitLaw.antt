@@ -1,5 +1,6 @@
 -- Who waits at the end of a finish takes no step as long as somebody under it moves as little; who has ended takes none.
-use Rattle.std.proofs.Common.{◌≡◌, ℕ, suc, zero, ◌<◌, ◌⊎◌, inl, inr, Bool, true, false, true≢false, cond, List, [], ◌∷◌, length, set, Some, refl, sym, ap, ◌∙◌, subst, arith}
+use Rattle.std.proofs.Common.{◌≡◌, ℕ, suc, zero, ◌<◌, ◌⊎◌, inl, inr, Bool, true, false, true≢false, cond, List, [], ◌∷◌, length, set, Some}
+use Rattle.std.proofs.Common.{refl, sym, ap, ◌∙◌, subst, arith}
 use Rattle.std.specs.Prelude.{slice_get}
 use Rattle.std.proofs.lemmas.Option.{same_Some, slice_get_within}
 use Rattle.xk_types.specs.declared.instr.Instr.TheVariants as instr
@@ -46,13 +47,15 @@ governed_stays m v u a y e p takes at = by (same_or_not y a)
     )
     own (DoesMake M) = (
       maker x.0 M.d (length v.clocks),
-      ap (λ (z : World). slice_get z.activities a) (same_step u (made_world v a (maker x.0 M.d (length v.clocks))) e event.Made (sym takes ∙ M.here)).0
+      ap (λ (z : World). slice_get z.activities a)
+          (same_step u (made_world v a (maker x.0 M.d (length v.clocks))) e event.Made (sym takes ∙ M.here)).0
           ∙ get-set_same v.activities a x.0 (maker x.0 M.d (length v.clocks)) x.1,
       refl,
     )
     own (DoesStart S) = (
       onward x.0,
-      ap (λ (z : World). slice_get z.activities a) (same_step u (started_world m v a x.0 S.unit S.values) e event.Spawned (sym takes ∙ S.here)).0
+      ap (λ (z : World). slice_get z.activities a)
+          (same_step u (started_world m v a x.0 S.unit S.values) e event.Spawned (sym takes ∙ S.here)).0
           ∙ get-append_left (set v.activities a (onward x.0)) (child m a x.0 S.unit S.values ∷ []) a (onward x.0)
           (get-set_same v.activities a x.0 (onward x.0) x.1),
       refl,
@@ -148,7 +151,8 @@ module _ (m : ModuleValue) (limits : IsWithinLimits m) (ok : IsAccepted m) where
       → slice_get w.activities d ≡ Some z → is_ended z.status ≡ false → is_under w.activities (innermost r act) d ≡ true
       → IsStuck m w set' r
   waits_stuck w set' r d k act z here inside waiter runs next waited alive under list v x e outside legal takes =
-      stuck_from set' r d k act z inside runs next alive list w v x e outside legal (record { here = here; waiter = waiter; waited = waited; under = under }) takes
+      stuck_from set' r d k act z inside runs next alive list w v x e outside legal
+      (record { here = here; waiter = waiter; waited = waited; under = under }) takes
 
 -- ---- who has ended
 
@@ -158,7 +162,8 @@ module _ (m : ModuleValue) (set' : ℕ → Bool) (r : ℕ) (act : Activity) (ove
 
   pub ended_stuck : (w : World) → slice_get w.activities r ≡ Some act → IsStuck m w set' r
   ended_stuck w at [] v x e outside legal takes = ended_no_step w x e at (ap (λ u. step m u r) (same_through w v legal) ∙ takes)
-  ended_stuck w at (b ∷ list) v x e outside legal takes = by (λ there. ended_stuck f.0 there list v x e outside.1 f.3 takes) (same_or_not r b)
+  ended_stuck w at (b ∷ list) v x e outside legal takes = by (λ there. ended_stuck f.0 there list v x e outside.1 f.3 takes)
+      (same_or_not r b)
     where
       f : (u : World) × (g : Event) × (step m w b ≡ Stepped u g) × (run m list u ≡ Through v)
       f = first_step w v (step m w b) (run m list) legal

@@ -1,5 +1,6 @@
 -- To be the same but for names and for what counts no more is an equivalence.
-use Rattle.std.proofs.Common.{◌≡◌, ℕ, ℤ, ◌⊎◌, inl, inr, true, false, true≢false, List, [], ◌∷◌, ◌++◌, map, length, Option, Some, None, option_map, refl, sym, ap, ◌∙◌, subst, arith}
+use Rattle.std.proofs.Common.{◌≡◌, ℕ, ℤ, ◌⊎◌, inl, inr, true, false, true≢false, List, [], ◌∷◌, ◌++◌, map, length, Option, Some, None}
+use Rattle.std.proofs.Common.{option_map, refl, sym, ap, ◌∙◌, subst, arith}
 use Rattle.std.specs.Prelude.{slice_get}
 use Rattle.std.proofs.lemmas.Option.{none-some, same_Some, slice_get-map}
 use Rattle.xk_types.specs.declared.instr.Instr.{Instr}
@@ -62,7 +63,8 @@ module _ (rest : Table) (s : ℕ) where
   rest_renamed k j (f ∷ fs) (inr h) = inr (rest_renamed k j fs h)
 
   unread_one : (x : Exchange) (w : World) → IsUnread rest w s → IsUnread rest (exchanged x w) s
-  unread_one (OfClocks k) w unread r d act at alive may = of (slice_get w.activities r) refl (sym (slice_get-map (activity_renamed k) w.activities r) ∙ at)
+  unread_one (OfClocks k) w unread r d act at alive may = of (slice_get w.activities r) refl
+      (sym (slice_get-map (activity_renamed k) w.activities r) ∙ at)
     where
       back : (old : Activity) → MayDo rest (activity_renamed k old) (instr.Get d s) → MayDo rest old (instr.Get d s)
       back old (inl h) = inl h
@@ -72,7 +74,8 @@ module _ (rest : Table) (s : ℕ) where
       of None was is = none-some act is
       of (Some old) was is =
           let same : activity_renamed k old ≡ act = same_Some (activity_renamed k old) act is in
-          unread r d old was (ap (λ (z : Activity). is_ended z.status) same ∙ alive) (back old (subst (λ z. MayDo rest z (instr.Get d s)) (sym same) may))
+          unread r d old was (ap (λ (z : Activity). is_ended z.status) same ∙ alive)
+          (back old (subst (λ z. MayDo rest z (instr.Get d s)) (sym same) may))
   unread_one (OfActivities k) w unread r d act at alive may = of (slice_get (neighbours_swapped k w.activities) r) refl
       (sym (slice_get-map (governed_renamed k) (neighbours_swapped k w.activities) r) ∙ at)
     where
@@ -83,7 +86,8 @@ module _ (rest : Table) (s : ℕ) where
       of None was is = none-some act is
       of (Some old) was is =
           let same : governed_renamed k old ≡ act = same_Some (governed_renamed k old) act is in
-          each r old was d (ap (λ (z : Activity). is_ended z.status) same ∙ alive) (subst (λ z. MayDo rest z (instr.Get d s)) (sym same) may)
+          each r old was d (ap (λ (z : Activity). is_ended z.status) same ∙ alive)
+          (subst (λ z. MayDo rest z (instr.Get d s)) (sym same) may)
 
   unread_all : (xs : List Exchange) (w : World) → IsUnread rest w s → IsUnread rest (all_exchanged xs w) s
   unread_all [] w h = h
@@ -127,13 +131,15 @@ module _ (rest : Table) (s : ℕ) where
           ∙ slice_get-map (live_activity live) v.activities r
 
       of : (o : Option Activity) → slice_get w.activities r ≡ o → ⊥
-      of None was = none-some (live_activity live act) (sym (ap (option_map (live_activity live)) was) ∙ both ∙ ap (option_map (live_activity live)) at)
+      of None was = none-some (live_activity live act)
+          (sym (ap (option_map (live_activity live)) was) ∙ both ∙ ap (option_map (live_activity live)) at)
       of (Some old) was =
           let is : live_activity live act ≡ live_activity live old =
           same_Some (live_activity live act) (live_activity live old)
           (sym (ap (option_map (live_activity live)) at) ∙ sym both ∙ ap (option_map (live_activity live)) was) in
           let lives : is_ended old.status ≡ false = ap (λ (z : Activity). is_ended z.status) (sym is) ∙ alive in
-          let there : MayDo rest (live_activity live act) (instr.Get d s) = does_left live (instr.Get d s) act.frame act.callers act.status alive may in
+          let there : MayDo rest (live_activity live act) (instr.Get d s) =
+          does_left live (instr.Get d s) act.frame act.callers act.status alive may in
           unread r d old was lives
           (left_does live (instr.Get d s) old.frame old.callers old.status lives (subst (λ z. MayDo rest z (instr.Get d s)) is there))
 

@@ -56,7 +56,8 @@ HasNextSame m Same Found w numbers a = (u : World) (e : Event) → step m w a �
     → HasSame Same Found u (numbers ++ option_to_list (number_printed e))
 
 -- from here others were found by the steps of a closed set, in which somebody can take one
-pub record HasClosed (m : ModuleValue) (Same : World → World → Type 0) (Found : World → List ℤ → Type 0) (w : World) (numbers : List ℤ) : Type 0 where
+pub record HasClosed (m : ModuleValue) (Same : World → World → Type 0) (Found : World → List ℤ → Type 0) (w : World)
+    (numbers : List ℤ) : Type 0 where
   pub set : ℕ → Bool
   pub closed : IsClosed m w set
   pub free : ℕ

@@ -29,7 +29,8 @@ pub record HasEdges (m : ModuleValue) (Same : World → World → Type 0) (Edge 
   pub next : (a : ℕ) → set a ≡ true → HasEdge m Same Edge w a
 
 -- Worlds that were found are reached; edges lead from one to another; and from each there are those of a closed set, or of each step.
-pub record AreLinked (m : ModuleValue) (Same : World → World → Type 0) (Found : World → Type 0) (Edge : World → List ℤ → World → Type 0) : Type 0 where
+pub record AreLinked (m : ModuleValue) (Same : World → World → Type 0) (Found : World → Type 0)
+    (Edge : World → List ℤ → World → Type 0) : Type 0 where
   pub reached : (w : World) → Found w → IsReached m w
   pub within : (w v : World) (more : List ℤ) → Edge w more v → Found v
   pub steps : (w : World) → Found w → HasEdges m Same Edge w ⊎ ((a : ℕ) → HasEdge m Same Edge w a)

@@ -18,7 +18,8 @@ use Rattle.xk_law_races.proofs.NumberedFinishLemmas.{finish, number}
 use Rattle.xk_law_races.proofs.TurnLemmas.{Turn, numbers_rise}
 use Rattle.xk_law_races.proofs.RunWorldLemmas.{world_of}
 use Rattle.xk_law_races.proofs.ScopeLemmas.{opened_in}
-use Rattle.xk_law_races.proofs.EndAndCloseLemmas.{LegalRun, scopes_at, nest_at, Shows, shows_end, shows_close, same_who, in_finish, behind_end}
+use Rattle.xk_law_races.proofs.EndAndCloseLemmas.{LegalRun, scopes_at, nest_at, Shows, shows_end, shows_close, same_who, in_finish}
+use Rattle.xk_law_races.proofs.EndAndCloseLemmas.{behind_end}
 use Rattle.xk_law_races.proofs.GovernedEndLemmas.{IsClosedBefore, closed_or_open, still_waits, closed_is, governed_so, none_between}
 use Rattle.xk_law_races.proofs.UnderFinishLemmas.{EndsBefore, under_below}
 

@@ -1,5 +1,6 @@
 -- What a deed of a step says of that step.
-use Rattle.std.proofs.Common.{◌≡◌, ℕ, zero, suc, ◌+◌, ◌<◌, ◌≤◌, Bool, true, false, true≢false, List, [], ◌∷◌, ◌++◌, length, Some, refl, sym, ap, ◌∙◌, subst, ◌⊎◌, inl, inr, arith}
+use Rattle.std.proofs.Common.{◌≡◌, ℕ, zero, suc, ◌+◌, ◌<◌, ◌≤◌, Bool, true, false, true≢false, List, [], ◌∷◌, ◌++◌, length, Some, refl, sym}
+use Rattle.std.proofs.Common.{ap, ◌∙◌, subst, ◌⊎◌, inl, inr, arith}
 use Rattle.std.specs.Prelude.{slice_get, flat_map, filter, if◌then◌else◌}
 use Rattle.std.proofs.lemmas.Option.{none-some, same_Some, slice_get_within, get_or_from_slice_get}
 use Rattle.xk_types.specs.declared.world.Event.{Event}
@@ -16,7 +17,8 @@ use Rattle.xk_races.specs.declared.deeds.Deed.{Deed}
 use Rattle.xk_races.specs.declared.deeds.Part.{Part}
 use Rattle.xk_races.specs.declared.deeds.Part.TheVariants as part
 use Rattle.xk_show_events.specs.Worlds.{each_below}
-use Rattle.xk_races.specs.Deeds.{awaits, awaiting, gives_way, has_resumed, resumed_by, has_left, deed, cell_at, signal, leave, advance, pass, plain, signals, leaves, at_clocks, tell_deeds}
+use Rattle.xk_races.specs.Deeds.{awaits, awaiting, gives_way, has_resumed, resumed_by, has_left, deed, cell_at, signal, leave, advance}
+use Rattle.xk_races.specs.Deeds.{pass, plain, signals, leaves, at_clocks, tell_deeds}
 use Rattle.xk_law_races.proofs.TurnLemmas.{Turn, IsToldOf, get_split}
 
 -- ---- lists

@@ -28,7 +28,8 @@ use Rattle.xk_law_races.specs.Finishes.{IsWorldOf}
 use Rattle.xk_law_races.proofs.NumberedFinishLemmas.{Nest, AreNumbered, number, base}
 use Rattle.xk_law_races.proofs.NestChangeLemmas.{Change}
 use Rattle.xk_law_races.proofs.StepNestingLemmas.{Nests, Effect, DoesGo, DoesStart, effect_of}
-use Rattle.xk_law_races.proofs.TurnLemmas.{Turn, IsToldOf, deeds, deeds_run, deeds_first, told_at, IsEarlier, AreOne, run_between, one_event, turn_reached, in_order}
+use Rattle.xk_law_races.proofs.TurnLemmas.{Turn, IsToldOf, deeds, deeds_run, deeds_first, told_at, IsEarlier, AreOne, run_between}
+use Rattle.xk_law_races.proofs.TurnLemmas.{one_event, turn_reached, in_order}
 use Rattle.xk_law_races.proofs.DeedPartLemmas.{Says, part_is}
 use Rattle.xk_law_races.proofs.RunWorldLemmas.{world_of}
 use Rattle.xk_law_races.proofs.ScopeLemmas.{nest, opened_in, scopes_append, change_step, numbered_step, numbered_run, opening_numbered}

@@ -21,14 +21,17 @@ use Rattle.xk_races.specs.Lists.{number_at}
 use Rattle.xk_races.specs.Order.{IsAt, IsEnd, finish_at, scopes_after}
 use Rattle.xk_law_races.specs.Finishes.{IsCloseOf}
 use Rattle.xk_law_races.proofs.NumberedFinishLemmas.{AreNumbered, finish, number, base}
-use Rattle.xk_law_races.proofs.NestChangeLemmas.{IsAbove, above_stays, activities_grow, base_stays, finishes_grow, governed_stays, number_stays, open_falls}
+use Rattle.xk_law_races.proofs.NestChangeLemmas.{IsAbove, above_stays, activities_grow, base_stays, finishes_grow, governed_stays}
+use Rattle.xk_law_races.proofs.NestChangeLemmas.{number_stays, open_falls}
 use Rattle.xk_law_races.proofs.TurnLemmas.{Turn, IsToldOf, deeds, deed_at, IsEarlier, run_between, turn_reached, numbers_rise}
 use Rattle.xk_law_races.proofs.DeedPartLemmas.{Says, part_is}
 use Rattle.xk_law_races.proofs.RunWorldLemmas.{world_of}
 use Rattle.xk_law_races.proofs.StepDeedLemmas.{IsDeedOf, first_deed}
 use Rattle.xk_law_races.proofs.ScopeLemmas.{nest, opened_in, change_step, opening_numbered}
 use Rattle.xk_law_races.proofs.OpenFinishLemmas.{IsClosedOn, StaysOpen, in_run, open_or_closed}
-use Rattle.xk_law_races.proofs.EndAndCloseLemmas.{LegalRun, reached, scopes_at, scopes_behind, nest_at, nest_behind, numbered_at, numbered_behind, change_at, scopes_between, between, Shows, shows, shows_close, same_who, many_open, in_finish, one_fewer, base_is, behind_end, behind_close, not_both}
+use Rattle.xk_law_races.proofs.EndAndCloseLemmas.{LegalRun, reached, scopes_at, scopes_behind, nest_at, nest_behind, numbered_at}
+use Rattle.xk_law_races.proofs.EndAndCloseLemmas.{numbered_behind, change_at, scopes_between, between, Shows, shows, shows_close, same_who}
+use Rattle.xk_law_races.proofs.EndAndCloseLemmas.{many_open, in_finish, one_fewer, base_is, behind_end, behind_close, not_both}
 
 module _ (trace : LegalRun) where
   open trace use {m, args, limits, ok, log}

@@ -1,6 +1,7 @@
 -- Whoever holds a clock in a phase, holds it in that phase behind each step by which it doesn't let the clock go; and in a step by which
 -- nobody may let one go no clock advances.
-use Rattle.std.proofs.Common.{◌≡◌, ℕ, zero, suc, ◌+◌, ◌<◌, ◌≤◌, ◌⊎◌, inl, inr, Bool, true, false, true≢false, not, ◌&&◌, ◌||◌, cond, List, [], ◌∷◌, ◌++◌, map, length, set, get_or, Some, None, Option, refl, sym, ap, ◌∙◌, subst, arith}
+use Rattle.std.proofs.Common.{◌≡◌, ℕ, zero, suc, ◌+◌, ◌<◌, ◌≤◌, ◌⊎◌, inl, inr, Bool, true, false, true≢false, not, ◌&&◌, ◌||◌, cond, List}
+use Rattle.std.proofs.Common.{[], ◌∷◌, ◌++◌, map, length, set, get_or, Some, None, Option, refl, sym, ap, ◌∙◌, subst, arith}
 use Rattle.std.specs.Prelude.{slice_get}
 use Rattle.std.specs.List.{list_any}
 use Rattle.std.specs.Option.{option_map_or}
@@ -14,12 +15,14 @@ use Rattle.xk_types.specs.Acceptance.{IsAccepted}
 use Rattle.xk_types.specs.Code.{ModuleValue, IsWithinLimits}
 use Rattle.xk_types.specs.Kinds.{stands_on}
 use Rattle.xk_types.specs.World.{Clock, World, standing_of}
-use Rattle.xk_types.specs.Step.{Stepped, is_signalled, is_pending, is_registered, is_ready, advanced, settled_clock, moved, moved_on, joined, joined_on, new_clock, step}
+use Rattle.xk_types.specs.Step.{Stepped, is_signalled, is_pending, is_registered, is_ready, advanced, settled_clock, moved, moved_on}
+use Rattle.xk_types.specs.Step.{joined, joined_on, new_clock, step}
 use Rattle.xk_types.specs.Schedule.{IsReached}
 use Rattle.xk_types.proofs.ListLemmas.{Each, each_push, any_at}
 use Rattle.xk_law_schedules.proofs.ReachabilityLemmas.{reached_sound}
 use Rattle.xk_law_schedules.proofs.ClockLemmas.AdvanceLemmas.{settled_cases, stand-advanced, ready_pending}
-use Rattle.xk_law_schedules.proofs.ClockLemmas.StandingLemmas.{each_moved, each_joined, new_same, stands_on-moved_other, stands_on-moved_same, stands_on-push_old, stands_on-joined_old}
+use Rattle.xk_law_schedules.proofs.ClockLemmas.StandingLemmas.{each_moved, each_joined, new_same, stands_on-moved_other}
+use Rattle.xk_law_schedules.proofs.ClockLemmas.StandingLemmas.{stands_on-moved_same, stands_on-push_old, stands_on-joined_old}
 use Rattle.xk_law_commute.proofs.ChangeSquareLemmas.{found_of}
 use Rattle.xk_law_traces.specs.Edges.{standing_on, phase_of, held_in}
 use Rattle.xk_law_races.specs.Passes.{IsHeld}

@@ -1,6 +1,7 @@
 -- Along a run whoever holds a clock in a phase lets it go, and that is told, before the clock comes further; and where it comes further, an
 -- advance is told.
-use Rattle.std.proofs.Common.{◌≡◌, ℕ, ◌<◌, ◌≤◌, ◌⊎◌, inl, inr, Bool, true, false, true≢false, not, ◌&&◌, List, [], ◌∷◌, ◌++◌, length, Some, None, Option, refl, sym, ap, ◌∙◌, subst, arith}
+use Rattle.std.proofs.Common.{◌≡◌, ℕ, ◌<◌, ◌≤◌, ◌⊎◌, inl, inr, Bool, true, false, true≢false, not, ◌&&◌, List, [], ◌∷◌, ◌++◌, length, Some}
+use Rattle.std.proofs.Common.{None, Option, refl, sym, ap, ◌∙◌, subst, arith}
 use Rattle.std.specs.Prelude.{slice_get, nat_lt}
 use Rattle.std.specs.Option.{option_map_or}
 use Rattle.std.proofs.lemmas.Bool.{cases_eq, cases_lt, or_parts, lt-ltb}
@@ -21,7 +22,8 @@ use Rattle.xk_races.specs.Deeds.{awaits, gives_way, has_left}
 use Rattle.xk_law_races.specs.Passes.{IsHeld}
 use Rattle.xk_law_races.proofs.PhaseLemmas.{phase_grows, phase_shows}
 use Rattle.xk_closed.proofs.ClockStepLemmas.{lets_go, leaves_clocks}
-use Rattle.xk_law_races.proofs.HeldClockLemmas.{held_least, one_of, others_hold, quiet_holds, signalled_holds, stays_registered, quiet_phase}
+use Rattle.xk_law_races.proofs.HeldClockLemmas.{held_least, one_of, others_hold, quiet_holds, signalled_holds, stays_registered}
+use Rattle.xk_law_races.proofs.HeldClockLemmas.{quiet_phase}
 use Rattle.xk_law_races.proofs.ToldDeedLemmas.{IsTold, signal_told, advance_told, leave_told}
 use Rattle.xk_law_races.proofs.LinkLemmas.{stands, pending_holds}
 

@@ -1,5 +1,6 @@
 -- Where one deed comes before another, a cause, or the order of an activity's own steps, has the step of the one before that of the other.
-use Rattle.std.proofs.Common.{◌≡◌, ℕ, ℤ, zero, suc, ◌-◌, ◌<◌, ◌≤◌, ◌⊎◌, inl, inr, Bool, true, false, true≢false, List, [], ◌∷◌, ◌++◌, length, take, Some, None, Option, refl, sym, ap, ◌∙◌, subst, arith}
+use Rattle.std.proofs.Common.{◌≡◌, ℕ, ℤ, zero, suc, ◌-◌, ◌<◌, ◌≤◌, ◌⊎◌, inl, inr, Bool, true, false, true≢false, List, [], ◌∷◌, ◌++◌}
+use Rattle.std.proofs.Common.{length, take, Some, None, Option, refl, sym, ap, ◌∙◌, subst, arith}
 use Rattle.std.specs.Prelude.{slice_get, nat_lt, ◌&&◌}
 use Rattle.std.specs.Option.{option_map_or}
 use Rattle.std.proofs.lemmas.Bool.{and_parts}
@@ -34,7 +35,9 @@ use Rattle.xk_law_races.proofs.EdgeListLemmas.{IsLed, UpTo, led_cause, led_own, 
 use Rattle.xk_law_races.proofs.PhaseLemmas.{phase_grows, phase_advances}
 use Rattle.xk_law_races.proofs.NumberedFinishLemmas.{AreNumbered, finish, base, number}
 use Rattle.xk_law_races.proofs.StepNestingLemmas.{Nests, Effect, DoesGo, DoesStart, effect_of}
-use Rattle.xk_law_races.proofs.TurnLemmas.{Turn, name_of, IsToldOf, deeds, deeds_run, deeds_first, told_at, deeds_around, deed_at, IsEarlier, AreOne, run_between, one_here, one_event, one_told, one_name, earlier_turns, turn_taken, turn_reached, in_order, offsets_rise}
+use Rattle.xk_law_races.proofs.TurnLemmas.{Turn, name_of, IsToldOf, deeds, deeds_run, deeds_first, told_at, deeds_around, deed_at}
+use Rattle.xk_law_races.proofs.TurnLemmas.{IsEarlier, AreOne, run_between, one_here, one_event, one_told, one_name, earlier_turns}
+use Rattle.xk_law_races.proofs.TurnLemmas.{turn_taken, turn_reached, in_order, offsets_rise}
 use Rattle.xk_law_races.proofs.DeedPartLemmas.{Says, is_pass, advances_once, part_is}
 use Rattle.xk_law_races.proofs.ScopeLemmas.{nest, opened_in, scopes_append, scopes_step, numbered_run, opening_numbered, ended_stays}
 

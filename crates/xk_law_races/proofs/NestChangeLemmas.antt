@@ -4,7 +4,9 @@ use Rattle.std.proofs.lemmas.Bool.{cases_eq, cases_lt}
 use Rattle.xk_types.proofs.ListLemmas.{fun_ext}
 use Rattle.xk_types.specs.declared.world.Event.{Event}
 use Rattle.xk_types.specs.declared.world.Event.TheVariants as event
-use Rattle.xk_law_races.proofs.NumberedFinishLemmas.{Nest, AreNumbered, number, base, Opens, Closes, Begins, Keeps, opened_numbered, closed_numbered, begun_numbered, kept_numbered, own_number, other_number, opens_base, own_closed, other_kept, closes_base, still}
+use Rattle.xk_law_races.proofs.NumberedFinishLemmas.{Nest, AreNumbered, number, base, Opens, Closes, Begins, Keeps, opened_numbered}
+use Rattle.xk_law_races.proofs.NumberedFinishLemmas.{closed_numbered, begun_numbered, kept_numbered, own_number, other_number, opens_base}
+use Rattle.xk_law_races.proofs.NumberedFinishLemmas.{own_closed, other_kept, closes_base, still}
 
 -- activity b opens a finish; it closes one; it starts the next activity; or nothing of this changes
 pub data Change (s t : Nest) (b : ℕ) (e : Event) : Type 0 where

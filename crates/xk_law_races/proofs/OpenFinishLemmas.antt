@@ -1,5 +1,6 @@
 -- Along a run: a finish keeps its number as long as it is open, and the one that governs an activity is open as long as that lives.
-use Rattle.std.proofs.Common.{◌≡◌, ℕ, ℤ, zero, suc, ◌-◌, ◌<◌, ◌≤◌, ◌⊎◌, inl, inr, Bool, true, false, true≢false, List, [], ◌∷◌, ◌++◌, length, set, Some, refl, sym, ap, ◌∙◌, subst, arith}
+use Rattle.std.proofs.Common.{◌≡◌, ℕ, ℤ, zero, suc, ◌-◌, ◌<◌, ◌≤◌, ◌⊎◌, inl, inr, Bool, true, false, true≢false, List, [], ◌∷◌, ◌++◌}
+use Rattle.std.proofs.Common.{length, set, Some, refl, sym, ap, ◌∙◌, subst, arith}
 use Rattle.std.specs.Prelude.{slice_get, option_and_then}
 use Rattle.std.specs.Option.{option_map_or}
 use Rattle.std.proofs.lemmas.Bool.{cases_eq, cases_lt}
@@ -26,7 +27,8 @@ use Rattle.xk_races.specs.Deeds.{tell_deeds}
 use Rattle.xk_races.specs.Knowledge.{Scopes, nothing_known}
 use Rattle.xk_races.specs.Order.{scopes_after}
 use Rattle.xk_law_races.proofs.NumberedFinishLemmas.{Nest, AreNumbered, finish, number, base}
-use Rattle.xk_law_races.proofs.NestChangeLemmas.{Change, GoesIn, GoesOut, Begun, Still, base_stays, governed_stays, number_stays, open_falls}
+use Rattle.xk_law_races.proofs.NestChangeLemmas.{Change, GoesIn, GoesOut, Begun, Still, base_stays, governed_stays, number_stays}
+use Rattle.xk_law_races.proofs.NestChangeLemmas.{open_falls}
 use Rattle.xk_law_races.proofs.TurnLemmas.{deeds, deeds_first}
 use Rattle.xk_law_races.proofs.ScopeLemmas.{nest, opened_in, scopes_append, change_step, numbered_step}
 

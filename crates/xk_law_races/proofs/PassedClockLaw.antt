@@ -1,5 +1,6 @@
 -- A deed is among those that a pass waited for exactly where by it somebody let the clock go who had held it in an earlier phase.
-use Rattle.std.proofs.Common.{◌≡◌, ℕ, ℤ, suc, ◌+◌, ◌-◌, ◌<◌, ◌≤◌, ◌⊎◌, inl, inr, true, false, true≢false, List, [], ◌∷◌, ◌++◌, length, take, drop, Some, None, Option, refl, sym, ap, ◌∙◌, subst, append_assoc, length-append, arith}
+use Rattle.std.proofs.Common.{◌≡◌, ℕ, ℤ, suc, ◌+◌, ◌-◌, ◌<◌, ◌≤◌, ◌⊎◌, inl, inr, true, false, true≢false, List, [], ◌∷◌, ◌++◌, length, take}
+use Rattle.std.proofs.Common.{drop, Some, None, Option, refl, sym, ap, ◌∙◌, subst, append_assoc, length-append, arith}
 use Rattle.std.specs.Prelude.{pred, slice_get}
 use Rattle.std.specs.Option.{option_map_or}
 use Rattle.std.proofs.lemmas.Bool.{cases_lt, cases_order}
@@ -31,7 +32,8 @@ use Rattle.xk_races.specs.Deeds.{deeds_of_run}
 use Rattle.xk_races.specs.Order.{IsAt, IsAwaited, IsCounted}
 use Rattle.xk_law_races.specs.Finishes.{IsWorldOf}
 use Rattle.xk_law_races.specs.Passes.{phase_held, IsHeld, IsLetGo, IsPassOf, IsStepPast, PassesAreExact}
-use Rattle.xk_law_races.proofs.TurnLemmas.{Turn, IsToldOf, deeds, told_at, deed_at, IsEarlier, AreOne, run_between, one_here, one_told, turn_reached, numbers_rise, in_order}
+use Rattle.xk_law_races.proofs.TurnLemmas.{Turn, IsToldOf, deeds, told_at, deed_at, IsEarlier, AreOne, run_between, one_here, one_told}
+use Rattle.xk_law_races.proofs.TurnLemmas.{turn_reached, numbers_rise, in_order}
 use Rattle.xk_law_races.proofs.PhaseLemmas.{phase_grows, phase_near}
 use Rattle.xk_law_races.proofs.DeedPartLemmas.{is_advance}
 use Rattle.xk_law_races.proofs.StepDeedLemmas.{IsDeedOf, deed_told}

@@ -1,13 +1,15 @@
 -- Phases of clocks only grow, by one in a step at most; and a clock is seen to have advanced in a step exactly where its phase is greater
 -- behind it.
-use Rattle.std.proofs.Common.{◌≡◌, ℕ, zero, suc, ◌+◌, ◌<◌, ◌≤◌, ◌==◌, Bool, true, false, true≢false, cond, List, [], ◌∷◌, ◌++◌, map, length, Some, None, Option, refl, sym, ap, ◌∙◌, subst, eqb-true, eq-eqb, arith}
+use Rattle.std.proofs.Common.{◌≡◌, ℕ, zero, suc, ◌+◌, ◌<◌, ◌≤◌, ◌==◌, Bool, true, false, true≢false, cond, List, [], ◌∷◌, ◌++◌, map, length}
+use Rattle.std.proofs.Common.{Some, None, Option, refl, sym, ap, ◌∙◌, subst, eqb-true, eq-eqb, arith}
 use Rattle.std.specs.Prelude.{slice_get, option_map}
 use Rattle.std.specs.Option.{option_map_or}
 use Rattle.xk_types.specs.declared.world.Standing.{Standing}
 use Rattle.xk_types.specs.declared.world.Event.{Event}
 use Rattle.xk_types.specs.Code.{ModuleValue}
 use Rattle.xk_types.specs.World.{Clock, World}
-use Rattle.xk_types.specs.Step.{Outcome, Blocked, Wrong, Stepped, is_ready, settled_clock, advanced, moved, joined, new_clock, is_given, none, all, dropped, resumed, step}
+use Rattle.xk_types.specs.Step.{Outcome, Blocked, Wrong, Stepped, is_ready, settled_clock, advanced, moved, joined, new_clock, is_given}
+use Rattle.xk_types.specs.Step.{none, all, dropped, resumed, step}
 use Rattle.xk_types.specs.Schedule.{Through, run}
 use Rattle.xk_law_schedules.proofs.ReachabilityLemmas.{same_through, first_step}
 use Rattle.xk_law_schedules.proofs.StepFormLemmas.{step_kind}

@@ -1,6 +1,7 @@
 -- A run of which no race is told has none in any schedule of its class. For of two accesses that conflict one comes before the other by
 -- the least order of the run's deeds; so what orders those orders their steps.
-use Rattle.std.proofs.Common.{◌≡◌, ℕ, ℤ, ◌<◌, ◌≤◌, ◌&&◌, ◌⊎◌, inl, inr, not, Bool, true, false, true≢false, List, [], ◌∷◌, length, Some, None, Option, refl, sym, ap, ◌∙◌, subst, eq-eqb, arith}
+use Rattle.std.proofs.Common.{◌≡◌, ℕ, ℤ, ◌<◌, ◌≤◌, ◌&&◌, ◌⊎◌, inl, inr, not, Bool, true, false, true≢false, List, [], ◌∷◌, length, Some}
+use Rattle.std.proofs.Common.{None, Option, refl, sym, ap, ◌∙◌, subst, eq-eqb, arith}
 use Rattle.std.specs.Prelude.{slice_get}
 use Rattle.std.proofs.lemmas.Bool.{cases_eq, cases_lt}
 use Rattle.std.proofs.lemmas.Option.{none-some, same_Some}
@@ -29,7 +30,8 @@ use Rattle.xk_law_races.proofs.EdgeListLemmas.{Edges, no_cause, before_more, IsL
 use Rattle.xk_law_races.proofs.DeedPartLemmas.{part_is}
 use Rattle.xk_law_races.proofs.LinkLemmas.{up_led}
 use Rattle.xk_law_races.proofs.SeenLemmas.{IsSight, sight_of, sight_up}
-use Rattle.xk_law_races.proofs.AccessLemmas.{Mode, event_of, Accesses, Sort, Does, DoesNone, sort_of, apart_none, apart_turned, apart_by, IsAccess, access_of}
+use Rattle.xk_law_races.proofs.AccessLemmas.{Mode, event_of, Accesses, Sort, Does, DoesNone, sort_of, apart_none, apart_turned, apart_by}
+use Rattle.xk_law_races.proofs.AccessLemmas.{IsAccess, access_of}
 
 -- ---- the order of accesses
 

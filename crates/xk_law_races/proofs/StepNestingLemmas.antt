@@ -1,6 +1,7 @@
 -- What a step does to finishes: who takes it has one more open, or one fewer, as its event says; and whom it starts is governed by the
 -- innermost.
-use Rattle.std.proofs.Common.{◌≡◌, ℕ, suc, zero, ◌+◌, Bool, true, false, true≢false, cond, [], ◌∷◌, ◌++◌, length, set, Some, refl, sym, ap, ◌∙◌, subst, arith}
+use Rattle.std.proofs.Common.{◌≡◌, ℕ, suc, zero, ◌+◌, Bool, true, false, true≢false, cond, [], ◌∷◌, ◌++◌, length, set, Some, refl, sym, ap}
+use Rattle.std.proofs.Common.{◌∙◌, subst, arith}
 use Rattle.std.specs.Prelude.{slice_get}
 use Rattle.xk_types.specs.declared.instr.Instr.{Instr}
 use Rattle.xk_types.specs.declared.instr.Instr.TheVariants as instr
@@ -11,7 +12,8 @@ use Rattle.xk_types.specs.declared.world.Event.{Event}
 use Rattle.xk_types.specs.declared.world.Event.TheVariants as event
 use Rattle.xk_types.specs.Code.{ModuleValue}
 use Rattle.xk_types.specs.World.{Activity, World, is_ended, instruction_at}
-use Rattle.xk_types.specs.Step.{Outcome, Blocked, Wrong, Stepped, awaits, innermost, governing, child, onward, with_slots, entered, left, arrived, ended, past, called, back_in, done, none, all, passed, waits, closing, carried_out, step}
+use Rattle.xk_types.specs.Step.{Outcome, Blocked, Wrong, Stepped, awaits, innermost, governing, child, onward, with_slots, entered, left}
+use Rattle.xk_types.specs.Step.{arrived, ended, past, called, back_in, done, none, all, passed, waits, closing, carried_out, step}
 use Rattle.xk_types.specs.Schedule.{is_step}
 use Rattle.xk_law_schedules.proofs.ShapeLemmas.BlockLemmas.{is_border}
 use Rattle.xk_law_schedules.proofs.StepFormLemmas.{ends, HoldsOfFamilies, finishes_of, instruction_form}

@@ -1,6 +1,7 @@
 -- Which deeds are told of a step at clocks: of each clock that gave way, or was left behind a resume, and behind those of each that advanced;
 -- and of each clock that is passed.
-use Rattle.std.proofs.Common.{◌≡◌, ℕ, zero, suc, ◌+◌, ◌<◌, ◌≤◌, ◌==◌, ◌⊎◌, inl, inr, Bool, true, false, true≢false, List, [], ◌∷◌, ◌++◌, length, Some, None, Option, refl, sym, ap, ◌∙◌, subst, arith}
+use Rattle.std.proofs.Common.{◌≡◌, ℕ, zero, suc, ◌+◌, ◌<◌, ◌≤◌, ◌==◌, ◌⊎◌, inl, inr, Bool, true, false, true≢false, List, [], ◌∷◌, ◌++◌}
+use Rattle.std.proofs.Common.{length, Some, None, Option, refl, sym, ap, ◌∙◌, subst, arith}
 use Rattle.std.specs.Prelude.{slice_get, flat_map, filter, nat_lt, ◌&&◌, if◌then◌else◌}
 use Rattle.std.specs.Option.{option_map_or}
 use Rattle.std.proofs.lemmas.Bool.{and_parts, cases_eq}
@@ -20,7 +21,8 @@ use Rattle.xk_show_events.specs.Steps.{run_step}
 use Rattle.xk_races.specs.declared.deeds.Deed.{Deed}
 use Rattle.xk_races.specs.declared.deeds.Part.{Part}
 use Rattle.xk_races.specs.declared.deeds.Part.TheVariants as part
-use Rattle.xk_races.specs.Deeds.{awaits, awaiting, gives_way, has_resumed, resumed_by, has_left, deed, signal, leave, advance, pass, signals, leaves, tell_deeds}
+use Rattle.xk_races.specs.Deeds.{awaits, awaiting, gives_way, has_resumed, resumed_by, has_left, deed, signal, leave, advance, pass}
+use Rattle.xk_races.specs.Deeds.{signals, leaves, tell_deeds}
 use Rattle.xk_law_races.proofs.TurnLemmas.{get_split, get_right}
 use Rattle.xk_closed.proofs.ClockStepLemmas.{lets_go, leaves_clocks}
 use Rattle.xk_law_races.proofs.DeedPartLemmas.{Every, every_one, every_flat, every_if, is_advance, IsNoAdvance}

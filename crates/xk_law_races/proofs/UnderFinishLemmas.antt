@@ -1,5 +1,6 @@
 -- All that are under a finish have ended before its close, by the order's edges.
-use Rattle.std.proofs.Common.{◌≡◌, ℕ, zero, suc, ◌-◌, ◌<◌, ◌≤◌, ◌⊎◌, inl, inr, Bool, true, false, true≢false, List, [], ◌∷◌, ◌++◌, Some, refl, sym, ap, ◌∙◌, subst, append_assoc, arith}
+use Rattle.std.proofs.Common.{◌≡◌, ℕ, zero, suc, ◌-◌, ◌<◌, ◌≤◌, ◌⊎◌, inl, inr, Bool, true, false, true≢false, List, [], ◌∷◌, ◌++◌, Some}
+use Rattle.std.proofs.Common.{refl, sym, ap, ◌∙◌, subst, append_assoc, arith}
 use Rattle.std.specs.Prelude.{slice_get}
 use Rattle.std.specs.Option.{option_map_or}
 use Rattle.std.proofs.lemmas.Bool.{cases_eq, cases_lt}
@@ -24,7 +25,8 @@ use Rattle.xk_law_races.proofs.DeedPartLemmas.{Says, part_is}
 use Rattle.xk_law_races.proofs.StepDeedLemmas.{IsDeedOf, first_deed}
 use Rattle.xk_law_races.proofs.ScopeLemmas.{opened_in, ended_stays}
 use Rattle.xk_law_races.proofs.OpenFinishLemmas.{IsEndedOn, close_awaits, ended_on}
-use Rattle.xk_law_races.proofs.EndAndCloseLemmas.{LegalRun, reached, scopes_at, scopes_behind, nest_at, Shows, shows, many_open, one_fewer, after_end, none_open}
+use Rattle.xk_law_races.proofs.EndAndCloseLemmas.{LegalRun, reached, scopes_at, scopes_behind, nest_at, Shows, shows, many_open, one_fewer}
+use Rattle.xk_law_races.proofs.EndAndCloseLemmas.{after_end, none_open}
 use Rattle.xk_law_races.proofs.GovernedEndLemmas.{inside, IsClosedBefore, closed_or_open, still_waits, there_later}
 
 module _ (trace : LegalRun) where

@@ -1,5 +1,6 @@
 -- A lost update: at its `put`, the slot that held the 1 is dead, be there a number or a clock.
-use Rattle.std.proofs.Common.{◌≡◌, ℕ, zero, suc, ◌==◌, ◌&&◌, ◌||◌, not, pos, true, false, true≢false, List, [], ◌∷◌, Some, refl, sym, ◌∙◌, subst, arith}
+use Rattle.std.proofs.Common.{◌≡◌, ℕ, zero, suc, ◌==◌, ◌&&◌, ◌||◌, not, pos, true, false, true≢false, List, [], ◌∷◌, Some, refl, sym, ◌∙◌}
+use Rattle.std.proofs.Common.{subst, arith}
 use Rattle.std.proofs.lemmas.Bool.{and_parts, ne_eqb}
 use Rattle.std.proofs.lemmas.Option.{none-some, same_Some}
 use Rattle.xk_types.specs.declared.instr.Instr.{Instr}
@@ -35,18 +36,21 @@ live_in _ _ _ = false
 is_live : (u p : ℕ) (slots : List Value) (i : Instr) (s : ℕ)
     → instruction_at update (record { unit = u; place = p; slots = slots }) ≡ Some i
     → before update live_in (record { unit = u; place = p; slots = slots }) i s ≡ true → live_in u p s ≡ true
-is_live zero zero slots i s at h = absurd (get s (subst (λ k. before update live_in (record { unit = zero; place = zero; slots = slots }) k s ≡ true) (sym (same_Some (instr.Get 0 0) i at)) h))
+is_live zero zero slots i s at h = absurd
+    (get s (subst (λ k. before update live_in (record { unit = zero; place = zero; slots = slots }) k s ≡ true) (sym (same_Some (instr.Get 0 0) i at)) h))
   where
     get : (s : ℕ) → (not (s == 0) && live_in 0 1 s) ≡ true → ⊥
     get zero h = true≢false (sym h)
     get (suc s) h = true≢false (sym (and_parts (not (suc s == 0)) false h).1)
-is_live zero (suc zero) slots i s at h = lit s (subst (λ k. before update live_in (record { unit = zero; place = 1; slots = slots }) k s ≡ true) (sym (same_Some (instr.Lit 1 (pos 1)) i at)) h)
+is_live zero (suc zero) slots i s at h = lit s
+    (subst (λ k. before update live_in (record { unit = zero; place = 1; slots = slots }) k s ≡ true) (sym (same_Some (instr.Lit 1 (pos 1)) i at)) h)
   where
     lit : (s : ℕ) → (not (s == 1) && live_in 0 2 s) ≡ true → live_in 0 1 s ≡ true
     lit zero h = refl
     lit (suc zero) h = h
     lit (suc (suc s)) h = (and_parts (not (suc (suc s) == 1)) false h).1
-is_live zero (suc (suc zero)) slots i s at h = add s (subst (λ k. before update live_in (record { unit = zero; place = 2; slots = slots }) k s ≡ true) (sym (same_Some (instr.Add 0 0 1) i at)) h)
+is_live zero (suc (suc zero)) slots i s at h = add s
+    (subst (λ k. before update live_in (record { unit = zero; place = 2; slots = slots }) k s ≡ true) (sym (same_Some (instr.Add 0 0 1) i at)) h)
   where
     more : (s : ℕ) → (suc (suc s) == 0) ≡ false → (suc (suc s) == 1) ≡ false
         → ((suc (suc s) == 0) || ((suc (suc s) == 1) || (not (suc (suc s) == 0) && false))) ≡ true → ⊥
@@ -55,8 +59,10 @@ is_live zero (suc (suc zero)) slots i s at h = add s (subst (λ k. before update
     add : (s : ℕ) → ((s == 0) || ((s == 1) || (not (s == 0) && live_in 0 3 s))) ≡ true → live_in 0 2 s ≡ true
     add zero h = refl
     add (suc zero) h = refl
-    add (suc (suc s)) h = absurd (more s (ne_eqb (suc (suc s)) 0 (λ e. omega (arith, e))) (ne_eqb (suc (suc s)) 1 (λ e. omega (arith, e))) h)
-is_live zero (suc (suc (suc zero))) slots i s at h = put s (subst (λ k. before update live_in (record { unit = zero; place = 3; slots = slots }) k s ≡ true) (sym (same_Some (instr.Put 0 0) i at)) h)
+    add (suc (suc s)) h = absurd
+        (more s (ne_eqb (suc (suc s)) 0 (λ e. omega (arith, e))) (ne_eqb (suc (suc s)) 1 (λ e. omega (arith, e))) h)
+is_live zero (suc (suc (suc zero))) slots i s at h = put s
+    (subst (λ k. before update live_in (record { unit = zero; place = 3; slots = slots }) k s ≡ true) (sym (same_Some (instr.Put 0 0) i at)) h)
   where
     put : (s : ℕ) → ((s == 0) || false) ≡ true → live_in 0 3 s ≡ true
     put zero h = refl

@@ -17,7 +17,8 @@ use Rattle.xk_law_names.specs.Names.{Exchange, OfClocks, OfActivities, exchanged
 use Rattle.xk_law_names.proofs.ActivityNameListLemmas.{map-swapped, renamed_twice, swapped_twice}
 use Rattle.xk_law_names.proofs.ActivityNameExchangeLaw.{exchanged_twice}
 use Rattle.xk_law_names.proofs.NameLaw.{clocks_all, activities_all, pairs_more, all_append, pairs_append, same_ends, same_cells, go_as_one}
-use Rattle.xk_liveness.specs.Liveness.{SlotTable, IsLiveness, masked, waiting, frame_left, callers_left, live_activity, live_part, AreAlikeWhereLive}
+use Rattle.xk_liveness.specs.Liveness.{SlotTable, IsLiveness, masked, waiting, frame_left, callers_left, live_activity, live_part}
+use Rattle.xk_liveness.specs.Liveness.{AreAlikeWhereLive}
 use Rattle.xk_liveness.specs.LiveNames.{AreSameWhereLive, GoAsOneWhereLive, WhereLive}
 use Rattle.xk_liveness.proofs.LivenessLaw.{dead_slots, live_ends}
 
@@ -49,7 +50,8 @@ activity_twice : (k : ℕ) (x : Activity) → activity_renamed k (activity_renam
 activity_twice k x = λ i. record x { frame = frame_twice k x.frame i; callers = map_twice (frame_renamed k) (frame_twice k) x.callers i }
 
 exchanged_back : (x : Exchange) (w : World) → exchanged x (exchanged x w) ≡ w
-exchanged_back (OfClocks k) w = λ i. record w { activities = map_twice (activity_renamed k) (activity_twice k) w.activities i; clocks = swapped_twice k w.clocks i }
+exchanged_back (OfClocks k) w =
+    λ i. record w { activities = map_twice (activity_renamed k) (activity_twice k) w.activities i; clocks = swapped_twice k w.clocks i }
 exchanged_back (OfActivities k) w = exchanged_twice k w
 
 abbrev back : List Exchange → List Exchange

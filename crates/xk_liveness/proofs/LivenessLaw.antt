@@ -1,5 +1,7 @@
 -- Worlds that are alike where slots are live go on alike: one walk over the instructions, of one activity in two worlds.
-use Rattle.std.proofs.Common.{◌≡◌, ℕ, ℤ, pos, ◌+ℤ◌, suc, zero, ◌+◌, ◌==◌, ◌&&◌, ◌||◌, int_lt, int_le, Bool, true, false, true≢false, cond, List, [], ◌∷◌, ◌++◌, map, length, set, Some, None, Option, option_map, is_some, refl, sym, ap, ◌∙◌, subst, eq-eqb}
+use Rattle.std.proofs.Common.{◌≡◌, ℕ, ℤ, pos, ◌+ℤ◌, suc, zero, ◌+◌, ◌==◌, ◌&&◌, ◌||◌, int_lt, int_le, Bool, true, false, true≢false, cond}
+use Rattle.std.proofs.Common.{List, [], ◌∷◌, ◌++◌, map, length, set, Some, None, Option, option_map, is_some, refl, sym, ap, ◌∙◌, subst}
+use Rattle.std.proofs.Common.{eq-eqb}
 use Rattle.std.specs.Prelude.{slice_get, option_and_then}
 use Rattle.std.specs.Int.{w64, int_min, int_wrapping_add, int_wrapping_sub, int_wrapping_mul}
 use Rattle.std.specs.List.{list_any, list_all}
@@ -20,7 +22,12 @@ use Rattle.xk_types.specs.declared.unit.ParamKind.{ParamKind}
 use Rattle.xk_types.specs.declared.unit.ParamKind.TheVariants as param
 use Rattle.xk_types.specs.Code.{UnitValue, ModuleValue, compares, is_method, is_body, Loop, loop_head}
 use Rattle.xk_types.specs.World.{Frame, Finish, Activity, Clock, World, standing_of, instruction_at, is_ended, frame_with}
-use Rattle.xk_types.specs.Step.{Outcome, Blocked, Wrong, Stepped, ClockUse, OutOfRange, is_registered, number_in, clock_in, registered_on, put_in, slot_at, arguments_in, computing, no_further, beginning, turning, again, spawned, spawning, carried_out, run_at, made, new_clock, waits, passing, past, passed, step_by, step_of, step, called, calling, back_in, returning, onward, going, with_slots, ended, arrived, left, closing, cell_in, stored, done, none, only, all, resumed, dropped, moved, joined, is_given, child, settled, settled_clock, awaits, awaits_from, is_under, under_within, same_finish, innermost, is_signalled}
+use Rattle.xk_types.specs.Step.{Outcome, Blocked, Wrong, Stepped, ClockUse, OutOfRange, is_registered, number_in, clock_in, registered_on}
+use Rattle.xk_types.specs.Step.{put_in, slot_at, arguments_in, computing, no_further, beginning, turning, again, spawned, spawning}
+use Rattle.xk_types.specs.Step.{carried_out, run_at, made, new_clock, waits, passing, past, passed, step_by, step_of, step, called, calling}
+use Rattle.xk_types.specs.Step.{back_in, returning, onward, going, with_slots, ended, arrived, left, closing, cell_in, stored, done, none}
+use Rattle.xk_types.specs.Step.{only, all, resumed, dropped, moved, joined, is_given, child, settled, settled_clock, awaits, awaits_from}
+use Rattle.xk_types.specs.Step.{is_under, under_within, same_finish, innermost, is_signalled}
 use Rattle.xk_types.specs.Schedule.{is_step, all_ended}
 use Rattle.xk_types.proofs.ListLemmas.{fun_ext}
 use Rattle.xk_law_commute.specs.PlainWorlds.{plain_activity, plain_clock, plain}
@@ -28,8 +35,11 @@ use Rattle.xk_law_commute.proofs.ListLemmas.{map_push}
 use Rattle.xk_law_commute.proofs.StepPairLemmas.{registers}
 use Rattle.xk_law_commute.proofs.PlainStepLaw.{settled_all, moved_plain, joined_plain, registers_plain, any_plain}
 use Rattle.xk_law_commute.proofs.ChangeSquareLemmas.{same_step}
-use Rattle.xk_liveness.specs.Liveness.{SlotTable, behind, behind_write, limit_reads, turn_reads, before, IsLiveness, masked, present, waiting, no_frame, frame_left, callers_left, live_activity, live_part, live_outcome, AreAlikeWhereLive, without_frames, without_ended, AreAlikeButEnded, GoOnAlike}
-use Rattle.xk_liveness.proofs.MaskLemmas.{or_left, or_right, and_not, same_first, same_rest, nil_cons, agree_get, agree_some, agree_less, agree_set, masked_none}
+use Rattle.xk_liveness.specs.Liveness.{SlotTable, behind, behind_write, limit_reads, turn_reads, before, IsLiveness, masked, present}
+use Rattle.xk_liveness.specs.Liveness.{waiting, no_frame, frame_left, callers_left, live_activity, live_part, live_outcome}
+use Rattle.xk_liveness.specs.Liveness.{AreAlikeWhereLive, without_frames, without_ended, AreAlikeButEnded, GoOnAlike}
+use Rattle.xk_liveness.proofs.MaskLemmas.{or_left, or_right, and_not, same_first, same_rest, nil_cons, agree_get, agree_some, agree_less}
+use Rattle.xk_liveness.proofs.MaskLemmas.{agree_set, masked_none}
 
 module _ (live : SlotTable) where
   -- ---- what is looked at of others
@@ -38,11 +48,14 @@ module _ (live : SlotTable) where
   unfolding under_within
   under_live acts f zero b = refl
   under_live acts f (suc n) b =
-      rw (slice_get-map (live_activity live) acts b, fun_ext (under_within (map (live_activity live) acts) f n) (under_within acts f n) (under_live acts f n)) (by (slice_get acts b))
+      rw
+      (slice_get-map (live_activity live) acts b, fun_ext (under_within (map (live_activity live) acts) f n) (under_within acts f n) (under_live acts f n)) (by (slice_get acts b))
     where
       by : (o : Option Activity)
-          → option_map_or (λ (act : Activity). same_finish act.governed f || option_map_or (under_within acts f n) act.governed.owner false) (option_map (live_activity live) o) false
-          ≡ option_map_or (λ (act : Activity). same_finish act.governed f || option_map_or (under_within acts f n) act.governed.owner false) o false
+          → option_map_or (λ (act : Activity). same_finish act.governed f || option_map_or (under_within acts f n) act.governed.owner false)
+          (option_map (live_activity live) o) false
+          ≡ option_map_or
+          (λ (act : Activity). same_finish act.governed f || option_map_or (under_within acts f n) act.governed.owner false) o false
       by None = refl
       by (Some x) = refl
 
@@ -56,7 +69,8 @@ module _ (live : SlotTable) where
   awaits_live acts f b (x ∷ xs) = rw (is_under_live acts f b, awaits_live acts f (suc b) xs)
 
   ended_live : (xs : List Activity)
-      → list_all (λ (act : Activity). is_ended act.status) (map (live_activity live) xs) ≡ list_all (λ (act : Activity). is_ended act.status) xs
+      → list_all (λ (act : Activity). is_ended act.status) (map (live_activity live) xs) ≡ list_all
+      (λ (act : Activity). is_ended act.status) xs
   ended_live [] = refl
   ended_live (x ∷ xs) = ap (λ p. is_ended x.status && p) (ended_live xs)
 
@@ -107,16 +121,20 @@ module _ (live : SlotTable) where
         → (change : ℕ → Standing → Standing) (e : Event)
         → P (done (record w { cells = xs }) a next change e) (done (record v { cells = ys }) a later change e)
     done_pair next later h xs ys k change e =
-        let x : World = record { activities = set w.activities a next; clocks = moved a change w.clocks; cells = xs; steps = w.steps; arguments = w.arguments } in
-        let y : World = record { activities = set v.activities a later; clocks = moved a change v.clocks; cells = ys; steps = v.steps; arguments = v.arguments } in
+        let x : World =
+        record { activities = set w.activities a next; clocks = moved a change w.clocks; cells = xs; steps = w.steps; arguments = w.arguments } in
+        let y : World =
+        record { activities = set v.activities a later; clocks = moved a change v.clocks; cells = ys; steps = v.steps; arguments = v.arguments } in
         ap (λ z. Stepped z e) (live_settled x y (live_same x y (set_live next later h)
         (sym (moved_plain a change w.clocks) ∙ ap (λ (z : World). map plain_clock (moved a change z.clocks)) same ∙ moved_plain a change v.clocks)
         k (ap (λ (z : World). z.arguments) same)))
 
     made_pair : (next later : Activity) → live_activity live next ≡ live_activity live later → P (made w a next) (made v a later)
     made_pair next later h =
-        let x : World = record { activities = set w.activities a next; clocks = w.clocks ++ new_clock (length w.activities) a ∷ []; cells = w.cells; steps = w.steps; arguments = w.arguments } in
-        let y : World = record { activities = set v.activities a later; clocks = v.clocks ++ new_clock (length v.activities) a ∷ []; cells = v.cells; steps = v.steps; arguments = v.arguments } in
+        let x : World =
+        record { activities = set w.activities a next; clocks = w.clocks ++ new_clock (length w.activities) a ∷ []; cells = w.cells; steps = w.steps; arguments = w.arguments } in
+        let y : World =
+        record { activities = set v.activities a later; clocks = v.clocks ++ new_clock (length v.activities) a ∷ []; cells = v.cells; steps = v.steps; arguments = v.arguments } in
         ap (λ z. Stepped z event.Made) (live_settled x y (live_same x y (set_live next later h)
         (map_push plain_clock w.clocks (new_clock (length w.activities) a)
         ∙ (λ i. (same i).clocks ++ plain_clock (new_clock (same_length i) a) ∷ [])
@@ -137,7 +155,8 @@ module _ (live : SlotTable) where
 
     cell_pair : (c : ℕ) (go later : ℤ → Outcome) → ((n : ℤ) → P (go n) (later n))
         → P (cell_in (slice_get w.cells c) go) (cell_in (slice_get v.cells c) later)
-    cell_pair c go later f = subst (λ cs. P (cell_in (slice_get w.cells c) go) (cell_in (slice_get cs c) later)) (ap (λ (z : World). z.cells) same) (by (slice_get w.cells c))
+    cell_pair c go later f = subst (λ cs. P (cell_in (slice_get w.cells c) go) (cell_in (slice_get cs c) later))
+        (ap (λ (z : World). z.cells) same) (by (slice_get w.cells c))
       where
         by : (o : Option ℤ) → P (cell_in o go) (cell_in o later)
         by None = refl
@@ -149,7 +168,8 @@ module _ (live : SlotTable) where
     registered_pair None None e go later f = refl
     registered_pair None (Some d) e go later f = absurd (none-some _ e)
     registered_pair (Some c) None e go later f = absurd (none-some _ (sym e))
-    registered_pair (Some c) (Some d) e go later f = by (is_registered (standing_of c a)) (is_registered (standing_of d a)) (same_Some _ _ e)
+    registered_pair (Some c) (Some d) e go later f = by (is_registered (standing_of c a)) (is_registered (standing_of d a))
+        (same_Some _ _ e)
       where
         by : (p q : Bool) → p ≡ q → P (cond p go (Wrong ClockUse)) (cond q later (Wrong ClockUse))
         by true true g = f
@@ -183,7 +203,8 @@ module _ (live : SlotTable) where
       -- to a place where no more is live
       go_pair : (q : ℕ) → ((s : ℕ) → live act.frame.unit q s ≡ true → L s ≡ true) → (change : ℕ → Standing → Standing) (e : Event)
           → P (done w a (going act q) change e) (done v a (going other q) change e)
-      go_pair q h change e = rests_pair q act.frame.slots ys (agree_less L (live act.frame.unit q) h act.frame.slots ys slots) act.opened change e
+      go_pair q h change e = rests_pair q act.frame.slots ys
+          (agree_less L (live act.frame.unit q) h act.frame.slots ys slots) act.opened change e
 
       -- ---- operands
 
@@ -202,13 +223,15 @@ module _ (live : SlotTable) where
 
       clock_pair : (x : ℕ) → L x ≡ true → (go later : ℕ → Outcome) → ((k : ℕ) → P (go k) (later k))
           → P (clock_in w a (slot_at act x) go) (clock_in v a (slot_at other x) later)
-      clock_pair x h go later f = subst (λ o. P (clock_in w a (slot_at act x) go) (clock_in v a o later)) (same_slot x h) (by (slot_at act x))
+      clock_pair x h go later f = subst (λ o. P (clock_in w a (slot_at act x) go) (clock_in v a o later)) (same_slot x h)
+          (by (slot_at act x))
         where
           by : (o : Option Value) → P (clock_in w a o go) (clock_in v a o later)
           by None = refl
           by (Some value.Unset) = refl
           by (Some (value.Number n)) = refl
-          by (Some (value.Clock k)) = registered_pair (slice_get w.clocks k) (slice_get v.clocks k) (same_registers k) (go k) (later k) (f k)
+          by (Some (value.Clock k)) = registered_pair (slice_get w.clocks k) (slice_get v.clocks k) (same_registers k) (go k) (later k)
+              (f k)
 
       put_pair : (d : ℕ) (x y : Value) (go later : Activity → Outcome)
           → P (go (onward (with_slots act (set act.frame.slots d x)))) (later (onward (with_slots other (set ys d y))))
@@ -246,7 +269,8 @@ module _ (live : SlotTable) where
 
       -- behind a write
       write_pair : (d : ℕ) (x : Value) (e : Event) → ((s : ℕ) → behind_write live act.frame d s ≡ true → L s ≡ true)
-          → P (put_in (slot_at act d) act d x (λ next. done w a next none e)) (put_in (slot_at other d) other d x (λ next. done v a next none e))
+          → P (put_in (slot_at act d) act d x (λ next. done w a next none e))
+          (put_in (slot_at other d) other d x (λ next. done v a next none e))
       write_pair d x e h = put_pair d x x _ _ (rests_pair (act.frame.place + 1) (set act.frame.slots d x) (set ys d x)
           (agree_set L B d x (λ s k n. h s (and_not (s == d) (B s) (ne_eqb s d n) k)) act.frame.slots ys slots) act.opened none e)
 
@@ -259,7 +283,8 @@ module _ (live : SlotTable) where
           write_pair d (value.Number (g p q)) event.Local (λ s k. h s (or_right (s == x) _ (or_right (s == y) _ k)))))
 
       branch_pair : (u : ℕ) (b : Bool) → ((s : ℕ) → B s ≡ true → L s ≡ true) → ((s : ℕ) → live act.frame.unit u s ≡ true → L s ≡ true)
-          → P (done w a (cond b (onward act) (going act u)) none event.Local) (done v a (cond b (onward other) (going other u)) none event.Local)
+          → P (done w a (cond b (onward act) (going act u)) none event.Local)
+          (done v a (cond b (onward other) (going other u)) none event.Local)
       branch_pair u true h g = onward_pair h act.opened none event.Local
       branch_pair u false h g = go_pair u g none event.Local
 
@@ -274,14 +299,16 @@ module _ (live : SlotTable) where
       beginning_pair k lo u top h g = by (int_le lo top)
         where
           by : (b : Bool)
-              → P (cond b (put_in (slot_at act k) act k (value.Number lo) (λ next. done w a next none event.Local)) (done w a (going act u) none event.Local))
+              → P
+              (cond b (put_in (slot_at act k) act k (value.Number lo) (λ next. done w a next none event.Local)) (done w a (going act u) none event.Local))
               (cond b (put_in (slot_at other k) other k (value.Number lo) (λ next. done v a next none event.Local)) (done v a (going other u) none event.Local))
           by true = write_pair k (value.Number lo) event.Local h
           by false = go_pair u g none event.Local
 
       again_pair : (b k : ℕ) (n : ℤ) (x : Bool) → ((s : ℕ) → B s ≡ true → L s ≡ true)
           → ((s : ℕ) → live act.frame.unit (b + 1) s ≡ true → L s ≡ true)
-          → P (done w a (cond x (again act b k n) (onward act)) none event.Local) (done v a (cond x (again other b k n) (onward other)) none event.Local)
+          → P (done w a (cond x (again act b k n) (onward act)) none event.Local)
+          (done v a (cond x (again other b k n) (onward other)) none event.Local)
       again_pair b k n true h g =
           let x : Value = value.Number (n +ℤ pos 1) in
           rests_pair (b + 1) (set act.frame.slots k x) (set ys k x)
@@ -292,7 +319,8 @@ module _ (live : SlotTable) where
           → P (turning w a act b o) (turning v a other b o)
       turning_pair b None h = refl
       turning_pair b (Some l) h =
-          number_pair l.slot (h l.slot (or_left (turn_reads (Some l) l.slot) _ (or_left (l.slot == l.slot) _ (eq-eqb l.slot l.slot refl)))) _ _ (λ n.
+          number_pair l.slot
+          (h l.slot (or_left (turn_reads (Some l) l.slot) _ (or_left (l.slot == l.slot) _ (eq-eqb l.slot l.slot refl)))) _ _ (λ n.
           limit_pair l.limit (λ s k. h s (or_left (turn_reads (Some l) s) _ (or_right (s == l.slot) _ k))) l.hi _ _ (λ top.
           again_pair b l.slot n (int_lt n top) (λ s k. h s (or_right (turn_reads (Some l) s) _ (or_left (B s) _ k)))
           (λ s k. h s (or_right (turn_reads (Some l) s) _ (or_right (B s) _ k)))))
@@ -310,7 +338,8 @@ module _ (live : SlotTable) where
               w.cells v.cells (ap (λ (z : World). z.cells) same) none event.Local
 
           by : (b : Bool)
-              → P (cond b (arguments_in w a act x.params args (λ values. done w a (called m act u values) none event.Local)) (Wrong OutOfRange))
+              → P
+              (cond b (arguments_in w a act x.params args (λ values. done w a (called m act u values) none event.Local)) (Wrong OutOfRange))
               (cond b (arguments_in v a other x.params args (λ values. done v a (called m other u values) none event.Local)) (Wrong OutOfRange))
           by true = arguments_pair x.params args (λ s k. h s (or_left (list_any (λ x. s == x) args) (B s) k)) _ _ call_pair
           by false = refl
@@ -322,8 +351,10 @@ module _ (live : SlotTable) where
         where
           start_pair : (values : List Value) → P (spawned m w a act u values) (spawned m v a other u values)
           start_pair values =
-              let x : World = record { activities = set w.activities a (onward act) ++ child m a act u values ∷ []; clocks = joined a (is_given values) w.clocks; cells = w.cells; steps = w.steps; arguments = w.arguments } in
-              let y : World = record { activities = set v.activities a (onward other) ++ child m a other u values ∷ []; clocks = joined a (is_given values) v.clocks; cells = v.cells; steps = v.steps; arguments = v.arguments } in
+              let x : World =
+              record { activities = set w.activities a (onward act) ++ child m a act u values ∷ []; clocks = joined a (is_given values) w.clocks; cells = w.cells; steps = w.steps; arguments = w.arguments } in
+              let y : World =
+              record { activities = set v.activities a (onward other) ++ child m a other u values ∷ []; clocks = joined a (is_given values) v.clocks; cells = v.cells; steps = v.steps; arguments = v.arguments } in
               ap (λ z. Stepped z event.Spawned) (live_settled x y (live_same x y
               (map_push (live_activity live) (set w.activities a (onward act)) (child m a act u values)
               ∙ ap (λ zs. zs ++ live_activity live (child m a act u values) ∷ []) (set_live (onward act) (onward other)
@@ -334,13 +365,15 @@ module _ (live : SlotTable) where
               (ap (λ (z : World). z.cells) same) (ap (λ (z : World). z.arguments) same)))
 
           by : (b : Bool)
-              → P (cond b (arguments_in w a act k.params args (spawned m w a act u)) (Wrong OutOfRange)) (cond b (arguments_in v a other k.params args (spawned m v a other u)) (Wrong OutOfRange))
+              → P (cond b (arguments_in w a act k.params args (spawned m w a act u)) (Wrong OutOfRange))
+              (cond b (arguments_in v a other k.params args (spawned m v a other u)) (Wrong OutOfRange))
           by true = arguments_pair k.params args (λ s k. h s (or_left (list_any (λ x. s == x) args) (B s) k)) _ _ start_pair
           by false = refl
 
       returning_pair : (fs gs : List Frame) → map (waiting live) fs ≡ map (waiting live) gs
           → P (returning w a act fs) (returning v a other gs)
-      returning_pair [] [] h = done_pair (ended act) (ended other) refl w.cells v.cells (ap (λ (z : World). z.cells) same) (all dropped) event.Ended
+      returning_pair [] [] h = done_pair (ended act) (ended other) refl w.cells v.cells (ap (λ (z : World). z.cells) same)
+          (all dropped) event.Ended
       returning_pair [] (g ∷ gs) h = absurd (nil_cons _ _ h)
       returning_pair (f ∷ fs) [] h = absurd (nil_cons _ _ (sym h))
       returning_pair (f ∷ fs) (g ∷ gs) h = done_pair (back_in act f fs) (back_in other g gs)
@@ -351,7 +384,8 @@ module _ (live : SlotTable) where
 
       closing_pair : (n : ℕ) → ((s : ℕ) → B s ≡ true → L s ≡ true) → P (closing w a act n) (closing v a other n)
       closing_pair zero h = refl
-      closing_pair (suc n) h = subst (λ b. P (closing w a act (suc n)) (cond b Blocked (done v a (left other n) none event.Closed))) (same_awaits (innermost a act)) (by (awaits w.activities (innermost a act)))
+      closing_pair (suc n) h = subst (λ b. P (closing w a act (suc n)) (cond b Blocked (done v a (left other n) none event.Closed)))
+          (same_awaits (innermost a act)) (by (awaits w.activities (innermost a act)))
         where
           by : (b : Bool)
               → P (cond b Blocked (done w a (left act n) none event.Closed)) (cond b Blocked (done v a (left other n) none event.Closed))
@@ -383,7 +417,8 @@ module _ (live : SlotTable) where
           limit_pair (Some x) (λ s g. h s (or_left (s == x) _ g)) hi _ _ (λ top.
           beginning_pair k lo (e + 1) top (λ s g. h s (or_right (s == x) _ (or_left (behind_write live act.frame k s) _ g)))
           (λ s g. h s (or_right (s == x) _ (or_right (behind_write live act.frame k s) _ g))))
-      instruction_pair (instr.Next b) h = turning_pair b (option_and_then (loop_head b) (instruction_at m (record act.frame { place = b }))) h
+      instruction_pair (instr.Next b) h = turning_pair b
+          (option_and_then (loop_head b) (instruction_at m (record act.frame { place = b }))) h
       instruction_pair (instr.Get d c) h = cell_pair c _ _ (λ n. write_pair d (value.Number n) event.Got h)
       instruction_pair (instr.Put c x) h = number_pair x (h x (or_left (x == x) _ (eq-eqb x x refl))) _ _
           (λ n. cell_pair c _ _ (λ old. store_pair c n event.Put (λ s k. h s (or_right (s == x) _ k))))
@@ -399,8 +434,10 @@ module _ (live : SlotTable) where
           (twin _ _ act.callers cs act.status act.since t act.opened act.governed runs
           (λ i. record { unit = act.frame.unit; place = act.frame.place + 1; slots = made_slots i }) callers))
         where
-          made_slots : masked B (set act.frame.slots d (value.Clock (length w.clocks))) ≡ masked B (set ys d (value.Clock (length v.clocks)))
-          made_slots = agree_set L B d (value.Clock (length w.clocks)) (λ s k n. h s (and_not (s == d) (B s) (ne_eqb s d n) k)) act.frame.slots ys slots
+          made_slots : masked B (set act.frame.slots d (value.Clock (length w.clocks)))
+              ≡ masked B (set ys d (value.Clock (length v.clocks)))
+          made_slots = agree_set L B d (value.Clock (length w.clocks))
+              (λ s k n. h s (and_not (s == d) (B s) (ne_eqb s d n) k)) act.frame.slots ys slots
               ∙ ap (λ n. masked B (set ys d (value.Clock n))) clocks_length
       instruction_pair (instr.Resume x) h = clock_pair x (h x (or_left (x == x) _ (eq-eqb x x refl))) _ _
           (λ c. onward_pair (λ s k. h s (or_right (s == x) _ k)) act.opened (only c resumed) event.Resumed)
@@ -425,7 +462,8 @@ module _ (live : SlotTable) where
       run_pair : (act : Activity) (ys : List Value) (cs : List Frame) (t : ℕ) → act.status ≡ status.Running
           → masked (live act.frame.unit act.frame.place) act.frame.slots ≡ masked (live act.frame.unit act.frame.place) ys
           → map (waiting live) act.callers ≡ map (waiting live) cs
-          → P (run_at m w a act (instruction_at m act.frame)) (run_at m v a (record act { frame = record act.frame { slots = ys }; callers = cs; since = t }) (instruction_at m act.frame))
+          → P (run_at m w a act (instruction_at m act.frame))
+          (run_at m v a (record act { frame = record act.frame { slots = ys }; callers = cs; since = t }) (instruction_at m act.frame))
       run_pair act ys cs t runs slots callers = by (instruction_at m act.frame) refl
         where
           by : (o : Option Instr) → instruction_at m act.frame ≡ o
@@ -437,10 +475,12 @@ module _ (live : SlotTable) where
           → map (waiting live) act.callers ≡ map (waiting live) bct.callers
           → act.opened ≡ bct.opened → act.governed ≡ bct.governed → P (passing w a act) (passing v a bct)
       pass_pair act bct p q r s =
-          subst (λ b. P (passing w a act) (cond b Blocked (done v a (past bct (v.steps + 1)) (all passed) event.Passed))) same_waits (by (waits w a))
+          subst (λ b. P (passing w a act) (cond b Blocked (done v a (past bct (v.steps + 1)) (all passed) event.Passed))) same_waits
+          (by (waits w a))
         where
           by : (b : Bool)
-              → P (cond b Blocked (done w a (past act (w.steps + 1)) (all passed) event.Passed)) (cond b Blocked (done v a (past bct (v.steps + 1)) (all passed) event.Passed))
+              → P (cond b Blocked (done w a (past act (w.steps + 1)) (all passed) event.Passed))
+              (cond b Blocked (done v a (past bct (v.steps + 1)) (all passed) event.Passed))
           by true = refl
           by false = done_pair (past act (w.steps + 1)) (past bct (v.steps + 1))
               (λ i. record {
@@ -488,7 +528,8 @@ module _ (live : SlotTable) where
               }) in
               subst (λ (z : Activity). P (step_by m w a act status.Running) (step_by m v a z status.Running)) is
               (run_pair act bct.frame.slots bct.callers bct.since p
-              (ap (λ (z : Frame). z.slots) f ∙ (λ i. masked (live (sym units i) (sym places i)) bct.frame.slots)) (calls status.Running p q))
+              (ap (λ (z : Frame). z.slots) f ∙ (λ i. masked (live (sym units i) (sym places i)) bct.frame.slots))
+              (calls status.Running p q))
 
           by : (st su : Status) → act.status ≡ st → bct.status ≡ su → act.status ≡ bct.status
               → P (step_by m w a act st) (step_by m v a bct su)

@@ -1,5 +1,6 @@
 -- Slots under masks: what is read where they agree, and what they are after a write.
-use Rattle.std.proofs.Common.{◌≡◌, ℕ, zero, suc, Bool, true, false, not, ◌&&◌, ◌||◌, true≢false, cond, List, [], ◌∷◌, set, Option, Some, None, option_map, is_some, refl, sym, ap, ◌∙◌, arith}
+use Rattle.std.proofs.Common.{◌≡◌, ℕ, zero, suc, Bool, true, false, not, ◌&&◌, ◌||◌, true≢false, cond, List, [], ◌∷◌, set, Option, Some}
+use Rattle.std.proofs.Common.{None, option_map, is_some, refl, sym, ap, ◌∙◌, arith}
 use Rattle.std.specs.Prelude.{slice_get}
 use Rattle.xk_types.specs.declared.world.Value.{Value}
 use Rattle.xk_types.specs.declared.world.Value.TheVariants as value
@@ -78,7 +79,8 @@ masked_head l false x h = refl
 
 masked_less : (L K : ℕ → Bool) → ((s : ℕ) → K s ≡ true → L s ≡ true) → (xs : List Value) → masked K (masked L xs) ≡ masked K xs
 masked_less L K h [] = refl
-masked_less L K h (x ∷ xs) = λ i. masked_head (L 0) (K 0) x (h 0) i ∷ masked_less (λ s. L (suc s)) (λ s. K (suc s)) (λ s k. h (suc s) k) xs i
+masked_less L K h (x ∷ xs) =
+    λ i. masked_head (L 0) (K 0) x (h 0) i ∷ masked_less (λ s. L (suc s)) (λ s. K (suc s)) (λ s k. h (suc s) k) xs i
 
 masked_set : (L K : ℕ → Bool) (xs : List Value) (d : ℕ) (x : Value) → ((s : ℕ) → K s ≡ true → (s ≡ d → ⊥) → L s ≡ true)
     → masked K (set (masked L xs) d x) ≡ masked K (set xs d x)

@@ -3,7 +3,8 @@
 -- that differ in dead slots alone, and in what activities that have ended left behind, go on alike. A slot that names a
 -- clock is one like others: on which
 -- clocks an activity is registered stands with the clocks.
-use Rattle.std.specs.Prelude.{◌≡◌, ℕ, suc, ◌+◌, ◌==◌, Bool, true, false, not, ◌&&◌, ◌||◌, List, [], ◌∷◌, map, Option, Some, None, option_and_then, if◌then◌else◌}
+use Rattle.std.specs.Prelude.{◌≡◌, ℕ, suc, ◌+◌, ◌==◌, Bool, true, false, not, ◌&&◌, ◌||◌, List, [], ◌∷◌, map, Option, Some, None}
+use Rattle.std.specs.Prelude.{option_and_then, if◌then◌else◌}
 use Rattle.std.specs.List.{list_any}
 use Rattle.xk_types.specs.declared.instr.Instr.{Instr}
 use Rattle.xk_types.specs.declared.instr.Instr.TheVariants as instr
@@ -106,7 +107,11 @@ callers_left live status.Ended fs = []
 
 -- what of an activity may still count
 abbrev pub live_activity : SlotTable → Activity → Activity
-live_activity live act = record act { frame = frame_left live act.status act.frame; callers = callers_left live act.status act.callers; since = 0 }
+live_activity live act = record act {
+  frame = frame_left live act.status act.frame;
+  callers = callers_left live act.status act.callers;
+  since = 0;
+}
 
 -- what of the world may
 abbrev pub live_part : SlotTable → World → World
