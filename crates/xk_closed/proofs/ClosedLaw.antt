@@ -14,8 +14,8 @@ use Rattle.xk_types.specs.World.{World, opening, AreArguments}
 use Rattle.xk_types.specs.Step.{Stepped, step}
 use Rattle.xk_types.specs.Schedule.{Through, run, run_on, IsReached, is_local, is_step, is_enabled, all_ended, events, events_on}
 use Rattle.xk_types.specs.Schedule.{number_printed, printed}
-use Rattle.xk_law_schedules.proofs.ReachabilityLemmas.{same_through, first_step, run_arguments, reached_step, opening_reached}
-use Rattle.xk_law_commute.specs.Exploration.{IsLedTo, AreLedTo, NothingIsMissed}
+use Rattle.xk_law_schedules.proofs.ReachabilityLemmas.{same_through, first_step, reached_run, reached_step, opening_reached}
+use Rattle.xk_law_commute.specs.Exploration.{AreLedTo, NothingIsMissed}
 use Rattle.xk_law_commute.proofs.ChangeSquareLemmas.{same_step}
 use Rattle.xk_law_commute.proofs.QuietStepLaw.{enabled_step}
 use Rattle.xk_law_commute.proofs.ExplorationLaw.{nobody_steps}
@@ -37,24 +37,12 @@ prints_on b event.Local rest = refl
 prints_on b (event.Printed n) rest = refl
 prints_on b _ rest = refl
 
-pub printed_first : (m : ModuleValue) (list : List ℕ) (w v : World) (b : ℕ) (e : Event) → step m w b ≡ Stepped v e
+pub printed_first : (m : ModuleValue) (w v : World) (b : ℕ) (e : Event) (list : List ℕ) → step m w b ≡ Stepped v e
     → printed m (b ∷ list) w ≡ option_to_list (number_printed e) ++ printed m list v
-printed_first m list w v b e h =
+printed_first m w v b e list h =
     ap
     (λ o. filter_map (λ (p : ℕ × Event). number_printed p.1) (filter (λ (p : ℕ × Event). not (is_local p.1)) (events_on b o (events m list)))) h
     ∙ prints_on b e (events m list v)
-
--- a world that a legal schedule leads to is reached
-pub led_reached : (m : ModuleValue) (args : List ℤ) (w : World) (numbers : List ℤ) → AreArguments m args → IsLedTo m args w numbers
-    → IsReached m w
-led_reached m args w numbers taken led =
-    let same = run_arguments m led.list (opening m args) w led.legal in (
-      led.list,
-      (
-        subst (AreArguments m) (sym same) taken,
-        subst (λ xs. run m led.list (opening m xs) ≡ Through w) (sym same) led.legal,
-      ),
-    )
 
 -- where one prints nothing, the two may change places
 either_order : (o r : Option ℤ) → (o ≡ None) ⊎ (r ≡ None) → (ns : List ℤ)
@@ -109,8 +97,8 @@ module _ (m : ModuleValue) (Same : World → World → Type 0) (carried : IsCarr
         last = rest.last;
         legal = ap (λ o. run_on v o (run m rest.list)) next.2 ∙ rest.legal;
         ended = rest.ended;
-        prints = printed_first m rest.list v next.1 next.0 f.1 next.2 ∙ ap (λ ns. option_to_list (number_printed f.1) ++ ns) rest.prints
-            ∙ sym (printed_first m list w f.0 a f.1 f.2);
+        prints = printed_first m v next.1 next.0 f.1 rest.list next.2 ∙ ap (λ ns. option_to_list (number_printed f.1) ++ ns) rest.prints
+            ∙ sym (printed_first m w f.0 a f.1 list f.2);
       }
 
   pub goes_same : (n : ℕ) (w v : World) (numbers : List ℤ) → IsReached m w → Same w v → Goes m n w numbers → Goes m n v numbers
@@ -214,12 +202,12 @@ module _ (m : ModuleValue) (limits : IsWithinLimits m) (ok : IsAccepted m) where
               last = rest.last;
               legal = ap (λ o. run_on u.0 o (run m rest.list)) both.2 ∙ rest.legal;
               ended = rest.ended;
-              prints = printed_first m rest.list u.0 both.0 b f both.2 ∙ ap (λ ns. option_to_list (number_printed f) ++ ns) rest.prints;
+              prints = printed_first m u.0 both.0 b f rest.list both.2 ∙ ap (λ ns. option_to_list (number_printed f) ++ ns) rest.prints;
             };
             prints = either_order (number_printed u.1) (number_printed f) p.1 t.rest
                 ∙ ap (λ e. option_to_list (number_printed f) ++ (option_to_list (number_printed e) ++ t.rest)) (sym one.1)
                 ∙ ap (λ ns. option_to_list (number_printed f) ++ ns) t.prints
-                ∙ sym (printed_first m list w v b f hv);
+                ∙ sym (printed_first m w v b f list hv);
           },
         )
 
@@ -244,7 +232,7 @@ module _ (m : ModuleValue) (limits : IsWithinLimits m) (ok : IsAccepted m) where
             takes = f.2;
             rest = printed m list f.0;
             goes = record { list = list; long = refl; last = last; legal = f.3; ended = ended; prints = refl };
-            prints = sym (printed_first m list w f.0 b f.1 f.2);
+            prints = sym (printed_first m w f.0 b f.1 list f.2);
           },
         )
         by shorter false h = past_other b list shorter w f.0 last a f.1 here closed inside free h f.2 f.3 ended
@@ -275,7 +263,8 @@ module _ (m : ModuleValue) (limits : IsWithinLimits m) (ok : IsAccepted m) where
         → run m list w ≡ Through last
         → all_ended last ≡ true → HasClosed m Same Found w before → IsMet (before ++ printed m list w)
     by_set n finds list w last before short found runs ended c =
-        let here : IsReached m w = led_reached m args w before taken (led w before found) in
+        let way = led w before found in
+        let here : IsReached m w = reached_run m way.list (opening m args) w (opening_reached m args taken) way.legal in
         let r = to_front c.set list w last c.free here c.closed c.inside c.enabled runs ended in
         let t : Front m c.set r.0 w (printed m list w) = r.2 in
         let more : List ℤ = option_to_list (number_printed t.event) in
@@ -290,14 +279,15 @@ module _ (m : ModuleValue) (limits : IsWithinLimits m) (ok : IsAccepted m) where
         → run m (b ∷ list) w ≡ Through last → all_ended last ≡ true → HasNextSame m Same Found w before b
         → IsMet (before ++ printed m (b ∷ list) w)
     by_each n finds b list w last before short found runs ended next =
-        let here : IsReached m w = led_reached m args w before taken (led w before found) in
+        let way = led w before found in
+        let here : IsReached m w = reached_run m way.list (opening m args) w (opening_reached m args taken) way.legal in
         let f = first_step w last (step m w b) (run m list) runs in
         let more : List ℤ = option_to_list (number_printed f.1) in
         let met : IsMet ((before ++ more) ++ printed m list f.0) =
         onward n finds list f.0 last (before ++ more) (omega (arith, short)) (reached_step m w f.0 b f.1 here f.2)
         (next f.0 f.1 f.2) f.3 ended in
         subst IsMet
-        (append_assoc before more (printed m list f.0) ∙ ap (λ ns. before ++ ns) (sym (printed_first m list w f.0 b f.1 f.2))) met
+        (append_assoc before more (printed m list f.0) ∙ ap (λ ns. before ++ ns) (sym (printed_first m w f.0 b f.1 list f.2))) met
 
     finds_all : (n : ℕ) → Finds n
     finds_all n [] w last before short found runs ended =

@@ -23,19 +23,15 @@ use Rattle.xk_law_traces.proofs.StepEventLemmas.{others_stay, print_says}
 use Rattle.xk_closed.specs.Closed.{AreOutside, NotBothPrint, IsClosed, IsStuck}
 use Rattle.xk_closed.specs.Futures.{IsFuture, IsFree, is_private, alone}
 
-silent_of : (e : Event) → is_print e ≡ false → number_printed e ≡ None
-silent_of (event.Printed n) h = absurd (true≢false h)
+silent_of : (e : Event) → (is_print e ≡ true → ⊥) → number_printed e ≡ None
+silent_of (event.Printed n) h = absurd (h refl)
 silent_of _ h = refl
 
 -- an instruction that doesn't print has no event that does
 no_print : (m : ModuleValue) (w u : World) (a : ℕ) (e : Event) → step m w a ≡ Stepped u e
     → option_map_or prints (next_instruction m w a) false ≡ false
     → number_printed e ≡ None
-no_print m w u a e takes h = silent_of e (by (is_print e) refl)
-  where
-    by : (q : Bool) → is_print e ≡ q → is_print e ≡ false
-    by true g = absurd (true≢false (sym (print_says m w u a e takes g) ∙ h))
-    by false g = g
+no_print m w u a e takes h = silent_of e (λ g. true≢false (sym (print_says m w u a e takes g) ∙ h))
 
 module _ (m : ModuleValue) (w : World) (set : ℕ → Bool) where
   -- one of the set stays as it is

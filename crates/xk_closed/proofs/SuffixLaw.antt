@@ -79,7 +79,7 @@ module _ (m : ModuleValue) (limits : IsWithinLimits m) (ok : IsAccepted m) where
             let f = first_step w g.last (step m w b) (run m list) legal in
             let goes : Goes m n f.0 (printed m list f.0) =
             record { list = list; long = omega (arith, long); last = g.last; legal = f.3; ended = g.ended; prints = refl } in
-            subst (CanRead w) (sym (printed_first m list w f.0 b f.1 f.2) ∙ prints)
+            subst (CanRead w) (sym (printed_first m w f.0 b f.1 list f.2) ∙ prints)
             (read_more n knows w f.0 b f.1 (printed m list f.0) here found f.2 (all b) goes)
 
     module _ (steps : AreSteps m Same Found Edge) where
@@ -97,7 +97,7 @@ module _ (m : ModuleValue) (limits : IsWithinLimits m) (ok : IsAccepted m) where
             last = g.last;
             legal = ap (λ o. run_on w o (run m g.list)) x.3 ∙ g.legal;
             ended = g.ended;
-            prints = printed_first m g.list w x.1 x.0 x.2 x.3 ∙ ap (λ ns. option_to_list (number_printed x.2) ++ ns) g.prints
+            prints = printed_first m w x.1 x.0 x.2 g.list x.3 ∙ ap (λ ns. option_to_list (number_printed x.2) ++ ns) g.prints
                 ∙ ap (λ ns. ns ++ r.2) (sym x.4) ∙ r.5;
           }
 
@@ -116,9 +116,9 @@ module _ (m : ModuleValue) (limits : IsWithinLimits m) (ok : IsAccepted m) where
   printed_on [] ys w v h = ap (printed m ys) (same_through w v h)
   printed_on (a ∷ xs) ys w v h =
       let f = first_step w v (step m w a) (run m xs) h in
-      printed_first m (xs ++ ys) w f.0 a f.1 f.2 ∙ ap (λ ns. option_to_list (number_printed f.1) ++ ns) (printed_on xs ys f.0 v f.3)
+      printed_first m w f.0 a f.1 (xs ++ ys) f.2 ∙ ap (λ ns. option_to_list (number_printed f.1) ++ ns) (printed_on xs ys f.0 v f.3)
       ∙ sym (append_assoc (option_to_list (number_printed f.1)) (printed m xs f.0) (printed m ys v))
-      ∙ ap (λ ns. ns ++ printed m ys v) (sym (printed_first m xs w f.0 a f.1 f.2))
+      ∙ ap (λ ns. ns ++ printed m ys v) (sym (printed_first m w f.0 a f.1 xs f.2))
 
   module _ (args : List ℤ) (taken : AreArguments m args) where
     abbrev w₀ : World
@@ -136,7 +136,7 @@ module _ (m : ModuleValue) (limits : IsWithinLimits m) (ok : IsAccepted m) where
         let goes : run m (t.act ∷ t.goes.list) s.here ≡ Through t.goes.last = ap (λ o. run_on s.here o (run m t.goes.list)) t.takes
         ∙ t.goes.legal in
         let more : printed m (t.act ∷ t.goes.list) s.here ≡ printed m h.rest s.here =
-        printed_first m t.goes.list s.here t.there t.act t.event t.takes
+        printed_first m s.here t.there t.act t.event t.goes.list t.takes
         ∙ ap (λ ns. option_to_list (number_printed t.event) ++ ns) t.goes.prints ∙ t.prints in (
           t.act,
           t.inside,

@@ -104,9 +104,9 @@ module _ (live : SlotTable) where
   governed_live k [] = refl
   governed_live k (x ∷ xs) = ap (λ zs. live_activity live (governed_renamed k x) ∷ zs) (governed_live k xs)
 
-  plain_clocks : (k : ℕ) (cs : List Clock) → map plain_clock (map (clock_swapped k) cs) ≡ map (clock_swapped k) (map plain_clock cs)
-  plain_clocks k [] = refl
-  plain_clocks k (c ∷ cs) = ap (λ zs. plain_clock (clock_swapped k c) ∷ zs) (plain_clocks k cs)
+  swapped_plain : (k : ℕ) (cs : List Clock) → map (clock_swapped k) (map plain_clock cs) ≡ map plain_clock (map (clock_swapped k) cs)
+  swapped_plain k [] = refl
+  swapped_plain k (c ∷ cs) = ap (λ zs. plain_clock (clock_swapped k c) ∷ zs) (swapped_plain k cs)
 
   -- ---- exchanges
 
@@ -123,7 +123,7 @@ module _ (live : SlotTable) where
       ≡ map (governed_renamed k) (neighbours_swapped k (map (live_activity live) w.activities)) =
       governed_live k (neighbours_swapped k w.activities)
       ∙ ap (map (governed_renamed k)) (map-swapped (live_activity live) k w.activities) in
-      λ i. record { activities = acts i; clocks = plain_clocks k w.clocks i; cells = w.cells; steps = 0; arguments = w.arguments }
+      λ i. record { activities = acts i; clocks = sym (swapped_plain k w.clocks) i; cells = w.cells; steps = 0; arguments = w.arguments }
 
   alike_one : (x : Exchange) (w v : World) → AreAlikeWhereLive live w v → AreAlikeWhereLive live (exchanged x w) (exchanged x v)
   alike_one x w v h = live_exchanged x w ∙ ap (exchanged x) h ∙ sym (live_exchanged x v)

@@ -1,26 +1,26 @@
 -- What is printed by one step more; and those that were found grow in number.
-use Rattle.std.proofs.Common.{◌≡◌, ◌∙◌, ℕ, ℤ, zero, suc, ◌+◌, ◌<◌, ◌≤◌, ◌⊎◌, inl, inr, not, List, [], ◌∷◌, ◌++◌, length, filter, Some, refl, sym, ap, subst, append_assoc, arith, slice_get}
-use Rattle.std.specs.List.{filter_map}
+use Rattle.std.proofs.Common.{◌≡◌, ◌∙◌, ℕ, ℤ, zero, suc, ◌+◌, ◌<◌, ◌≤◌, ◌⊎◌, inl, inr, Bool, true, List, [], ◌∷◌, ◌++◌, length, Some, refl, sym, ap, subst, append_assoc, arith, slice_get}
 use Rattle.std.specs.Option.{option_to_list}
 use Rattle.std.specs.Prelude.{map}
 use Rattle.std.proofs.lemmas.List.{append-nil, map-append}
 use Rattle.std.proofs.lemmas.Option.{slice_get_within, none-some, same_Some}
 use Rattle.xk_types.specs.declared.world.Event.{Event}
-use Rattle.xk_types.specs.declared.world.Event.TheVariants as event
 use Rattle.xk_types.specs.Code.{ModuleValue}
 use Rattle.xk_types.specs.World.{World}
 use Rattle.xk_types.specs.Step.{Stepped, step}
-use Rattle.xk_types.specs.Schedule.{Through, run, is_local, events, events_on, number_printed, printed}
+use Rattle.xk_types.specs.Schedule.{Through, run, number_printed, printed}
 use Rattle.xk_law_schedules.proofs.ReachabilityLemmas.{same_through, first_step}
 use Rattle.xk_law_commute.proofs.ChangeSquareLemmas.{found_of}
+use Rattle.xk_closed.proofs.ClosedLaw.{printed_first}
 use Rattle.xk_outcomes.specs.Found.{FoundValue}
 use Rattle.xk_outcomes.specs.Digest.{world_digest}
-use Rattle.xk_outcomes.specs.Search.{IsGrown, Has, HasAfter, IsAt, IsKnown, AreDifferent, AreDigests, AreExpanded, found_digest}
+use Rattle.xk_outcomes.specs.Search.{IsExpanded, IsGrown, Has, HasAfter, IsAt, IsKnown, AreDifferent, AreDigests, AreExpanded, found_digest}
 use Rattle.xk_outcomes.proofs.DigestLemmas.{alike_digests}
 
 -- ---- lists by number
 
-pub each_push : {X : Type 0} (P : X → Type 0) (xs : List X) (new : X) → ((k : ℕ) (x : X) → slice_get xs k ≡ Some x → P x) → P new → (k : ℕ) (x : X) → slice_get (xs ++ new ∷ []) k ≡ Some x → P x
+pub each_push : {X : Type 0} (P : X → Type 0) (xs : List X) (new : X) → ((k : ℕ) (x : X) → slice_get xs k ≡ Some x → P x) → P new
+    → (k : ℕ) (x : X) → slice_get (xs ++ new ∷ []) k ≡ Some x → P x
 each_push P [] new all here zero x h = subst P (same_Some new x h) here
 each_push P [] new all here (suc i) x h = absurd (none-some x h)
 each_push P (z ∷ xs) new all here zero x h = all zero x h
@@ -41,7 +41,8 @@ there_is (x ∷ xs) zero h = (x, refl)
 there_is (x ∷ xs) (suc k) h = there_is xs k (omega (arith, h))
 
 -- what is at a place of a list with one more at its end
-pub place : {X : Type 0} (xs : List X) (o : X) (k : ℕ) (x : X) → slice_get (xs ++ o ∷ []) k ≡ Some x → (slice_get xs k ≡ Some x) ⊎ ((k ≡ length xs) × (o ≡ x))
+pub place : {X : Type 0} (xs : List X) (o : X) (k : ℕ) (x : X) → slice_get (xs ++ o ∷ []) k ≡ Some x
+    → (slice_get xs k ≡ Some x) ⊎ ((k ≡ length xs) × (o ≡ x))
 place [] o zero x h = inr (refl, same_Some o x h)
 place [] o (suc k) x h = absurd (none-some x h)
 place (z ∷ xs) o zero x h = inl h
@@ -53,22 +54,9 @@ place (z ∷ xs) o (suc k) x h = by (place xs o k x h)
 
 -- ---- by a step
 
--- the numbers of a step and what comes behind it
-prints_on : (b : ℕ) (e : Event) (rest : List (ℕ × Event))
-    → filter_map (λ (p : ℕ × Event). number_printed p.1) (filter (λ (p : ℕ × Event). not (is_local p.1)) ((b, e) ∷ rest))
-    ≡ option_to_list (number_printed e) ++ filter_map (λ (p : ℕ × Event). number_printed p.1) (filter (λ (p : ℕ × Event). not (is_local p.1)) rest)
-prints_on b event.Local rest = refl
-prints_on b (event.Printed n) rest = refl
-prints_on b _ rest = refl
-
-printed_first : (m : ModuleValue) (list : List ℕ) (w v : World) (b : ℕ) (e : Event) → step m w b ≡ Stepped v e
-    → printed m (b ∷ list) w ≡ option_to_list (number_printed e) ++ printed m list v
-printed_first m list w v b e h =
-    ap (λ o. filter_map (λ (p : ℕ × Event). number_printed p.1) (filter (λ (p : ℕ × Event). not (is_local p.1)) (events_on b o (events m list)))) h
-    ∙ prints_on b e (events m list v)
-
 -- the numbers of one step more
-pub printed_more : (m : ModuleValue) (list : List ℕ) (w v x : World) (a : ℕ) (e : Event) → run m list w ≡ Through v → step m v a ≡ Stepped x e
+pub printed_more : (m : ModuleValue) (list : List ℕ) (w v x : World) (a : ℕ) (e : Event) → run m list w ≡ Through v
+    → step m v a ≡ Stepped x e
     → printed m (list ++ a ∷ []) w ≡ printed m list w ++ option_to_list (number_printed e)
 printed_more m [] w v x a e h g =
     printed_first m [] w x a e (ap (λ z. step m z a) (same_through w v h) ∙ g) ∙ append-nil (option_to_list (number_printed e))
@@ -87,10 +75,12 @@ grown_push old new x e k y h = subst (λ l. slice_get l k ≡ Some y) (sym e) (s
 pub has_push : (old new : List FoundValue) (x : FoundValue) → new ≡ old ++ x ∷ [] → Has new x.core.world x.printed
 has_push old new x e = (length old, x, subst (λ l. slice_get l (length old) ≡ Some x) (sym e) (at_end old x), (refl, refl))
 
-pub known_grown : (m : ModuleValue) (old new : List FoundValue) (w : World) (p : List ℤ) → IsGrown old new → IsKnown m old w p → IsKnown m new w p
+pub known_grown : (m : ModuleValue) (old new : List FoundValue) (w : World) (p : List ℤ) → IsGrown old new → IsKnown m old w p
+    → IsKnown m new w p
 known_grown m old new w p grown h = let one = h.3 in (h.0, h.1, h.2, (one.0, one.1, grown one.0 one.1 one.2, one.3))
 
-pub after_grown : (m : ModuleValue) (old new : List FoundValue) (x : FoundValue) (a : ℕ) → IsGrown old new → HasAfter m old x a → HasAfter m new x a
+pub after_grown : (m : ModuleValue) (old new : List FoundValue) (x : FoundValue) (a : ℕ) → IsGrown old new → HasAfter m old x a
+    → HasAfter m new x a
 after_grown m old new x a grown h u e t = known_grown m old new u (x.printed ++ option_to_list (number_printed e)) grown (h u e t)
 
 pub longer : (old new : List FoundValue) (n : ℕ) → IsGrown old new → n < length old → n < length new
@@ -99,32 +89,36 @@ longer old new n grown h = let y = there_is old n h in slice_get_within new n y.
 -- ---- one is looked at
 
 -- who isn't there takes no step
-pub after_all : (m : ModuleValue) (all : List FoundValue) (here : FoundValue) (last : ℕ) → ((a : ℕ) → a < last → HasAfter m all here a)
-    → length here.core.world.activities ≤ last → (a : ℕ) → HasAfter m all here a
-after_all m all here last before enough a = by (side a last)
+pub after_all : (m : ModuleValue) (all : List FoundValue) (here : FoundValue) (set : ℕ → Bool) (last : ℕ)
+    → ((a : ℕ) → a < last → set a ≡ true → HasAfter m all here a)
+    → length here.core.world.activities ≤ last → (a : ℕ) → set a ≡ true → HasAfter m all here a
+after_all m all here set last before enough a inside = by (side a last)
   where
     side : (i n : ℕ) → (i < n) ⊎ (n ≤ i)
     side i n = grind arith
 
     by : (a < last) ⊎ (last ≤ a) → HasAfter m all here a
-    by (inl l) = before a l
+    by (inl l) = before a l inside
     by (inr g) = λ u e t.
         let act = found_of m here.core.world a u e t in
-        let inside = slice_get_within here.core.world.activities a act.0 act.1 in
-        absurd (omega (arith, inside, g, enough))
+        let there = slice_get_within here.core.world.activities a act.0 act.1 in
+        absurd (omega (arith, there, g, enough))
+
+expanded_grown : (m : ModuleValue) (old new : List FoundValue) (x : FoundValue) → IsGrown old new → IsExpanded m old x → IsExpanded m new x
+expanded_grown m old new x grown h = record { set = h.set; suffices = h.suffices; after = λ a inside. after_grown m old new x a grown (h.after a inside) }
 
 pub expanded_more : (m : ModuleValue) (old new : List FoundValue) (n : ℕ) → n < length old → IsGrown old new → AreExpanded m old n
-    → ((x : FoundValue) → slice_get old n ≡ Some x → (a : ℕ) → HasAfter m new x a) → AreExpanded m new (n + 1)
-expanded_more m old new n within grown before here k x less there a =
+    → ((x : FoundValue) → slice_get old n ≡ Some x → IsExpanded m new x) → AreExpanded m new (n + 1)
+expanded_more m old new n within grown before here k x less there =
     let y = there_is old k (omega (arith, less, within)) in
-    subst (λ (z : FoundValue). HasAfter m new z a) (same_Some y.0 x (sym (grown k y.0 y.1) ∙ there)) (by y.0 y.1 (split k n less))
+    subst (λ (z : FoundValue). IsExpanded m new z) (same_Some y.0 x (sym (grown k y.0 y.1) ∙ there)) (by y.0 y.1 (split k n less))
   where
     split : (i j : ℕ) → i < j + 1 → (i < j) ⊎ (i ≡ j)
     split i j h = grind arith
 
-    by : (y : FoundValue) → slice_get old k ≡ Some y → (k < n) ⊎ (k ≡ n) → HasAfter m new y a
-    by y at (inl l) = after_grown m old new y a grown (before k y l at a)
-    by y at (inr e) = here y (subst (λ j. slice_get old j ≡ Some y) e at) a
+    by : (y : FoundValue) → slice_get old k ≡ Some y → (k < n) ⊎ (k ≡ n) → IsExpanded m new y
+    by y at (inl l) = expanded_grown m old new y grown (before k y l at)
+    by y at (inr e) = here y (subst (λ j. slice_get old j ≡ Some y) e at)
 
 -- ---- no two are the same
 
@@ -132,7 +126,8 @@ expanded_more m old new n within grown before here k x less there a =
 pub same_digests : (x new : FoundValue) → IsAt x new.core.world new.printed → found_digest x ≡ found_digest new
 same_digests x new at = ap (world_digest x.core.world) at.1 ∙ sym (alike_digests new.core.world x.core.world new.printed at.0)
 
-pub different_push : (old new : List FoundValue) (o : FoundValue) → new ≡ old ++ o ∷ [] → (Has old o.core.world o.printed → ⊥) → AreDifferent old → AreDifferent new
+pub different_push : (old new : List FoundValue) (o : FoundValue) → new ≡ old ++ o ∷ [] → (Has old o.core.world o.printed → ⊥)
+    → AreDifferent old → AreDifferent new
 different_push old new o e fresh before i j x y hi hj same =
     by (place old o i x (subst (λ (l : List FoundValue). slice_get l i ≡ Some x) e hi)) (place old o j y (subst (λ (l : List FoundValue). slice_get l j ≡ Some y) e hj))
   where
@@ -143,6 +138,7 @@ different_push old new o e fresh before i j x y hi hj same =
         absurd (fresh (j, y, b, subst (λ (z : FoundValue). IsAt y z.core.world z.printed) (sym a.1) (sym same.0, sym same.1)))
     by (inr a) (inr b) = a.0 ∙ sym b.0
 
-pub digests_push : (old new : List FoundValue) (digests more : List ℕ) (x : FoundValue) → new ≡ old ++ x ∷ [] → more ≡ digests ++ found_digest x ∷ [] → AreDigests old digests → AreDigests new more
+pub digests_push : (old new : List FoundValue) (digests more : List ℕ) (x : FoundValue) → new ≡ old ++ x ∷ []
+    → more ≡ digests ++ found_digest x ∷ [] → AreDigests old digests → AreDigests new more
 digests_push old new digests more x e f h =
     f ∙ ap (λ (l : List ℕ). l ++ found_digest x ∷ []) h ∙ sym (map-append found_digest old (x ∷ [])) ∙ ap (map found_digest) (sym e)

@@ -1,5 +1,5 @@
 -- Worlds that are found one from another. This project's own.
-use Rattle.std.specs.Prelude.{◌≡◌, ℕ, ℤ, ◌<◌, true, List, [], ◌∷◌, ◌++◌, Some, slice_get, map}
+use Rattle.std.specs.Prelude.{◌≡◌, ℕ, ℤ, ◌<◌, Bool, true, List, [], ◌∷◌, ◌++◌, Some, slice_get, map}
 use Rattle.std.specs.Option.{option_to_list}
 use Rattle.xk_types.specs.declared.world.Event.{Event}
 use Rattle.xk_types.specs.Code.{ModuleValue}
@@ -9,6 +9,7 @@ use Rattle.xk_types.specs.Schedule.{Through, run, all_ended, number_printed, pri
 use Rattle.xk_law_commute.specs.PlainWorlds.{AreAlike}
 use Rattle.xk_law_commute.specs.QuietSteps.{has_quiet_step}
 use Rattle.xk_core.specs.Core.{CoreValue}
+use Rattle.xk_footprints.specs.Sets.{Suffices}
 use Rattle.xk_outcomes.specs.Found.{FoundValue, at_rest}
 use Rattle.xk_outcomes.specs.Digest.{world_digest}
 use Rattle.xk_outcomes.specs.Outcomes.{IsAtRest}
@@ -24,7 +25,8 @@ pub record IsFound (start : CoreValue) (x : FoundValue) : Type 0 where
 -- these steps are quiet, and lead from w to v
 abbrev pub LeadsQuietly : ModuleValue → List ℕ → World → World → Type 0
 LeadsQuietly m [] w v = w ≡ v
-LeadsQuietly m (a ∷ list) w v = (has_quiet_step m w a ≡ true) × (u : World) × (e : Event) × (step m w a ≡ Stepped u e) × LeadsQuietly m list u v
+LeadsQuietly m (a ∷ list) w v = (has_quiet_step m w a ≡ true) × (u : World) × (e : Event) × (step m w a ≡ Stepped u e)
+    × LeadsQuietly m list u v
 
 -- ---- all that were found
 
@@ -56,7 +58,8 @@ Has all w numbers = (k : ℕ) × (x : FoundValue) × (slice_get all k ≡ Some x
 
 -- no two of them are in worlds that are alike, the same numbers being printed by then
 abbrev pub AreDifferent : List FoundValue → Type 0
-AreDifferent all = (i j : ℕ) (x y : FoundValue) → slice_get all i ≡ Some x → slice_get all j ≡ Some y → IsAt x y.core.world y.printed → i ≡ j
+AreDifferent all = (i j : ℕ) (x y : FoundValue) → slice_get all i ≡ Some x → slice_get all j ≡ Some y → IsAt x y.core.world y.printed
+    → i ≡ j
 
 -- the digest of one that was found
 abbrev pub found_digest : FoundValue → ℕ
@@ -72,11 +75,18 @@ IsKnown m all w numbers = (list : List ℕ) × (v : World) × LeadsQuietly m lis
 
 -- where activity a can take a step from here, they know where that leads, with what is printed then
 abbrev pub HasAfter : ModuleValue → List FoundValue → FoundValue → ℕ → Type 0
-HasAfter m all x a = (u : World) (e : Event) → step m x.core.world a ≡ Stepped u e → IsKnown m all u (x.printed ++ option_to_list (number_printed e))
+HasAfter m all x a = (u : World) (e : Event) → step m x.core.world a ≡ Stepped u e
+    → IsKnown m all u (x.printed ++ option_to_list (number_printed e))
 
--- so it is of each activity, from each of them before this place
+-- so it is of activities whose steps suffice
+pub record IsExpanded (m : ModuleValue) (all : List FoundValue) (x : FoundValue) : Type 0 where
+  pub set : ℕ → Bool
+  pub suffices : Suffices m x.core.world set
+  pub after : (a : ℕ) → set a ≡ true → HasAfter m all x a
+
+-- from each of them before this place
 abbrev pub AreExpanded : ModuleValue → List FoundValue → ℕ → Type 0
-AreExpanded m all place = (k : ℕ) (x : FoundValue) → k < place → slice_get all k ≡ Some x → (a : ℕ) → HasAfter m all x a
+AreExpanded m all place = (k : ℕ) (x : FoundValue) → k < place → slice_get all k ≡ Some x → IsExpanded m all x
 
 -- Whatever a legal schedule prints by which all have ended was printed by then in one of them, in which all have ended.
 abbrev pub AreAllFound : CoreValue → List FoundValue → Type 0

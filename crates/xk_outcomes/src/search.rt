@@ -1,13 +1,16 @@
 //! The search, in breadth: what stands before an index has been looked at, and what is new goes to the end.
 
-ghost use Rattle.std.specs.Prelude.{◌≡◌, ◌<◌, ◌≤◌, ℕ, true, false, length, slice_get, IfOk, OnOk, Some};
+ghost use Rattle.std.specs.Prelude.{◌≡◌, ◌<◌, ◌≤◌, ℕ, true, false, length, slice_get, IfOk, IfSome, OnOk, Some};
+ghost use Rattle.xk_footprints.specs.Footprints.{is_in};
+ghost use Rattle.xk_footprints.specs.Tables.{AreTables};
 ghost use Rattle.xk_outcomes.specs.Found.{FoundValue};
-ghost use Rattle.xk_outcomes.specs.Search.{AreAllFound, AreAtRest, AreDifferent, AreExpanded, AreFound, HasAfter, IsGrown};
+ghost use Rattle.xk_outcomes.specs.Search.{AreAllFound, AreAtRest, AreDifferent, AreExpanded, AreFound, HasAfter, IsExpanded, IsGrown};
 
 use crate::entries::Entries;
 use crate::found::Found;
 use std::alloc::{AllocError, Global};
 use xk_core::Core;
+use xk_footprints::{Tables, enough, is_in};
 use xk_types::Act;
 
 /// What was found, and whether that is all.
@@ -41,39 +44,93 @@ fn try_act(
     all.add(alloc, number, act, &next)
 }
 
-/// Adds what each step leads to from here, the one of a number.
+/// The same, if the activity is one of these.
+fn try_member(
+    alloc: Global,
+    all: &mut Entries<'_>,
+    number: usize,
+    here: &Found<'_>,
+    set: &[bool],
+    act: Act,
+) -> Result<(), AllocError>
+    requires { slice_get all.old.all number ≡ Some here.now }
+    ensures start { all.new.start ≡ all.old.start }
+    ensures grown { IsGrown all.old.all all.new.all }
+    ensures after { OnOk result (is_in set.now act ≡ true
+        → HasAfter here.now.core.module_run all.new.all here.now act) }
+{
+    if !is_in(set, act.0 as usize) {
+        return Ok(());
+    }
+    try_act(alloc, all, number, here, act)
+}
+
+/// Adds what the steps of these activities lead to from here, the one of a number.
+fn try_each(
+    alloc: Global,
+    all: &mut Entries<'_>,
+    number: usize,
+    here: &Found<'_>,
+    set: &[bool],
+) -> Result<(), AllocError>
+    requires { slice_get all.old.all number ≡ Some here.now }
+    ensures start { all.new.start ≡ all.old.start }
+    ensures grown { IsGrown all.old.all all.new.all }
+    ensures after { OnOk result ((a : ℕ) → is_in set.now a ≡ true
+        → HasAfter here.now.core.module_run all.new.all here.now a) }
+{
+    for a in 0..here.core.activities() {
+        try_member(alloc, all, number, here, set, Act(a))?;
+    }
+    Ok(())
+}
+
+/// Adds what the steps lead to from here, the one of a number, of activities whose steps suffice.
 fn look(
     alloc: Global,
     all: &mut Entries<'_>,
     number: usize,
     here: &Found<'_>,
+    tables: &Option<Tables>,
 ) -> Result<(), AllocError>
-    requires { slice_get all.old.all number ≡ Some here.now }
+    requires there { slice_get all.old.all number ≡ Some here.now }
+    requires tables { IfSome tables.now (AreTables here.now.core.module_run) }
     ensures start { all.new.start ≡ all.old.start }
     ensures grown { IsGrown all.old.all all.new.all }
-    ensures after { OnOk result ((a : ℕ)
-        → HasAfter here.now.core.module_run all.new.all here.now a) }
+    ensures after { OnOk result (IsExpanded here.now.core.module_run all.new.all here.now) }
 {
-    for a in 0..here.core.activities() {
-        try_act(alloc, all, number, here, Act(a))?;
-    }
-    Ok(())
+    let set = enough(alloc, &here.core, tables)?;
+    try_each(alloc, all, number, here, &set)
 }
 
-/// Adds what each step leads to from the one of a number.
-fn expand(alloc: Global, all: &mut Entries<'_>, number: usize) -> Result<(), AllocError>
-    requires { number < length all.old.all }
+/// Adds what those steps lead to from the one of a number.
+fn expand(
+    alloc: Global,
+    all: &mut Entries<'_>,
+    number: usize,
+    tables: &Option<Tables>,
+) -> Result<(), AllocError>
+    requires there { number < length all.old.all }
+    requires tables { IfSome tables.now (AreTables all.old.start.module_run) }
     ensures start { all.new.start ≡ all.old.start }
     ensures grown { IsGrown all.old.all all.new.all }
     ensures after { OnOk result ((x : FoundValue) → slice_get all.old.all number ≡ Some x
-        → (a : ℕ) → HasAfter x.core.module_run all.new.all x a) }
+        → IsExpanded x.core.module_run all.new.all x) }
 {
+    // For `look`: it is found, so it runs the module of the start.
+    let _count = all.len();
     let here = all.get(alloc, number)?;
-    look(alloc, all, number, &here)
+    look(alloc, all, number, &here, tables)
 }
 
 /// Goes on until nothing is left to look at, or more are kept than the limit says. Whether nothing is left.
-fn search(alloc: Global, all: &mut Entries<'_>, limit: usize) -> Result<bool, AllocError>
+fn search(
+    alloc: Global,
+    all: &mut Entries<'_>,
+    limit: usize,
+    tables: &Option<Tables>,
+) -> Result<bool, AllocError>
+    requires { IfSome tables.now (AreTables all.old.start.module_run) }
     ensures start { all.new.start ≡ all.old.start }
     ensures grown { IsGrown all.old.all all.new.all }
     ensures expanded { IfOk result (λ complete. complete ≡ true
@@ -82,7 +139,7 @@ fn search(alloc: Global, all: &mut Entries<'_>, limit: usize) -> Result<bool, Al
 {
     let mut next: usize = 0;
     while next < all.len() && all.len() <= limit {
-        expand(alloc, all, next)?;
+        expand(alloc, all, next, tables)?;
         next += 1;
     }
     Ok(next == all.len())
@@ -101,8 +158,9 @@ pub fn explore<'m>(alloc: Global, start: Core<'m>, limit: usize) -> Result<Explo
     let verified = start.module();
     // For the law that nothing is missed: the module is accepted.
     let _accepted = verified.module();
+    let tables = Tables::of(alloc, verified)?;
     let mut found = Entries::open(alloc, start)?;
-    let complete = search(alloc, &mut found, limit)?;
+    let complete = search(alloc, &mut found, limit, &tables)?;
     // For `found`, `rest` and `different`.
     let _count = found.len();
     Ok(Explored { found, complete })

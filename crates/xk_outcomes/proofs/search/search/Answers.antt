@@ -1,7 +1,7 @@
 use Rattle.std.proofs.Common.{◌∙◌, ◌<◌, length, ap, arith, refl, subst}
 use Rattle.xk_types.specs.Code.{ModuleValue}
 use Rattle.xk_core.specs.Core.{CoreValue}
-use Rattle.xk_outcomes.specs.Search.{HasAfter}
+use Rattle.xk_outcomes.specs.Search.{IsExpanded}
 use Rattle.xk_outcomes.proofs.SearchLemmas.{expanded_more, longer}
 use Rattle.xk_outcomes.proofs.search.search.Goals as goal
 
@@ -26,9 +26,9 @@ loop-next-preserved c =
     record {
       start = c.expand.ensures.start ∙ c.loop-next.invariant.start;
       grown = λ k x h. c.expand.ensures.grown k x (c.loop-next.invariant.grown k x h);
-      expanded = expanded_more m old new at inside c.expand.ensures.grown c.loop-next.invariant.expanded (λ x there a.
-          subst (λ (k : ModuleValue). HasAfter k new x a)
+      expanded = expanded_more m old new at inside c.expand.ensures.grown c.loop-next.invariant.expanded (λ x there.
+          subst (λ (k : ModuleValue). IsExpanded k new x)
           ((c.len.ensures.found at x there).module_is ∙ ap (λ (s : CoreValue). s.module_run) c.loop-next.invariant.start)
-          (c.in_ok-expand.ensures.after x there a));
+          (c.in_ok-expand.ensures.after x there));
       within = omega (arith, still);
     }

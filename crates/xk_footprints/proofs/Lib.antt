@@ -1,0 +1,4 @@
+pub mod FootprintLemmas
+pub mod TableLemmas
+pub mod FrameLemmas
+pub mod SetLemmas
