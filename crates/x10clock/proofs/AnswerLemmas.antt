@@ -1,6 +1,6 @@
 -- An answer on open devices, told where less is known of them.
 use Rattle.std.proofs.lemmas.List.{append_assoc}
-use Rattle.std.proofs.Common.{◌≡◌, ◌∙◌, ◌≢◌, ◌++◌, ap, ℕ, ℤ, Bool, true, false, if◌then◌else◌, List, [], Option, None, Some, codes, inl, inr, subst, sym, tt}
+use Rattle.std.proofs.Common.{◌≡◌, ◌∙◌, ◌≢◌, ◌++◌, ap, ℕ, ℤ, Bool, true, false, if◌then◌else◌, List, [], Option, None, Some, codes, inl, inr, subst, sym}
 use Rattle.std.specs.Prelude.{◌⊎◌, IfSome, is_some, unwrap_or}
 use Rattle.std.specs.Io.KnownBytes.{Appends}
 use Rattle.xk_types.specs.Device.{Rose}
