@@ -1,5 +1,6 @@
 -- An answer on open devices, told where less is known of them.
-use Rattle.std.proofs.Common.{◌≡◌, ◌∙◌, ◌≢◌, ap, ℕ, ℤ, Bool, true, false, if◌then◌else◌, List, [], Option, None, Some, codes, inl, inr, subst, sym}
+use Rattle.std.proofs.lemmas.List.{append_assoc}
+use Rattle.std.proofs.Common.{◌≡◌, ◌∙◌, ◌≢◌, ◌++◌, ap, ℕ, ℤ, Bool, true, false, if◌then◌else◌, List, [], Option, None, Some, codes, inl, inr, subst, sym}
 use Rattle.std.specs.Prelude.{◌⊎◌, IfSome, is_some, unwrap_or}
 use Rattle.std.specs.Io.KnownBytes.{Appends}
 use Rattle.xk_types.specs.Device.{Rose}
@@ -18,7 +19,7 @@ use Rattle.xk_serve.specs.Devices.{Answered, IfKnown, Tells, read_of}
 use Rattle.xk_serve.proofs.ReplyLemmas.{of_known}
 use Rattle.xk_answers.proofs.LogLemmas.{of_each, some_each}
 use Rattle.xk_log.specs.SomeBytes.{OfSome}
-use Rattle.xk_serve_ask.specs.AskedRun.{IsHandReply}
+use Rattle.xk_serve_ask.specs.AskedRun.{IsAskedFirst, IsHandReply}
 use Rattle.xk_serve_ask.proofs.AskedRunLemmas.{unread_ends}
 use Rattle.x10clock.specs.Requests.{AnswersHand, AnswersTask, EndsIn, IsAnswered, IsAnsweredBySome, IsByHand, IsDeviceTold, IsGiven, IsPageWritten, IsServed, IsToldOver, IsToldUnopened, TellsUnopened, input_line, rule_page, told_path}
 
@@ -271,13 +272,34 @@ unopened_told r p i old new e g (inl rose) = inl (inr rose)
 unopened_told r p i old new e g (inr told) = inr told
 
 -- the same where nothing is known of what is read
-pub told_unread : (r : Request) (p i j : Option (List ℕ)) (old new : Option (List ℕ)) (e g : ℕ) → (EndsIn r p i device_line old new → EndsIn r p j device_line old new)
-    → IsDeviceTold r p i old new e g → IsDeviceTold r p j old new e g
-told_unread r p i j old new e g f (inl (inl ends)) = inl (inl (f ends))
-told_unread r p i j old new e g f (inl (inr rose)) = inl (inr rose)
-told_unread r p i j old new e g f (inr told) = inr told
+first_unread : (form : Form) (bytes : List ℕ) (args : List ℤ) (i : Option (List ℕ)) (said : List ℕ) → IsAskedFirst form bytes args i said
+    → IsAskedFirst form bytes args None said
+first_unread form bytes args i said (inl e) = inl e
+first_unread form bytes args i said (inr (m, gives, accepted, are, xs, answers, rest)) = inr (m, gives, accepted, are, xs, tt, rest)
+
+ends_unread : (r : Request) (p i : Option (List ℕ)) (line : List ℕ) (old new : Option (List ℕ)) → EndsIn r p i line old new → EndsIn r p None line old new
+ends_unread (request.Job job) p i line old new wrote = wrote
+ends_unread (request.ByHand run) p i line old new (said, first, wrote) =
+    (said, of_each (λ bytes. IsAskedFirst run.form (kept run.form bytes) run.arguments.items i said)
+    (λ bytes. IsAskedFirst run.form (kept run.form bytes) run.arguments.items None said) p
+    (λ bytes asked. first_unread run.form (kept run.form bytes) run.arguments.items i said asked) first, wrote)
+
+pub told_unread : (r : Request) (p i : Option (List ℕ)) (old new : Option (List ℕ)) (e g : ℕ) → IsDeviceTold r p i old new e g
+    → IsDeviceTold r p None old new e g
+told_unread r p i old new e g (inl (inl ends)) = inl (inl (ends_unread r p i device_line old new ends))
+told_unread r p i old new e g (inl (inr rose)) = inl (inr rose)
+told_unread r p i old new e g (inr told) = inr told
 
 -- ---- a file that can't be opened
+
+-- four texts one behind the other
+pub joined_four : (x0 x1 x2 x3 a b c d b1 c1 d1 : List ℕ) → x0 ≡ a → x1 ≡ x0 ++ b1 → b1 ≡ b → x2 ≡ x1 ++ c1 → c1 ≡ c → x3 ≡ x2 ++ d1 → d1 ≡ d
+    → x3 ≡ a ++ (b ++ (c ++ d))
+joined_four x0 x1 x2 x3 a b c d b1 c1 d1 h0 h1 hb h2 hc h3 hd =
+    let first : x1 ≡ a ++ b = h1 ∙ (ap (λ l. x0 ++ l) hb ∙ ap (λ l. l ++ b) h0) in
+    let second : x2 ≡ (a ++ b) ++ c = h2 ∙ (ap (λ l. x1 ++ l) hc ∙ ap (λ l. l ++ c) first) in
+    let third : x3 ≡ ((a ++ b) ++ c) ++ d = h3 ∙ (ap (λ l. x2 ++ l) hd ∙ ap (λ l. l ++ d) second) in
+    third ∙ (append_assoc (a ++ b) c d ∙ append_assoc a b (c ++ d))
 
 -- what was told of a path and a kind of error was told of the same
 pub unopened_of : (path o : Option (List ℕ)) (why k : ErrorKind) (old new : Option (List ℕ)) (e g s : ℕ) → path ≡ o → why ≡ k
