@@ -275,7 +275,7 @@ unopened_told r p i old new e g (inr told) = inr told
 first_unread : (form : Form) (bytes : List ℕ) (args : List ℤ) (i : Option (List ℕ)) (said : List ℕ) → IsAskedFirst form bytes args i said
     → IsAskedFirst form bytes args None said
 first_unread form bytes args i said (inl e) = inl e
-first_unread form bytes args i said (inr (m, gives, accepted, are, xs, answers, rest)) = inr (m, gives, accepted, are, xs, tt, rest)
+first_unread form bytes args i said (inr (m, gives, accepted, are, (xs, answers, rest))) = inr (m, gives, accepted, are, (xs, tt, rest))
 
 ends_unread : (r : Request) (p i : Option (List ℕ)) (line : List ℕ) (old new : Option (List ℕ)) → EndsIn r p i line old new → EndsIn r p None line old new
 ends_unread (request.Job job) p i line old new wrote = wrote
