@@ -406,10 +406,26 @@ class Comparer:
         outcome.counts["runs drawn"] += 1
         with tempfile.NamedTemporaryFile() as file:
             pathlib.Path(file.name).write_bytes(logs.text_of(log))
-            for command, *flags in (["events"], ["lanes"], ["lanes", "--svg"], ["page"], ["races"], ["where"]):
+            step = random.Random(text).randrange(sum(entry.steps for entry in log) + 2)
+            for command, *flags in (
+                ["events"],
+                ["lanes"],
+                ["lanes", "--svg"],
+                ["page"],
+                ["races"],
+                ["where"],
+                ["where", f"--at={step}"],
+            ):
                 told = Answer(
                     *runs.answer(
-                        command, judged, text, not self.source, logs.text_of(log), given, is_picture=bool(flags)
+                        command,
+                        judged,
+                        text,
+                        not self.source,
+                        logs.text_of(log),
+                        given,
+                        is_picture=flags == ["--svg"],
+                        at=step if flags and command == "where" else None,
                     )
                 )
                 answer = self.ask(text, command, *flags, *words_of(given), log=file.name)

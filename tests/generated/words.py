@@ -75,13 +75,13 @@ ORDERS = ["first", "last", "round", "random", "ask", "least", "First", "", "firs
 STRANGE = [
     "--", "-h", "--help", "help", "-", "", "-x", "-5", "-hx", "--module=x", "--help=x", "--modul", "--Module",
     "--orders", "--=", "---", "--version", "-V", "walk", "chek", "run", "check", "--no-module", "--log", "--order",
-    "--workers", "--arg", "--seed", "--runs", "--limit", "--pick", "--sets", "--expect", "--from", "--to", "--svg",
-    "outcome", "\udcff", "--log=\udcfe", "ü", "--ü", "a b", "=", "@step.x10",
+    "--workers", "--arg", "--seed", "--runs", "--limit", "--pick", "--sets", "--expect", "--from", "--to", "--at",
+    "--svg", "outcome", "V9", "\udcff", "--log=\udcfe", "ü", "--ü", "a b", "=", "@step.x10",
 ]  # fmt: skip
 
 
 # For some commands options that are a number each.
-COUNTED = {"outcomes": ("limit", "pick"), "lanes": ("from", "to"), "page": ("from", "to")}
+COUNTED = {"outcomes": ("limit", "pick"), "lanes": ("from", "to"), "page": ("from", "to"), "where": ("at",)}
 
 
 def option(rng: random.Random, name: str, value: str) -> list[str]:

@@ -212,13 +212,6 @@ def extent(lines: list[str], said: dict[str, Any]) -> tuple[Place, Place]:
     return begin, Place(begin.line, found.end() if found else begin.column)
 
 
-def holding(said: dict[str, Any]) -> list[str]:
-    if "holds" not in said:
-        return []
-    slot = f"`{said['slot_name']}`" if said["slot_name"] else f"slot {said['slot']}"
-    return [f"{slot} may hold here: {said['holds']}"]
-
-
 def where(it: dict[str, Any]) -> str:
     return f"{it['line']}:{it['column']}: " if "line" in it else ""
 
@@ -230,10 +223,10 @@ def in_neovim(text: str, said: dict[str, Any]) -> list[Any]:
     lines = text.removeprefix("\ufeff").removesuffix("\n").split("\n")
     walk = said.get("walk", [])
     which = f"the last {STOPS} of {len(walk)} stops of a way" if len(walk) > STOPS else "a way"
-    told = [f"{said['rule']} {said['name']}: {said['message']}", *holding(said)]
+    told = [f"{said['rule']} {said['name']}: {said['message']}"]
+    told += [f"{where(note)}{note['text']}" for note in said["notes"]]
     told += [f"{which} to it, and what is held before each stop:"] * bool(walk)
     told += [f"  {where(stop)}{kinds()[stop['kind']]}" for stop in walk[-STOPS:]]
-    told += [f"{where(note)}{note['text']}" for note in said["notes"]]
     told += [f"usual repair: {said['repair']}"]
     begin, end = extent(lines, said)
     return [[begin.bytes(lines), end.bytes(lines), "\n".join(told)]]
@@ -245,12 +238,13 @@ def in_code(text: str, said: dict[str, Any]) -> list[Any]:
         return []
     lines = text.split("\n")
     span = lambda it: [place.units(lines) for place in extent(lines, it)]
-    told = [f"{said['name']}: {said['message']}", *holding(said)]
-    told += [note["text"] for note in said["notes"] if "line" not in note]
+    is_elsewhere = lambda note: "line" in note and where(note) != where(said)
+    told = [f"{said['name']}: {said['message']}"]
+    told += [note["text"] for note in said["notes"] if not is_elsewhere(note)]
     told += [f"usual repair: {said['repair']}"]
     stops = said.get("walk", [])[-STOPS:]
     related = [[span(stop), f"on a way to it, held before: {kinds()[stop['kind']]}"] for stop in stops]
-    related += [[span(note), note["text"]] for note in said["notes"] if "line" in note]
+    related += [[span(note), note["text"]] for note in said["notes"] if is_elsewhere(note)]
     return [[span(said), said["rule"], "\n".join(told), related]]
 
 

@@ -89,9 +89,12 @@ CALLS = [
     ),
     *(
         Call(f"{command} - SECOND", IN_STEP, LOG)
-        for command in ("replay", "chart", "events", "lanes", "lanes --svg", "page", "where", "races")
+        for command in (
+            "replay", "chart", "events", "lanes", "lanes --svg", "page", "where", "where --at 2", "races")
     ),
     *(Call(f"{command} --module - SECOND", MODULE, LOG) for command in ("replay", "chart")),
+    Call("where --at 99 - SECOND", IN_STEP, LOG, status=6),
+    Call("explain V9", b""),
     Call("outcomes --limit 1 --pick 2 --log LOG -", IN_STEP, status=6),
     Call("outcomes --expect SECOND -", IN_STEP, OUTCOMES),
     Call("outcomes --expect SECOND -", IN_STEP, b"outcome 1 prints 7\n", status=6),

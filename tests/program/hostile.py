@@ -33,6 +33,9 @@ PRINTED = (ROWS / "in-step.stdout").read_text()
 LOG = "x10log 1\n" + "".join(f"{who} 1\n" for who in (0, 0, 0, 1, 0, 0, 0, 0, 1, 1, 1, 1)) + "end 12\n"
 OUTCOMES = "outcome 1 prints 1 2\noutcome 2 prints 2 1\noutcomes 2 complete\n"
 DEVICE, MEMORY = "x10clock: device\n", "x10clock: out of memory\n"
+# Of these commands nothing is told of a file that can't be opened but that.
+FIXED = ("check", "compile", "run", "replay", "chart")
+FOLDER, MISSING, OTHER = "it is a folder", "no such file or folder", "the system can't open it"
 TOO_LONG = """/dev/zero: F4 TooLong: the text has more than 1048576 bytes
    = usual repair: write a shorter one: a method is written once, however often it is called
 """
@@ -85,6 +88,11 @@ class Tried:
         path = self.folder / name
         path.write_bytes(text.encode() if isinstance(text, str) else text)
         return path
+
+
+def unopened(command: str, path: str, why: str) -> str:
+    """What is told where this file can't be opened."""
+    return ("" if command.split()[0] in FIXED else f"x10clock: can't open {path}: {why}\n") + DEVICE
 
 
 # Where output goes.
@@ -188,6 +196,14 @@ def shared_path(tried: Tried) -> None:
         tried.wants("one that writes less", (told + err, out, one.returncode), (first + DEVICE, "stopped steps 0\n", 5))
 
 
+def fifo(tried: Tried) -> None:
+    """A log that goes to a pipe with a name waits for whoever reads it, and gets there whole."""
+    os.mkfifo(tried.folder / "fifo")
+    tried.answers("exec timeout 1 $x run --log fifo in-step.x10", 124)
+    tried.answers("cat fifo > got & exec $x run --log fifo in-step.x10", 0, PRINTED)
+    tried.answers("exec $x replay in-step.x10 got", 0, PRINTED)
+
+
 # Where input comes from.
 
 
@@ -196,8 +212,18 @@ def strange_files(tried: Tried) -> None:
         "check", "explain", "explain --json", "listing", "compile", "run", "outcomes", "outcomes --sets", "races",
         "run --order random --runs 2", "check --module",
     ):  # fmt: skip
-        tried.answers(f"exec $x {command} .", 5, err=DEVICE)
-        tried.answers(f"exec $x {command} no-such-file", 5, err=DEVICE)
+        tried.answers(f"exec $x {command} .", 5, err=unopened(command, ".", FOLDER))
+        tried.answers(f"exec $x {command} no-file", 5, err=unopened(command, "no-file", MISSING))
+        tried.answers(f"exec $x {command} bad.x10/in", 5, err=unopened(command, "bad.x10/in", OTHER))
+    tried.answers(
+        "exec $x listing \"$(printf 'a\\033[2Jb')\"", 5, err=unopened("listing", "a\\x1b[2Jb", MISSING)
+    )
+    tried.answers("exec $x outcomes --log no/log in-step.x10", 5, err=unopened("outcomes", "no/log", MISSING))
+    tried.answers("exec $x outcomes --log . in-step.x10", 5, err=unopened("outcomes", ".", FOLDER))
+    tried.answers("exec $x outcomes --expect no in-step.x10", 5, err=unopened("outcomes", "no", MISSING))
+    if os.geteuid() != 0:
+        tried.file("shut", "").chmod(0)
+        tried.answers("exec $x listing shut", 5, err=unopened("listing", "shut", "no permission"))
     tried.answers("exec $x check /dev/null", 1, err="x10clock: F9 NoMain at 0\n")
     tried.answers("exec $x check --module /dev/null", 1, err="x10clock: M1 NotJson\n")
     tried.answers("exec $x check /dev/zero", 1, err="x10clock: F4 TooLong at 0\n")
@@ -207,9 +233,9 @@ def strange_files(tried: Tried) -> None:
     tried.answers("exec $x listing /dev/zero", 1, err="x10clock: F4 TooLong at 0\n")
     tried.answers("exec $x listing --module /dev/zero", 1, err="x10clock: M3 Limit\n")
     tried.answers("exec $x listing /dev/null", 1, err="x10clock: F9 NoMain at 0\n")
-    for command in ("replay", "chart", "events", "lanes", "lanes --svg", "page", "where", "races"):
-        tried.answers(f"exec $x {command} in-step.x10 .", 5, err=DEVICE)
-        tried.answers(f"exec $x {command} in-step.x10 no-such-file", 5, err=DEVICE)
+    for command in ("replay", "chart", "events", "lanes", "lanes --svg", "page", "where", "where --at 2", "races"):
+        tried.answers(f"exec $x {command} in-step.x10 .", 5, err=unopened(command, ".", FOLDER))
+        tried.answers(f"exec $x {command} in-step.x10 no", 5, err=unopened(command, "no", MISSING))
         tried.answers(f"exec $x {command} in-step.x10 /dev/zero", 3, err="x10clock: L1 Grammar line 1\n")
         tried.answers(f"exec $x {command} in-step.x10 /dev/null", 3, err="x10clock: L2 Truncated\n")
 
@@ -426,6 +452,7 @@ def all_of_them() -> Iterator[Callable[[Tried], None]]:
         over_file,
         over_streams,
         shared_path,
+        fifo,
         strange_files,
         asked,
         strange_lists,

@@ -281,9 +281,13 @@ def each_log(calls: Calls, folder: str) -> None:
         charted = calls.ask(f"{name}, chart", ["chart", *words, "-", str(kept)], text)
         if charted.status:
             raise Wrong(f"{name}, chart: {charted}")
-        for command in ("events", "lanes", "lanes --svg", "page", "where", "races"):
+        for command in (
+            "events", "lanes", "lanes --svg", "page", "where", "where --at 2", "where --at 999999", "races"
+        ):  # fmt: skip
             told = calls.ask(f"{name}, {command}", [*command.split(), *words, "-", str(kept)], text)
-            if told.status not in ((0, 6) if command == "races" else (0,)) or not told.out:
+            if told.status not in ((0, 6) if command == "races" else (6,) if "999999" in command else (0,)):
+                raise Wrong(f"{name}, {command}: {told}")
+            if not told.out:
                 raise Wrong(f"{name}, {command}: {told}")
     text = (ROWS / "in-step.x10").read_bytes()
     for log, line in (("zero-steps", "L1 Grammar line 2"), ("no-end", "L2 Truncated"),

@@ -8,6 +8,7 @@ and what is missing at the end. Files are opened, in this order: FILE, LOG or th
 
 from __future__ import annotations
 
+import errno
 import itertools
 import os
 import re
@@ -18,6 +19,7 @@ from tests.harness import TOP
 from tests.reference import ask, explain, explain_json, listing, logs, modules, outcomes, runs, source, tally
 from tests.reference.events import Program
 from tests.reference.modules import Accepted, Arguments, Refused, Way
+from tests.prover import rule_pages
 
 # A number's digits are read one after another, up to the first that makes it too large.
 SIGNED, UNSIGNED = range(-(2**63), 2**63), range(2**64)
@@ -59,7 +61,14 @@ class Version(Exception):
 
 
 class Device(Exception):
-    """A file failed."""
+    """A file failed; the message is what is told before the line of a device, if something is."""
+
+
+# Of these commands the specification has what is told where a file can't be opened.
+FIXED = ("check", "compile", "run", "replay", "chart")
+# Why a file can't be opened.
+REASONS = {errno.ENOENT: "no such file or folder", errno.EISDIR: "it is a folder", errno.EACCES: "no permission",
+           errno.EPERM: "no permission"}
 
 
 class TooLong(Exception):
@@ -89,6 +98,7 @@ OPTIONS = {
     "pick": Option("--pick <K>", COUNTS),
     "from": Option("--from <STEP>", COUNTS),
     "to": Option("--to <STEP>", COUNTS),
+    "at": Option("--at <STEP>", UNSIGNED),
     "log": Option("--log <PATH>"),
     "expect": Option("--expect <FILE2>"),
     "arg": Option("--arg <N>", SIGNED, is_list=True),
@@ -109,7 +119,7 @@ COMMANDS: dict[str, tuple[set[str], set[str], list[str]]] = {
     "events": ({"arg"}, {"module"}, ["FILE", "LOG"]),
     "lanes": ({"from", "to", "arg"}, {"module", "svg"}, ["FILE", "LOG"]),
     "page": ({"from", "to", "arg"}, {"module"}, ["FILE", "LOG"]),
-    "where": ({"arg"}, {"module"}, ["FILE", "LOG"]),
+    "where": ({"at", "arg"}, {"module"}, ["FILE", "LOG"]),
 }
 
 
@@ -339,14 +349,21 @@ class Told:
     err: str = ""
 
 
-def opened(path: str, mode: str) -> BinaryIO | None:
-    """The file, or None for a folder, which can be opened and not be read."""
-    if mode == "rb" and path and os.path.isdir(path):
+def opened(job: Job, path: str, mode: str) -> BinaryIO | None:
+    """The file, or None for a folder, which can be opened and not be read, where what is told of that is fixed."""
+    is_folder = mode == "rb" and path and os.path.isdir(path)
+    if is_folder and job.command in FIXED:
         return None
     try:
         return open(path, mode)
-    except OSError:
-        raise Device from None
+    except OSError as fault:
+        raise Device("" if job.command in FIXED else unopened(path, fault.errno)) from None
+
+
+def unopened(path: str, number: int | None) -> str:
+    """Which file can't be opened, and why."""
+    shown = "".join(map(explain.shown, explain.signs(path.encode())))
+    return f"x10clock: can't open {shown}: {REASONS.get(number, 'the system can' + chr(39) + 't open it')}"
 
 
 def contents(file: BinaryIO | None) -> bytes:
@@ -495,26 +512,44 @@ def answered(job: Job, data: bytes, given: BinaryIO, log_in: BinaryIO | None, lo
     log = contents(log_in) if "LOG" in job.values else first_log(judged, tuple(job.numbers))
     window = range(int(job.values.get("from", "0")), int(job.values.get("to", str(2**64 - 1))) + 1)
     status, out, err = runs.answer(
-        job.command, judged, data, "module" in job.flags, log, tuple(job.numbers), window, "svg" in job.flags
+        job.command,
+        judged,
+        data,
+        "module" in job.flags,
+        log,
+        tuple(job.numbers),
+        window,
+        "svg" in job.flags,
+        int(job.values["at"]) if "at" in job.values else None,
     )
     return Told(status, out, err.removesuffix("\n"))
+
+
+def rule_page(job: Job) -> str | None:
+    """The page of the rule whose code stands for FILE, where `explain` is asked for it as a text."""
+    if job.command != "explain" or job.flags:
+        return None
+    pages = {rule.code: rule.lines for rule in rule_pages.rules(TOP)}
+    return "".join(f"{line}\n" for line in pages[job.values["FILE"]]) if job.values["FILE"] in pages else None
 
 
 def done(job: Job, given: BinaryIO) -> Told:
     """What a job is answered, with this standard input. The files are those of the folder that the caller is in."""
     file, log_in, log_out, is_asked = job.values["FILE"], None, None, job.values.get("order") == ASK
+    if page := rule_page(job):
+        return Told(0, page)
     if is_asked and file == "-":
         return Told(2, "", ASKED_INPUT)
-    program = given if file == "-" else opened(file, "rb")
+    program = given if file == "-" else opened(job, file, "rb")
     try:
         if {"LOG", "expect"} & {*job.values}:
-            log_in = opened(job.values["LOG" if "LOG" in job.values else "expect"], "rb")
+            log_in = opened(job, job.values["LOG" if "LOG" in job.values else "expect"], "rb")
         if "log" in job.values:
             if is_asked and (is_same(job.values["log"], given) or is_same(job.values["log"], program)):
                 return Told(2, "", OVER_ANSWERS)
             if is_same(job.values["log"], program):
                 return Told(2, "", OVER_FILE)
-            log_out = opened(job.values["log"], "wb")
+            log_out = opened(job, job.values["log"], "wb")
         return answered(job, contents(program), given, log_in, log_out)
     finally:
         for opened_file in (log_in, log_out, program if file != "-" else None):
@@ -532,5 +567,5 @@ def told(words: list[str], given: BinaryIO) -> Told:
         return Told(0, help_text(str(asked)))
     except Mistake as mistake:
         return Told(2, "", str(mistake))
-    except Device:
-        return Told(5, "", DEVICE)
+    except Device as device:
+        return Told(5, "", str(device) or DEVICE)

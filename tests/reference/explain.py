@@ -7,12 +7,13 @@ import re
 from functools import cache
 
 from tests.harness import TOP
-from tests.reference import declarations, expected, origins, sums
+from tests.reference import declarations, expected, hints, origins, sums
 from tests.reference.sums import Note
 
 PAGE = TOP / "docs/EXPLAIN.md"
 ROW = re.compile(r"\| (?P<rule>[FMV]\d+) \w+ \| (?P<wrong>.*) \| (?P<repair>.*) \|")
 HABIT = re.compile(r"\| (?P<rule>F\d+) \| (?P<where>at|behind|before|in) \| (?P<what>.*?) \| (?P<repair>.*) \|")
+OF_SOURCE = re.compile(r"\| (?P<rule>V\d+) of a source text \| (?P<wrong>.*) \|")
 KIND = re.compile(r"\| (?P<kind>unset|number|live|resumed|out) \| (?P<holds>.*) \|")
 FRONT = re.compile(r"(?P<title>(?P<rule>F\d+) \w+) at (?P<at>\d+)")
 TEXT = re.compile(r"(?P<title>(?P<rule>M\d+) \w+)")
@@ -39,6 +40,13 @@ def tables() -> tuple[dict[str, tuple[str, str]], dict[str, str]]:
     page = PAGE.read_text().splitlines()
     rules = {found["rule"]: (found["wrong"], found["repair"]) for line in page if (found := ROW.fullmatch(line))}
     return rules, {found["kind"]: found["holds"] for line in page if (found := KIND.fullmatch(line))}
+
+
+@cache
+def wrong_in_source(rule: str) -> str:
+    """What is wrong with a source text by a rule of the verifier."""
+    found = (OF_SOURCE.fullmatch(line) for line in PAGE.read_text().splitlines())
+    return next((row["wrong"] for row in found if row and row["rule"] == rule), tables()[0][rule][0])
 
 
 @cache
@@ -259,16 +267,16 @@ def in_source(file: str, text: bytes, found: re.Match[str], kinds: list[str], no
     title = f"in {unit.name}" if unit.name else f"in the `async` at {place_title(text, unit.at)}"
     at = unit.offsets[place]
     word = WORD.match(text, at)
-    said = f"{file}:{place_title(text, at)}: {found['title']}, {title}: {tables()[0][rule][0]}\n" + excerpt(
+    said = f"{file}:{place_title(text, at)}: {found['title']}, {title}: {wrong_in_source(rule)}\n" + excerpt(
         text, at, max(1, len(word[0]))
     )
+    said += notes
     if found["walk"]:
         slot = int(found["slot"])
-        name = f"`{unit.slots[slot]}`" if slot in unit.slots else f"slot {slot}"
-        said += f"   = {name} may hold here: {tables()[1][found['kind']]}\n"
+        name = f"`{unit.slots[slot]}`" if slot in unit.slots else "the clock without a name"
         said += f"   = a way to it, and what {name} holds before each statement:\n"
         said += stops(text, unit.offsets, list(map(int, found["walk"].split())), kinds) + WAYS
-    return said + notes + repair(rule)
+    return said + repair(rule)
 
 
 def explained(file: str, text: bytes, line: str, kinds: list[str], is_module: bool) -> str:
@@ -283,7 +291,7 @@ def explained(file: str, text: bytes, line: str, kinds: list[str], is_module: bo
         rule = found["rule"]
         head = f"{file}: {found['title']}, {found['place']}: {tables()[0][rule][0]}\n"
         return (
-            head + (walk(found["slot"], kinds, found["walk"].split()) if found["walk"] else "") + notes + repair(rule)
+            head + notes + (walk(found["slot"], kinds, found["walk"].split()) if found["walk"] else "") + repair(rule)
         )
     if found := BOUND.fullmatch(said):
         rule = found["rule"]
@@ -294,6 +302,11 @@ def explained(file: str, text: bytes, line: str, kinds: list[str], is_module: bo
     return ""
 
 
+def notes_on_accepted(text: bytes, is_module: bool) -> list[Note]:
+    """The notes on a program that is accepted: what its numbers come from, and hints."""
+    return [*sums.of_accepted(text, is_module), *hints.of_accepted(text, is_module)]
+
+
 def accepted(text: bytes, line: str, is_module: bool) -> str:
     """What is said of a program of which `check` says this line."""
-    return line + note_lines(text, sums.of_accepted(text, is_module))
+    return line + note_lines(text, notes_on_accepted(text, is_module))

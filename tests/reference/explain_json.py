@@ -7,18 +7,21 @@ import json
 import re
 from collections.abc import Iterable
 
-from tests.reference import origins, sums
+from tests.reference import origins
 from tests.reference.explain import (
     BOUND,
     FRONT,
     PLACE,
     TEXT,
     WITHOUT_PLACE,
+    WORD,
     notes_on,
+    notes_on_accepted,
     place_title,
     position,
     repair_at,
     tables,
+    wrong_in_source,
 )
 from tests.reference.sums import Note
 
@@ -30,9 +33,16 @@ def line_of(members: Members) -> str:
     return json.dumps(members, ensure_ascii=False, separators=(",", ":"), sort_keys=True) + "\n"
 
 
-def place(text: bytes, at: int) -> Members:
-    line, column = position(text, min(at, len(text)))
+def begin(text: bytes, at: int) -> Members:
+    line, column = position(text, at)
     return {"line": line, "column": column}
+
+
+def place(text: bytes, at: int) -> Members:
+    """Where an offset lies, and where the name, the number or the sign ends that is there."""
+    at = min(at, len(text))
+    line, column = position(text, min(max(WORD.match(text, at).end(), at + 1), len(text)))
+    return begin(text, at) | {"end_line": line, "end_column": column}
 
 
 def notes_of(text: bytes | None, notes: Iterable[Note]) -> Members:
@@ -61,12 +71,13 @@ def by_place(file: str, text: bytes | None, found: re.Match[str], kinds: list[st
     unit = None if text is None else origins.origins(text)[number]
     said = refused(file, found["title"]) | {"unit": number, "place": at}
     if unit:
+        said |= {"message": wrong_in_source(said["rule"])}
         said |= {"in": unit.name or f"async at {place_title(text, unit.at)}"} | place(text, unit.offsets[at])
     if found["walk"]:
         slot, kind = int(found["slot"]), found["kind"]
         stops = zip(map(int, found["walk"].split()), kinds, strict=True)
         walk = [
-            {"place": stop, "kind": held} | (place(text, unit.offsets[stop]) if unit else {}) for stop, held in stops
+            {"place": stop, "kind": held} | (begin(text, unit.offsets[stop]) if unit else {}) for stop, held in stops
         ]
         said |= {"slot": slot, "kind": kind, "holds": tables()[1][kind], "walk": walk}
         said |= {"slot_name": unit.slots.get(slot)} if unit else {}
@@ -95,5 +106,5 @@ def accepted(file: str, text: bytes, line: str, is_module: bool) -> str:
     return line_of(
         {"accepted": True, "file": file}
         | numbers
-        | notes_of(None if is_module else text, sums.of_accepted(text, is_module))
+        | notes_of(None if is_module else text, notes_on_accepted(text, is_module))
     )

@@ -49,10 +49,11 @@ def answer(
     arguments: Arguments = (),
     window: range = WHOLE,
     is_picture: bool = False,
+    at: int | None = None,
 ) -> Answer:
     """What a command answers of a log and this program."""
     if command == WHERE:
-        return where.answer(Program(data, is_module), judged, log, arguments)
+        return where.answer(Program(data, is_module), judged, log, arguments, at)
     return logs.answer(judged, log, teller(command, data, is_module, window, is_picture), arguments)
 
 

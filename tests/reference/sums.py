@@ -1,8 +1,9 @@
 """The reference for the notes of `explain` on what the verifier says (docs/EXPLAIN.md, "Notes"), from the module and
 where its instructions come from.
 
-Beside V8, V9 and V12 stands the other place that the rule speaks of, beside V14 to V17 the sum by its parts, and of a
-program that is accepted what its numbers come from.
+Beside V8, V9 and V12 stands the other place that the rule speaks of, beside V9 who waits for whom, beside V11 to V13
+what the slot may hold when which thing is done with it, beside V14 to V17 the sum by its parts, and of a program that
+is accepted what its numbers come from.
 """
 
 from __future__ import annotations
@@ -20,7 +21,9 @@ Note = tuple[int | None, str]
 
 # Numbers up to this one are printed in digits.
 MOST_TOLD = 10**18
-FAULT = re.compile(r"(?P<rule>V\d+) \w+ (?:unit (?P<unit>\d+) at (?P<at>\d+)|over \d+)")
+FAULT = re.compile(
+    r"(?P<rule>V\d+) \w+ (?:unit (?P<unit>\d+) at (?P<at>\d+)(?: slot (?P<slot>\d+) (?P<kind>\w+))?|over \d+)"
+)
 LOOPS = ("for", "forto")
 
 
@@ -49,8 +52,10 @@ class Speaker:
         return self.unit(number, "the `async` around it")
 
     def slot(self, number: int, slot: int) -> str:
-        names = self.origins[number].slots if self.origins else {}
-        return f"`{names[slot]}`" if slot in names else f"slot {slot}"
+        if self.origins is None:
+            return f"slot {slot}"
+        names = self.origins[number].slots
+        return f"`{names[slot]}`" if slot in names else "the clock without a name"
 
     def times(self, number: int, times: int) -> str:
         return f"{counted(times, 'time', 'times')} in one run of {self.around(number)}"
@@ -87,26 +92,60 @@ def beside_home(number: int, unit: Unit, place: int, speaker: Speaker) -> Iterat
 
 
 def beside_registers(module: Module, number: int, place: int, speaker: Speaker) -> Iterator[Note]:
-    """V9: where the first clock comes from that is handed on in another block than its own, and the finish that is
-    open."""
+    """V9: where the first clock comes from that is handed on in another block than its own, the finish that is open,
+    and, where that begins behind it, who waits for whom."""
     unit = module.units[number]
-    block = unit.blocks[place]
-    for slot in module.arguments(unit.code[place], "c"):
+    block, instr = unit.blocks[place], unit.code[place]
+    clock = None
+    for slot in module.arguments(instr, "c"):
         made = elsewhere(unit, slot, place, range(len(unit.code)))
         if unit.is_clock_param(slot) and block != WHOLE_UNIT:
-            yield speaker.of(number, f"{speaker.slot(number, slot)} comes from outside")
+            clock = speaker.slot(number, slot)
+            yield speaker.of(number, f"{clock} comes from outside")
             break
         if made is not None:
+            clock = speaker.slot(number, slot) if made < block else None
             yield speaker.at(number, made, f"{speaker.slot(number, slot)} is made here")
             break
     if block != WHOLE_UNIT:
         yield speaker.at(number, block, "this finish is open")
+        if clock:
+            callee = f"those that {speaker.unit(instr.callee)} starts" if instr.name == "call" else ""
+            awaited = f"at its end the finish waits for {callee or 'the one started here'}"
+            yield speaker.at(number, place, f"{awaited}, which may wait on {clock} for this activity")
 
 
 def beside_held(number: int, unit: Unit, place: int, speaker: Speaker) -> Iterator[Note]:
     """V12: where the finish begins that ends."""
     for begin in unit.code[place].of(Role.BEGIN):
         yield speaker.at(number, begin, "the finish begins here")
+
+
+HOLDS = {
+    "unset": "may hold nothing yet",
+    "number": "may be a number",
+    "live": "may be held still",
+    "resumed": "may be held still",
+    "out": "may be dropped already",
+}
+DONE = {
+    "resume": "when it is resumed here",
+    "drop": "when it is dropped here",
+    "spawn": "when it is handed on here",
+    "endfinish": "when the finish ends here",
+    "make": "when it is made anew here",
+}
+
+
+def beside_kind(module: Module, number: int, place: int, slot: int, kind: str, speaker: Speaker) -> Note:
+    """V11 to V13: what the slot may hold when this is done with it."""
+    instr = module.units[number].code[place]
+    done = DONE.get(instr.name, "where it is used here")
+    if instr.name == "call":
+        done = f"when it is lent to {speaker.unit(instr.callee)} here"
+    if instr.name == "ret":
+        done = f"when {speaker.unit(number)} ends here"
+    return speaker.at(number, place, f"{speaker.slot(number, slot)} {HOLDS[kind]} {done}")
 
 
 # Sums.
@@ -206,7 +245,7 @@ def parts(told: Sum, module: Module, speaker: Speaker) -> Iterator[Note]:
 def of_refused(data: bytes, said: str, is_module: bool) -> list[Note]:
     """The notes beside a line of the verifier's, as `V9 Registers unit 0 at 3`."""
     found = FAULT.match(said)
-    if not found or found["rule"] not in ("V8", "V9", "V12", *SUMS):
+    if not found or found["rule"] not in ("V8", "V9", "V11", "V12", "V13", *SUMS):
         return []
     module, origins = program(data, is_module)
     speaker, rule = Speaker(origins), found["rule"]
@@ -215,8 +254,10 @@ def of_refused(data: bytes, said: str, is_module: bool) -> list[Note]:
     number, place = int(found["unit"]), int(found["at"])
     if rule == "V9":
         return list(beside_registers(module, number, place, speaker))
-    beside = beside_home if rule == "V8" else beside_held
-    return list(beside(number, module.units[number], place, speaker))
+    if rule == "V8":
+        return list(beside_home(number, module.units[number], place, speaker))
+    kind = beside_kind(module, number, place, int(found["slot"]), found["kind"], speaker)
+    return [kind, *(beside_held(number, module.units[number], place, speaker) if rule == "V12" else ())]
 
 
 def of_accepted(data: bytes, is_module: bool) -> list[Note]:

@@ -1,4 +1,5 @@
-"""The reference for `where`: how things stand behind the steps of a log, as far as they can be taken."""
+"""The reference for `where`: how things stand behind the steps of a log, or behind so many, as far as they can be
+taken."""
 
 from __future__ import annotations
 
@@ -107,8 +108,21 @@ def taken(played: Played, log: Log) -> Stop | None:
     return None
 
 
-def answer(program: Program, judged: Accepted | Refused, data: bytes, arguments: Arguments = ()) -> Answer:
-    """How things stand behind the steps of a log, whose text is judged as for a replay."""
+def beginning(log: Log, at: int) -> Log:
+    """The entries of the first steps of a log, so many; one that has more of them is cut."""
+    taken = []
+    for entry in log:
+        if at == 0:
+            break
+        taken.append(entry._replace(steps=min(at, entry.steps)))
+        at -= taken[-1].steps
+    return taken
+
+
+def answer(
+    program: Program, judged: Accepted | Refused, data: bytes, arguments: Arguments = (), at: int | None = None
+) -> Answer:
+    """How things stand behind the steps of a log, or behind so many; its text is judged as for a replay."""
     line = modules.refusal("replay", judged, arguments)
     if line:
         return 1, "", f"x10clock: {line}\n"
@@ -117,5 +131,8 @@ def answer(program: Program, judged: Accepted | Refused, data: bytes, arguments:
     except Fault as fault:
         return 3, "", f"x10clock: {fault}\n"
     played = Played.opening(judged.module, arguments)
-    stop = taken(played, log)
-    return STOPPED if stop else 0, Place(program, played, stop).text(), ""
+    stop = taken(played, log if at is None else beginning(log, at))
+    text, steps = Place(program, played, stop).text(), sum(entry.steps for entry in log)
+    if at is not None and steps < at:
+        return STOPPED, f"{text}the log ends after step {steps}\n", ""
+    return STOPPED if stop else 0, text, ""

@@ -1,7 +1,13 @@
 -- An answer on open devices, told where less is known of them.
-use Rattle.std.proofs.Common.{◌≡◌, ◌≢◌, ℕ, ℤ, Bool, true, false, if◌then◌else◌, List, [], Option, None, Some, codes, inl, inr}
-use Rattle.std.specs.Prelude.{◌⊎◌, IfSome, is_some}
+use Rattle.std.proofs.lemmas.List.{append_assoc}
+use Rattle.std.proofs.Common.{◌≡◌, ◌∙◌, ◌≢◌, ◌++◌, ap, ℕ, ℤ, Bool, true, false, if◌then◌else◌, List, [], Option, None, Some, codes, inl, inr, subst, sym}
+use Rattle.std.specs.Prelude.{◌⊎◌, IfSome, is_some, unwrap_or}
 use Rattle.std.specs.Io.KnownBytes.{Appends}
+use Rattle.xk_types.specs.Device.{Rose}
+use Rattle.xk_program.specs.Lines.{device_line}
+use Rattle.xk_messages.specs.Lines.{memory_line}
+use Rattle.std.specs.declared.io.ErrorKind.{ErrorKind}
+use Rattle.x10clock.specs.declared.files.Which.{Which}
 use Rattle.xk_cli.specs.declared.job.Form.{Form}
 use Rattle.xk_cli.specs.CommandLine.{asked_value}
 use Rattle.xk_cli.specs.Status.{status_words}
@@ -11,10 +17,11 @@ use Rattle.xk_serve.specs.Answer.{Task, reads_more, task_of}
 use Rattle.xk_program.specs.Bytes.{kept}
 use Rattle.xk_serve.specs.Devices.{Answered, IfKnown, Tells, read_of}
 use Rattle.xk_serve.proofs.ReplyLemmas.{of_known}
-use Rattle.xk_answers.proofs.LogLemmas.{of_each}
-use Rattle.xk_serve_ask.specs.AskedRun.{IsHandReply}
+use Rattle.xk_answers.proofs.LogLemmas.{of_each, some_each}
+use Rattle.xk_log.specs.SomeBytes.{OfSome}
+use Rattle.xk_serve_ask.specs.AskedRun.{IsAskedFirst, IsHandReply}
 use Rattle.xk_serve_ask.proofs.AskedRunLemmas.{unread_ends}
-use Rattle.x10clock.specs.Requests.{AnswersHand, AnswersTask, EndsIn, IsAnswered, IsAnsweredBySome, IsByHand, IsServed, IsToldOver, input_line}
+use Rattle.x10clock.specs.Requests.{AnswersHand, AnswersTask, EndsIn, IsAnswered, IsAnsweredBySome, IsByHand, IsDeviceTold, IsGiven, IsPageWritten, IsServed, IsToldOver, IsToldUnopened, TellsUnopened, input_line, rule_page, told_path}
 
 -- ---- a run by hand
 
@@ -117,6 +124,13 @@ without : (reads : Bool) (known : Option (List ℕ)) (P : List ℕ → Type 0) �
 without true known P h = tt
 without false known P h = h
 
+-- the same, or else of some
+without_some : (reads : Bool) (known : Option (List ℕ)) (P : List ℕ → Type 0) → OfSome (if reads then known else Some []) P
+    → OfSome (if reads then None else Some []) P
+without_some true None P h = h
+without_some true (Some xs) P h = (xs, h)
+without_some false known P h = h
+
 less_known : (t : Task) (program known : Option (List ℕ)) (P : List ℕ → List ℕ → Type 0) → IfKnown t program known P → IfKnown t program None P
 less_known t None known P h = tt
 less_known t (Some bytes) known P h = without (reads_more t.doing) known (P bytes) h
@@ -146,7 +160,7 @@ some_unlogged (request.Job job) p i j s out out_new err err_new log log_new h =
     record {
       bytes = h.bytes;
       are = h.are;
-      answered = of_each (λ logged. Answered t h.bytes logged s out out_new err err_new log log_new)
+      answered = some_each (λ logged. Answered t h.bytes logged s out out_new err err_new log log_new)
           (λ logged. Answered t h.bytes logged s out out_new err err_new None None) (read_of t i)
           (λ logged a. answered_unlogged t h.bytes logged s out out_new err err_new log log_new a) h.answered;
     }
@@ -166,7 +180,7 @@ some_unread (request.Job job) p i j s out out_new err err_new log log_new Told (
     inl (record {
       bytes = h.bytes;
       are = h.are;
-      answered = without (reads_more t.doing) i (λ logged. Answered t h.bytes logged s out out_new err err_new log log_new) h.answered;
+      answered = without_some (reads_more t.doing) i (λ logged. Answered t h.bytes logged s out out_new err err_new log log_new) h.answered;
     })
 some_unread (request.ByHand run) p i j s out out_new err err_new log log_new Told (inl h) = inl (record {
   bytes = h.bytes;
@@ -205,6 +219,29 @@ pub input_served : (r : Request) (s : ℕ) (out out_new err err_new : Option (Li
     → Tells input_line status_words err err_new e g s → IsServed r s out out_new err err_new e g
 input_served r s out out_new err err_new e g hand file told memory device = inr (inr (hand, file, told))
 
+-- ---- the page of a rule
+
+-- a rule's code stands for FILE
+pub page_given : (r : Request) (page : List ℕ) (s : ℕ) (out out_new err err_new : Option (List ℕ)) (e g : ℕ) → rule_page r ≡ Some page
+    → (s ≢ 5 → IsPageWritten page s out out_new err err_new) → IsGiven r s out out_new err err_new e g
+page_given r page s out out_new err err_new e g is written = inr (page, is, written)
+
+-- the page that was found is the one that is asked for
+pub same_page : (page found : List ℕ) (s : ℕ) (out out_new err err_new o : Option (List ℕ)) → o ≡ Some page → o ≡ Some found
+    → IsPageWritten found s out out_new err err_new → IsPageWritten page s out out_new err err_new
+same_page page found s out out_new err err_new o is e h =
+    subst (λ p. IsPageWritten p s out out_new err err_new) (ap (λ x. unwrap_or x found) (sym e ∙ is)) h
+
+-- where there is none, none is written
+pub none_written : (page : List ℕ) (A : Type 0) (o : Option (List ℕ)) → o ≡ None → o ≡ Some page → A
+none_written page A None none is = cc
+none_written page A (Some x) none is = cc
+
+-- and no memory is wanted for it
+pub never_memory : (s : ℕ) (A : Type 0) → (s ≡ 0) ⊎ (s ≡ 5) → s ≡ 4 → A
+never_memory s A (inl zero) memory = cc
+never_memory s A (inr five) memory = cc
+
 pub none_served : (r : Request) (s : ℕ) (out out_new err err_new : Option (List ℕ)) (e g : ℕ) → (s ≡ 4) ⊎ (s ≡ 5)
     → IsServed r s out out_new err err_new e g
 none_served r s out out_new err err_new e g is memory device = absurd (not_both s is memory device)
@@ -220,3 +257,85 @@ pub alone_ends_or : (r : Request) (p i : Option (List ℕ)) (line : List ℕ) (o
     → Appends old new line ⊎ Other → EndsIn r p i line old new ⊎ Other
 alone_ends_or r p i line old new Other (inl wrote) = inl (alone_ends r p i line old new wrote)
 alone_ends_or r p i line old new Other (inr other) = inr other
+
+-- ---- where a device failed
+
+-- of an open file, or of standard error
+pub device_told : (r : Request) (p i : Option (List ℕ)) (old new : Option (List ℕ)) (e g : ℕ) → EndsIn r p i device_line old new ⊎ Rose e g
+    → IsDeviceTold r p i old new e g
+device_told r p i old new e g h = inl h
+
+-- or a file couldn't be opened
+pub unopened_told : (r : Request) (p i : Option (List ℕ)) (old new : Option (List ℕ)) (e g : ℕ) → Rose e g ⊎ IsToldUnopened r old new
+    → IsDeviceTold r p i old new e g
+unopened_told r p i old new e g (inl rose) = inl (inr rose)
+unopened_told r p i old new e g (inr told) = inr told
+
+-- the same where nothing is known of what is read
+first_unread : (form : Form) (bytes : List ℕ) (args : List ℤ) (i : Option (List ℕ)) (said : List ℕ) → IsAskedFirst form bytes args i said
+    → IsAskedFirst form bytes args None said
+first_unread form bytes args i said (inl e) = inl e
+first_unread form bytes args i said (inr (m, gives, accepted, are, (xs, answers, rest))) = inr (m, gives, accepted, are, (xs, tt, rest))
+
+ends_unread : (r : Request) (p i : Option (List ℕ)) (line : List ℕ) (old new : Option (List ℕ)) → EndsIn r p i line old new → EndsIn r p None line old new
+ends_unread (request.Job job) p i line old new wrote = wrote
+ends_unread (request.ByHand run) p i line old new (said, first, wrote) = (
+  said,
+  of_each (λ bytes. IsAskedFirst run.form (kept run.form bytes) run.arguments.items i said)
+      (λ bytes. IsAskedFirst run.form (kept run.form bytes) run.arguments.items None said) p
+      (λ bytes asked. first_unread run.form (kept run.form bytes) run.arguments.items i said asked) first,
+  wrote,
+)
+
+pub told_unread : (r : Request) (p i : Option (List ℕ)) (old new : Option (List ℕ)) (e g : ℕ) → IsDeviceTold r p i old new e g
+    → IsDeviceTold r p None old new e g
+told_unread r p i old new e g (inl (inl ends)) = inl (inl (ends_unread r p i device_line old new ends))
+told_unread r p i old new e g (inl (inr rose)) = inl (inr rose)
+told_unread r p i old new e g (inr told) = inr told
+
+-- ---- a file that can't be opened
+
+-- four texts one behind the other
+pub joined_four : (x0 x1 x2 x3 a b c d b1 c1 d1 : List ℕ) → x0 ≡ a → x1 ≡ x0 ++ b1 → b1 ≡ b → x2 ≡ x1 ++ c1 → c1 ≡ c → x3 ≡ x2 ++ d1 → d1 ≡ d
+    → x3 ≡ a ++ (b ++ (c ++ d))
+joined_four x0 x1 x2 x3 a b c d b1 c1 d1 h0 h1 hb h2 hc h3 hd =
+    let first : x1 ≡ a ++ b = h1 ∙ (ap (λ l. x0 ++ l) hb ∙ ap (λ l. l ++ b) h0) in
+    let second : x2 ≡ (a ++ b) ++ c = h2 ∙ (ap (λ l. x1 ++ l) hc ∙ ap (λ l. l ++ c) first) in
+    let third : x3 ≡ ((a ++ b) ++ c) ++ d = h3 ∙ (ap (λ l. x2 ++ l) hd ∙ ap (λ l. l ++ d) second) in
+    third ∙ (append_assoc (a ++ b) c d ∙ append_assoc a b (c ++ d))
+
+-- what was told of a path and a kind of error was told of the same
+pub unopened_of : (path o : Option (List ℕ)) (why k : ErrorKind) (old new : Option (List ℕ)) (e g s : ℕ) → path ≡ o → why ≡ k
+    → TellsUnopened path why old new e g s → TellsUnopened o k old new e g s
+unopened_of path o why k old new e g s p q h =
+    subst (λ x. TellsUnopened x k old new e g s) p (subst (λ x. TellsUnopened path x old new e g s) q h)
+
+-- with the status of a device it is told of one of the files, or standard error failed
+pub unopened_file : (r : Request) (w : Which) (k : ErrorKind) (old new : Option (List ℕ)) (e g s : ℕ) → TellsUnopened (told_path r w) k old new e g s → s ≡ 5
+    → Rose e g ⊎ IsToldUnopened r old new
+unopened_file r w k old new e g s (inl (inl t)) five = inr (w, k, t.1)
+unopened_file r w k old new e g s (inl (inr t)) five = inl t.2
+unopened_file r w k old new e g s (inr (named, inl t)) five = cc
+unopened_file r w k old new e g s (inr (named, inr t)) five = inl t.2
+
+-- with that of want of memory its line is
+pub unopened_memory : (o : Option (List ℕ)) (k : ErrorKind) (old new : Option (List ℕ)) (e g s : ℕ) → TellsUnopened o k old new e g s → s ≡ 4
+    → Appends old new memory_line
+unopened_memory o k old new e g s (inl (inl t)) four = cc
+unopened_memory o k old new e g s (inl (inr t)) four = cc
+unopened_memory o k old new e g s (inr (named, inl t)) four = t.1
+unopened_memory o k old new e g s (inr (named, inr t)) four = cc
+
+-- no other status is
+pub unopened_status : (o : Option (List ℕ)) (k : ErrorKind) (old new : Option (List ℕ)) (e g s : ℕ) → TellsUnopened o k old new e g s → (s ≡ 4) ⊎ (s ≡ 5)
+unopened_status o k old new e g s (inl (inl t)) = inr t.0
+unopened_status o k old new e g s (inl (inr t)) = inr t.0
+unopened_status o k old new e g s (inr (named, inl t)) = inl t.0
+unopened_status o k old new e g s (inr (named, inr t)) = inr t.0
+
+-- and with another than that of a device standard error didn't fail
+pub unopened_whole : (o : Option (List ℕ)) (k : ErrorKind) (old new : Option (List ℕ)) (e g s : ℕ) → TellsUnopened o k old new e g s → s ≢ 5 → g ≡ e
+unopened_whole o k old new e g s (inl (inl t)) device = t.2
+unopened_whole o k old new e g s (inl (inr t)) device = absurd (device t.0)
+unopened_whole o k old new e g s (inr (named, inl t)) device = t.2
+unopened_whole o k old new e g s (inr (named, inr t)) device = absurd (device t.0)

@@ -1,15 +1,29 @@
 -- What the program does with what its words ask for, on open devices: a job is served, and a run by hand is played. This project's own.
-use Rattle.std.specs.Prelude.{◌≡◌, ◌≢◌, ℕ, ◌⊎◌, List, ◌++◌, codes, true, false, Option, None, Some, Result, Ok, Err, IfSome, is_some, option_map}
+use Rattle.std.specs.Prelude.{◌≡◌, ◌≢◌, ℕ, ◌⊎◌, Bool, List, [], ◌++◌, codes, true, false, Option, None, Some, Result, Ok, Err, IfSome, is_some, option_map, if◌then◌else◌}
 use Rattle.std.specs.Io.KnownBytes.{Appends}
-use Rattle.xk_cli.specs.Status.{status_device, status_memory, status_words}
+use Rattle.std.specs.declared.io.ErrorKind.{ErrorKind}
+use Rattle.std.specs.declared.io.ErrorKind.TheVariants as kind
+use Rattle.xk_types.specs.Device.{Rose}
+use Rattle.xk_lines.specs.Signs.{shown_signs, signs}
+use Rattle.xk_cli.specs.Status.{status_device, status_done, status_memory, status_words}
 use Rattle.xk_cli.specs.CommandLine.{asked_value}
-use Rattle.xk_cli.specs.CommandFiles.{written_path}
+use Rattle.xk_cli.specs.CommandAnswers.{explanation}
+use Rattle.xk_cli.specs.CommandFiles.{read_path, written_path}
+use Rattle.xk_cli.specs.declared.job.Form.{Form}
+use Rattle.xk_cli.specs.declared.job.Form.TheVariants as form
+use Rattle.xk_rules.specs.Pages.{rule_text}
+use Rattle.xk_cli.specs.declared.job.Command.{Command}
+use Rattle.xk_cli.specs.declared.job.Command.TheVariants as command
 use Rattle.xk_cli.specs.declared.job.HandRun.{HandRun}
 use Rattle.xk_cli.specs.declared.job.Request.{Request}
 use Rattle.xk_cli.specs.declared.job.Request.TheVariants as request
 use Rattle.xk_serve.specs.Answer.{Task, reads_more, task_of}
 use Rattle.xk_program.specs.Bytes.{kept}
+use Rattle.xk_program.specs.Lines.{device_line}
+use Rattle.xk_messages.specs.Lines.{memory_line}
 use Rattle.xk_serve.specs.Devices.{Answered, AnsweredBySome, ErrBegins, IfKnown, OutBegins, Tells}
+use Rattle.x10clock.specs.declared.files.Which.{Which}
+use Rattle.x10clock.specs.declared.files.Which.TheVariants as which
 use Rattle.x10clock.specs.declared.files.Over.{Over}
 use Rattle.x10clock.specs.declared.files.Over.TheVariants as over
 use Rattle.xk_serve_ask.specs.AskedRun.{BeginsAsking, EndsAsking, IsHandReply, IsHandReplyOfSome, OutBeginsRun}
@@ -44,6 +58,55 @@ WritesLog r = is_some (log_path r) ≡ true
 abbrev pub IsToldOver : Request → Option (List ℕ) → Option (List ℕ) → ℕ → ℕ → ℕ → Type 0
 IsToldOver r err_old err_new faults_old faults_new status =
     WritesLog r × ((what : Over) × Tells (over_line r what) status_words err_old err_new faults_old faults_new status)
+
+-- ---- a file that can't be opened
+
+-- whether it is told which file can't be opened: the specification fixes what is told of runs, replays, checks, modules and charts
+abbrev pub is_left_open : Command → Bool
+is_left_open command.Check = false
+is_left_open command.Compile = false
+is_left_open (command.Run drive log) = false
+is_left_open (command.Tally seed runs) = false
+is_left_open (command.Replay log) = false
+is_left_open (command.Chart log) = false
+is_left_open _ = true
+
+abbrev pub names_files : Request → Bool
+names_files (request.Job job) = is_left_open job.command
+names_files (request.ByHand run) = false
+
+-- the path of one of the files: of FILE, of the log or the list that is read, of the log that is written
+abbrev pub path_of : Request → Which → Option (List ℕ)
+path_of (request.Job job) which.Program = Some job.file.now
+path_of (request.Job job) which.Beside = read_path job.command
+path_of (request.Job job) which.Log = written_path job.command
+path_of (request.ByHand run) _ = None
+
+-- the path that is told
+abbrev pub told_path : Request → Which → Option (List ℕ)
+told_path r w = if names_files r then path_of r w else None
+
+-- why a file can't be opened, by what kind of error the system gives
+abbrev pub reason_of : ErrorKind → List ℕ
+reason_of kind.NotFound = codes ": no such file or folder\n"
+reason_of kind.IsADirectory = codes ": it is a folder\n"
+reason_of kind.PermissionDenied = codes ": no permission\n"
+reason_of _ = codes ": the system can't open it\n"
+
+-- which file can't be opened, and why, where that is told; and then a device's line
+abbrev pub unopened_lines : Option (List ℕ) → ErrorKind → List ℕ
+unopened_lines (Some path) why = codes "x10clock: can't open " ++ (shown_signs (signs path) ++ (reason_of why ++ device_line))
+unopened_lines None why = device_line
+
+-- that was told; or, where a path is told, want of memory for it
+abbrev pub TellsUnopened : Option (List ℕ) → ErrorKind → Option (List ℕ) → Option (List ℕ) → ℕ → ℕ → ℕ → Type 0
+TellsUnopened path why old new faults_old faults_new status =
+    Tells (unopened_lines path why) status_device old new faults_old faults_new status
+    ⊎ ((is_some path ≡ true) × Tells memory_line status_memory old new faults_old faults_new status)
+
+-- that was told of one of the files
+abbrev pub IsToldUnopened : Request → Option (List ℕ) → Option (List ℕ) → Type 0
+IsToldUnopened r old new = (w : Which) × (why : ErrorKind) × Appends old new (unopened_lines (told_path r w) why)
 
 -- ---- answers
 
@@ -105,6 +168,11 @@ EndsIn (request.ByHand run) program input line old new = EndsAsking run.form pro
 abbrev pub input_line : List ℕ
 input_line = codes "x10clock: --order ask reads standard input, so FILE can't be -\n"
 
+-- a device failed: its line was told, or a file couldn't be opened and that was, or standard error failed
+abbrev pub IsDeviceTold : Request → Option (List ℕ) → Option (List ℕ) → Option (List ℕ) → Option (List ℕ) → ℕ → ℕ → Type 0
+IsDeviceTold r program input old new faults_old faults_new =
+    (EndsIn r program input device_line old new ⊎ Rose faults_old faults_new) ⊎ IsToldUnopened r old new
+
 abbrev pub IsByHand : Request → Type 0
 IsByHand (request.Job job) = ⊥
 IsByHand (request.ByHand run) = Unit {0}
@@ -118,6 +186,22 @@ ReadsNoMore (request.ByHand run) = ⊥
 abbrev pub IsLastLine : List ℕ → Option (List ℕ) → Option (List ℕ) → Type 0
 IsLastLine line old new = (said : List ℕ) × Appends old new (said ++ line)
 
+-- ---- the page of a rule
+
+-- what `explain` is asked for is the page of this rule: it is to be no JSON value, and FILE no module
+abbrev pub page_asked : Option Bool → Form → List ℕ → Option (List ℕ)
+page_asked (Some false) form.Source file = rule_text file
+page_asked _ _ _ = None
+
+abbrev pub rule_page : Request → Option (List ℕ)
+rule_page (request.Job job) = page_asked (explanation job.command) job.form job.file.now
+rule_page (request.ByHand run) = None
+
+-- that page was written, and nothing to standard error
+abbrev pub IsPageWritten : List ℕ → ℕ → Option (List ℕ) → Option (List ℕ) → Option (List ℕ) → Option (List ℕ) → Type 0
+IsPageWritten page status out_old out_new err_old err_new =
+    (status ≡ status_done) × Appends out_old out_new page × Appends err_old err_new []
+
 -- ---- what is asked for
 
 -- Where neither memory nor a device fails, status and texts answer what is asked for on some bytes of FILE, of which nothing is known
@@ -129,3 +213,10 @@ IsServed r status out_old out_new err_old err_new faults_old faults_new =
     → IsAnsweredBySome r None None None status out_old out_new err_old err_new None None
     ⊎ (IsToldOver r err_old err_new faults_old faults_new status
     ⊎ (IsByHand r × ((asked_value r).file ≡ codes "-") × Tells input_line status_words err_old err_new faults_old faults_new status))
+
+-- The same, or, where a rule's code stands for FILE, what that rule means is told.
+abbrev pub IsGiven : Request → ℕ → Option (List ℕ) → Option (List ℕ) → Option (List ℕ) → Option (List ℕ) → ℕ → ℕ → Type 0
+IsGiven r status out_old out_new err_old err_new faults_old faults_new =
+    IsServed r status out_old out_new err_old err_new faults_old faults_new
+    ⊎ ((page : List ℕ) × (rule_page r ≡ Some page)
+    × (status ≢ status_device → IsPageWritten page status out_old out_new err_old err_new))

@@ -1,6 +1,6 @@
 //! What the program asks of the files and streams that it is given, before it opens any.
 
-use std::fs::{Files, Metadata, OpenFile, OpenOptions, metadata};
+use std::fs::{Files, Metadata, OpenFile, OpenOptions, metadata, open};
 use std::io::{Error, ErrorKind, Result, Seek, Write};
 use std::os::unix::fs::MetadataExt;
 
@@ -13,6 +13,26 @@ pub enum Over {
     Output,
     /// The file that standard error goes to.
     Error,
+}
+
+/// One of the files that words name.
+#[derive(Clone, Copy)]
+pub enum Which {
+    /// FILE.
+    Program,
+    /// The log or the list of outcomes that is read.
+    Beside,
+    /// The log that is written.
+    Log,
+}
+
+/// Opens a file to read it. A folder, which the system opens, isn't one where `is_told`: then that can be told.
+pub fn open_file<R: Files>(rt: &R, path: &str, is_told: bool) -> Result<R::File> {
+    let file = open(rt, path)?;
+    match file.metadata() {
+        Ok(found) if is_told && found.is_dir() => Err(Error::from(ErrorKind::IsADirectory)),
+        Ok(_) | Err(_) => Ok(file),
+    }
 }
 
 /// The file of a log, which nothing else is to write to: a write fails where the file is longer or shorter than what was

@@ -1,21 +1,22 @@
 //! The program: words to a job, files and streams to devices, and the status that serving it answers.
 #![tactic(auto)]
 
-ghost use Rattle.std.specs.Prelude.{◌≡◌, ◌≢◌, ◌⊎◌, [], None, map, option_map, codes, string_bytes, IfOk};
+ghost use Rattle.std.specs.Prelude.{◌≡◌, ◌≢◌, ◌⊎◌, ℕ, List, [], None, Some, map, option_map, codes, string_bytes, IfOk};
 ghost use Rattle.std.specs.Io.KnownBytes.{Appends};
+ghost use Rattle.std.specs.IoError.{error_kind};
 ghost use Rattle.xk_types.specs.Device.{Rose};
 ghost use Rattle.xk_cli.specs.CommandLine.{asked_value, texts};
-ghost use Rattle.xk_cli.specs.Status.{status_device, status_memory, status_program, status_words};
+ghost use Rattle.xk_cli.specs.Status.{status_device, status_done, status_memory, status_program, status_words};
 ghost use Rattle.xk_program.specs.Lines.{device_line};
 ghost use Rattle.xk_messages.specs.Lines.{memory_line};
 ghost use Rattle.xk_serve.specs.Devices.{Reports, Tells, TellsWords};
 ghost use Rattle.xk_program.specs.declared.fault.Fault.TheVariants as fault;
 ghost use Rattle.x10clock.specs.CommandLine.{AreTold, AskForHand, IsWantOfMemory, no_text_line};
-ghost use Rattle.x10clock.specs.Requests.{EndsIn, IsByHand, IsLastLine, ErrIsBegun, IsAnswered, IsAnsweredBySome, IsServed, IsToldOver, OutIsBegun, ReadsNoMore, input_line, log_path, over_line, over_read_line, what_over};
+ghost use Rattle.x10clock.specs.Requests.{EndsIn, IsByHand, IsDeviceTold, IsLastLine, IsToldUnopened, TellsUnopened, IsPageWritten, IsGiven, ErrIsBegun, IsAnswered, IsAnsweredBySome, IsServed, IsToldOver, OutIsBegun, ReadsNoMore, input_line, log_path, is_left_open, names_files, over_line, over_read_line, page_asked, path_of, reason_of, rule_page, told_path, unopened_lines, what_over};
 
 mod files;
 
-use files::{LogFile, Over, hold_streams, is_same_file};
+use files::{LogFile, Over, Which, hold_streams, is_same_file, open_file};
 use std::alloc::{AllocError, AllocGlobal, Global};
 use std::fs::Files;
 use std::io::{ErrorKind, Input, Read};
@@ -23,11 +24,18 @@ use std::process::ExitCode;
 use std::sync::Wait;
 use std::thread::Threads;
 use std::{env, fs, io};
-use xk_cli::{Request, WordsFault, read_job, status};
-use xk_program::Fault;
+use xk_cli::{Command, Form, Request, WordsFault, read_job, status};
+use xk_io::write_all;
+use xk_lines::shown;
+use xk_messages::MEMORY_LINE;
+use xk_program::{DEVICE_LINE, Fault};
+use xk_rules::rule_text;
 use xk_serve::{report, serve, tell, tell_words};
 use xk_serve_ask::serve_asked;
 use xk_types::{Counted, Sink, Source};
+
+/// What stands before the name of a file that can't be opened.
+const CANNOT_OPEN: &str = "x10clock: can't open ";
 
 /// What a job may want of the runtime: memory, files, standard input, and threads that wait for one another.
 trait Runtime: AllocGlobal + Files + Input + Threads + Wait + Sync {}
@@ -70,7 +78,7 @@ fn no_words<E: Sink>(alloc: Global, e: &io::Error, err: &mut E) -> u8
 /// Does what the words ask for, or says why they ask for nothing.
 fn on_words<R: Runtime, O: Sink, E: Sink>(rt: &R, words: &[String], out: &mut O, err: &mut E) -> u8
     ensures told { AreTold (map string_bytes words.now)
-        (λ r. IsServed r result (O.contents out.old) (O.contents out.new)
+        (λ r. IsGiven r result (O.contents out.old) (O.contents out.new)
         (E.contents err.old) (E.contents err.new) (E.fault_count err.old) (E.fault_count err.new))
         (λ f. TellsWords f
         (λ text status. (err.new ≡ err.old)
@@ -94,7 +102,7 @@ fn on_words<R: Runtime, O: Sink, E: Sink>(rt: &R, words: &[String], out: &mut O,
         return tell_words(&WordsFault::OutOfMemory, out, err);
     };
     match read_job(rt.alloc(), &texts) {
-        Ok(request) => on_request(rt, &request, out, err),
+        Ok(request) => on_asked(rt, &request, out, err),
         Err(fault) => tell_words(&fault, out, err),
     }
 }
@@ -110,8 +118,40 @@ fn texts_of<'a>(alloc: Global, words: &'a [String]) -> Result<Vec<&'a str>, Allo
     Ok(found)
 }
 
+/// Tells of the rule whose code stands for FILE, or does what is asked for.
+fn on_asked<R: Runtime, O: Sink, E: Sink>(
+    rt: &R,
+    request: &Request<'_>,
+    out: &mut O,
+    err: &mut E,
+) -> u8
+    ensures given { IsGiven request.now result (O.contents out.old) (O.contents out.new)
+        (E.contents err.old) (E.contents err.new) (E.fault_count err.old) (E.fault_count err.new) }
+    ensures page { (page : List ℕ) → rule_page request.now ≡ Some page
+        → result ≢ status_device → IsPageWritten page result
+        (O.contents out.old) (O.contents out.new) (E.contents err.old) (E.contents err.new) }
+    ensures served { rule_page request.now ≡ None
+        → IsServed request.now result (O.contents out.old) (O.contents out.new)
+        (E.contents err.old) (E.contents err.new) (E.fault_count err.old) (E.fault_count err.new) }
+    ensures memory_out { result ≡ status_memory
+        → Appends (O.contents out.old) (O.contents out.new) [] }
+    ensures memory_err { result ≡ status_memory → EndsIn request.now None None memory_line
+        (E.contents err.old) (E.contents err.new) }
+    ensures faults { result ≢ status_device
+        → (O.fault_count out.new ≡ O.fault_count out.old)
+        × (E.fault_count err.new ≡ E.fault_count err.old) }
+    ensures device_err { result ≡ status_device → IsDeviceTold request.now None None
+        (E.contents err.old) (E.contents err.new)
+        (E.fault_count err.old) (E.fault_count err.new) }
+{
+    match rule_page(request) {
+        Some(page) => tell_page(page, out, err),
+        None => on_request(rt, request, out, err),
+    }
+}
+
 /// Opens FILE, and does what is asked for.
-#[tactic(auto, using(crate::proofs::AnswerLemmas::served, crate::proofs::AnswerLemmas::none_served))]
+#[tactic(auto, using(crate::proofs::AnswerLemmas::served, crate::proofs::AnswerLemmas::none_served, crate::proofs::AnswerLemmas::unopened_told))]
 fn on_request<R: Runtime, O: Sink, E: Sink>(
     rt: &R,
     request: &Request<'_>,
@@ -130,17 +170,59 @@ fn on_request<R: Runtime, O: Sink, E: Sink>(
     ensures faults { result ≢ status_device
         → (O.fault_count out.new ≡ O.fault_count out.old)
         × (E.fault_count err.new ≡ E.fault_count err.old) }
-    ensures device_err { result ≡ status_device → EndsIn request.now None None device_line
+    ensures device_err { result ≡ status_device → IsDeviceTold request.now None None
         (E.contents err.old) (E.contents err.new)
-        ⊎ Rose (E.fault_count err.old) (E.fault_count err.new) }
+        (E.fault_count err.old) (E.fault_count err.new) }
 {
     let file = file_of(request);
     if file == "-" {
         return on_input(rt, request, out, err);
     }
-    match fs::open(rt, file) {
+    match open_file(rt, file, names_files(request)) {
         Ok(program) => on_program(rt, request, program, out, err),
-        Err(e) => not_opened(rt, &e, err),
+        Err(e) => not_opened(rt, request, Which::Program, &e, err),
+    }
+}
+
+/// The page of the rule whose code stands for FILE, where `explain` is asked for that.
+fn rule_page(request: &Request<'_>) -> Option<&'static str>
+    ensures { option_map (λ page. page.now) result ≡ rule_page request.now }
+{
+    match request {
+        Request::Job(job) => page_asked(job.command.explanation(), job.form, job.file),
+        Request::ByHand(_) => None,
+    }
+}
+
+/// The same of what an explanation is to be, if one is asked for, and of FILE.
+fn page_asked(explanation: Option<bool>, form: Form, file: &str) -> Option<&'static str>
+    ensures { option_map (λ page. page.now) result ≡ page_asked explanation form file.now }
+{
+    let json = explanation?;
+    if json {
+        return None;
+    }
+    match form {
+        Form::Source => rule_text(file),
+        Form::Module => None,
+    }
+}
+
+/// Writes the page of a rule. Where that fails, says so.
+fn tell_page<O: Sink, E: Sink>(page: &str, out: &mut O, err: &mut E) -> u8
+    ensures told { result ≢ status_device → IsPageWritten page.now result
+        (O.contents out.old) (O.contents out.new) (E.contents err.old) (E.contents err.new) }
+    ensures known { (result ≡ status_done) ⊎ (result ≡ status_device) }
+    ensures faults { result ≢ status_device
+        → (O.fault_count out.new ≡ O.fault_count out.old)
+        × (E.fault_count err.new ≡ E.fault_count err.old) }
+    ensures device_err { result ≡ status_device
+        → Appends (E.contents err.old) (E.contents err.new) device_line
+        ⊎ Rose (E.fault_count err.old) (E.fault_count err.new) }
+{
+    match write_all(out, page.as_bytes()) {
+        Ok(()) => status::DONE,
+        Err(_) => tell(DEVICE_LINE, status::DEVICE, err),
     }
 }
 
@@ -175,9 +257,9 @@ fn on_input<R: Runtime, O: Sink, E: Sink>(
     ensures faults { result ≢ status_device
         → (O.fault_count out.new ≡ O.fault_count out.old)
         × (E.fault_count err.new ≡ E.fault_count err.old) }
-    ensures device_err { result ≡ status_device → EndsIn request.now None None device_line
+    ensures device_err { result ≡ status_device → IsDeviceTold request.now None None
         (E.contents err.old) (E.contents err.new)
-        ⊎ Rose (E.fault_count err.old) (E.fault_count err.new) }
+        (E.fault_count err.old) (E.fault_count err.new) }
 {
     match request {
         Request::Job(_) => on_program(rt, request, rt.reader(), out, err),
@@ -217,9 +299,9 @@ fn on_program<R: Runtime, P: Read + Drop, O: Sink, E: Sink>(
         → (O.fault_count out.new ≡ O.fault_count out.old)
         × (E.fault_count err.new ≡ E.fault_count err.old) }
     ensures device_err { result ≡ status_device
-        → EndsIn request.now (P.remaining program) None device_line
+        → IsDeviceTold request.now (P.remaining program) None
         (E.contents err.old) (E.contents err.new)
-        ⊎ Rose (E.fault_count err.old) (E.fault_count err.new) }
+        (E.fault_count err.old) (E.fault_count err.new) }
 {
     let Request::Job(job) = request else {
         return on_log(
@@ -241,13 +323,14 @@ fn on_program<R: Runtime, P: Read + Drop, O: Sink, E: Sink>(
             err,
         );
     };
-    match fs::open(rt, path) {
+    match open_file(rt, path, names_files(request)) {
         Ok(file) => on_log(rt, request, program, &mut Counted::new(file), out, err),
-        Err(e) => not_opened(rt, &e, err),
+        Err(e) => not_opened(rt, request, Which::Beside, &e, err),
     }
 }
 
 /// Makes the file of the log that is written, or empties it, where there is to be one, and does what is asked for on an open program.
+#[tactic(auto, using(crate::proofs::AnswerLemmas::device_told))]
 fn on_log<R: Runtime, P: Read + Drop, L: Source, O: Sink, E: Sink>(
     rt: &R,
     request: &Request<'_>,
@@ -279,9 +362,9 @@ fn on_log<R: Runtime, P: Read + Drop, L: Source, O: Sink, E: Sink>(
         × (O.fault_count out.new ≡ O.fault_count out.old)
         × (E.fault_count err.new ≡ E.fault_count err.old) }
     ensures device_err { result ≡ status_device
-        → EndsIn request.now (P.remaining program) (L.remaining input.old) device_line
+        → IsDeviceTold request.now (P.remaining program) (L.remaining input.old)
         (E.contents err.old) (E.contents err.new)
-        ⊎ Rose (E.fault_count err.old) (E.fault_count err.new) }
+        (E.fault_count err.old) (E.fault_count err.new) }
     ensures no_more { ReadsNoMore request.now → input.new ≡ input.old }
     ensures unread { result ≡ status_program → input.new ≡ input.old }
 {
@@ -295,7 +378,7 @@ fn on_log<R: Runtime, P: Read + Drop, L: Source, O: Sink, E: Sink>(
             on_devices(rt, request, program, input, out, err, &mut log_out)
         }
         Ok(Err(over)) => tell(over_line(request, over), status::WORDS, err),
-        Err(e) => not_opened(rt, &e, err),
+        Err(e) => not_opened(rt, request, Which::Log, &e, err),
     }
 }
 
@@ -362,26 +445,147 @@ fn over_read_line(request: &Request<'_>) -> &'static str
     }
 }
 
-/// Says that a file can't be opened, or that memory was wanting for that.
-fn not_opened<R: AllocGlobal, E: Sink>(rt: &R, e: &io::Error, err: &mut E) -> u8
+/// Says that a file can't be opened, which and why where that is told, or that memory was wanting for that.
+fn not_opened<R: AllocGlobal, E: Sink>(
+    rt: &R,
+    request: &Request<'_>,
+    which: Which,
+    e: &io::Error,
+    err: &mut E,
+) -> u8
     ensures status { (result ≡ status_memory) ⊎ (result ≡ status_device) }
     ensures memory { IsWantOfMemory e.now → Reports fault.OutOfMemory
         (E.contents err.old) (E.contents err.new)
         (E.fault_count err.old) (E.fault_count err.new) result }
-    ensures device { ¬ IsWantOfMemory e.now → Reports fault.Device
+    ensures device { ¬ IsWantOfMemory e.now
+        → TellsUnopened (told_path request.now which) (error_kind e.now)
         (E.contents err.old) (E.contents err.new)
         (E.fault_count err.old) (E.fault_count err.new) result }
     ensures memory_err { result ≡ status_memory
         → Appends (E.contents err.old) (E.contents err.new) memory_line }
     ensures faults { result ≢ status_device → E.fault_count err.new ≡ E.fault_count err.old }
     ensures device_err { result ≡ status_device
-        → Appends (E.contents err.old) (E.contents err.new) device_line
-        ⊎ Rose (E.fault_count err.old) (E.fault_count err.new) }
+        → Rose (E.fault_count err.old) (E.fault_count err.new)
+        ⊎ IsToldUnopened request.now (E.contents err.old) (E.contents err.new) }
 {
     if e.kind() == ErrorKind::OutOfMemory {
-        return report(rt.alloc(), &Fault::OutOfMemory, err);
+        return tell(MEMORY_LINE, status::MEMORY, err);
     }
-    report(rt.alloc(), &Fault::Device, err)
+    tell_unopened(rt.alloc(), told_path(request, which), e.kind(), err)
+}
+
+/// The same of a file whose path is told or not, where the system gave this kind of error.
+fn tell_unopened<E: Sink>(alloc: Global, path: Option<&str>, why: ErrorKind, err: &mut E) -> u8
+    ensures { TellsUnopened (option_map (λ path. path.now) path.entry) why
+        (E.contents err.old) (E.contents err.new)
+        (E.fault_count err.old) (E.fault_count err.new) result }
+{
+    match path {
+        Some(path) => tell_named(alloc, path, why, err),
+        None => tell(DEVICE_LINE, status::DEVICE, err),
+    }
+}
+
+/// The same of a file whose path is told.
+fn tell_named<E: Sink>(alloc: Global, path: &str, why: ErrorKind, err: &mut E) -> u8
+    ensures { TellsUnopened (Some path.now) why (E.contents err.old) (E.contents err.new)
+        (E.fault_count err.old) (E.fault_count err.new) result }
+{
+    match unopened_lines(alloc, path, why) {
+        Ok(lines) => tell_bytes(&lines, status::DEVICE, err),
+        Err(_) => tell(MEMORY_LINE, status::MEMORY, err),
+    }
+}
+
+/// The path that is told of a file that can't be opened, if one is.
+fn told_path<'a>(request: &Request<'a>, which: Which) -> Option<&'a str>
+    ensures { option_map (λ path. path.now) result ≡ told_path request.now which }
+{
+    if !names_files(request) {
+        return None;
+    }
+    path_of(request, which)
+}
+
+/// Whether it is told which file can't be opened.
+fn names_files(request: &Request<'_>) -> bool
+    ensures { result ≡ names_files request.now }
+{
+    match request {
+        Request::Job(job) => is_left_open(&job.command),
+        Request::ByHand(_) => false,
+    }
+}
+
+/// The same of a command: what is told of some the specification fixes.
+fn is_left_open(command: &Command<'_>) -> bool
+    ensures { result ≡ is_left_open command.now }
+{
+    match command {
+        Command::Check
+        | Command::Compile
+        | Command::Run { .. }
+        | Command::Tally { .. }
+        | Command::Replay { .. }
+        | Command::Chart { .. } => false,
+        Command::Explain { .. }
+        | Command::Listing
+        | Command::Events { .. }
+        | Command::Lanes { .. }
+        | Command::Page { .. }
+        | Command::Where { .. }
+        | Command::Races { .. }
+        | Command::Outcomes { .. }
+        | Command::Expected { .. } => true,
+    }
+}
+
+/// The path of this file.
+fn path_of<'a>(request: &Request<'a>, which: Which) -> Option<&'a str>
+    ensures { option_map (λ path. path.now) result ≡ path_of request.now which }
+{
+    match request {
+        Request::Job(job) => match which {
+            Which::Program => Some(job.file),
+            Which::Beside => job.command.read_path(),
+            Which::Log => job.command.written_path(),
+        },
+        Request::ByHand(_) => None,
+    }
+}
+
+/// Which file can't be opened, and why, and then a device's line. Err where memory was refused.
+fn unopened_lines(alloc: Global, path: &str, why: ErrorKind) -> Result<Vec<u8>, AllocError>
+    ensures { IfOk result (λ lines. lines.items ≡ unopened_lines (Some path.now) why) }
+{
+    let mut lines = Vec::from_slice(alloc, CANNOT_OPEN.as_bytes())?;
+    lines.extend_from_slice(&shown(alloc, path.as_bytes())?)?;
+    lines.extend_from_slice(reason_of(why).as_bytes())?;
+    lines.extend_from_slice(DEVICE_LINE.as_bytes())?;
+    Ok(lines)
+}
+
+/// Why a file can't be opened.
+fn reason_of(why: ErrorKind) -> &'static str
+    ensures { result.now ≡ reason_of why }
+{
+    match why {
+        ErrorKind::NotFound => ": no such file or folder\n",
+        ErrorKind::IsADirectory => ": it is a folder\n",
+        ErrorKind::PermissionDenied => ": no permission\n",
+        _ => ": the system can't open it\n",
+    }
+}
+
+/// Writes lines, and gives the status, or 5 where they can't be written: then a beginning of them was.
+fn tell_bytes<E: Sink>(lines: &[u8], status: u8, err: &mut E) -> u8
+    ensures { Tells lines.now status (E.contents err.old) (E.contents err.new)
+        (E.fault_count err.old) (E.fault_count err.new) result }
+{
+    match write_all(err, lines) {
+        Ok(()) => status,
+        Err(_) => status::DEVICE,
+    }
 }
 
 /// Does what is asked for on open devices: a job is served, and a run by hand is played by the answers in the input.

@@ -1,3 +1,4 @@
+pub mod BeginningLemmas
 pub mod ExplanationLemmas
 pub mod LogLemmas
 pub mod OrderedRunLemmas

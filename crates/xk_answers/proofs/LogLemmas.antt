@@ -1,6 +1,11 @@
 -- Logs and lists whose bytes may be known, and what stands against reading them.
-use Rattle.std.proofs.Common.{◌≡◌, ℕ, ℤ, List, Option, Some, None, Result, Ok, Err, IfErr, inr, subst}
+use Rattle.std.proofs.Common.{◌≡◌, ◌≤◌, ℕ, ℤ, List, [], length, take, Option, Some, None, Result, Ok, Err, IfErr, inr, subst, sym}
 use Rattle.std.specs.Prelude.{IfSome}
+use Rattle.std.proofs.lemmas.List.{take_all}
+use Rattle.xk_log.specs.Reading.{CountsDevice, Tells}
+use Rattle.xk_log.specs.SomeBytes.{OfSome}
+use Rattle.xk_log.specs.declared.fault.LogFault.{LogFault}
+use Rattle.xk_log.specs.declared.fault.LogFault.TheVariants as log
 use Rattle.xk_types.specs.declared.world.Entry.{Entry}
 use Rattle.xk_types.specs.Acceptance.{IsAccepted}
 use Rattle.xk_types.specs.Code.{ModuleValue}
@@ -11,20 +16,36 @@ use Rattle.xk_replay.specs.Replay.{IsFaultOf}
 use Rattle.xk_answers.specs.declared.job_result.Done.{Done}
 use Rattle.xk_program.specs.declared.fault.Fault.{Fault}
 use Rattle.xk_answers.specs.Results.{IsLogText}
-use Rattle.xk_program.specs.Faults.{of_replay}
+use Rattle.xk_program.specs.Faults.{of_log, of_replay}
 use Rattle.xk_answers.specs.Refusals.{AgainstExpected, AgainstList, AgainstModule, AgainstReading, AgainstRun, AgainstText}
 
 -- ---- logs that may be known
-
--- what holds of each list holds of the one that is known, if any is
-pub of_any : (P : List ℕ → Type 0) (known : Option (List ℕ)) → ((xs : List ℕ) → P xs) → IfSome known P
-of_any P None h = tt
-of_any P (Some xs) h = h xs
 
 -- what follows for each list follows for the one that is known
 pub of_each : (P Q : List ℕ → Type 0) (known : Option (List ℕ)) → ((xs : List ℕ) → P xs → Q xs) → IfSome known P → IfSome known Q
 of_each P Q None f h = tt
 of_each P Q (Some xs) f h = f xs h
+
+-- what holds of each list holds of the one that is known, or else of some
+pub some_any : (P : List ℕ → Type 0) (known : Option (List ℕ)) → ((xs : List ℕ) → P xs) → OfSome known P
+some_any P None h = ([], h [])
+some_any P (Some xs) h = h xs
+
+-- what follows for each list follows for the one that is known, or else for some
+pub some_each : (P Q : List ℕ → Type 0) (known : Option (List ℕ)) → ((xs : List ℕ) → P xs → Q xs) → OfSome known P → OfSome known Q
+some_each P Q None f h = (h.0, f h.0 h.1)
+some_each P Q (Some xs) f h = f xs h
+
+-- what holds of some holds of the one that is known, if any is
+pub if_known : (P : List ℕ → Type 0) (known : Option (List ℕ)) → OfSome known P → IfSome known P
+if_known P None h = tt
+if_known P (Some xs) h = h
+
+-- bytes that were read up to a limit are the front of some
+pub front_of : (known : Option (List ℕ)) (most : ℕ) (bytes : List ℕ) → length bytes ≤ most → IfSome known (λ all. bytes ≡ take most all)
+    → OfSome known (λ all. bytes ≡ take most all)
+front_of None most bytes few h = (bytes, sym (take_all most bytes few))
+front_of (Some all) most bytes few h = h
 
 -- ---- the verifier
 
@@ -48,7 +69,22 @@ list_stands m args known old new (Err f) accepted taken h = inr (accepted, taken
 
 -- a log that was read, and is none of a whole run
 pub replay_stands : (m : ModuleValue) (args : List ℤ) (known : Option (List ℕ)) (old new : ℕ) (es : List Entry) (f : ReplayFault) → new ≡ old
-    → IfSome known (λ logged. IsLogText logged es) → IsFaultOf m args es f → AgainstRun m args known old new (of_replay f)
-replay_stands m args known old new es (replay.NotEnabled i) e text h = (e, of_each _ _ known (λ logged t. (es, t, h)) text)
-replay_stands m args known old new es replay.NotEnded e text h = (e, of_each _ _ known (λ logged t. (es, t, h)) text)
-replay_stands m args known old new es replay.OutOfMemory e text h = (e, of_any _ known (λ logged. tt))
+    → OfSome known (λ logged. IsLogText logged es) → IsFaultOf m args es f → AgainstRun m args known old new (of_replay f)
+replay_stands m args known old new es (replay.NotEnabled i) e text h = (e, some_each _ _ known (λ logged t. (es, t, h)) text)
+replay_stands m args known old new es replay.NotEnded e text h = (e, some_each _ _ known (λ logged t. (es, t, h)) text)
+replay_stands m args known old new es replay.OutOfMemory e text h = (e, some_any _ known (λ logged. tt))
+
+-- bytes that are the text of no log
+pub reading_stands : (known : Option (List ℕ)) (old new : ℕ) (f : LogFault) → CountsDevice old new (Err f) → OfSome known (λ text. Tells text (Err f))
+    → AgainstReading known old new (of_log f)
+reading_stands known old new (log.Grammar line) e h = (e, h)
+reading_stands known old new log.Truncated e h = (e, h)
+reading_stands known old new log.Device e h = e
+reading_stands known old new log.OutOfMemory e h = e
+
+pub log_stands : (m : ModuleValue) (args : List ℤ) (known : Option (List ℕ)) (old new : ℕ) (f : LogFault) → CountsDevice old new (Err f)
+    → OfSome known (λ text. Tells text (Err f)) → AgainstRun m args known old new (of_log f)
+log_stands m args known old new (log.Grammar line) e h = (e, h)
+log_stands m args known old new log.Truncated e h = (e, h)
+log_stands m args known old new log.Device e h = e
+log_stands m args known old new log.OutOfMemory e h = (e, some_any _ known (λ logged. tt))

@@ -1,6 +1,6 @@
 -- What is told of a program by its lines and names: what `explain` says of what stands against it and of one that is accepted, and its listing. This
 -- project's own.
-use Rattle.std.specs.Prelude.{◌≡◌, ℕ, ℤ, Bool, true, false, List, [], ◌++◌, Option, Some, None}
+use Rattle.std.specs.Prelude.{◌≡◌, ℕ, ℤ, nat_lt, Bool, true, false, List, [], ◌++◌, map, Option, Some, None, if◌then◌else◌}
 use Rattle.std.specs.Option.{option_map_or}
 use Rattle.xk_types.specs.Code.{ModuleValue}
 use Rattle.xk_types.specs.World.{World}
@@ -19,6 +19,7 @@ use Rattle.xk_explain_json.specs.Explanations.{accepted_value, front_value, modu
 use Rattle.xk_explain_names.specs.Notes.{front_notes}
 use Rattle.xk_explain_expected.specs.Notes.{expected_notes}
 use Rattle.xk_explain_bounds.specs.Notes.{accepted_notes, module_notes, refusal_notes}
+use Rattle.xk_hints.specs.Words.{HintValue, hints}
 use Rattle.xk_listing.specs.Listing.{IsListing}
 use Rattle.xk_show_events.specs.Events.{PlacesValue, events_text, no_text}
 use Rattle.xk_show_lanes.specs.Lanes.{are_lanes_whole, lanes_text}
@@ -28,12 +29,15 @@ use Rattle.xk_show_page.specs.Page.{page_text}
 use Rattle.xk_races.specs.Races.{is_race_free}
 use Rattle.xk_races.specs.Text.{races_text}
 use Rattle.xk_show_where.specs.Where.{are_steps_legal, where_text}
+use Rattle.xk_answers.specs.Beginnings.{first_steps, steps_in}
 use Rattle.xk_types.specs.declared.world.Entry.{Entry}
 use Rattle.xk_cli.specs.declared.job.Form.{Form}
+use Rattle.xk_cli.specs.declared.job.Form.TheVariants as form
 use Rattle.xk_program.specs.declared.fault.Fault.{Fault}
 use Rattle.xk_program.specs.declared.fault.Fault.TheVariants as fault
-use Rattle.xk_messages.specs.Lines.{accepted_line}
+use Rattle.xk_messages.specs.Lines.{accepted_line, log_end_line}
 use Rattle.xk_program.specs.Origins.{HaveOrigins, Program, IsByProgram, IsByTree}
+use Rattle.xk_program.specs.Programs.{IsSource}
 
 -- what is told: a text, and whether that is a whole answer
 abbrev pub Tale : Type 0
@@ -97,13 +101,26 @@ abbrev pub acceptance_said : Bool → List ℕ → Option (List ℕ) → ModuleV
 acceptance_said false file text m notes = accepted_line (steps_bound m) (activities_bound m) (clocks_bound m) ++ lines_of text notes
 acceptance_said true file text m notes = json_line (accepted_value file text (steps_bound m) (activities_bound m) (clocks_bound m) notes)
 
--- its bounds, with what they are made of
-abbrev pub accepted_said : Bool → List ℕ → List ℕ → ModuleValue → Option (List UnitOrigins) → List ℕ
-accepted_said json file text m None = acceptance_said json file None m (accepted_notes m [])
-accepted_said json file text m (Some origins) = acceptance_said json file (Some text) m (accepted_notes m origins)
+-- the hints on a source text are those on the tree that it spells; a module has none
+abbrev pub HaveHints : Form → List ℕ → List HintValue → Type 0
+HaveHints form.Module bytes hs = hs ≡ []
+HaveHints form.Source bytes hs = (tree : TreeValue) × IsSource bytes tree × (hs ≡ hints tree)
 
-abbrev pub acceptance_told : Bool → List ℕ → List ℕ → ModuleValue → Option (List UnitOrigins) → Tale
-acceptance_told json file text m origins = all_told (accepted_said json file text m origins)
+-- a hint as a note
+abbrev pub hint_note : HintValue → NoteValue
+hint_note h = record { at = Some h.at; text = h.text; repair = None }
+
+-- notes, and hints behind them
+abbrev pub with_hints : List NoteValue → List HintValue → List NoteValue
+with_hints notes hs = notes ++ map hint_note hs
+
+-- its bounds, with what they are made of, and with these hints
+abbrev pub accepted_said : Bool → List ℕ → List ℕ → ModuleValue → List HintValue → Option (List UnitOrigins) → List ℕ
+accepted_said json file text m hs None = acceptance_said json file None m (with_hints (accepted_notes m []) hs)
+accepted_said json file text m hs (Some origins) = acceptance_said json file (Some text) m (with_hints (accepted_notes m origins) hs)
+
+abbrev pub acceptance_told : Bool → List ℕ → List ℕ → ModuleValue → List HintValue → Option (List UnitOrigins) → Tale
+acceptance_told json file text m hs origins = all_told (accepted_said json file text m hs origins)
 
 -- ---- listings
 
@@ -143,5 +160,14 @@ abbrev pub races_told : List ℕ → ModuleValue → List ℤ → List Entry →
 races_told text m args log origins = (races_text (places_in text origins) m args log, is_race_free m args log)
 
 -- how things stand behind the steps of a log, as far as they can be taken
-abbrev pub where_told : List ℕ → ModuleValue → List ℤ → List Entry → Option (List UnitOrigins) → Tale
-where_told text m args log origins = (where_text (places_in text origins) m args log, are_steps_legal m args log)
+abbrev pub stand_told : List ℕ → ModuleValue → List ℤ → List Entry → Option (List UnitOrigins) → Tale
+stand_told text m args log origins = (where_text (places_in text origins) m args log, are_steps_legal m args log)
+
+-- a log that ends before step n: a line says so, and the answer isn't whole
+abbrev pub told_to : ℕ → List Entry → Tale → Tale
+told_to n log told = if nat_lt (steps_in log) n then (told.0 ++ log_end_line (steps_in log), false) else told
+
+-- the same behind all steps of the log, or behind the first n of them
+abbrev pub where_told : List ℕ → ModuleValue → List ℤ → Option ℕ → List Entry → Option (List UnitOrigins) → Tale
+where_told text m args None log origins = stand_told text m args log origins
+where_told text m args (Some n) log origins = told_to n log (stand_told text m args (first_steps n log) origins)

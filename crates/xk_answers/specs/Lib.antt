@@ -1,4 +1,5 @@
 pub mod OrderedRun
+pub mod Beginnings
 pub mod Explanation
 pub mod Results
 pub mod Refusals

@@ -1,11 +1,12 @@
 -- What stands against a run of a module by a log, or against a list of outcomes that is read. This project's own.
-use Rattle.std.specs.Prelude.{◌≡◌, ℕ, ℤ, ◌⊎◌, List, Option, Some, IfSome}
+use Rattle.std.specs.Prelude.{◌≡◌, ℕ, ℤ, ◌⊎◌, List, Option, Some}
 use Rattle.xk_types.specs.Acceptance.{IsAccepted}
 use Rattle.xk_types.specs.Code.{ModuleValue}
 use Rattle.xk_types.specs.Device.{Rose}
 use Rattle.xk_types.specs.World.{AreArguments}
 use Rattle.xk_program.specs.declared.fault.Fault.{Fault}
 use Rattle.xk_program.specs.declared.fault.Fault.TheVariants as fault
+use Rattle.xk_log.specs.SomeBytes.{OfSome}
 use Rattle.xk_log.specs.Verdicts.{IsTruncated, IsWrongAt}
 use Rattle.xk_outcomes.specs.Expected.{stray_line}
 use Rattle.xk_answers.specs.Results.{IsNoRun, list_in}
@@ -18,10 +19,10 @@ use Rattle.xk_cli.specs.declared.job.Form.{Form}
 abbrev pub IsUnaccepted : Form → List ℕ → Fault → Type 0
 IsUnaccepted kind bytes f = GivesNoModule kind bytes f ⊎ ((m : ModuleValue) × Gives kind bytes m × IsRefusal m f)
 
--- the same of a log of a run of the module with these arguments
+-- The same of a log of a run of the module with these arguments: of the bytes that are known, or else of some.
 abbrev pub AgainstRun : ModuleValue → List ℤ → Option (List ℕ) → ℕ → ℕ → Fault → Type 0
 AgainstRun m args known old new fault.Device = Rose old new
-AgainstRun m args known old new f = (new ≡ old) × IfSome known (λ logged. IsNoRun m args logged f)
+AgainstRun m args known old new f = (new ≡ old) × OfSome known (λ logged. IsNoRun m args logged f)
 
 -- What stands against a run of a module by a log: the module isn't run with these arguments, and no log was read; or it is accepted, main
 -- takes as many, and the log is none of such a run.
@@ -33,8 +34,8 @@ AgainstModule m args known old new f =
 abbrev pub AgainstReading : Option (List ℕ) → ℕ → ℕ → Fault → Type 0
 AgainstReading known old new fault.Device = Rose old new
 AgainstReading known old new fault.OutOfMemory = new ≡ old
-AgainstReading known old new (fault.Grammar line) = (new ≡ old) × IfSome known (λ logged. IsWrongAt logged line)
-AgainstReading known old new fault.Truncated = (new ≡ old) × IfSome known IsTruncated
+AgainstReading known old new (fault.Grammar line) = (new ≡ old) × OfSome known (λ logged. IsWrongAt logged line)
+AgainstReading known old new fault.Truncated = (new ≡ old) × OfSome known IsTruncated
 AgainstReading known old new _ = ⊥
 
 -- What stands against a log that need not be that of a whole run: the module isn't run with these arguments, and no log was read; or it is accepted, main
@@ -47,7 +48,7 @@ AgainstText m args known old new f =
 abbrev pub AgainstList : Option (List ℕ) → ℕ → ℕ → Fault → Type 0
 AgainstList known old new fault.Device = Rose old new
 AgainstList known old new fault.OutOfMemory = new ≡ old
-AgainstList known old new (fault.NoOutcome line) = (new ≡ old) × IfSome known (λ bytes. stray_line (list_in bytes) ≡ Some line)
+AgainstList known old new (fault.NoOutcome line) = (new ≡ old) × OfSome known (λ bytes. stray_line (list_in bytes) ≡ Some line)
 AgainstList known old new _ = ⊥
 
 -- What stands against outcomes that are held against a list: the module isn't run with these arguments, and no list was read; or it is accepted, main

@@ -32,10 +32,11 @@ use Rattle.xk_random.specs.Runs.{IsTallyText}
 use Rattle.xk_replay.specs.Replay.{IsStoppedAt, IsUnfinished}
 use Rattle.xk_answers.specs.OrderedRun.{IsLoggedRun, IsOrderedRun, IsReplay, IsSomeRun, IsWholeRun}
 use Rattle.xk_program.specs.Origins.{IsByOrigins}
-use Rattle.xk_answers.specs.Explanation.{IsProgramListed, Tale, acceptance_told, all_told, events_told, image_told, lanes_told, page_told, races_told, where_told}
+use Rattle.xk_hints.specs.Words.{HintValue}
+use Rattle.xk_answers.specs.Explanation.{HaveHints, IsProgramListed, Tale, acceptance_told, all_told, events_told, image_told, lanes_told, page_told, races_told, where_told}
 
 -- what is to be done with a module; what is explained is a JSON value or not; a run is in an order, or by workers, and has its log kept or not; some
--- picture is drawn of one; it is told how things stand behind a log, which races the run in the order `first` has, or how often so many runs by chance,
+-- picture is drawn of one; it is told how things stand behind a log, or behind so many of its steps, which races the run in the order `first` has, or how often so many runs by chance,
 -- from this seed on, print what; of outcomes, as lists of numbers or without their order, so many are looked for, and of one, counted from 1, the log
 -- is kept or not, or they are held against a list
 pub data Doing : Type 0 where
@@ -46,7 +47,7 @@ pub data Doing : Type 0 where
   Run : Way → Bool → Doing
   Replay : Doing
   Draw : Picture → Doing
-  Where : Doing
+  Where : Option ℕ → Doing
   Races : Doing
   Tally : ℕ → ℕ → Doing
   Outcomes : Bool → Option ℕ → ℕ → Bool → Doing
@@ -163,10 +164,10 @@ picture_told (picture.Image window) bytes m args es last origins = image_told by
 picture_told (picture.Page window) bytes m args es last origins = page_told bytes window m es last origins
 picture_told picture.Races bytes m args es last origins = races_told bytes m args es origins
 
--- Where things stand behind the steps of a log, which need not be that of a whole run, is told by the lines of a source text.
-abbrev pub IsWhereabouts : Form → List ℕ → ModuleValue → List ℤ → List ℕ → Tale → Type 0
-IsWhereabouts kind bytes m args logged told =
-    AreArguments m args × ((es : List Entry) × IsLogText logged es × IsByOrigins kind bytes (where_told bytes m args es) told)
+-- Where things stand behind the steps of a log, or behind so many, is told by the lines of a source text. The log need not be that of a whole run.
+abbrev pub IsWhereabouts : Option ℕ → Form → List ℕ → ModuleValue → List ℤ → List ℕ → Tale → Type 0
+IsWhereabouts at kind bytes m args logged told =
+    AreArguments m args × ((es : List Entry) × IsLogText logged es × IsByOrigins kind bytes (where_told bytes m args at es) told)
 
 -- the races of the run in the order `first` are told
 abbrev pub AreFirstRaces : Form → List ℕ → ModuleValue → List ℤ → Tale → Type 0
@@ -178,12 +179,13 @@ abbrev pub IsTallied : ModuleValue → List ℤ → ℕ → ℕ → Tale → Typ
 IsTallied m args seed runs told = IsTallyText m args seed runs told.0 × (told.1 ≡ true)
 
 -- What is told of the module that the bytes give, by their lines and names where they are a source text: for `explain`, where the module is accepted,
--- its bounds, and for `listing` its instructions; for all others, where it is accepted, the run that the log has, or the runs in their orders.
+-- its bounds and hints, and for `listing` its instructions; for all others, where it is accepted, the run that the log has, or the runs in their orders.
 abbrev pub IsTelling : Doing → Form → List ℕ → List ℕ → ModuleValue → List ℤ → List ℕ → Tale → Type 0
-IsTelling (Explain json) kind file bytes m args logged told = IsAccepted m × IsByOrigins kind bytes (acceptance_told json file bytes m) told
+IsTelling (Explain json) kind file bytes m args logged told =
+    IsAccepted m × ((hs : List HintValue) × HaveHints kind bytes hs × IsByOrigins kind bytes (acceptance_told json file bytes m hs) told)
 IsTelling Listing kind file bytes m args logged told = IsProgramListed kind bytes m told.0 × (told.1 ≡ true)
 IsTelling (Draw picture) kind file bytes m args logged told = IsAccepted m × OfRun m args logged (λ es last. IsPicture picture kind bytes m args es last told)
-IsTelling Where kind file bytes m args logged told = IsAccepted m × IsWhereabouts kind bytes m args logged told
+IsTelling (Where at) kind file bytes m args logged told = IsAccepted m × IsWhereabouts at kind bytes m args logged told
 IsTelling Races kind file bytes m args logged told = IsAccepted m × AreFirstRaces kind bytes m args told
 IsTelling (Tally seed runs) kind file bytes m args logged told = IsAccepted m × AreArguments m args × IsTallied m args seed runs told
 IsTelling _ kind file bytes m args logged told = ⊥

@@ -1,12 +1,12 @@
 //! What is told of a program on standard output: of a fault beside its line on standard error, of one that is accepted, and its listing.
 
-ghost use Rattle.std.specs.Prelude.{◌≡◌, ℕ, List, [], true, None, Some, option_map, IfOk, OnErr};
+ghost use Rattle.std.specs.Prelude.{◌≡◌, ℕ, List, [], ◌∷◌, ◌++◌, true, None, Some, option_map, IfOk, OnErr, OnOk};
 ghost use Rattle.std.specs.Option.{option_map_or};
 ghost use Rattle.xk_types.specs.Acceptance.{IsAccepted};
 ghost use Rattle.xk_tree.specs.Program.{tree_value};
 ghost use Rattle.xk_explain.specs.Messages.{module_rule};
-ghost use Rattle.xk_explain_bounds.specs.Notes.{module_notes, refusal_notes};
-ghost use Rattle.xk_answers.specs.Explanation.{IsProgramListed, accepted_said, acceptance_said, fault_said, front_said, lines_of, module_said, plain_said, refusal_said, source_said};
+ghost use Rattle.xk_explain_bounds.specs.Notes.{accepted_notes, module_notes, refusal_notes};
+ghost use Rattle.xk_answers.specs.Explanation.{IsProgramListed, accepted_said, acceptance_said, fault_said, front_said, hint_note, lines_of, module_said, plain_said, refusal_said, source_said, with_hints};
 ghost use Rattle.xk_cli.specs.declared.job.Form.{Form as FormValue};
 ghost use Rattle.xk_program.specs.Origins.{IsFrom};
 ghost use Rattle.xk_program.specs.declared.fault.Fault.TheVariants as found;
@@ -21,10 +21,11 @@ use xk_explain_bounds::{accepted_notes, module_notes, refusal_notes};
 use xk_explain_expected::expected_notes;
 use xk_explain_json::{accepted_json, front_json, module_json, refusal_json, source_json};
 use xk_explain_names::front_notes;
+use xk_hints::Hint;
 use xk_listing::{list_module, list_source};
 use xk_messages::accepted_line;
 use xk_module::ModuleFault;
-use xk_origins::Origins;
+use xk_origins::{Origins, UnitOrigins};
 use xk_program::{Fault, Program};
 use xk_tree::{FrontFault, Tree};
 use xk_types::Module;
@@ -36,6 +37,15 @@ pub struct Refused {
     pub fault: Fault,
     /// What goes to standard output.
     pub said: Vec<u8>,
+}
+
+/// What is known of a program beside its module: where its instructions come from, if it has a text, and the hints on that.
+#[derive(Drop)]
+pub(crate) struct Reading<'t> {
+    /// Where they come from.
+    pub(crate) origins: Option<Origins<'t>>,
+    /// The hints; none where there is no text.
+    pub(crate) hints: Vec<Hint>,
 }
 
 /// A fault of which nothing is said on standard output.
@@ -137,13 +147,13 @@ pub(crate) fn refusal_of_module(
     file: &str,
     bytes: &[u8],
     m: &Module,
-    origins: Option<&Origins<'_>>,
+    reading: &Reading<'_>,
     refusal: &Refusal,
 ) -> Result<Vec<u8>, AllocError>
     ensures { IfOk result (λ said. said.items ≡ refusal_said json file.now bytes.now refusal.now
-        (Some (m.now, option_map (λ o. o.now) origins.entry))) }
+        (Some (m.now, reading.now.origins))) }
 {
-    match origins {
+    match &reading.origins {
         Some(origins) => refusal_in_source(alloc, json, file, bytes, m, origins, refusal),
         None => refusal_in_module(alloc, json, file, m, refusal),
     }
@@ -187,26 +197,57 @@ fn refusal_in_module(
     explain_refusal(alloc, file, refusal, &notes)
 }
 
-/// What it says of an accepted module: its bounds, and what they are made of, in the text where its instructions come from, if that is known.
+/// Adds a hint as a note.
+fn push_hint(alloc: Global, notes: &mut Vec<Note>, hint: &Hint) -> Result<(), AllocError>
+    ensures { OnOk result (notes.new.items ≡ notes.old.items ++ hint_note hint.now ∷ []) }
+{
+    let at = Some(hint.at);
+    let text = Vec::from_slice(alloc, &hint.text)?;
+    notes.push(Note {
+        at,
+        text,
+        repair: None,
+    })?;
+    Ok(())
+}
+
+/// The notes on an accepted module: what its bounds are made of, and these hints.
+fn noted(
+    alloc: Global,
+    verified: &Verified,
+    origins: &[UnitOrigins<'_>],
+    hints: &[Hint],
+) -> Result<Vec<Note>, AllocError>
+    ensures { IfOk result (λ v. v.items
+        ≡ with_hints (accepted_notes verified.now origins.now) hints.now) }
+{
+    let mut notes = accepted_notes(alloc, verified.module(), origins)?;
+    for hint in hints {
+        push_hint(alloc, &mut notes, hint)?;
+    }
+    Ok(notes)
+}
+
+/// What it says of an accepted module: its bounds, what they are made of, and hints, in the text where its instructions come from, if that is known.
 pub(crate) fn acceptance(
     alloc: Global,
     json: bool,
     file: &str,
     bytes: &[u8],
     verified: &Verified,
-    origins: Option<&Origins<'_>>,
+    reading: &Reading<'_>,
 ) -> Result<Vec<u8>, AllocError>
     requires { IsAccepted verified.now }
     ensures { IfOk result (λ said. said.items ≡ accepted_said json file.now bytes.now verified.now
-        (option_map (λ o. o.now) origins.entry)) }
+        reading.now.hints.items reading.now.origins) }
 {
-    match origins {
+    match &reading.origins {
         Some(origins) => {
-            let notes = accepted_notes(alloc, verified.module(), origins.units())?;
+            let notes = noted(alloc, verified, origins.units(), &reading.hints)?;
             accepted_said(alloc, json, file, Some(bytes), verified, &notes)
         }
         None => {
-            let notes = accepted_notes(alloc, verified.module(), &[])?;
+            let notes = noted(alloc, verified, &[], &reading.hints)?;
             accepted_said(alloc, json, file, None, verified, &notes)
         }
     }

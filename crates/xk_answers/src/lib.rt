@@ -1,6 +1,7 @@
 //! What a job on a program comes to: its runs, what it can print, and what is shown of it.
 #![tactic(auto)]
 
+mod beginning;
 mod explanation;
 mod first_races;
 mod job_result;
@@ -12,6 +13,7 @@ mod tally;
 mod verdict;
 mod whereabouts;
 
+pub use beginning::beginnings;
 pub use explanation::{Refused, listing, unsaid};
 pub use first_races::raced;
 pub use job_result::Done;

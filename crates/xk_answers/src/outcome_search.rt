@@ -1,6 +1,7 @@
 //! What a module can print.
 
-ghost use Rattle.std.specs.Prelude.{◌≡◌, ◌≢◌, ℕ, List, IfOk, IfErr, IfSome, None, OnOk, option_map, unwrap_or};
+ghost use Rattle.std.specs.Prelude.{◌≡◌, ◌≢◌, ℕ, List, IfOk, IfErr, None, OnOk, option_map, unwrap_or};
+ghost use Rattle.xk_log.specs.SomeBytes.{OfSome};
 ghost use Rattle.xk_types.specs.World.{AreArguments};
 ghost use Rattle.xk_answers.specs.Results.{ComesTo, Expected, IsFoundOut, IsHeldOut, Outcomes, kept_log, longest_list};
 ghost use Rattle.xk_program.specs.Refusals.{IsNotRun};
@@ -72,7 +73,7 @@ pub fn held<L: Source>(
     arguments: &[i64],
     source: &mut L,
 ) -> Result<Done, Fault>
-    ensures done { IfOk result (λ d. IfSome (L.remaining source.old) (λ bytes.
+    ensures done { IfOk result (λ d. OfSome (L.remaining source.old) (λ bytes.
         ComesTo (Expected sets limit) m arguments.now bytes d)) }
     ensures no_fault { OnOk result (L.fault_count source.new ≡ L.fault_count source.old) }
     ensures fault { IfErr result (AgainstExpected m arguments.now (L.remaining source.old)
@@ -97,7 +98,7 @@ fn held_by<L: Source>(
     source: &mut L,
 ) -> Result<Done, Fault>
     requires { AreArguments verified.now arguments.now }
-    ensures done { IfOk result (λ d. IfSome (L.remaining source.old)
+    ensures done { IfOk result (λ d. OfSome (L.remaining source.old)
         (λ bytes. IsHeldOut verified.now arguments.now sets limit bytes d)) }
     ensures no_fault { OnOk result (L.fault_count source.new ≡ L.fault_count source.old) }
     ensures fault { IfErr result (AgainstList (L.remaining source.old)

@@ -1,6 +1,7 @@
 //! What is told of the run that a log has.
 
-ghost use Rattle.std.specs.Prelude.{◌≡◌, ◌≢◌, ℕ, List, true, IfOk, IfErr, IfSome, OnOk};
+ghost use Rattle.std.specs.Prelude.{◌≡◌, ◌≢◌, ℕ, List, true, IfOk, IfErr, OnOk};
+ghost use Rattle.xk_log.specs.SomeBytes.{OfSome};
 ghost use Rattle.xk_types.specs.Acceptance.{IsAccepted};
 ghost use Rattle.xk_types.specs.World.{AreArguments};
 ghost use Rattle.xk_cli.specs.Status.{status_program};
@@ -82,7 +83,7 @@ pub fn drawn<L: Source>(
 ) -> Result<Done, Fault>
     ensures done { (form : FormValue) (file bytes : List ℕ)
         → IsFrom (shows_origins picture) form bytes program.entry.from
-        → IfOk result (λ d. IfSome (L.remaining log_in.old) (λ logged. IsText
+        → IfOk result (λ d. OfSome (L.remaining log_in.old) (λ logged. IsText
         (IsTelling (Draw picture) form file bytes program.entry.module arguments.now logged) d)) }
     ensures no_fault { OnOk result (L.fault_count log_in.new ≡ L.fault_count log_in.old) }
     ensures fault { IfErr result (AgainstModule program.entry.module arguments.now
@@ -107,7 +108,7 @@ fn drawn_by<L: Source>(
     requires taken { AreArguments verified.now arguments.now }
     ensures done { (form : FormValue) (file bytes : List ℕ)
         → IsFrom (shows_origins picture) form bytes from.now
-        → IfOk result (λ d. IfSome (L.remaining log_in.old) (λ logged. IsText
+        → IfOk result (λ d. OfSome (L.remaining log_in.old) (λ logged. IsText
         (IsTelling (Draw picture) form file bytes verified.now arguments.now logged) d)) }
     ensures no_fault { OnOk result (L.fault_count log_in.new ≡ L.fault_count log_in.old) }
     ensures fault { IfErr result (AgainstRun verified.now arguments.now (L.remaining log_in.old)

@@ -1,6 +1,7 @@
 //! The run of a log again.
 
-ghost use Rattle.std.specs.Prelude.{◌≡◌, ◌≢◌, ℕ, List, IfOk, IfErr, IfSome, OnOk};
+ghost use Rattle.std.specs.Prelude.{◌≡◌, ◌≢◌, ℕ, List, IfOk, IfErr, OnOk};
+ghost use Rattle.xk_log.specs.SomeBytes.{OfSome};
 ghost use Rattle.xk_types.specs.Acceptance.{IsAccepted};
 ghost use Rattle.xk_types.specs.World.{AreArguments};
 ghost use Rattle.xk_answers.specs.Results.{ComesTo, IsLogText, Replay};
@@ -26,7 +27,7 @@ pub fn replayed<L: Source>(
     arguments: &[i64],
     log_in: &mut L,
 ) -> Result<Done, Fault>
-    ensures done { IfOk result (λ d. IfSome (L.remaining log_in.old)
+    ensures done { IfOk result (λ d. OfSome (L.remaining log_in.old)
         (λ logged. ComesTo Replay m arguments.now logged d)) }
     ensures no_fault { OnOk result (L.fault_count log_in.new ≡ L.fault_count log_in.old) }
     ensures fault { IfErr result (AgainstModule m arguments.now (L.remaining log_in.old)
@@ -47,7 +48,7 @@ fn replayed_by<L: Source>(
 ) -> Result<Done, Fault>
     requires accepted { IsAccepted verified.now }
     requires taken { AreArguments verified.now arguments.now }
-    ensures done { IfOk result (λ d. IfSome (L.remaining log_in.old)
+    ensures done { IfOk result (λ d. OfSome (L.remaining log_in.old)
         (λ logged. ComesTo Replay verified.now arguments.now logged d)) }
     ensures no_fault { OnOk result (L.fault_count log_in.new ≡ L.fault_count log_in.old) }
     ensures fault { IfErr result (AgainstRun verified.now arguments.now (L.remaining log_in.old)
@@ -68,6 +69,7 @@ fn numbers_of(ended: Ended<'_>) -> Done
 }
 
 /// The whole run again with these arguments that the log has.
+#[tactic(auto, using(crate::proofs::LogLemmas::log_stands))]
 pub(crate) fn run_again<'m, L: Source>(
     alloc: Global,
     verified: &'m Verified,
@@ -77,7 +79,7 @@ pub(crate) fn run_again<'m, L: Source>(
     requires { AreArguments verified.now arguments.now }
     ensures same_module { IfOk result (λ e. e.module.now ≡ verified.now) }
     ensures same_arguments { IfOk result (λ e. e.core.world.arguments ≡ arguments.now) }
-    ensures log { IfOk result (λ e. IfSome (L.remaining log_in.old)
+    ensures log { IfOk result (λ e. OfSome (L.remaining log_in.old)
         (λ logged. IsLogText logged e.log.items)) }
     ensures no_fault { OnOk result (L.fault_count log_in.new ≡ L.fault_count log_in.old) }
     ensures fault { IfErr result (AgainstRun verified.now arguments.now (L.remaining log_in.old)

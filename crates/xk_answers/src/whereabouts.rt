@@ -1,6 +1,7 @@
-//! How things stand behind a log, which need not be that of a whole run.
+//! How things stand behind a log, or behind so many of its steps. It need not be that of a whole run.
 
-ghost use Rattle.std.specs.Prelude.{◌≡◌, ◌≢◌, ℕ, List, true, IfOk, IfErr, IfSome, OnOk};
+ghost use Rattle.std.specs.Prelude.{◌≡◌, ◌≢◌, ℕ, List, true, IfOk, IfErr, OnOk};
+ghost use Rattle.xk_log.specs.SomeBytes.{OfSome};
 ghost use Rattle.xk_types.specs.Acceptance.{IsAccepted};
 ghost use Rattle.xk_types.specs.World.{AreArguments};
 ghost use Rattle.xk_cli.specs.declared.job.Form.{Form as FormValue};
@@ -8,30 +9,33 @@ ghost use Rattle.xk_cli.specs.Status.{status_program};
 ghost use Rattle.xk_answers.specs.Results.{IsTelling, IsText, Where};
 ghost use Rattle.xk_answers.specs.Refusals.{AgainstReading, AgainstText};
 ghost use Rattle.xk_program.specs.Origins.{IsFrom};
-ghost use Rattle.xk_answers.specs.Explanation.{where_told};
+ghost use Rattle.xk_answers.specs.Explanation.{stand_told, told_to, where_told};
 ghost use Rattle.xk_program.specs.Lines.{status_of};
 
+use crate::beginning::{first_steps, lacking};
 use crate::job_result::Done;
 use crate::picture::Tale;
 use std::alloc::{AllocError, Global};
 use xk_bounds::Verified;
 use xk_log::read_log;
+use xk_messages::log_end_line;
 use xk_program::{Fault, Program, Provenance, runnable};
 use xk_show_where::{module_where, source_where};
 use xk_types::{Entry, Source};
 
-/// How things stand behind the steps of the log, as far as they can be taken, of the program with these arguments, if it is accepted and main takes
-/// as many. Where it isn't run, no log is read.
+/// How things stand behind the steps of the log, or behind so many, as far as they can be taken, of the program with these arguments, if it is
+/// accepted and main takes as many. Where it isn't run, no log is read.
 pub fn stood<L: Source>(
     alloc: Global,
     program: Program<'_>,
+    at: Option<u64>,
     arguments: &[i64],
     log_in: &mut L,
 ) -> Result<Done, Fault>
     ensures done { (form : FormValue) (file bytes : List ℕ)
         → IsFrom true form bytes program.entry.from
-        → IfOk result (λ d. IfSome (L.remaining log_in.old) (λ logged. IsText
-        (IsTelling Where form file bytes program.entry.module arguments.now logged) d)) }
+        → IfOk result (λ d. OfSome (L.remaining log_in.old) (λ logged. IsText
+        (IsTelling (Where at) form file bytes program.entry.module arguments.now logged) d)) }
     ensures no_fault { OnOk result (L.fault_count log_in.new ≡ L.fault_count log_in.old) }
     ensures fault { IfErr result (AgainstText program.entry.module arguments.now
         (L.remaining log_in.old) (L.fault_count log_in.old) (L.fault_count log_in.new)) }
@@ -39,29 +43,31 @@ pub fn stood<L: Source>(
         (λ f. status_of f ≡ status_program → log_in.new ≡ log_in.old) }
 {
     let verified = runnable(alloc, program.module, arguments)?;
-    stood_by(alloc, &program.from, &verified, arguments, log_in)
+    stood_by(alloc, &program.from, &verified, at, arguments, log_in)
 }
 
 /// The same of an accepted module.
+#[tactic(auto, using(crate::proofs::LogLemmas::reading_stands))]
 fn stood_by<L: Source>(
     alloc: Global,
     from: &Provenance<'_>,
     verified: &Verified,
+    at: Option<u64>,
     arguments: &[i64],
     log_in: &mut L,
 ) -> Result<Done, Fault>
     requires accepted { IsAccepted verified.now }
     requires taken { AreArguments verified.now arguments.now }
     ensures done { (form : FormValue) (file bytes : List ℕ) → IsFrom true form bytes from.now
-        → IfOk result (λ d. IfSome (L.remaining log_in.old) (λ logged. IsText
-        (IsTelling Where form file bytes verified.now arguments.now logged) d)) }
+        → IfOk result (λ d. OfSome (L.remaining log_in.old) (λ logged. IsText
+        (IsTelling (Where at) form file bytes verified.now arguments.now logged) d)) }
     ensures no_fault { OnOk result (L.fault_count log_in.new ≡ L.fault_count log_in.old) }
     ensures fault { IfErr result (AgainstReading (L.remaining log_in.old)
         (L.fault_count log_in.old) (L.fault_count log_in.new)) }
     ensures of_log { IfErr result (λ f. status_of f ≢ status_program) }
 {
     let log = read_log(alloc, log_in)?;
-    let tale = whereabouts(alloc, from, verified, arguments, log.entries())?;
+    let tale = whereabouts(alloc, from, verified, at, arguments, log.entries())?;
     Ok(Done::Told {
         text: tale.text,
         whole: tale.whole,
@@ -73,12 +79,50 @@ fn whereabouts(
     alloc: Global,
     from: &Provenance<'_>,
     verified: &Verified,
+    at: Option<u64>,
     arguments: &[i64],
     log: &[Entry],
 ) -> Result<Tale, AllocError>
     requires { AreArguments verified.now arguments.now }
     ensures { IfOk result (λ tale. (tale.text.items, tale.whole)
-        ≡ where_told from.now.text.now verified.now arguments.now log.now from.now.origins) }
+        ≡ where_told from.now.text.now verified.now arguments.now at log.now from.now.origins) }
+{
+    match at {
+        Some(step) => {
+            let beginning = first_steps(alloc, log, step)?;
+            let tale = stand(alloc, from, verified, arguments, &beginning)?;
+            told_to(alloc, step, log, tale)
+        }
+        None => stand(alloc, from, verified, arguments, log),
+    }
+}
+
+/// What is told up to this step, with a line where the log ends before it.
+fn told_to(alloc: Global, step: u64, log: &[Entry], tale: Tale) -> Result<Tale, AllocError>
+    ensures { IfOk result (λ told. (told.text.items, told.whole)
+        ≡ told_to step log.now (tale.text.items, tale.whole)) }
+{
+    let lacking = lacking(log, step);
+    if lacking == 0 {
+        return Ok(tale);
+    }
+    let line = log_end_line(alloc, step - lacking)?;
+    let mut text = tale.text;
+    text.extend_from_slice(line.as_bytes())?;
+    Ok(Tale { text, whole: false })
+}
+
+/// How things stand behind all steps of the entries.
+fn stand(
+    alloc: Global,
+    from: &Provenance<'_>,
+    verified: &Verified,
+    arguments: &[i64],
+    log: &[Entry],
+) -> Result<Tale, AllocError>
+    requires { AreArguments verified.now arguments.now }
+    ensures { IfOk result (λ tale. (tale.text.items, tale.whole)
+        ≡ stand_told from.now.text.now verified.now arguments.now log.now from.now.origins) }
 {
     let found = match &from.origins {
         Some(origins) => {

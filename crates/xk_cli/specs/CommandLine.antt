@@ -97,6 +97,10 @@ from_option = record (count_option (codes "FROM") (codes "from")) { value_names 
 abbrev pub to_option : Rule
 to_option = record (count_option (codes "TO") (codes "to")) { value_names = 1 }
 
+-- `--at STEP`
+abbrev pub at_option : Rule
+at_option = record (option (codes "AT") (codes "at")) { value_names = 1; parser = Some (parser.Unsigned 0 most_count) }
+
 -- ---- the commands
 
 -- a command that takes these too, in their order
@@ -151,6 +155,10 @@ lanes_line = on_file (codes "lanes") (module_flag ∷ log_place ∷ arg_option �
 abbrev pub page_line : App
 page_line = on_file (codes "page") (module_flag ∷ log_place ∷ arg_option ∷ from_option ∷ to_option ∷ [])
 
+-- tells how things stand, maybe after a step
+abbrev pub where_line : App
+where_line = on_file (codes "where") (module_flag ∷ log_place ∷ arg_option ∷ at_option ∷ [])
+
 -- the program with a command that has to be there, and a version that it tells, in short and at length
 abbrev pub program : App
 program = record (new_app (codes "x10clock")) {
@@ -166,7 +174,7 @@ with_commands a (c ∷ cs) = with_commands (with_subcommand a c.top) cs
 abbrev pub command_line : Names → App
 command_line names = with_commands program
     (check_line ∷ explain_line ∷ compile_line ∷ listing_line ∷ run_line names ∷ outcomes_line ∷ races_line
-    ∷ on_run (codes "replay") ∷ on_run (codes "chart") ∷ on_run (codes "events") ∷ lanes_line ∷ page_line ∷ on_run (codes "where") ∷ [])
+    ∷ on_run (codes "replay") ∷ on_run (codes "chart") ∷ on_run (codes "events") ∷ lanes_line ∷ page_line ∷ where_line ∷ [])
 
 -- none of the arguments is one of subcommands too
 abbrev pub AreLocal : List Arg → Type 0
@@ -207,8 +215,8 @@ way_value (drive.Workers w) = By w.count
 
 -- A command without where its texts lie in memory. What is explained may be a JSON value. A run has who takes its steps, and the log's path, where
 -- they were given; one by hand, whose order a person is asked for, has the log's path; a tally has the first seed, and how many runs there are. Lanes have
--- the log's path, the first step and the last, where they were given, and may be a picture; a page has the same steps; races have the log's path, where it
--- was given; the others on a log have its path. Outcomes have how many there are at most, which is picked, and the path of its log; numbers of them may
+-- the log's path, the first step and the last, where they were given, and may be a picture; a page has the same steps. How things stand is told by the log's path,
+-- and after a step, where that was given; races have the log's path, where it was given; the others on a log have its path. Outcomes have how many there are at most, which is picked, and the path of its log; numbers of them may
 -- have no order. Where they are held against a list they have its path, how many there are at most, and whether numbers of them have no order.
 pub data Task : Type 0 where
   Check : Task
@@ -223,7 +231,7 @@ pub data Task : Type 0 where
   Events : Text → Task
   Lanes : Text → Option ℕ → Option ℕ → Bool → Task
   Page : Text → Option ℕ → Option ℕ → Task
-  Where : Text → Task
+  Where : Text → Option ℕ → Task
   Races : Option Text → Task
   Outcomes : Option ℕ → Option ℕ → Option Text → Bool → Task
   Expected : Text → Option ℕ → Bool → Task
@@ -240,7 +248,7 @@ task_value (command.Chart log) = Chart log.now
 task_value (command.Events log) = Events log.now
 task_value (command.Lanes log from to svg) = Lanes log.now from to svg
 task_value (command.Page log from to) = Page log.now from to
-task_value (command.Where log) = Where log.now
+task_value (command.Where log at) = Where log.now at
 task_value (command.Races log) = Races (option_map (λ s. s.now) log)
 task_value (command.Outcomes limit pick log sets) = Outcomes limit pick (option_map (λ s. s.now) log) sets
 task_value (command.Expected list limit sets) = Expected list.now limit sets
@@ -384,6 +392,10 @@ lanes_on log given = Lanes log (count_in (codes "FROM") given) (count_in (codes 
 abbrev pub page_on : Text → List Row → Task
 page_on log given = Page log (count_in (codes "FROM") given) (count_in (codes "TO") given)
 
+-- `where` on a log, with what else was given to it
+abbrev pub where_on : Text → List Row → Task
+where_on log given = Where log (count_in (codes "AT") given)
+
 -- the command of a name on a log, with what else was given to it
 abbrev pub command_on : Text → Text → List Row → Option Task
 command_on name log given =
@@ -392,7 +404,7 @@ command_on name log given =
     else (if bytes_eq name (codes "events") then Some (Events log)
     else (if bytes_eq name (codes "lanes") then Some (lanes_on log given)
     else (if bytes_eq name (codes "page") then Some (page_on log given)
-    else (if bytes_eq name (codes "where") then Some (Where log) else None)))))
+    else (if bytes_eq name (codes "where") then Some (where_on log given) else None)))))
 
 -- the command of a name that wants a log
 abbrev pub command_by_log : Text → List Row → Option Task

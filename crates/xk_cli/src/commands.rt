@@ -4,11 +4,11 @@ ghost use Rattle.std.specs.Prelude.{◌≡◌, IfOk, codes, map};
 ghost use Rattle.clap.specs.Words.{App, app_of, rule_of, with_subcommand};
 ghost use Rattle.xk_cli.specs.CommandLine.{AreLocal, HasNoGlobals, WithOrders, check_line, command_line, compile_line};
 ghost use Rattle.xk_cli.specs.CommandLine.{explain_line, lanes_line, listing_line, on_file, on_run, outcomes_line};
-ghost use Rattle.xk_cli.specs.CommandLine.{page_line, program, races_line, run_line};
+ghost use Rattle.xk_cli.specs.CommandLine.{page_line, program, races_line, run_line, where_line};
 
 use crate::options::{
-    arg_option, count_option, flag, from_option, log_choice, log_option, log_place, module_flag,
-    option, order_option, place, seed_option, to_option, workers_option,
+    arg_option, at_option, count_option, flag, from_option, log_choice, log_option, log_place,
+    module_flag, option, order_option, place, seed_option, to_option, workers_option,
 };
 use clap::Arg;
 use std::alloc::{AllocError, Global};
@@ -76,7 +76,8 @@ fn explain_line<'a>(alloc: Global) -> Result<clap::Command<'a>, AllocError>
     ensures shape { IfOk result (λ c. app_of c ≡ explain_line) }
     ensures local { IfOk result HasNoGlobals }
 {
-    let about = "Says where and why a program is refused.";
+    let about =
+        "Says where and why a program is refused; where FILE is the code of a rule, as V9, tells that rule.";
     let options = [
         module_flag(alloc),
         flag(alloc, "json", "Says it as a JSON value on one line"),
@@ -238,11 +239,16 @@ fn page_line<'a>(alloc: Global) -> Result<clap::Command<'a>, AllocError>
 
 /// The command `where`.
 fn where_line<'a>(alloc: Global) -> Result<clap::Command<'a>, AllocError>
-    ensures shape { IfOk result (λ c. app_of c ≡ on_run (codes "where")) }
+    ensures shape { IfOk result (λ c. app_of c ≡ where_line) }
     ensures local { IfOk result HasNoGlobals }
 {
     let about = "Prints where each activity stands behind the steps that a log has.";
-    let options = [module_flag(alloc), log_place(alloc), arg_option(alloc)];
+    let options = [
+        module_flag(alloc),
+        log_place(alloc),
+        arg_option(alloc),
+        at_option(alloc),
+    ];
     on_file(alloc, "where", about, Vec::from_array(alloc, options)?)
 }
 

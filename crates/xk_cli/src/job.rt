@@ -70,6 +70,8 @@ pub enum Command<'a> {
     Where {
         /// The log's path.
         log: &'a str,
+        /// `--at`: the step after which things are told, where that was given; 0 is before the first.
+        at: Option<u64>,
     },
     /// `races`: print which steps of a run of FILE race with one another.
     Races {
@@ -112,7 +114,7 @@ impl<'a> Command<'a> {
             | Command::Events { log }
             | Command::Lanes { log, .. }
             | Command::Page { log, .. }
-            | Command::Where { log } => Some(log),
+            | Command::Where { log, .. } => Some(log),
             Command::Expected { list, .. } => Some(list),
             Command::Races { log } => log,
             Command::Check
@@ -262,7 +264,7 @@ impl Workers {
 pub struct Job<'a> {
     pub command: Command<'a>,
     pub form: Form,
-    /// The file's path; `-` is standard input.
+    /// The file's path; `-` is standard input. Of `explain` it may be the code of a rule.
     pub file: &'a str,
     /// `--arg`: the numbers that main is given, in order. `check`, `compile`, `explain` and `listing` are given none.
     pub arguments: Vec<i64>,

@@ -2,7 +2,7 @@
 
 ghost use Rattle.std.specs.Prelude.{◌≡◌, false};
 ghost use Rattle.clap.specs.Words.{rule_of};
-ghost use Rattle.xk_cli.specs.CommandLine.{WithOrders, arg_option, count_option, flag, from_option, log_choice};
+ghost use Rattle.xk_cli.specs.CommandLine.{WithOrders, arg_option, at_option, count_option, flag, from_option, log_choice};
 ghost use Rattle.xk_cli.specs.CommandLine.{log_option, log_place, module_flag, option, order_option, place};
 ghost use Rattle.xk_cli.specs.CommandLine.{seed_option, to_option, workers_option};
 
@@ -61,6 +61,21 @@ pub(crate) fn to_option<'a>(alloc: Global) -> Arg<'a>
 {
     let to = count_option(alloc, "TO", "to", "The last step that is drawn");
     to.value_name("STEP")
+}
+
+/// `--at STEP`.
+pub(crate) fn at_option<'a>(alloc: Global) -> Arg<'a>
+    ensures rule { rule_of result ≡ at_option }
+    ensures local { result.global ≡ false }
+{
+    let at = option(
+        alloc,
+        "AT",
+        "at",
+        "The step after which things are told, counted from 1: 0 is before the first, the last of the log where nothing is said",
+    );
+    at.value_name("STEP")
+        .value_parser(ValueParser::unsigned(0, u64::MAX))
 }
 
 /// An option of this long name that takes a whole number from 1 on.

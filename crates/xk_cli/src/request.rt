@@ -228,7 +228,10 @@ fn command_by_log<'a>(name: &str, given: &ArgMatches<'a>) -> Option<Command<'a>>
             from: count_in(given, "FROM"),
             to: count_in(given, "TO"),
         }),
-        "where" => Some(Command::Where { log }),
+        "where" => Some(Command::Where {
+            log,
+            at: count_in(given, "AT"),
+        }),
         _ => None,
     }
 }

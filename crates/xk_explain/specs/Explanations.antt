@@ -132,7 +132,7 @@ shape_explanation file f notes = (head file (title_at f.rule f.unit f.at) (rule_
 
 abbrev pub kind_explanation : List ℕ → KindFault → List ℕ → List ℕ
 kind_explanation file f notes =
-    (((head file (title_at f.rule f.unit f.at) (rule_message f.rule) ++ walk_lines f.slot f.walk.items) ++ ways_line) ++ notes)
+    (((head file (title_at f.rule f.unit f.at) (rule_message f.rule) ++ notes) ++ walk_lines f.slot f.walk.items) ++ ways_line)
     ++ repair_line (rule_repair f.rule)
 
 abbrev pub bound_explanation : List ℕ → BoundFault → List ℕ → List ℕ

@@ -54,6 +54,12 @@ rule_message rule.Activities = codes "a run may start too many activities"
 rule_message rule.Clocks = codes "a run may make too many clocks"
 rule_message rule.Stack = codes "methods that call one another have too many slots together"
 
+-- the same of the program of a source text, which has no slots
+abbrev pub source_message : Rule → List ℕ
+source_message rule.Home = codes "a method drops a clock that it is lent, or one is made under a name that has another"
+source_message rule.Use = codes "a clock may be used that the activity isn't registered on"
+source_message r = rule_message r
+
 -- the usual repair
 abbrev pub rule_repair : Rule → List ℕ
 rule_repair rule.Target = codes "let it name a place behind the instruction, and before the code's end; where a loop or a finish begins lies before it"

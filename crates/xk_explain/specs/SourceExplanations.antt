@@ -1,5 +1,5 @@
 -- What `explain` says of a source text that the verifier refuses: in the text's own lines and names. This project's own.
-use Rattle.std.specs.Prelude.{ℕ, nat_eq, nat_le, Bool, false, not, List, [], ◌∷◌, ◌++◌, length, take, min, Option, Some, None, slice_get, unwrap_or, codes, decimal, if◌then◌else◌}
+use Rattle.std.specs.Prelude.{ℕ, ◌+◌, nat_eq, nat_le, Bool, false, not, List, [], ◌∷◌, ◌++◌, length, take, drop, min, Option, Some, None, slice_get, unwrap_or, codes, if◌then◌else◌}
 use Rattle.std.specs.List.{list_any}
 use Rattle.std.specs.Option.{option_map_or}
 use Rattle.xk_types.specs.declared.rules.Rule.{Rule}
@@ -14,14 +14,19 @@ use Rattle.xk_lines.specs.Lines.{position_of, words_at}
 use Rattle.xk_lines.specs.Signs.{signs, shown_signs}
 use Rattle.xk_origins.specs.UnitOrigins.{Head, UnitOrigins}
 use Rattle.xk_explain.specs.Notes.{NoteValue, note_lines, place_title}
-use Rattle.xk_explain.specs.Messages.{kind_message, rule_message, rule_repair}
-use Rattle.xk_explain.specs.Explanations.{bound_explanation, excerpt_lines, head_at, kind_explanation, repair_line, rule_title, shape_explanation, ways_line}
+use Rattle.xk_explain.specs.Messages.{kind_message, rule_repair, source_message}
+use Rattle.xk_explain.specs.Explanations.{bound_explanation, excerpt_lines, head_at, kind_explanation, marked_from, repair_line, rule_title, shape_explanation}
+use Rattle.xk_explain.specs.Explanations.{ways_line}
 
 -- ---- places and names
 
 -- the offset that an instruction of a unit comes from, no further than where the text ends
 abbrev pub origin_at : List ℕ → UnitOrigins → ℕ → ℕ
 origin_at text u at = min (unwrap_or (slice_get u.offsets at) 0) (length text)
+
+-- behind what is marked from an offset on: the name or number that begins there, or one sign; no further than where the text ends
+abbrev pub mark_end : List ℕ → ℕ → ℕ
+mark_end text at = at + min (marked_from (drop at text)) (length (drop at text))
 
 -- `in main`, `in f`, ``in the `async` at 3:5``
 unfoldable pub unit_title : List ℕ → Head → List ℕ
@@ -39,9 +44,9 @@ slot_name names slot = unwrap_or (slice_get names slot) []
 unfoldable pub quoted : List ℕ → List ℕ
 quoted name = (codes "`" ++ name) ++ codes "`"
 
--- a slot by its name, in quotes, or by its number where the text has no name for it
+-- a slot by its name, in quotes; the text has none for the clock of a `clocked finish`
 abbrev pub slot_title : List (List ℕ) → ℕ → List ℕ
-slot_title names slot = if is_name (slot_name names slot) then quoted (slot_name names slot) else codes "slot " ++ decimal slot
+slot_title names slot = if is_name (slot_name names slot) then quoted (slot_name names slot) else codes "the clock without a name"
 
 -- a rule, and the unit in which it is broken: `V11 Use, in main`
 abbrev pub title_in : List ℕ → Rule → Head → List ℕ
@@ -96,28 +101,24 @@ stops text u told (v ∷ vs) =
 unfoldable pub stops_head : List (List ℕ) → ℕ → List ℕ
 stops_head names slot = (codes "   = a way to it, and what " ++ slot_title names slot) ++ codes " holds before each statement:\n"
 
--- what the slot may hold at the place refused
-unfoldable pub holds_line : List (List ℕ) → ℕ → Kind → List ℕ
-holds_line names slot k = (((codes "   = " ++ slot_title names slot) ++ codes " may hold here: ") ++ kind_message k) ++ codes "\n"
-
 -- ---- refusals
 
 -- a place of a unit that breaks a rule, up to the line with carets
 abbrev pub place_lines : List ℕ → List ℕ → UnitOrigins → Rule → ℕ → List ℕ
 place_lines file text u r at =
-    head_at file (position_of text (origin_at text u at)) (title_in text r u.head) (rule_message r) ++ excerpt_lines text (origin_at text u at)
+    head_at file (position_of text (origin_at text u at)) (title_in text r u.head) (source_message r) ++ excerpt_lines text (origin_at text u at)
 
 -- all that is said of a place that breaks a rule on shape, with these lines of notes
 abbrev pub shape_in_source : List ℕ → List ℕ → ShapeFault → List ℕ → UnitOrigins → List ℕ
 shape_in_source file text f notes u = (place_lines file text u f.rule f.at ++ notes) ++ repair_line (rule_repair f.rule)
 
--- what the slot may hold there, and the walk to it
+-- the walk to it
 abbrev pub walk_in_source : List ℕ → KindFault → UnitOrigins → List ℕ
-walk_in_source text f u = (holds_line u.slots f.slot f.kind ++ stops_head u.slots f.slot) ++ stops text u None f.walk.items
+walk_in_source text f u = stops_head u.slots f.slot ++ stops text u None f.walk.items
 
 abbrev pub kind_in_source : List ℕ → List ℕ → KindFault → List ℕ → UnitOrigins → List ℕ
 kind_in_source file text f notes u =
-    (((place_lines file text u f.rule f.at ++ walk_in_source text f u) ++ ways_line) ++ notes) ++ repair_line (rule_repair f.rule)
+    (((place_lines file text u f.rule f.at ++ notes) ++ walk_in_source text f u) ++ ways_line) ++ repair_line (rule_repair f.rule)
 
 -- All of it, where these are the lines of notes. (Each unit has origins; of one that hadn't, the refusal would be told by its number.)
 abbrev pub explanation_in_source : List ℕ → List ℕ → List UnitOrigins → Refusal → List ℕ → List ℕ

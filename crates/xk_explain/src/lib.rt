@@ -17,6 +17,7 @@ pub use front_repairs::repair_of;
 pub use fronts::{explain_front, explain_module, has_place, shown_at};
 pub use messages::{
     front_message, kind_message, module_message, module_repair, rule_message, rule_repair,
+    source_message,
 };
 pub use module_rule::ModuleRule;
 pub use note::{Note, note_lines, place_title, plain_lines};

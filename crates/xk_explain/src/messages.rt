@@ -1,7 +1,8 @@
 //! What is said of each rule that is broken: what is wrong, and how it is usually repaired.
 
 ghost use Rattle.std.specs.Prelude.{◌≡◌};
-ghost use Rattle.xk_explain.specs.Messages.{front_message, kind_message, module_message, module_repair, rule_message, rule_repair};
+ghost use Rattle.xk_explain.specs.Messages.{front_message, kind_message, module_message, module_repair};
+ghost use Rattle.xk_explain.specs.Messages.{rule_message, rule_repair, source_message};
 
 use crate::module_rule::ModuleRule;
 use xk_tree::FrontRule;
@@ -61,6 +62,18 @@ pub fn rule_message(rule: Rule) -> &'static str
         Rule::Activities => "a run may start too many activities",
         Rule::Clocks => "a run may make too many clocks",
         Rule::Stack => "methods that call one another have too many slots together",
+    }
+}
+
+/// What is wrong with the program of a source text, which has no slots.
+pub fn source_message(rule: Rule) -> &'static str
+    ensures { result.now ≡ source_message rule }
+{
+    match rule {
+        Rule::Home =>
+            "a method drops a clock that it is lent, or one is made under a name that has another",
+        Rule::Use => "a clock may be used that the activity isn't registered on",
+        _ => rule_message(rule),
     }
 }
 

@@ -64,7 +64,7 @@ fn word_len(text: &[u8]) -> usize
 }
 
 /// How many signs are marked from an offset on: the name or number there, and one where there is none.
-fn marked_at(text: &[u8], at: usize) -> usize
+pub(crate) fn marked_from(text: &[u8], at: usize) -> usize
     requires { at ≤ length text.now }
     ensures { result ≡ marked_from (drop at text.now) }
 {
@@ -82,7 +82,7 @@ pub(crate) fn push_excerpt(
     requires { at ≤ length source.now }
     ensures { OnOk result (out.new.items ≡ out.old.items ++ excerpt_lines source.now at) }
 {
-    let marked = marked_at(source.bytes(), at);
+    let marked = marked_from(source.bytes(), at);
     let excerpt = source.lines().excerpt(alloc, at, marked)?;
     out.extend_from_slice(&excerpt)?;
     out.push(b'\n')?;

@@ -12,9 +12,8 @@ use xk_shape::ShapeFault;
 use xk_types::Visit;
 use xk_typestate::KindFault;
 
-/// All that is said of what the verifier has against the module in FILE, by unit and place: `FILE: V9 Registers, unit 0 at 2: ..`, the walk to
-/// a slot of the wrong kind, these notes, whose places aren't told, and the usual repair. Of want of memory nothing is said. Err where memory
-/// was refused.
+/// All that is said of what the verifier has against the module in FILE, by unit and place: `FILE: V9 Registers, unit 0 at 2: ..`, these notes, whose
+/// places aren't told, the walk to a slot of the wrong kind, and the usual repair. Of want of memory nothing is said. Err where memory was refused.
 pub fn explain_refusal(
     alloc: Global,
     file: &str,
@@ -85,9 +84,9 @@ pub(crate) fn explain_kind(
         title.as_str(),
         rule_message(fault.rule),
     )?;
+    out.extend_from_slice(notes)?;
     push_walk(alloc, &mut out, fault.slot, &fault.walk)?;
     push_ways(&mut out)?;
-    out.extend_from_slice(notes)?;
     push_repair(alloc, &mut out, rule_repair(fault.rule).as_bytes())?;
     Ok(out)
 }

@@ -4,12 +4,12 @@ ghost use Rattle.std.specs.Prelude.{◌≡◌, ◌++◌, ◌≤◌, length, IfOk
 ghost use Rattle.xk_explain.specs.SourceExplanations.{explanation_in_source, kind_in_source, origin_at, place_lines, shape_in_source, source_explanation, title_in, walk_in_source};
 
 use crate::lines::{push_repair, push_text, rule_title};
-use crate::messages::{rule_message, rule_repair};
+use crate::messages::{rule_repair, source_message};
 use crate::note::{Note, note_lines};
 use crate::places::{push_excerpt, push_head_at};
 use crate::refusals::{explain_bound, explain_kind, explain_shape, push_ways};
 use crate::source_text::SourceText;
-use crate::walks::{holds_line, push_stops, stops_head, unit_title};
+use crate::walks::{push_stops, stops_head, unit_title};
 use std::alloc::{AllocError, Global};
 use xk_bounds::Refusal;
 use xk_origins::{Head, UnitOrigins};
@@ -18,7 +18,7 @@ use xk_types::Rule;
 use xk_typestate::KindFault;
 
 /// All that is said of what the verifier has against the module of the source text in FILE, whose units have these origins: `FILE:8:9: V11 Use, in main:
-/// ..`, the line there with carets, the walk to a slot of the wrong kind, statement by statement, these notes, and the usual repair. Of want of memory
+/// ..`, the line there with carets, these notes, the walk to a slot of the wrong kind, statement by statement, and the usual repair. Of want of memory
 /// nothing is said. Err where memory was refused.
 pub fn explain_source(
     alloc: Global,
@@ -93,14 +93,14 @@ fn kind_in_source(
         (λ v. v.items ≡ kind_in_source file.now source.now fault.now notes.now unit.now) }
 {
     let mut out = place_lines(alloc, file, source, unit, fault.rule, fault.at)?;
+    out.extend_from_slice(notes)?;
     push_walk(alloc, &mut out, source, unit, fault)?;
     push_ways(&mut out)?;
-    out.extend_from_slice(notes)?;
     push_repair(alloc, &mut out, rule_repair(fault.rule).as_bytes())?;
     Ok(out)
 }
 
-/// Adds what the slot may hold at the place refused, and the walk to it.
+/// Adds the walk to the slot's kind at the place refused.
 fn push_walk(
     alloc: Global,
     out: &mut Vec<u8>,
@@ -111,11 +111,7 @@ fn push_walk(
     ensures { OnOk result (out.new.items
         ≡ out.old.items ++ walk_in_source source.now fault.now unit.now) }
 {
-    let holds = holds_line(alloc, unit, fault.slot, fault.kind)?;
-    let head = stops_head(alloc, unit, fault.slot)?;
-    let mut walk = Vec::new(alloc);
-    walk.extend_from_slice(&holds)?;
-    walk.extend_from_slice(&head)?;
+    let mut walk = stops_head(alloc, unit, fault.slot)?;
     push_stops(alloc, &mut walk, source, unit, &fault.walk)?;
     out.extend_from_slice(&walk)
 }
@@ -164,7 +160,14 @@ fn place_lines(
     let title = title_in(alloc, source, rule, &unit.head)?;
     let position = source.lines().position(offset);
     let mut out = Vec::new(alloc);
-    push_head_at(alloc, &mut out, file, position, &title, rule_message(rule))?;
+    push_head_at(
+        alloc,
+        &mut out,
+        file,
+        position,
+        &title,
+        source_message(rule),
+    )?;
     push_excerpt(alloc, &mut out, source, offset)?;
     Ok(out)
 }

@@ -1,5 +1,6 @@
 //! A source text with its lines: what each line that is said of it needs.
 
+use crate::places::marked_from;
 use std::alloc::{AllocError, Global};
 use std::marker::Model;
 use xk_lines::{LineStarts, Position};
@@ -22,8 +23,9 @@ impl<'t> Model for SourceText<'t> {
 }
 
 impl<'t> SourceText<'t> {
-    ghost use Rattle.std.specs.Prelude.{◌≡◌, IfOk, length, min};
+    ghost use Rattle.std.specs.Prelude.{◌≡◌, ◌≤◌, IfOk, length, min};
     ghost use Rattle.xk_lines.specs.Lines.{position_of};
+    ghost use Rattle.xk_explain.specs.SourceExplanations.{mark_end};
 
     /// The text of these bytes. Err where memory was refused.
     pub fn new(alloc: Global, text: &'t [u8]) -> Result<SourceText<'t>, AllocError>
@@ -52,5 +54,14 @@ impl<'t> SourceText<'t> {
         ensures { result ≡ position_of self.now (min at (length self.now)) }
     {
         self.lines.position(at.min(self.text.len()))
+    }
+
+    /// The offset behind what carets mark from an offset on: the name or number that begins there, or one sign.
+    pub fn mark_end(&self, at: usize) -> usize
+        requires { at ≤ length self.now }
+        ensures end { result ≡ mark_end self.now at }
+        ensures within { result ≤ length self.now }
+    {
+        at + marked_from(self.text, at).min(self.text.len() - at)
     }
 }

@@ -1,7 +1,7 @@
 //! Names and walks in the words of a source text.
 
-ghost use Rattle.std.specs.Prelude.{◌≡◌, ◌++◌, ◌≤◌, length, IfOk, OnOk, None, codes, decimal, string_bytes};
-ghost use Rattle.xk_explain.specs.SourceExplanations.{goes_back, holds_line, is_name, is_told, line_text, one_stop, quoted, slot_name, slot_title, stop_head, stop_line, stops, stops_head, told_behind, turn_line, turn_text, unit_title};
+ghost use Rattle.std.specs.Prelude.{◌≡◌, ◌++◌, ◌≤◌, length, IfOk, OnOk, None, string_bytes};
+ghost use Rattle.xk_explain.specs.SourceExplanations.{goes_back, is_name, is_told, line_text, one_stop, quoted, slot_name, slot_title, stop_head, stop_line, stops, stops_head, told_behind, turn_line, turn_text, unit_title};
 
 use crate::lines::push_text;
 use crate::messages::kind_message;
@@ -70,16 +70,7 @@ fn quoted(alloc: Global, name: &[u8]) -> Result<Vec<u8>, AllocError>
     Ok(out)
 }
 
-/// The number of a slot.
-fn slot_number(alloc: Global, slot: u16) -> Result<Vec<u8>, AllocError>
-    ensures { IfOk result (λ v. v.items ≡ codes "slot " ++ decimal slot) }
-{
-    let mut out = Vec::new(alloc);
-    push_text(&mut out, format!(in alloc; "slot {slot}")?.as_str())?;
-    Ok(out)
-}
-
-/// A slot by its name, in quotes, or by its number where the text has no name for it. Err where memory was refused.
+/// A slot by its name, in quotes; the text has none for the clock of a `clocked finish`. Err where memory was refused.
 pub fn slot_title(alloc: Global, unit: &UnitOrigins<'_>, slot: u16) -> Result<Vec<u8>, AllocError>
     ensures { IfOk result (λ v. v.items ≡ slot_title unit.now.slots slot) }
 {
@@ -87,7 +78,7 @@ pub fn slot_title(alloc: Global, unit: &UnitOrigins<'_>, slot: u16) -> Result<Ve
     if is_name(name) {
         return quoted(alloc, name);
     }
-    slot_number(alloc, slot)
+    Vec::from_slice(alloc, b"the clock without a name")
 }
 
 /// The line before a walk.
@@ -104,26 +95,6 @@ pub(crate) fn stops_head(
     push_text(&mut out, "   = a way to it, and what ")?;
     out.extend_from_slice(&title)?;
     push_text(&mut out, " holds before each statement:\n")?;
-    Ok(out)
-}
-
-/// What a slot may hold at the place refused.
-#[tactic(auto, unfolding(crate::specs::SourceExplanations::holds_line))]
-pub(crate) fn holds_line(
-    alloc: Global,
-    unit: &UnitOrigins<'_>,
-    slot: u16,
-    kind: Kind,
-) -> Result<Vec<u8>, AllocError>
-    ensures { IfOk result (λ v. v.items ≡ holds_line unit.now.slots slot kind) }
-{
-    let title = slot_title(alloc, unit, slot)?;
-    let mut out = Vec::new(alloc);
-    push_text(&mut out, "   = ")?;
-    out.extend_from_slice(&title)?;
-    push_text(&mut out, " may hold here: ")?;
-    push_text(&mut out, kind_message(kind))?;
-    push_text(&mut out, "\n")?;
     Ok(out)
 }
 

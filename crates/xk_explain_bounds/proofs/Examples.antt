@@ -8,6 +8,7 @@ use Rattle.xk_types.specs.Code.{ModuleValue, UnitValue}
 use Rattle.xk_types.proofs.Examples.Notation.{body_with, main_only, main_with, method_with, module_with}
 use Rattle.xk_origins.specs.UnitOrigins.{UnitOrigins}
 use Rattle.xk_explain.specs.Notes.{NoteValue}
+use Rattle.xk_explain_bounds.specs.declared.remark.Deed.TheVariants as deed
 use Rattle.xk_explain_bounds.specs.declared.remark.Fact.{Fact}
 use Rattle.xk_explain_bounds.specs.declared.remark.Fact.TheVariants as fact
 use Rattle.xk_explain_bounds.specs.declared.remark.Remark.{Remark}
@@ -91,7 +92,8 @@ handed = main_with 1 (instr.Make 0 ∷ instr.Finish 3 ∷ instr.Spawn 1 (0 ∷ [
 abbrev handing : ModuleValue
 handing = module_with (handed ∷ body_with (param.Clock ∷ []) 1 (instr.Ret ∷ []) ∷ [])
 
-made_outside : registers_remarks handing 0 handed 2 (instr.Spawn 1 (0 ∷ [])) ≡ place 0 0 (fact.Made 0) ∷ place 0 1 fact.Open ∷ []
+made_outside : registers_remarks handing 0 handed 2 (instr.Spawn 1 (0 ∷ []))
+    ≡ place 0 0 (fact.Made 0) ∷ place 0 1 fact.Open ∷ place 0 2 (fact.Waits 0 deed.Started) ∷ []
 made_outside = refl
 
 -- a slot that takes its clocks in two blocks

@@ -1,14 +1,16 @@
 -- The other places that a rule on clocks speaks of: where a clock is made, and which finish is open. This project's own.
-use Rattle.std.specs.Prelude.{ℕ, suc, ◌-◌, nat_lt, Bool, true, false, not, ◌&&◌, ◌||◌, List, [], ◌∷◌, ◌++◌, length, take, find, Option, Some, None, option_map, option_and_then, slice_get, if◌then◌else◌}
+use Rattle.std.specs.Prelude.{ℕ, suc, ◌-◌, nat_lt, Bool, true, not, ◌&&◌, List, [], ◌∷◌, ◌++◌, length, take, Option, Some, None, option_map, option_and_then, slice_get, if◌then◌else◌}
 use Rattle.std.specs.Option.{option_map_or}
 use Rattle.xk_types.specs.declared.instr.Instr.{Instr}
 use Rattle.xk_types.specs.declared.instr.Instr.TheVariants as instr
 use Rattle.xk_types.specs.declared.rules.Rule.{Rule}
 use Rattle.xk_types.specs.declared.rules.Rule.TheVariants as rule
 use Rattle.xk_types.specs.Code.{ModuleValue, UnitValue, clock_arguments, params_of}
-use Rattle.xk_types.specs.Blocks.{block_at, homes, is_elsewhere, makes, same_block, takes_clock}
+use Rattle.xk_types.specs.Blocks.{block_at, makes, same_block, takes_clock}
 use Rattle.xk_shape.specs.declared.fault.ShapeFault.{ShapeFault}
 use Rattle.xk_typestate.specs.declared.fault.KindFault.{KindFault}
+use Rattle.xk_explain_bounds.specs.declared.remark.Deed.{Deed}
+use Rattle.xk_explain_bounds.specs.declared.remark.Deed.TheVariants as deed
 use Rattle.xk_explain_bounds.specs.declared.remark.Fact.{Fact}
 use Rattle.xk_explain_bounds.specs.declared.remark.Fact.TheVariants as fact
 use Rattle.xk_explain_bounds.specs.declared.remark.Remark.{Remark}
@@ -19,6 +21,17 @@ here unit f at = record { unit = unit; at = Some at; fact = f }
 
 abbrev pub on_unit : ℕ → Fact → Remark
 on_unit unit f = record { unit = unit; at = None; fact = f }
+
+-- what an instruction does with a slot that it speaks of
+abbrev pub deed_of : Instr → Deed
+deed_of (instr.Resume k) = deed.Resumed
+deed_of (instr.Drop k) = deed.Dropped
+deed_of (instr.Spawn t args) = deed.Started
+deed_of (instr.Call t args) = deed.Called t
+deed_of (instr.EndFinish b) = deed.Finished
+deed_of (instr.Make d) = deed.MadeAnew
+deed_of instr.Ret = deed.Left
+deed_of _ = deed.Other
 
 -- ---- where a clock is made
 
@@ -72,9 +85,31 @@ handed_on m (instr.Call t args) = clock_arguments (params_of m t) args
 handed_on m (instr.Spawn t args) = clock_arguments (params_of m t) args
 handed_on m _ = []
 
+-- the clock that a remark on where it comes from is on
+abbrev pub home_slot : Fact → Option ℕ
+home_slot (fact.Made s) = Some s
+home_slot (fact.Outside s) = Some s
+home_slot _ = None
+
+-- it comes from outside, or is made before a place
+abbrev pub is_before : ℕ → Remark → Bool
+is_before place r = option_map_or (λ at. nat_lt at place) r.at true
+
+-- Who waits for whom, where a clock from before the finish that is open is handed on in it: at the end of the finish all that is started in it is waited
+-- for, and what is started waits on the clock for those that are registered there.
+abbrev pub waits_at : ℕ → ℕ → Instr → Option ℕ → Remark → Option Remark
+waits_at unit at i None r = None
+waits_at unit at i (Some first) r =
+    if is_before first r then option_map (λ s. here unit (fact.Waits s (deed_of i)) at) (home_slot r.fact) else None
+
+-- what is told of where its clock comes from, and of the finish that is open
+abbrev pub remarks_on : ℕ → ℕ → Instr → Option ℕ → Option Remark → List Remark
+remarks_on unit at i opened home =
+    (listed home ++ listed (option_map (here unit fact.Open) opened)) ++ listed (option_and_then (waits_at unit at i opened) home)
+
 abbrev pub registers_remarks : ModuleValue → ℕ → UnitValue → ℕ → Instr → List Remark
 registers_remarks m unit u at i =
-    listed (first_home unit u (block_at u at) (handed_on m i)) ++ listed (option_map (here unit fact.Open) (last_finish (block_at u at)))
+    remarks_on unit at i (last_finish (block_at u at)) (first_home unit u (block_at u at) (handed_on m i))
 
 -- ---- V12: where the finish begins that ends
 
@@ -90,14 +125,17 @@ shape_remarks_at rule.Home m unit u at i = home_remarks unit u at i
 shape_remarks_at rule.Registers m unit u at i = registers_remarks m unit u at i
 shape_remarks_at _ m unit u at i = []
 
--- beside one whose slot is of the wrong kind
-abbrev pub kind_remarks_at : Rule → ℕ → Instr → List Remark
-kind_remarks_at rule.Held unit i = held_remarks unit i
-kind_remarks_at _ unit i = []
+-- beside one whose slot is of the wrong kind: what that may hold, and what is done with it; and for V12 where the finish begins
+abbrev pub begin_remarks : Rule → ℕ → Instr → List Remark
+begin_remarks rule.Held unit i = held_remarks unit i
+begin_remarks _ unit i = []
+
+abbrev pub kind_remarks_at : KindFault → Instr → List Remark
+kind_remarks_at f i = here f.unit (fact.Holds f.slot f.kind (deed_of i)) f.at ∷ begin_remarks f.rule f.unit i
 
 abbrev pub shape_remarks : ModuleValue → ShapeFault → List Remark
 shape_remarks m f =
     option_map_or (λ u. option_map_or (shape_remarks_at f.rule m f.unit u f.at) (slice_get u.code f.at) []) (slice_get m.units f.unit) []
 
 abbrev pub kind_remarks : ModuleValue → KindFault → List Remark
-kind_remarks m f = option_map_or (λ u. option_map_or (kind_remarks_at f.rule f.unit) (slice_get u.code f.at) []) (slice_get m.units f.unit) []
+kind_remarks m f = option_map_or (λ u. option_map_or (kind_remarks_at f) (slice_get u.code f.at) []) (slice_get m.units f.unit) []

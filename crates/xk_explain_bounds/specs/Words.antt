@@ -2,9 +2,13 @@
 -- project's own.
 use Rattle.std.specs.Prelude.{ℕ, List, [], ◌++◌, Option, Some, None, codes, decimal, slice_get}
 use Rattle.std.specs.Option.{option_map_or}
+use Rattle.xk_types.specs.declared.rules.Kind.{Kind}
+use Rattle.xk_types.specs.declared.rules.Kind.TheVariants as kind
 use Rattle.xk_origins.specs.UnitOrigins.{UnitOrigins}
 use Rattle.xk_explain.specs.Notes.{NoteValue}
 use Rattle.xk_explain.specs.SourceExplanations.{slot_title}
+use Rattle.xk_explain_bounds.specs.declared.remark.Deed.{Deed}
+use Rattle.xk_explain_bounds.specs.declared.remark.Deed.TheVariants as deed
 use Rattle.xk_explain_bounds.specs.declared.remark.Fact.{Fact}
 use Rattle.xk_explain_bounds.specs.declared.remark.Fact.TheVariants as fact
 use Rattle.xk_explain_bounds.specs.declared.remark.Remark.{Remark}
@@ -50,6 +54,34 @@ unfoldable pub slots_words : ℕ → ℕ → List ℕ
 slots_words own all =
     (((codes " has " ++ counted own (codes " slot") (codes " slots")) ++ codes ", at most ") ++ amount all) ++ codes " with those that it calls"
 
+-- what a slot may hold
+abbrev pub may_hold : Kind → List ℕ
+may_hold kind.Unset = codes " may hold nothing yet"
+may_hold kind.Number = codes " may be a number"
+may_hold kind.Live = codes " may be held still"
+may_hold kind.Resumed = codes " may be held still"
+may_hold kind.Out = codes " may be dropped already"
+
+-- when: what is done with it in a unit
+abbrev pub deed_words : List UnitOrigins → ℕ → Deed → List ℕ
+deed_words origins unit deed.Resumed = codes " when it is resumed here"
+deed_words origins unit deed.Dropped = codes " when it is dropped here"
+deed_words origins unit deed.Started = codes " when it is handed on here"
+deed_words origins unit (deed.Called t) = (codes " when it is lent to " ++ this_unit origins t) ++ codes " here"
+deed_words origins unit deed.Finished = codes " when the finish ends here"
+deed_words origins unit deed.MadeAnew = codes " when it is made anew here"
+deed_words origins unit deed.Left = (codes " when " ++ this_unit origins unit) ++ codes " ends here"
+deed_words origins unit deed.Other = codes " where it is used here"
+
+-- who is waited for at the end of a finish
+abbrev pub started_words : List UnitOrigins → Deed → List ℕ
+started_words origins (deed.Called t) = (codes "those that " ++ this_unit origins t) ++ codes " starts"
+started_words origins _ = codes "the one started here"
+
+unfoldable pub waits_words : List ℕ → List ℕ → List ℕ
+waits_words started clock =
+    (((codes "at its end the finish waits for " ++ started) ++ codes ", which may wait on ") ++ clock) ++ codes " for this activity"
+
 -- what is told of a place of a unit
 abbrev pub words : List UnitOrigins → ℕ → Fact → List ℕ
 words origins unit (fact.Loop turns all) = loop_words turns all (unit_around origins unit)
@@ -64,6 +96,8 @@ words origins unit (fact.Made s) = slot_words origins unit s ++ codes " is made 
 words origins unit (fact.Outside s) = slot_words origins unit s ++ codes " comes from outside"
 words origins unit fact.Open = codes "this finish is open"
 words origins unit fact.Begins = codes "the finish begins here"
+words origins unit (fact.Holds s k d) = (slot_words origins unit s ++ may_hold k) ++ deed_words origins unit d
+words origins unit (fact.Waits s d) = waits_words (started_words origins d) (slot_words origins unit s)
 
 -- ---- notes
 

@@ -1,13 +1,12 @@
 //! The other places that a rule on clocks speaks of.
 
-ghost use Rattle.std.specs.Prelude.{◌≡◌, ◌≤◌, false, length, option_map, slice_get, IfOk};
+ghost use Rattle.std.specs.Prelude.{◌≡◌, ◌≤◌, false, length, slice_get, IfOk};
 ghost use Rattle.std.specs.Option.{option_map_or};
 ghost use Rattle.xk_types.specs.Blocks.{block_at, finish_opened, is_end_of, is_inside, makes, same_block, takes_clock};
 ghost use Rattle.xk_shape.specs.Arguments.{clocks};
-ghost use Rattle.xk_explain_bounds.specs.declared.remark.Fact.TheVariants as fact;
-ghost use Rattle.xk_explain_bounds.specs.OtherPlaces.{first_elsewhere, first_home, handed_on, held_remarks, here, home_remarks, is_outside, kind_remarks, last_finish, listed, made_before, makes_elsewhere, on_unit, other_home, registers_remarks, shape_remarks};
+ghost use Rattle.xk_explain_bounds.specs.OtherPlaces.{deed_of, first_elsewhere, first_home, handed_on, held_remarks, here, home_remarks, home_slot, is_before, is_outside, kind_remarks, kind_remarks_at, listed, made_before, makes_elsewhere, on_unit, other_home, registers_remarks, remarks_on, shape_remarks, waits_at};
 
-use crate::remark::{Fact, Remark};
+use crate::remark::{Deed, Fact, Remark};
 use std::alloc::{AllocError, Global};
 use xk_shape::{Arguments, ShapeFault, params_of};
 use xk_types::{Instr, Module, ParamKind, Rule, Unit};
@@ -32,6 +31,22 @@ fn on_unit(unit: u16, fact: Fact) -> Remark
         unit,
         at: None,
         fact,
+    }
+}
+
+/// What an instruction does with a slot that it speaks of.
+fn deed_of(instr: &Instr) -> Deed
+    ensures { result ≡ deed_of instr.now }
+{
+    match instr {
+        Instr::Resume(_) => Deed::Resumed,
+        Instr::Drop(_) => Deed::Dropped,
+        Instr::Spawn { .. } => Deed::Started,
+        Instr::Call { unit, .. } => Deed::Called(*unit),
+        Instr::EndFinish(_) => Deed::Finished,
+        Instr::Make(_) => Deed::MadeAnew,
+        Instr::Ret => Deed::Left,
+        _ => Deed::Other,
     }
 }
 
@@ -250,19 +265,62 @@ fn registers_remarks(
 {
     let block = block_at(alloc, u, at)?;
     let home = home_handed_on(alloc, m, unit, u, &block, instr)?;
+    remarks_on(alloc, unit, at, instr, block.last().copied(), home)
+}
+
+/// What is told of an instruction that hands on a clock, by the finish that is open and by where its clock comes from.
+fn remarks_on(
+    alloc: Global,
+    unit: u16,
+    at: u16,
+    instr: &Instr,
+    opened: Option<u16>,
+    home: Option<Remark>,
+) -> Result<Vec<Remark>, AllocError>
+    ensures { IfOk result (λ v. v.items ≡ remarks_on unit at instr.now opened home) }
+{
     let mut out = listed(alloc, home)?;
-    out.extend_from_slice(&listed(alloc, open_finish(unit, &block))?)?;
+    if let Some(first) = opened {
+        out.push(here(unit, Fact::Open, first))?;
+    }
+    if let Some(home) = home {
+        out.extend_from_slice(&listed(alloc, waits_at(unit, at, instr, opened, home))?)?;
+    }
     Ok(out)
 }
 
-/// What is told of the finish that is opened last of those round a place.
-fn open_finish(unit: u16, block: &[u16]) -> Option<Remark>
-    ensures { result ≡ option_map (here unit fact.Open) (last_finish block.now) }
+/// The clock that a remark on where it comes from is on.
+fn home_slot(fact: Fact) -> Option<u16>
+    ensures { result ≡ home_slot fact }
 {
-    match block.last() {
-        Some(first) => Some(here(unit, Fact::Open, *first)),
-        None => None,
+    match fact {
+        Fact::Made(slot) => Some(slot),
+        Fact::Outside(slot) => Some(slot),
+        _ => None,
     }
+}
+
+/// Whether what is told of comes from outside, or stands before a place.
+fn is_before(place: u16, remark: Remark) -> bool
+    ensures { result ≡ is_before place remark }
+{
+    match remark.at {
+        Some(at) => at < place,
+        None => true,
+    }
+}
+
+/// Who waits for whom, if a clock from before the finish that is open is handed on in it.
+fn waits_at(unit: u16, at: u16, instr: &Instr, opened: Option<u16>, home: Remark) -> Option<Remark>
+    ensures { result ≡ waits_at unit at instr.now opened home }
+{
+    let first = opened?;
+    if !is_before(first, home) {
+        return None;
+    }
+    let slot = home_slot(home.fact)?;
+    let deed = deed_of(instr);
+    Some(here(unit, Fact::Waits { slot, deed }, at))
 }
 
 /// Where the first of the clocks comes from that an instruction hands on from another block.
@@ -318,6 +376,26 @@ pub(crate) fn shape_remarks(
     }
 }
 
+/// What is told beside an instruction whose slot is of the wrong kind.
+fn kind_remarks_at(
+    alloc: Global,
+    fault: &KindFault,
+    instr: &Instr,
+) -> Result<Vec<Remark>, AllocError>
+    ensures { IfOk result (λ v. v.items ≡ kind_remarks_at fault.now instr.now) }
+{
+    let holds = Fact::Holds {
+        slot: fault.slot,
+        kind: fault.kind,
+        deed: deed_of(instr),
+    };
+    let mut out = listed(alloc, Some(here(fault.unit, holds, fault.at)))?;
+    if let Rule::Held = fault.rule {
+        out.extend_from_slice(&held_remarks(alloc, fault.unit, instr)?)?;
+    }
+    Ok(out)
+}
+
 /// What is told beside a slot of the wrong kind.
 pub(crate) fn kind_remarks(
     alloc: Global,
@@ -332,8 +410,5 @@ pub(crate) fn kind_remarks(
     let Some(instr) = u.code.get(fault.at as usize) else {
         return Ok(Vec::new(alloc));
     };
-    match fault.rule {
-        Rule::Held => held_remarks(alloc, fault.unit, instr),
-        _ => Ok(Vec::new(alloc)),
-    }
+    kind_remarks_at(alloc, fault, instr)
 }

@@ -1,5 +1,28 @@
 //! What is told of places of a module.
 
+use xk_types::Kind;
+
+/// What an instruction does with a slot.
+#[derive(Clone, Copy)]
+pub(crate) enum Deed {
+    /// It resumes its clock.
+    Resumed,
+    /// It drops it.
+    Dropped,
+    /// It starts an activity, and hands it on.
+    Started,
+    /// It calls this unit, and lends it.
+    Called(u16),
+    /// It ends a finish.
+    Finished,
+    /// It makes a clock, and names it by the slot.
+    MadeAnew,
+    /// It ends the unit.
+    Left,
+    /// Something else.
+    Other,
+}
+
 /// What is told of a place, or of a unit.
 #[derive(Clone, Copy)]
 pub(crate) enum Fact {
@@ -27,6 +50,10 @@ pub(crate) enum Fact {
     Open,
     /// The finish that ends at the place refused begins here.
     Begins,
+    /// The slot may hold this here, where this is done with it.
+    Holds { slot: u16, kind: Kind, deed: Deed },
+    /// At the end of the finish one waits for those that this starts, who may wait on the slot's clock for that one.
+    Waits { slot: u16, deed: Deed },
 }
 
 /// A place of which something is told.

@@ -2,13 +2,14 @@
 
 ghost use Rattle.std.specs.Prelude.{◌≡◌, ◌++◌, codes, IfOk, OnOk};
 ghost use Rattle.std.specs.Option.{option_map_or};
-ghost use Rattle.xk_explain_bounds.specs.Words.{loop_words, most_words, note_of, numbered, place_before, place_in, slot_words, slots_words, this_unit, times_words, unit_around, words};
+ghost use Rattle.xk_explain_bounds.specs.Words.{deed_words, loop_words, may_hold, most_words, note_of, numbered, place_before, place_in, slot_words, slots_words, started_words, this_unit, times_words, unit_around, waits_words, words};
 
 use crate::amounts::{amount, counted};
-use crate::remark::{Fact, Remark};
+use crate::remark::{Deed, Fact, Remark};
 use std::alloc::{AllocError, Global};
 use xk_explain::{Note, slot_title};
 use xk_origins::UnitOrigins;
+use xk_types::Kind;
 
 /// A text, byte by byte.
 fn text(alloc: Global, words: &str) -> Result<Vec<u8>, AllocError>
@@ -234,6 +235,121 @@ fn slot_note(
     Ok(out)
 }
 
+/// What a slot may hold.
+fn may_hold(kind: Kind) -> &'static str
+    ensures { result.now ≡ may_hold kind }
+{
+    match kind {
+        Kind::Unset => " may hold nothing yet",
+        Kind::Number => " may be a number",
+        Kind::Live => " may be held still",
+        Kind::Resumed => " may be held still",
+        Kind::Out => " may be dropped already",
+    }
+}
+
+/// These words, a unit's name, and these.
+fn around(alloc: Global, before: &str, name: &[u8], behind: &str) -> Result<Vec<u8>, AllocError>
+    ensures { IfOk result (λ v. v.items ≡ (before.now ++ name.now) ++ behind.now) }
+{
+    let mut out = text(alloc, before)?;
+    out.extend_from_slice(name)?;
+    push_text(&mut out, behind)?;
+    Ok(out)
+}
+
+/// When: what is done with a slot.
+fn deed_words(
+    alloc: Global,
+    origins: &[UnitOrigins<'_>],
+    unit: u16,
+    deed: Deed,
+) -> Result<Vec<u8>, AllocError>
+    ensures { IfOk result (λ v. v.items ≡ deed_words origins.now unit deed) }
+{
+    match deed {
+        Deed::Resumed => text(alloc, " when it is resumed here"),
+        Deed::Dropped => text(alloc, " when it is dropped here"),
+        Deed::Started => text(alloc, " when it is handed on here"),
+        Deed::Called(run) => {
+            let name = this_unit(alloc, origins, run)?;
+            around(alloc, " when it is lent to ", &name, " here")
+        }
+        Deed::Finished => text(alloc, " when the finish ends here"),
+        Deed::MadeAnew => text(alloc, " when it is made anew here"),
+        Deed::Left => {
+            let name = this_unit(alloc, origins, unit)?;
+            around(alloc, " when ", &name, " ends here")
+        }
+        Deed::Other => text(alloc, " where it is used here"),
+    }
+}
+
+/// What a slot may hold when something is done with it.
+fn holds_note(
+    alloc: Global,
+    origins: &[UnitOrigins<'_>],
+    unit: u16,
+    slot: u16,
+    kind: Kind,
+    deed: Deed,
+) -> Result<Vec<u8>, AllocError>
+    ensures { IfOk result (λ v. v.items ≡ (slot_words origins.now unit slot ++ may_hold kind)
+        ++ deed_words origins.now unit deed) }
+{
+    let when = deed_words(alloc, origins, unit, deed)?;
+    let mut out = slot_words(alloc, origins, unit, slot)?;
+    push_text(&mut out, may_hold(kind))?;
+    out.extend_from_slice(&when)?;
+    Ok(out)
+}
+
+/// Who is waited for at the end of a finish.
+fn started_words(
+    alloc: Global,
+    origins: &[UnitOrigins<'_>],
+    deed: Deed,
+) -> Result<Vec<u8>, AllocError>
+    ensures { IfOk result (λ v. v.items ≡ started_words origins.now deed) }
+{
+    match deed {
+        Deed::Called(run) => {
+            let name = this_unit(alloc, origins, run)?;
+            around(alloc, "those that ", &name, " starts")
+        }
+        _ => text(alloc, "the one started here"),
+    }
+}
+
+/// Who waits for whom, by the words on those that are started, and the clock's.
+#[tactic(auto, unfolding(crate::specs::Words::waits_words))]
+fn waits_words(alloc: Global, started: &[u8], clock: &[u8]) -> Result<Vec<u8>, AllocError>
+    ensures { IfOk result (λ v. v.items ≡ waits_words started.now clock.now) }
+{
+    let mut out = text(alloc, "at its end the finish waits for ")?;
+    out.extend_from_slice(started)?;
+    push_text(&mut out, ", which may wait on ")?;
+    out.extend_from_slice(clock)?;
+    push_text(&mut out, " for this activity")?;
+    Ok(out)
+}
+
+/// Who waits for whom.
+fn waits_note(
+    alloc: Global,
+    origins: &[UnitOrigins<'_>],
+    unit: u16,
+    slot: u16,
+    deed: Deed,
+) -> Result<Vec<u8>, AllocError>
+    ensures { IfOk result (λ v. v.items ≡ waits_words (started_words origins.now deed)
+        (slot_words origins.now unit slot)) }
+{
+    let started = started_words(alloc, origins, deed)?;
+    let clock = slot_words(alloc, origins, unit, slot)?;
+    waits_words(alloc, &started, &clock)
+}
+
 /// What is told of a place of a unit.
 fn words(
     alloc: Global,
@@ -270,6 +386,8 @@ fn words(
         Fact::Outside(slot) => slot_note(alloc, origins, unit, slot, " comes from outside"),
         Fact::Open => text(alloc, "this finish is open"),
         Fact::Begins => text(alloc, "the finish begins here"),
+        Fact::Holds { slot, kind, deed } => holds_note(alloc, origins, unit, slot, kind, deed),
+        Fact::Waits { slot, deed } => waits_note(alloc, origins, unit, slot, deed),
     }
 }
 

@@ -30,6 +30,6 @@ module_text = refl
 front_text : compact_text (
     front_value (codes "a.x10") (codes "ab\ncd") (record { rule = front.DuplicateName; at = 4 })
     (record { at = Some 1; text = codes "b"; repair = None } ∷ record { at = None; text = codes "c"; repair = None } ∷ []))
-    ≡ codes "{\"accepted\":false,\"column\":2,\"file\":\"a.x10\",\"line\":2,\"message\":\"this name is visible here already, or another method has it\",\"name\":\"DuplicateName\",\"notes\":[{\"column\":2,\"line\":1,\"text\":\"b\"},{\"text\":\"c\"}],\"repair\":\"take another name\",\"rule\":\"F6\"}"
+    ≡ codes "{\"accepted\":false,\"column\":2,\"end_column\":3,\"end_line\":2,\"file\":\"a.x10\",\"line\":2,\"message\":\"this name is visible here already, or another method has it\",\"name\":\"DuplicateName\",\"notes\":[{\"column\":2,\"end_column\":3,\"end_line\":1,\"line\":1,\"text\":\"b\"},{\"text\":\"c\"}],\"repair\":\"take another name\",\"rule\":\"F6\"}"
 unfolding serde_json_on_literals digits utf8_lossy utf8_valid_len is_utf8 chars
 front_text = refl

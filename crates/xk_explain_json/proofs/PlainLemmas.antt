@@ -47,7 +47,7 @@ object_of_plain gs f = object_plain 0 (with_groups gs no_members) (with_groups_p
 
 place_flat : (text : List ℕ) (at : Option ℕ) → AreFlat (option_map_or (place_in text) at [])
 place_flat text None = tt
-place_flat text (Some at) = (number_plain _, (number_plain _, tt))
+place_flat text (Some at) = (number_plain _, (number_plain _, (number_plain _, (number_plain _, tt))))
 
 note_in_plain : (text : List ℕ) (n : NoteValue) → IsPlain 1 (note_in text n)
 note_in_plain text n =

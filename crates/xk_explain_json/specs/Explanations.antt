@@ -17,10 +17,10 @@ use Rattle.xk_lines.specs.declared.lines.Position.{Position}
 use Rattle.xk_lines.specs.Lines.{position_of}
 use Rattle.xk_origins.specs.UnitOrigins.{Head, UnitOrigins}
 use Rattle.xk_explain.specs.declared.module_rule.ModuleRule.{ModuleRule}
-use Rattle.xk_explain.specs.Messages.{front_message, kind_message, module_message, module_name, module_number, module_repair, rule_message, rule_repair}
+use Rattle.xk_explain.specs.Messages.{front_message, kind_message, module_message, module_name, module_number, module_repair, rule_message, rule_repair, source_message}
 use Rattle.xk_explain.specs.FrontRepairs.{repair_of}
 use Rattle.xk_explain.specs.Explanations.{has_place, shown_at}
-use Rattle.xk_explain.specs.SourceExplanations.{is_name, origin_at, slot_name}
+use Rattle.xk_explain.specs.SourceExplanations.{is_name, mark_end, origin_at, slot_name}
 use Rattle.xk_explain.specs.Notes.{NoteValue, place_title}
 use Rattle.xk_explain_json.specs.Objects.{array_of, bytes_value, number_value, object_of, Group}
 
@@ -52,16 +52,23 @@ front_repair_member text f notes = (codes "repair", bytes_value (repair_of text 
 abbrev pub refused_by_module : List ℕ → ModuleRule → Group
 refused_by_module file r = refused file (codes "M" ++ decimal (module_number r)) (module_name r) (module_message r) ++ repair_member (module_repair r)
 
--- by a rule of the verifier
-abbrev pub refused_by : List ℕ → Rule → Group
-refused_by file r = refused file (codes "V" ++ decimal (rule_number r)) (rule_name r) (rule_message r) ++ repair_member (rule_repair r)
+-- by a rule of the verifier, with what is wrong
+abbrev pub refused_by : List ℕ → Rule → List ℕ → Group
+refused_by file r message = refused file (codes "V" ++ decimal (rule_number r)) (rule_name r) message ++ repair_member (rule_repair r)
 
 abbrev pub position_members : Position → Group
 position_members p = (codes "column", number_value p.column) ∷ (codes "line", number_value p.line) ∷ []
 
--- where an offset lies, no further than where the text ends
+abbrev pub end_members : Position → Group
+end_members p = (codes "end_column", number_value p.column) ∷ (codes "end_line", number_value p.line) ∷ []
+
+-- where an offset lies, and where that ends which carets mark from there on
+abbrev pub place_members : List ℕ → ℕ → Group
+place_members text at = position_members (position_of text at) ++ end_members (position_of text (mark_end text at))
+
+-- the same no further than where the text ends
 abbrev pub place_in : List ℕ → ℕ → Group
-place_in text at = position_members (position_of text (min at (length text)))
+place_in text at = place_members text (min at (length text))
 
 -- ---- notes
 
@@ -86,7 +93,7 @@ notes_alone notes = (codes "notes", array_of note_alone notes) ∷ []
 
 -- where a fault is shown; a text that is too long has no such place, nor has a method that isn't there
 abbrev pub front_place : List ℕ → FrontFault → Group
-front_place text f = if has_place f.rule then position_members (position_of text (shown_at text f)) else []
+front_place text f = if has_place f.rule then place_members text (shown_at text f) else []
 
 -- all that is said of a fault of a source text
 abbrev pub front_value : List ℕ → List ℕ → FrontFault → List NoteValue → Data
@@ -123,13 +130,18 @@ abbrev pub limit_member : ℕ → Group
 limit_member limit = (codes "limit", number_value limit) ∷ []
 
 abbrev pub shape_groups : List ℕ → ShapeFault → List Group
-shape_groups file f = refused_by file f.rule ∷ instruction_members f.unit f.at ∷ []
+shape_groups file f = refused_by file f.rule (rule_message f.rule) ∷ instruction_members f.unit f.at ∷ []
 
 abbrev pub kind_groups : List ℕ → KindFault → List Group
-kind_groups file f = refused_by file f.rule ∷ instruction_members f.unit f.at ∷ slot_members f.slot f.kind ∷ walk_alone f.walk.items ∷ []
+kind_groups file f =
+    refused_by file f.rule (rule_message f.rule)
+    ∷ instruction_members f.unit f.at
+    ∷ slot_members f.slot f.kind
+    ∷ walk_alone f.walk.items
+    ∷ []
 
 abbrev pub bound_groups : List ℕ → BoundFault → List Group
-bound_groups file f = refused_by file f.rule ∷ limit_member f.limit ∷ []
+bound_groups file f = refused_by file f.rule (rule_message f.rule) ∷ limit_member f.limit ∷ []
 
 abbrev pub refusal_groups : List ℕ → Refusal → List Group
 refusal_groups file (refusal.Shape f) = shape_groups file f
@@ -159,7 +171,7 @@ unit_name text h = option_map_or (λ name. name) h.name (codes "async at " ++ pl
 
 -- the unit by its name, and where the instruction comes from
 abbrev pub origin_members : List ℕ → UnitOrigins → ℕ → Group
-origin_members text u at = (codes "in", bytes_value (unit_name text u.head)) ∷ position_members (position_of text (origin_at text u at))
+origin_members text u at = (codes "in", bytes_value (unit_name text u.head)) ∷ place_members text (origin_at text u at)
 
 -- the name of the slot in question, if it has one in the text
 abbrev pub slot_name_value : List ℕ → Data
@@ -175,11 +187,12 @@ abbrev pub walk_in : List ℕ → UnitOrigins → List Visit → Group
 walk_in text u walk = (codes "walk", array_of (stop_in text u) walk) ∷ []
 
 abbrev pub shape_in_source : List ℕ → List ℕ → ShapeFault → UnitOrigins → List Group
-shape_in_source file text f u = refused_by file f.rule ∷ instruction_members f.unit f.at ∷ origin_members text u f.at ∷ []
+shape_in_source file text f u =
+    refused_by file f.rule (source_message f.rule) ∷ instruction_members f.unit f.at ∷ origin_members text u f.at ∷ []
 
 abbrev pub kind_in_source : List ℕ → List ℕ → KindFault → UnitOrigins → List Group
 kind_in_source file text f u =
-    refused_by file f.rule
+    refused_by file f.rule (source_message f.rule)
     ∷ instruction_members f.unit f.at
     ∷ origin_members text u f.at
     ∷ slot_members f.slot f.kind

@@ -4,16 +4,17 @@ ghost use Rattle.std.specs.Prelude.{◌≡◌, IfOk, OnOk};
 ghost use Rattle.xk_explain_json.specs.Explanations.{front_place, front_value, module_value};
 ghost use Rattle.xk_explain_json.specs.Objects.{json_line, Gains, IsReadBack};
 
-use crate::members::{put_front_repair, put_position, put_refused_by_front, put_refused_by_module};
+use crate::members::{put_front_repair, put_place, put_refused_by_front, put_refused_by_module};
 use crate::notes::put_notes_in;
 use crate::object::Object;
 use std::alloc::{AllocError, Global};
 use xk_explain::{ModuleRule, Note, SourceText, has_place, shown_at};
 use xk_tree::FrontFault;
 
-/// All that is said of a fault of the source text in FILE, with these notes: a JSON object in one line, `{"accepted":false,"column":5,"file":"FILE",
-/// "line":3,"message":..,"name":"Syntax","notes":[],"repair":..,"rule":"F2"}`. A fault that is said to lie behind the text's end is shown at that;
-/// a text that is too long, and a `main` that isn't there, have no line and column. Err where memory was refused.
+/// All that is said of a fault of the source text in FILE, with these notes: a JSON object in one line, `{"accepted":false,"column":5,
+/// "end_column":12,"end_line":3,"file":"FILE","line":3,"message":..,"name":"Syntax","notes":[],"repair":..,"rule":"F2"}`. A fault that is said to lie
+/// behind the text's end is shown at that; a text that is too long, and a `main` that isn't there, have no line and column. Err where memory was
+/// refused.
 pub fn front_json(
     alloc: Global,
     file: &str,
@@ -45,11 +46,7 @@ fn put_front_place(
     ensures { OnOk result (Gains (front_place source.now fault) object.old object.new) }
 {
     if has_place(fault.rule) {
-        return put_position(
-            alloc,
-            object,
-            source.lines().position(shown_at(source.bytes(), fault)),
-        );
+        return put_place(alloc, object, source, shown_at(source.bytes(), fault));
     }
     Ok(())
 }

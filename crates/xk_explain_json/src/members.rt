@@ -1,16 +1,17 @@
 //! Groups of members that several values have.
 
-ghost use Rattle.std.specs.Prelude.{[], ◌∷◌, codes, OnOk};
+ghost use Rattle.std.specs.Prelude.{[], ◌∷◌, ◌≤◌, codes, length, OnOk};
 ghost use Rattle.serde_json.specs.Data.{boolean};
-ghost use Rattle.xk_explain_json.specs.Explanations.{front_repair_member, instruction_members, limit_member, position_members, refused, refused_by, refused_by_front, refused_by_module, slot_members};
+ghost use Rattle.xk_explain_json.specs.Explanations.{end_members, front_repair_member, instruction_members, limit_member, place_members, position_members};
+ghost use Rattle.xk_explain_json.specs.Explanations.{refused, refused_by, refused_by_front, refused_by_module, slot_members};
 ghost use Rattle.xk_explain_json.specs.Objects.{Gains};
 
 use crate::object::Object;
 use serde_json::Value;
 use std::alloc::{AllocError, Global};
 use xk_explain::{
-    ModuleRule, Note, front_message, kind_message, module_message, module_repair, repair_of,
-    rule_message, rule_repair, shown_at,
+    ModuleRule, Note, SourceText, front_message, kind_message, module_message, module_repair,
+    repair_of, rule_repair, shown_at,
 };
 use xk_lines::Position;
 use xk_tree::FrontFault;
@@ -106,25 +107,20 @@ pub(crate) fn put_refused_by_module(
     object.put_text(alloc, "repair", module_repair(rule))
 }
 
-/// Adds a refusal by a rule of the verifier.
+/// Adds a refusal by a rule of the verifier, with what is wrong.
 pub(crate) fn put_refused_by(
     alloc: Global,
     object: &mut Object,
     file: &str,
     rule: Rule,
+    message: &str,
 ) -> Result<(), AllocError>
-    ensures { OnOk result (Gains (refused_by file.now rule) object.old object.new) }
+    ensures { OnOk result
+        (Gains (refused_by file.now rule message.now) object.old object.new) }
 {
     let number = rule.number();
     let title = format!(in alloc; "V{number}")?;
-    put_refused(
-        alloc,
-        object,
-        file,
-        title.as_str(),
-        rule.name(),
-        rule_message(rule),
-    )?;
+    put_refused(alloc, object, file, title.as_str(), rule.name(), message)?;
     object.put_text(alloc, "repair", rule_repair(rule))
 }
 
@@ -138,6 +134,28 @@ pub(crate) fn put_position(
 {
     object.put_number(alloc, "column", position.column as u64)?;
     object.put_number(alloc, "line", position.line as u64)
+}
+
+/// Adds where what is marked ends.
+fn put_end(alloc: Global, object: &mut Object, position: Position) -> Result<(), AllocError>
+    ensures { OnOk result (Gains (end_members position) object.old object.new) }
+{
+    object.put_number(alloc, "end_column", position.column as u64)?;
+    object.put_number(alloc, "end_line", position.line as u64)
+}
+
+/// Adds where an offset of a text lies, and where that ends which carets mark from there on.
+pub(crate) fn put_place(
+    alloc: Global,
+    object: &mut Object,
+    source: &SourceText<'_>,
+    at: usize,
+) -> Result<(), AllocError>
+    requires { at ≤ length source.now }
+    ensures { OnOk result (Gains (place_members source.now at) object.old object.new) }
+{
+    put_position(alloc, object, source.lines().position(at))?;
+    put_end(alloc, object, source.lines().position(source.mark_end(at)))
 }
 
 /// Adds an instruction, by its unit and place.

@@ -4,7 +4,7 @@ ghost use Rattle.std.specs.Prelude.{◌≡◌, IfOk, OnOk};
 ghost use Rattle.xk_explain_json.specs.Explanations.{origin_members, slot_name_member, unit_name};
 ghost use Rattle.xk_explain_json.specs.Objects.{Gains};
 
-use crate::members::put_position;
+use crate::members::put_place;
 use crate::object::Object;
 use serde_json::Value;
 use std::alloc::{AllocError, Global};
@@ -30,7 +30,7 @@ fn unit_name(alloc: Global, source: &SourceText<'_>, head: &Head<'_>) -> Result<
     }
 }
 
-/// Adds the name of a unit, and the line and column that an instruction of it comes from.
+/// Adds the name of a unit, and the place that an instruction of it comes from.
 pub(crate) fn put_origin(
     alloc: Global,
     object: &mut Object,
@@ -43,11 +43,7 @@ pub(crate) fn put_origin(
 {
     let name = unit_name(alloc, source, &unit.head)?;
     object.put_bytes(alloc, "in", &name)?;
-    put_position(
-        alloc,
-        object,
-        source.lines().position(origin_at(source.bytes(), unit, at)),
-    )
+    put_place(alloc, object, source, origin_at(source.bytes(), unit, at))
 }
 
 /// Adds the name of a slot, or null where the text has none for it.

@@ -5,7 +5,7 @@ ghost use Rattle.serde_json.specs.View.{view};
 ghost use Rattle.xk_explain_json.specs.Explanations.{note_alone, note_in, notes_alone, notes_in, notes_of};
 ghost use Rattle.xk_explain_json.specs.Objects.{array_of, Gains};
 
-use crate::members::put_position;
+use crate::members::put_place;
 use crate::object::Object;
 use serde_json::Value;
 use std::alloc::{AllocError, Global};
@@ -17,7 +17,7 @@ fn note_in(alloc: Global, source: &SourceText<'_>, note: &Note) -> Result<Value,
 {
     let mut object = Object::new(alloc);
     if let Some(at) = note.at {
-        put_position(alloc, &mut object, source.nearest(at))?;
+        put_place(alloc, &mut object, source, at.min(source.bytes().len()))?;
     }
     object.put_bytes(alloc, "text", &note.text)?;
     Ok(object.into_value())

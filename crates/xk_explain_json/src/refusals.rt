@@ -10,7 +10,7 @@ use crate::object::Object;
 use crate::walks::put_walk_alone;
 use std::alloc::{AllocError, Global};
 use xk_bounds::{BoundFault, Refusal};
-use xk_explain::Note;
+use xk_explain::{Note, rule_message};
 use xk_shape::ShapeFault;
 use xk_typestate::KindFault;
 
@@ -73,7 +73,7 @@ pub(crate) fn put_shape(
 ) -> Result<(), AllocError>
     ensures { OnOk result (GainsAll (shape_groups file.now fault.now) object.old object.new) }
 {
-    put_refused_by(alloc, object, file, fault.rule)?;
+    put_refused_by(alloc, object, file, fault.rule, rule_message(fault.rule))?;
     put_instruction(alloc, object, fault.unit, fault.at)
 }
 
@@ -86,7 +86,7 @@ pub(crate) fn put_kind(
 ) -> Result<(), AllocError>
     ensures { OnOk result (GainsAll (kind_groups file.now fault.now) object.old object.new) }
 {
-    put_refused_by(alloc, object, file, fault.rule)?;
+    put_refused_by(alloc, object, file, fault.rule, rule_message(fault.rule))?;
     put_instruction(alloc, object, fault.unit, fault.at)?;
     put_slot(alloc, object, fault.slot, fault.kind)?;
     put_walk_alone(alloc, object, &fault.walk)
@@ -101,6 +101,6 @@ pub(crate) fn put_bound(
 ) -> Result<(), AllocError>
     ensures { OnOk result (GainsAll (bound_groups file.now fault) object.old object.new) }
 {
-    put_refused_by(alloc, object, file, fault.rule)?;
+    put_refused_by(alloc, object, file, fault.rule, rule_message(fault.rule))?;
     put_limit(alloc, object, fault.limit)
 }

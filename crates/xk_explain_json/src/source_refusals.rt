@@ -12,7 +12,7 @@ use crate::refusals::{is_memory, put_bound, put_kind, put_shape};
 use crate::walks::put_walk_in;
 use std::alloc::{AllocError, Global};
 use xk_bounds::Refusal;
-use xk_explain::{Note, SourceText};
+use xk_explain::{Note, SourceText, source_message};
 use xk_origins::UnitOrigins;
 use xk_shape::ShapeFault;
 use xk_typestate::KindFault;
@@ -80,7 +80,7 @@ fn put_shape_in(
     ensures { OnOk result (GainsAll
         (shape_in_source file.now source.now fault.now unit.now) object.old object.new) }
 {
-    put_refused_by(alloc, object, file, fault.rule)?;
+    put_refused_by(alloc, object, file, fault.rule, source_message(fault.rule))?;
     put_instruction(alloc, object, fault.unit, fault.at)?;
     put_origin(alloc, object, source, unit, fault.at)
 }
@@ -97,7 +97,7 @@ fn put_kind_in(
     ensures { OnOk result (GainsAll
         (kind_in_source file.now source.now fault.now unit.now) object.old object.new) }
 {
-    put_refused_by(alloc, object, file, fault.rule)?;
+    put_refused_by(alloc, object, file, fault.rule, source_message(fault.rule))?;
     put_instruction(alloc, object, fault.unit, fault.at)?;
     put_origin(alloc, object, source, unit, fault.at)?;
     put_slot(alloc, object, fault.slot, fault.kind)?;

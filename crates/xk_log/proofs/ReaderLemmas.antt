@@ -14,6 +14,7 @@ use Rattle.xk_log.specs.declared.progress.Stage.TheVariants as stage
 use Rattle.xk_log.specs.LogText.{Lacks, isnt, line_feed, head_line, entry_line, end_line, ended, entry_lines, log_text, FitsEntry}
 use Rattle.xk_log.specs.Verdicts.{Place, Start, Within, Behind, before, IsPlace, line_at, IsOneLine, longest_line, IsWrong, Misfit, TooLong, Surplus, IsWrongAt, Verdict, Whole, Wrong, Cut, Says}
 use Rattle.xk_log.specs.Reading.{HasEntry, Tells, Answers, CountsDevice, place_of, IsReadyAt, Refuses, StopsAt, IsNoneBehind, HasSurplus, Finishes}
+use Rattle.xk_log.specs.SomeBytes.{OfSome}
 use Rattle.xk_log.proofs.LineLemmas.{lacks_parts, front_lacks, front_ends}
 use Rattle.xk_log.proofs.NumberLemmas.{number_short}
 use Rattle.xk_log.proofs.VerdictLemmas.{entry_short, one_verdict}
@@ -131,11 +132,30 @@ stops_tells text more fault.Truncated h = absurd h
 stops_tells text more fault.Device h = absurd h
 stops_tells text more fault.OutOfMemory h = has_entry_more text more h
 
+stops_told : (text : List ℕ) (f : LogFault) → StopsAt text f → Tells text (Err f)
+stops_told text (fault.Grammar k) h = h
+stops_told text fault.Truncated h = absurd h
+stops_told text fault.Device h = absurd h
+stops_told text fault.OutOfMemory h = h
+
+-- what follows of the bytes that are known, and of these, follows of some
+of_some : (a : Option (List ℕ)) (P : List ℕ → Type 0) (text : List ℕ) → P text → IfSome a P → OfSome a P
+of_some None P text h known = (text, h)
+of_some (Some t) P text h known = known
+
+-- of a device's failure nothing is said
+pub device_told : (a : Option (List ℕ)) (r : Result (List Entry) LogFault) → r ≡ Err fault.Device → OfSome a (λ t. Tells t r)
+device_told None r e = ([], subst (Tells []) (sym e) tt)
+device_told (Some t) r e = subst (Tells t) (sym e) tt
+
 -- what stops in what was read stands against the whole
 pub tells_stopped : (a b : Option (List ℕ)) (text : List ℕ) (f : LogFault) → Consumes a b text → StopsAt text f → IfSome a (λ t. Tells t (Err f))
 tells_stopped None b text f c h = tt
 tells_stopped (Some t) None text f c h = absurd c
 tells_stopped (Some t) (Some u) text f c h = subst (λ l. Tells l (Err f)) (sym c) (stops_tells text u f h)
+
+pub some_stopped : (a b : Option (List ℕ)) (text : List ℕ) (f : LogFault) → Consumes a b text → StopsAt text f → OfSome a (λ t. Tells t (Err f))
+some_stopped a b text f c h = of_some a (λ t. Tells t (Err f)) text (stops_told text f h) (tells_stopped a b text f c h)
 
 pub counts_stopped : (old new : ℕ) (text : List ℕ) (f : LogFault) → new ≡ old → StopsAt text f → CountsDevice old new (Err f)
 counts_stopped old new text (fault.Grammar k) e h = e
@@ -175,6 +195,13 @@ tells_finished (Some t) None s es left n r ready one short none is c e = absurd 
 tells_finished (Some t) (Some u) s es left n r ready one short none is c e =
     let text = before (place_of s es) ++ take n left in
     subst (λ l. Tells l r) (sym (c ∙ ap (λ l. text ++ l) e ∙ append-nil text)) (finished s es left n r ready one short none is)
+
+pub some_finished : (a b : Option (List ℕ)) (s : Stage) (es : List Entry) (left : List ℕ) (n : ℕ) (r : Result (List Entry) LogFault) → IsReadyAt s es
+    → IsOneLine (take n left) → n ≤ longest_line → IsNoneBehind (place_of s es) n → Finishes (place_of s es) r
+    → Consumes a b (before (place_of s es) ++ take n left) → IsAtEnd b → OfSome a (λ t. Tells t r)
+some_finished a b s es left n r ready one short none is c e =
+    of_some a (λ t. Tells t r) (before (place_of s es) ++ take n left) (finished s es left n r ready one short none is)
+    (tells_finished a b s es left n r ready one short none is c e)
 
 -- ---- how long what was read can be
 

@@ -3,6 +3,7 @@
 ghost use Rattle.std.specs.Prelude.{◌≡◌, ◌≤◌, ◌++◌, length, take, IfOk, IfErr, IfSome, OnOk};
 ghost use Rattle.xk_log.specs.Verdicts.{Verdict, before, IsOneLine, longest_line, Says};
 ghost use Rattle.xk_log.specs.Reading.{place, Answers, CountsDevice, IsNoneBehind, IsReady, StopsAt, Tells};
+ghost use Rattle.xk_log.specs.SomeBytes.{OfSome};
 
 use crate::fault::LogFault;
 use crate::log::Log;
@@ -17,6 +18,7 @@ const PIECE: usize = 4096;
 /// proportion to the entries read, and a source that never ends is left at the first wrong line.
 pub fn read_log<R: Source>(alloc: Global, source: &mut R) -> Result<Log, LogFault>
     ensures told { IfSome (R.remaining source.old) (λ text. Tells text result) }
+    ensures of_some { OfSome (R.remaining source.old) (λ text. Tells text result) }
     ensures exactly { IfSome (R.remaining source.old) (λ text.
         (v : Verdict) → Says v text → Answers v result) }
     ensures device { CountsDevice (R.fault_count source.old) (R.fault_count source.new) result }
@@ -27,6 +29,7 @@ pub fn read_log<R: Source>(alloc: Global, source: &mut R) -> Result<Log, LogFaul
 /// Reads lines to the end of the source, or to the first that is wrong.
 fn read_lines<R: Source>(alloc: Global, source: &mut R) -> Result<Log, LogFault>
     ensures told { IfSome (R.remaining source.old) (λ text. Tells text result) }
+    ensures of_some { OfSome (R.remaining source.old) (λ text. Tells text result) }
     ensures device { CountsDevice (R.fault_count source.old) (R.fault_count source.new) result }
 {
     let mut progress = Progress::new(alloc);

@@ -2,7 +2,7 @@
 
 ghost use Rattle.std.specs.Prelude.{◌≡◌, IfOk, string_bytes};
 ghost use Rattle.xk_module.specs.Faults.{fault_label};
-ghost use Rattle.xk_messages.specs.Lines.{accepted_line, arguments_line, bound_text, ended_line, front_text, grammar_line, kind_text, label_line, line, no_outcome_line, not_enabled_line, place_text, refusal_line, rule_text, walk_text};
+ghost use Rattle.xk_messages.specs.Lines.{accepted_line, arguments_line, bound_text, ended_line, front_text, grammar_line, kind_text, label_line, line, log_end_line, no_outcome_line, not_enabled_line, place_text, refusal_line, rule_text, walk_text};
 
 use std::alloc::{AllocError, Global};
 use xk_bounds::{BoundFault, KindFault, Refusal};
@@ -161,4 +161,11 @@ pub fn ended_line(alloc: Global, steps: u64) -> Result<String, AllocError>
     ensures { IfOk result (λ text. string_bytes text ≡ ended_line steps) }
 {
     format!(in alloc; "ended steps {steps}\n")
+}
+
+/// `the log ends after step 8`. Err where memory was refused.
+pub fn log_end_line(alloc: Global, steps: u64) -> Result<String, AllocError>
+    ensures { IfOk result (λ text. string_bytes text ≡ log_end_line steps) }
+{
+    format!(in alloc; "the log ends after step {steps}\n")
 }

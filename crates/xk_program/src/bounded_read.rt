@@ -1,6 +1,6 @@
 //! Reading no further than is wanted.
 
-ghost use Rattle.std.specs.Prelude.{◌≡◌, take, IfOk, IfErr, IfSome, OnOk};
+ghost use Rattle.std.specs.Prelude.{◌≡◌, ◌≤◌, length, take, IfOk, IfErr, IfSome, OnOk};
 ghost use Rattle.xk_program.specs.Bytes.{FailsRead, IsReadToLimit, LosesAtMost, kept};
 
 use crate::fault::Fault;
@@ -17,6 +17,7 @@ const PIECE: usize = 4096;
 pub fn read_front<R: Source>(alloc: Global, source: &mut R, most: usize) -> Result<Vec<u8>, Fault>
     ensures front { IfOk result (λ bytes.
         IfSome (R.remaining source.old) (λ known. bytes.items ≡ take most known)) }
+    ensures few { IfOk result (λ bytes. length bytes.items ≤ most) }
     ensures no_more { LosesAtMost most (R.remaining source.old) (R.remaining source.new) }
     ensures no_fault { OnOk result (R.fault_count source.new ≡ R.fault_count source.old) }
     ensures failed { IfErr result

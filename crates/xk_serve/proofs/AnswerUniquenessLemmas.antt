@@ -63,7 +63,7 @@ Prints (Run (By n) kept) m args logged out log = IsAccepted m × AreArguments m 
 Prints Replay m args logged out log =
     IsAccepted m × (numbers : List ℤ) × (steps : ℕ) × (es : List Entry) × IsLogText logged es × IsReplay m args es numbers steps × (out ≡ number_lines numbers ++ ended_line steps) × (log ≡ [])
 Prints (Draw picture) m args logged out log = ⊥
-Prints Where m args logged out log = ⊥
+Prints (Where at) m args logged out log = ⊥
 Prints Races m args logged out log = ⊥
 Prints (Tally seed runs) m args logged out log = ⊥
 Prints (Outcomes sets limit pick kept) m args logged out log = IsAccepted m × AreArguments m args
@@ -88,7 +88,7 @@ prints (Run (By n) true) m args logged _ h = absurd h
 prints Replay m args logged (done.Ended numbers steps None) h = (h.0, numbers.items, steps, h.1.0, h.1.1, h.1.2, refl, refl)
 prints Replay m args logged _ h = absurd h
 prints (Draw picture) m args logged d h = absurd h
-prints Where m args logged d h = absurd h
+prints (Where at) m args logged d h = absurd h
 prints Races m args logged d h = absurd h
 prints (Tally seed runs) m args logged d h = absurd h
 prints (Outcomes sets limit pick kept) m args logged (done.Outcomes t whole log) h = (h.0, h.1.taken)
@@ -108,7 +108,7 @@ done_zero (Run (By n) false) m args logged (done.Outcomes t whole log) one h = a
 done_zero (Run (By n) true) m args logged (done.Outcomes t whole log) one h = absurd h
 done_zero Replay m args logged (done.Outcomes t whole log) one h = absurd h
 done_zero (Draw picture) m args logged (done.Outcomes t whole log) one h = absurd h
-done_zero Where m args logged (done.Outcomes t whole log) one h = absurd h
+done_zero (Where at) m args logged (done.Outcomes t whole log) one h = absurd h
 done_zero Races m args logged (done.Outcomes t whole log) one h = absurd h
 done_zero (Tally seed runs) m args logged (done.Outcomes t whole log) one h = absurd h
 done_zero (Outcomes sets limit pick kept) m args logged (done.Outcomes t whole log) one h = absurd one
@@ -125,7 +125,7 @@ done_zero (Run (By n) false) m args logged (done.Told t whole) one h = absurd h
 done_zero (Run (By n) true) m args logged (done.Told t whole) one h = absurd h
 done_zero Replay m args logged (done.Told t whole) one h = absurd h
 done_zero (Draw picture) m args logged (done.Told t whole) one h = absurd h
-done_zero Where m args logged (done.Told t whole) one h = absurd h
+done_zero (Where at) m args logged (done.Told t whole) one h = absurd h
 done_zero Races m args logged (done.Told t whole) one h = absurd h
 done_zero (Tally seed runs) m args logged (done.Told t whole) one h = absurd h
 done_zero (Outcomes sets limit pick kept) m args logged (done.Told t whole) one h = absurd h.1
@@ -143,7 +143,7 @@ prints_accepted (Run (In o) true) m args logged out log asks h = h.0
 prints_accepted (Run (By n) kept) m args logged out log asks h = h.0
 prints_accepted Replay m args logged out log asks h = h.0
 prints_accepted (Draw picture) m args logged out log asks h = absurd h
-prints_accepted Where m args logged out log asks h = absurd h
+prints_accepted (Where at) m args logged out log asks h = absurd h
 prints_accepted Races m args logged out log asks h = absurd h
 prints_accepted (Tally seed runs) m args logged out log asks h = absurd h
 prints_accepted (Outcomes sets limit pick kept) m args logged out log asks h = h.0
@@ -160,7 +160,7 @@ prints_taken (Run (In o) true) m args logged out log run h = run_taken _ m args 
 prints_taken (Run (By n) kept) m args logged out log run h = h.1
 prints_taken Replay m args logged out log run h = run_taken _ m args h.1 h.2 h.5
 prints_taken (Draw picture) m args logged out log run h = absurd h
-prints_taken Where m args logged out log run h = absurd h
+prints_taken (Where at) m args logged out log run h = absurd h
 prints_taken Races m args logged out log run h = absurd h
 prints_taken (Tally seed runs) m args logged out log run h = absurd h
 prints_taken (Outcomes sets limit pick kept) m args logged out log run h = h.1
@@ -179,7 +179,7 @@ prints_whole Listing m args logged out log reads h = absurd h
 prints_whole (Run way kept) m args logged out log reads h = absurd (false≢true reads)
 prints_whole Replay m args logged out log reads h = (h.3, h.4, replay_whole m args h.1 h.2 h.3 h.5)
 prints_whole (Draw picture) m args logged out log reads h = absurd h
-prints_whole Where m args logged out log reads h = absurd h
+prints_whole (Where at) m args logged out log reads h = absurd h
 prints_whole Races m args logged out log reads h = absurd h
 prints_whole (Tally seed runs) m args logged out log reads h = absurd h
 prints_whole (Outcomes sets limit pick kept) m args logged out log reads h = absurd (false≢true reads)
@@ -208,7 +208,7 @@ prints_once Replay m args logged out log other kept none p q =
     let same = list_once _ _ m args p.1 q.1 p.2 q.2 p.5 q.5 (p.5.follows ∙ ap schedule_of es ∙ sym q.5.follows) in
     (p.6 ∙ same_lines p.1 q.1 p.2 q.2 same.0 same.1 ∙ sym q.6, p.7 ∙ sym q.7)
 prints_once (Draw picture) m args logged out log other kept none p q = absurd p
-prints_once Where m args logged out log other kept none p q = absurd p
+prints_once (Where at) m args logged out log other kept none p q = absurd p
 prints_once Races m args logged out log other kept none p q = absurd p
 prints_once (Tally seed runs) m args logged out log other kept none p q = absurd p
 prints_once (Outcomes sets limit pick written) m args logged out log other kept none p q = absurd none
@@ -230,7 +230,7 @@ said_determined Listing kind file bytes said f h one = h
 said_determined (Run way kept) kind file bytes said f h one = h
 said_determined Replay kind file bytes said f h one = h
 said_determined (Draw picture) kind file bytes said f h one = h
-said_determined Where kind file bytes said f h one = h
+said_determined (Where at) kind file bytes said f h one = h
 said_determined Races kind file bytes said f h one = h
 said_determined (Tally seed runs) kind file bytes said f h one = h
 said_determined (Outcomes sets limit pick kept) kind file bytes said f h one = h
@@ -251,26 +251,26 @@ telling_whole picture kind file bytes m args logged told h =
     let r = h.1.2 in (h.1.0, h.1.1, record { last = r.last; leads = r.leads; given = r.given; over = r.over })
 
 -- a text of a log that need not be that of a whole run isn't refused
-text_stands : (m : ModuleValue) (args : List ℤ) (logged : List ℕ) (es : List Entry) (f : Fault) → IsLogText logged es → IsNoRun m args logged f → MayStand Where f
+text_stands : (at : Option ℕ) (m : ModuleValue) (args : List ℤ) (logged : List ℕ) (es : List Entry) (f : Fault) → IsLogText logged es → IsNoRun m args logged f → MayStand (Where at) f
     → status_of f ≢ 4 → ⊥
-text_stands m args logged es (fault.NotEnabled i) text told_by may not4 = false≢true may
-text_stands m args logged es fault.NotEnded text told_by may not4 = false≢true may
-text_stands m args logged es (fault.NoOutcome line) text told_by may not4 = told_by
-text_stands m args logged es (fault.Grammar line) text told_by may not4 = text_not_wrong logged line es text told_by
-text_stands m args logged es fault.Truncated text told_by may not4 = text_not_cut logged es text told_by
-text_stands m args logged es fault.OutOfMemory text told_by may not4 = not4 refl
-text_stands m args logged es (fault.Text f) text told_by may not4 = told_by
-text_stands m args logged es (fault.Front f) text told_by may not4 = told_by
-text_stands m args logged es (fault.Refused r) text told_by may not4 = told_by
-text_stands m args logged es (fault.Arguments wants has) text told_by may not4 = told_by
-text_stands m args logged es fault.Device text told_by may not4 = told_by
+text_stands at m args logged es (fault.NotEnabled i) text told_by may not4 = false≢true may
+text_stands at m args logged es fault.NotEnded text told_by may not4 = false≢true may
+text_stands at m args logged es (fault.NoOutcome line) text told_by may not4 = told_by
+text_stands at m args logged es (fault.Grammar line) text told_by may not4 = text_not_wrong logged line es text told_by
+text_stands at m args logged es fault.Truncated text told_by may not4 = text_not_cut logged es text told_by
+text_stands at m args logged es fault.OutOfMemory text told_by may not4 = not4 refl
+text_stands at m args logged es (fault.Text f) text told_by may not4 = told_by
+text_stands at m args logged es (fault.Front f) text told_by may not4 = told_by
+text_stands at m args logged es (fault.Refused r) text told_by may not4 = told_by
+text_stands at m args logged es (fault.Arguments wants has) text told_by may not4 = told_by
+text_stands at m args logged es fault.Device text told_by may not4 = told_by
 
 -- a log of which something is told isn't refused
 telling_stands : (what : Doing) (kind : Form) (file bytes : List ℕ) (m : ModuleValue) (args : List ℤ) (logged : List ℕ) (told : Tale) (f : Fault) → reads_log what ≡ true
     → IsTelling what kind file bytes m args logged told → IsNoRun m args logged f → MayStand what f → status_of f ≢ 4 → ⊥
 telling_stands (Draw picture) kind file bytes m args logged told f reads h told_by may not4 =
     let whole = telling_whole picture kind file bytes m args logged told h in whole_not_refused m args logged f whole.0 told_by not4 whole.1 whole.2
-telling_stands Where kind file bytes m args logged told f reads h told_by may not4 = text_stands m args logged h.1.1.0 f h.1.1.1 told_by may not4
+telling_stands (Where at) kind file bytes m args logged told f reads h told_by may not4 = text_stands at m args logged h.1.1.0 f h.1.1.1 told_by may not4
 telling_stands Races kind file bytes m args logged told f reads h told_by may not4 = false≢true reads
 telling_stands (Tally seed count) kind file bytes m args logged told f reads h told_by may not4 = false≢true reads
 telling_stands (Explain json) kind file bytes m args logged told f reads h told_by may not4 = false≢true reads
@@ -286,7 +286,7 @@ telling_stands (Expected sets limit) kind file bytes m args logged told f reads 
 telling_taken : (what : Doing) (kind : Form) (file bytes : List ℕ) (m : ModuleValue) (args : List ℤ) (logged : List ℕ) (told : Tale) → runs what ≡ true
     → IsTelling what kind file bytes m args logged told → AreArguments m args
 telling_taken (Draw picture) kind file bytes m args logged told run h = subst (AreArguments m) h.1.2.given h.1.2.leads.0
-telling_taken Where kind file bytes m args logged told run h = h.1.0
+telling_taken (Where at) kind file bytes m args logged told run h = h.1.0
 telling_taken Races kind file bytes m args logged told run h = run_taken _ m args h.1.0 h.1.1 h.1.3
 telling_taken (Tally seed runs) kind file bytes m args logged told run h = h.1
 telling_taken (Explain json) kind file bytes m args logged told run h = absurd (false≢true run)
@@ -304,7 +304,7 @@ telling_unprinted : (what : Doing) (kind : Form) (file bytes : List ℕ) (m : Mo
 telling_unprinted (Explain json) kind file bytes m args logged told out log h p = p
 telling_unprinted Listing kind file bytes m args logged told out log h p = p
 telling_unprinted (Draw picture) kind file bytes m args logged told out log h p = p
-telling_unprinted Where kind file bytes m args logged told out log h p = p
+telling_unprinted (Where at) kind file bytes m args logged told out log h p = p
 telling_unprinted Races kind file bytes m args logged told out log h p = p
 telling_unprinted (Tally seed runs) kind file bytes m args logged told out log h p = p
 telling_unprinted Check kind file bytes m args logged told out log h p = h
@@ -318,7 +318,7 @@ telling_accepted : (what : Doing) (kind : Form) (file bytes : List ℕ) (m : Mod
     → IsTelling what kind file bytes m args logged told → IsAccepted m
 telling_accepted (Explain json) kind file bytes m args logged told asks h = h.0
 telling_accepted (Draw picture) kind file bytes m args logged told asks h = h.0
-telling_accepted Where kind file bytes m args logged told asks h = h.0
+telling_accepted (Where at) kind file bytes m args logged told asks h = h.0
 telling_accepted Races kind file bytes m args logged told asks h = h.0
 telling_accepted (Tally seed runs) kind file bytes m args logged told asks h = h.0
 telling_accepted Listing kind file bytes m args logged told asks h = absurd (false≢true asks)
@@ -361,7 +361,7 @@ lists_alone Listing lists = absurd (false≢true lists)
 lists_alone (Run way kept) lists = absurd (false≢true lists)
 lists_alone Replay lists = absurd (false≢true lists)
 lists_alone (Draw picture) lists = absurd (false≢true lists)
-lists_alone Where lists = absurd (false≢true lists)
+lists_alone (Where at) lists = absurd (false≢true lists)
 lists_alone Races lists = absurd (false≢true lists)
 lists_alone (Tally seed runs) lists = absurd (false≢true lists)
 
@@ -430,7 +430,7 @@ determined (Run (In o) kept) one = tt
 determined (Run (By n) kept) one = absurd one
 determined Replay one = tt
 determined (Draw picture) one = tt
-determined Where one = tt
+determined (Where at) one = tt
 determined Races one = tt
 determined (Tally seed runs) one = tt
 determined (Outcomes sets limit pick kept) one = absurd one

@@ -78,7 +78,7 @@ said_by_once Listing kind file bytes f a b h k = h ∙ sym k
 said_by_once (Run way kept) kind file bytes f a b h k = h ∙ sym k
 said_by_once Replay kind file bytes f a b h k = h ∙ sym k
 said_by_once (Draw picture) kind file bytes f a b h k = h ∙ sym k
-said_by_once Where kind file bytes f a b h k = h ∙ sym k
+said_by_once (Where at) kind file bytes f a b h k = h ∙ sym k
 said_by_once Races kind file bytes f a b h k = h ∙ sym k
 said_by_once (Tally seed count) kind file bytes f a b h k = h ∙ sym k
 said_by_once (Outcomes sets limit pick kept) kind file bytes f a b h k = h ∙ sym k
@@ -193,7 +193,7 @@ accepted_whole t bytes m logged d json (inl h) = absurd h
 accepted_whole t bytes m logged d json (inr h) =
     let told = text_told (IsTelling (Explain json) t.form t.file bytes m t.arguments logged) d h in
     let said : IsTelling (Explain json) t.form t.file bytes m t.arguments logged (done_text d, told.0) = told.1 in
-    (said.0, told.2 ∙ ap whole_status (ap (λ (tale : Tale). tale.1) said.1.2))
+    (said.0, told.2 ∙ ap whole_status (ap (λ (tale : Tale). tale.1) said.1.2.2))
 
 pub checked : (t : Task) (json : Bool) (bytes logged : List ℕ) (r : Reply) → t.doing ≡ Explain json → Answers t bytes logged r
     → MayCheck t bytes logged r

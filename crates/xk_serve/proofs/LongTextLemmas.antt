@@ -24,7 +24,8 @@ use Rattle.xk_answers.specs.Explanation.{IsExplanation, fault_said, front_said, 
 use Rattle.xk_tree.specs.declared.fault.FrontRule.TheVariants as rule
 use Rattle.xk_serve.specs.Devices.{AgainstLog, IfKnown, IsRead, Reads, StandsAgainst, read_of}
 use Rattle.xk_explain.specs.Explanations.{has_place}
-use Rattle.xk_answers.proofs.LogLemmas.{of_each}
+use Rattle.xk_answers.proofs.LogLemmas.{if_known, of_each}
+use Rattle.xk_log.specs.SomeBytes.{OfSome}
 
 -- a front that is shorter than it may be is the whole
 whole : (n : ℕ) (bytes known : List ℕ) → bytes ≡ take (n + 1) known → length bytes ≤ n → bytes ≡ known
@@ -86,9 +87,10 @@ kept_succeeds t bytes known logged d e h = record {
 
 -- a success with the bytes kept is one with those that are known
 pub kept_done : (t : Task) (known logged : Option (List ℕ)) (bytes : List ℕ) (d : Done) → IfSome known (λ k. bytes ≡ kept t.form k)
-    → IfSome (read_of t logged) (λ log. Succeeds t bytes log d) → IfKnown t known logged (λ k log. Succeeds t k log d)
+    → OfSome (read_of t logged) (λ log. Succeeds t bytes log d) → IfKnown t known logged (λ k log. Succeeds t k log d)
 kept_done t None logged bytes d e h = tt
-kept_done t (Some k) logged bytes d e h = of_each _ _ (read_of t logged) (λ log s. kept_succeeds t bytes k log d e s) h
+kept_done t (Some k) logged bytes d e h = of_each _ _ (read_of t logged) (λ log s. kept_succeeds t bytes k log d e s)
+    (if_known (λ log. Succeeds t bytes log d) (read_of t logged) h)
 
 -- ---- what is said of a fault
 
@@ -172,7 +174,7 @@ same_said Listing kind file bytes known said f e h = h
 same_said (Run way kept) kind file bytes known said f e h = h
 same_said Replay kind file bytes known said f e h = h
 same_said (Draw picture) kind file bytes known said f e h = h
-same_said Where kind file bytes known said f e h = h
+same_said (Where at) kind file bytes known said f e h = h
 same_said Races kind file bytes known said f e h = h
 same_said (Tally seed runs) kind file bytes known said f e h = h
 same_said (Outcomes sets limit pick kept) kind file bytes known said f e h = h
@@ -191,7 +193,7 @@ device_unsaid Listing kind file bytes said h = h
 device_unsaid (Run way kept) kind file bytes said h = h
 device_unsaid Replay kind file bytes said h = h
 device_unsaid (Draw picture) kind file bytes said h = h
-device_unsaid Where kind file bytes said h = h
+device_unsaid (Where at) kind file bytes said h = h
 device_unsaid Races kind file bytes said h = h
 device_unsaid (Tally seed runs) kind file bytes said h = h
 device_unsaid (Outcomes sets limit pick kept) kind file bytes said h = h
@@ -199,11 +201,14 @@ device_unsaid (Expected sets limit) kind file bytes said h = h
 
 -- the same of the faults that are no device's
 stands : (t : Task) (known logged : Option (List ℕ)) (bytes : List ℕ) (n : Reads) (f : Fault) (said : List ℕ) → n.program_new ≡ n.program_old → n.log_new ≡ n.log_old
-    → IfSome known (λ k. bytes ≡ kept t.form k) → IfSome (read_of t logged) (λ log. FailsBy t bytes log f) → IsSaidOf t bytes f said
+    → IfSome known (λ k. bytes ≡ kept t.form k) → OfSome (read_of t logged) (λ log. FailsBy t bytes log f) → IsSaidOf t bytes f said
     → IsRead n × IfKnown t known logged (λ k log. FailsBy t k log f × IsSaidOf t k f said)
 stands t None logged bytes n f said s l e h is = ((s, l), tt)
-stands t (Some k) logged bytes n f said s l e h is =
-    ((s, l), of_each _ _ (read_of t logged) (λ log p. (kept_fails t bytes k log f e p, said_kept t bytes k log said f e p is)) h)
+stands t (Some k) logged bytes n f said s l e h is = (
+  (s, l),
+  of_each _ _ (read_of t logged) (λ log p. (kept_fails t bytes k log f e p, said_kept t bytes k log said f e p is))
+      (if_known (λ log. FailsBy t bytes log f) (read_of t logged) h),
+)
 
 -- a fault with the bytes kept is one with those that are known
 pub told_stands : (t : Task) (known logged : Option (List ℕ)) (bytes : List ℕ) (n : Reads) (f : Fault) (said : List ℕ)

@@ -3,6 +3,8 @@ use Rattle.std.proofs.Common.{◌≡◌, ◌≢◌, ◌⊎◌, ℕ, zero, suc, L
 use Rattle.std.proofs.Math.Seq.{take-length}
 use Rattle.std.proofs.lemmas.List.{append-nil}
 use Rattle.std.specs.Prelude.{IfSome}
+use Rattle.xk_answers.proofs.LogLemmas.{some_each}
+use Rattle.xk_log.specs.SomeBytes.{OfSome}
 use Rattle.std.specs.Io.KnownBytes.{Appends}
 use Rattle.xk_answers.specs.declared.job_result.Done.{Done}
 use Rattle.xk_program.specs.declared.fault.Fault.{Fault}
@@ -12,7 +14,7 @@ use Rattle.xk_answers.specs.Printed.{done_status}
 use Rattle.xk_io.specs.Writing.{AppendsBeginning}
 use Rattle.xk_program.specs.Lines.{device_line, fault_line, status_of}
 use Rattle.xk_messages.specs.Lines.{memory_line}
-use Rattle.xk_serve.specs.Devices.{Answered, ErrBegins, Explained, IfKnown, IsBegun, IsTold, IsWritten, OutBegins, Reads, Reports, StandsAgainst, Tells, read_of}
+use Rattle.xk_serve.specs.Devices.{Answered, ErrBegins, Explained, IfKnown, IsBegun, IsTold, IsWritten, OutBegins, Reads, Reports, StandsAgainst, StandsOn, Tells, read_of}
 
 -- nothing was written
 pub appends_none : (a : Option (List ℕ)) → Appends a a []
@@ -102,6 +104,21 @@ either t program known n (fault.NoOutcome line) said h = inr h.1
 either t program known n fault.OutOfMemory said h = inr h.1
 either t program known n fault.Device said h = inl (refl, h.1)
 
+-- the same on these bytes of FILE, where less may be known of the log
+one_of : (t : Task) (bytes : List ℕ) (logged : Option (List ℕ)) (n : Reads) (f : Fault) (said : List ℕ) → StandsOn t bytes logged n f said
+    → ((f ≡ fault.Device) × (said ≡ [])) ⊎ OfSome (read_of t logged) (λ log. FailsBy t bytes log f × IsSaidOf t bytes f said)
+one_of t bytes logged n (fault.Text f) said h = inr h.1
+one_of t bytes logged n (fault.Front f) said h = inr h.1
+one_of t bytes logged n (fault.Refused r) said h = inr h.1
+one_of t bytes logged n (fault.Arguments wants has) said h = inr h.1
+one_of t bytes logged n (fault.Grammar line) said h = inr h.1
+one_of t bytes logged n fault.Truncated said h = inr h.1
+one_of t bytes logged n (fault.NotEnabled i) said h = inr h.1
+one_of t bytes logged n fault.NotEnded said h = inr h.1
+one_of t bytes logged n (fault.NoOutcome line) said h = inr h.1
+one_of t bytes logged n fault.OutOfMemory said h = inr h.1
+one_of t bytes logged n fault.Device said h = inl (refl, h.1)
+
 module _ (said : List ℕ) (f : Fault) (out_old out_new : Option (List ℕ)) (out_faults out_after : ℕ) (err_old err_new : Option (List ℕ)) (err_faults err_after result : ℕ) where
   -- a device's fault has the status of a device
   device_told : f ≡ fault.Device → Explained said f out_old out_new out_faults out_after err_old err_new err_faults err_after result → result ≡ 5
@@ -141,6 +158,16 @@ module _ (said : List ℕ) (f : Fault) (out_old out_new : Option (List ℕ)) (ou
   explained_line t bytes logged told (inl (out, same, p)) = (f, told, tells_begins (fault_line f) _ err_old err_new _ _ _ p)
   explained_line t bytes logged told (inr (inl (out, same, device, p))) = (fault.OutOfMemory, inr tt, tells_begins memory_line _ err_old err_new _ _ _ p)
   explained_line t bytes logged told (inr (inr (out, rose, p))) = (fault.Device, inl refl, tells_begins device_line _ err_old err_new _ _ _ p)
+
+  module _ (t : Task) (bytes : List ℕ) (logged : Option (List ℕ)) (n : Reads) (stands : StandsOn t bytes logged n f said)
+      (explained : Explained said f out_old out_new out_faults out_after err_old err_new err_faults err_after result) (log : Option (List ℕ)) where
+    -- the answer on these bytes of FILE
+    pub some_answers : result ≢ 4 → result ≢ 5 → OfSome (read_of t logged) (λ one. Answered t bytes one result out_old out_new err_old err_new log log)
+    some_answers not4 not5 = elim (one_of t bytes logged n f said stands) [
+      | inl d ↦ absurd (not5 (device_told d.0 explained))
+      | inr k ↦ some_each (λ one. FailsBy t bytes one f × IsSaidOf t bytes f said) (λ one. Answered t bytes one result out_old out_new err_old err_new log log)
+          (read_of t logged) (λ one h. explained_answer t bytes one log h explained not4 not5) k
+    ]
 
   module _ (t : Task) (program known : Option (List ℕ)) (n : Reads) (stands : StandsAgainst t program known n f said)
       (explained : Explained said f out_old out_new out_faults out_after err_old err_new err_faults err_after result) (log : Option (List ℕ)) where

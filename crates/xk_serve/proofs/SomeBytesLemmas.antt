@@ -1,20 +1,21 @@
 -- The answer is that of some bytes of FILE, whatever is known of them.
 use Rattle.std.proofs.Common.{◌≡◌, ◌≢◌, ◌⊎◌, ℕ, List, [], Option, Some, None, Result, Ok, Err, inl, inr, refl, subst}
-use Rattle.std.specs.Prelude.{IfErr, IfOk, IfSome}
+use Rattle.std.specs.Prelude.{IfErr, IfOk}
+use Rattle.xk_log.specs.SomeBytes.{OfSome}
 use Rattle.std.specs.Io.KnownBytes.{Appends}
 use Rattle.xk_cli.specs.declared.job.Form.{Form}
 use Rattle.xk_answers.specs.declared.explanation.Refused.{Refused}
 use Rattle.xk_answers.specs.declared.job_result.Done.{Done}
 use Rattle.xk_answers.specs.Printed.{done_status}
 use Rattle.xk_answers.specs.Results.{Check, Compile, Doing, Draw, Expected, Explain, Listing, Outcomes, Races, Replay, Run, Tally, Where}
-use Rattle.xk_answers.proofs.LogLemmas.{of_any, of_each}
+use Rattle.xk_answers.proofs.LogLemmas.{some_any, some_each}
 use Rattle.xk_program.specs.Bytes.{FailsRead, kept}
 use Rattle.xk_program.specs.declared.fault.Fault.{Fault}
 use Rattle.xk_program.specs.declared.fault.Fault.TheVariants as fault
 use Rattle.xk_serve.specs.Answer.{FailsBy, IsSaidBy, IsSaidOf, Succeeds, Task}
-use Rattle.xk_serve.specs.Devices.{AgainstLog, Answered, AnsweredBySome, AreKeptOf, Explained, IsOutcomeOfSome, IsRead, IsWritten, Reads, StandsAgainst, read_of}
+use Rattle.xk_serve.specs.Devices.{AgainstLog, Answered, AnsweredBySome, AreKeptOf, Explained, IsOutcomeOfSome, IsRead, IsWritten, Reads, StandsOn, read_of}
 use Rattle.xk_serve.proofs.LongTextLemmas.{device_unsaid}
-use Rattle.xk_serve.proofs.ReplyLemmas.{told_answers, written_answer}
+use Rattle.xk_serve.proofs.ReplyLemmas.{some_answers, written_answer}
 
 -- ---- which bytes they are
 
@@ -38,7 +39,7 @@ memory_unsaid Listing kind file bytes said e = e
 memory_unsaid (Run way kept) kind file bytes said e = e
 memory_unsaid Replay kind file bytes said e = e
 memory_unsaid (Draw picture) kind file bytes said e = e
-memory_unsaid Where kind file bytes said e = e
+memory_unsaid (Where at) kind file bytes said e = e
 memory_unsaid Races kind file bytes said e = e
 memory_unsaid (Tally seed runs) kind file bytes said e = e
 memory_unsaid (Outcomes sets limit pick kept) kind file bytes said e = e
@@ -46,7 +47,7 @@ memory_unsaid (Expected sets limit) kind file bytes said e = e
 
 -- where FILE can't be read
 pub unread_stands : (t : Task) (bytes : List ℕ) (logged : Option (List ℕ)) (n : Reads) (f : Fault) (said : List ℕ)
-    → FailsRead n.program_old n.program_new f → n.log_new ≡ n.log_old → said ≡ [] → StandsAgainst t (Some bytes) logged n f said
+    → FailsRead n.program_old n.program_new f → n.log_new ≡ n.log_old → said ≡ [] → StandsOn t bytes logged n f said
 unread_stands t bytes logged n (fault.Text f) said h l e = absurd h
 unread_stands t bytes logged n (fault.Front f) said h l e = absurd h
 unread_stands t bytes logged n (fault.Refused r) said h l e = absurd h
@@ -58,25 +59,25 @@ unread_stands t bytes logged n fault.NotEnded said h l e = absurd h
 unread_stands t bytes logged n (fault.NoOutcome line) said h l e = absurd h
 unread_stands t bytes logged n fault.OutOfMemory said h l e = (
   (h, l),
-  of_any (λ log. FailsBy t bytes log fault.OutOfMemory × IsSaidOf t bytes fault.OutOfMemory said) (read_of t logged)
+  some_any (λ log. FailsBy t bytes log fault.OutOfMemory × IsSaidOf t bytes fault.OutOfMemory said) (read_of t logged)
       (λ log. (tt, memory_unsaid t.doing t.form t.file bytes said e)),
 )
 unread_stands t bytes logged n fault.Device said h l e = (inl h, e)
 
 -- the faults that are no device's
 stands_on : (t : Task) (bytes : List ℕ) (logged : Option (List ℕ)) (n : Reads) (f : Fault) (said : List ℕ) → n.program_new ≡ n.program_old
-    → n.log_new ≡ n.log_old → IfSome (read_of t logged) (λ log. FailsBy t bytes log f) → IsSaidOf t bytes f said
-    → IsRead n × IfSome (read_of t logged) (λ log. FailsBy t bytes log f × IsSaidOf t bytes f said)
+    → n.log_new ≡ n.log_old → OfSome (read_of t logged) (λ log. FailsBy t bytes log f) → IsSaidOf t bytes f said
+    → IsRead n × OfSome (read_of t logged) (λ log. FailsBy t bytes log f × IsSaidOf t bytes f said)
 stands_on t bytes logged n f said s l h is = (
   (s, l),
-  of_each (λ log. FailsBy t bytes log f) (λ log. FailsBy t bytes log f × IsSaidOf t bytes f said) (read_of t logged) (λ log p.
+  some_each (λ log. FailsBy t bytes log f) (λ log. FailsBy t bytes log f × IsSaidOf t bytes f said) (read_of t logged) (λ log p.
       (p, is)) h,
 )
 
 -- a fault of the bytes that were read
 pub read_stands : (t : Task) (bytes : List ℕ) (logged : Option (List ℕ)) (n : Reads) (f : Fault) (said : List ℕ)
     → n.program_new ≡ n.program_old
-    → AgainstLog t bytes logged n.log_old n.log_new f → IsSaidOf t bytes f said → StandsAgainst t (Some bytes) logged n f said
+    → AgainstLog t bytes logged n.log_old n.log_new f → IsSaidOf t bytes f said → StandsOn t bytes logged n f said
 read_stands t bytes logged n (fault.Text f) said s h is = stands_on t bytes logged n (fault.Text f) said s h.0 h.1 is
 read_stands t bytes logged n (fault.Front f) said s h is = stands_on t bytes logged n (fault.Front f) said s h.0 h.1 is
 read_stands t bytes logged n (fault.Refused r) said s h is = stands_on t bytes logged n (fault.Refused r) said s h.0 h.1 is
@@ -94,7 +95,7 @@ read_stands t bytes logged n fault.Device said s h is = (inr h, device_unsaid t.
 pub result_stands : (t : Task) (bytes : List ℕ) (logged : Option (List ℕ)) (n : Reads) (r : Result Done Refused)
     → n.program_new ≡ n.program_old
     → IfErr r (λ x. AgainstLog t bytes logged n.log_old n.log_new x.fault) → IfErr r (λ x. IsSaidOf t bytes x.fault x.said.items)
-    → IfErr r (λ x. StandsAgainst t (Some bytes) logged n x.fault x.said.items)
+    → IfErr r (λ x. StandsOn t bytes logged n x.fault x.said.items)
 result_stands t bytes logged n (Ok d) s h is = tt
 result_stands t bytes logged n (Err x) s h is = read_stands t bytes logged n x.fault x.said.items s h is
 
@@ -107,13 +108,13 @@ pub written_by_some : (t : Task) (program logged : Option (List ℕ)) (n : Reads
     → ((result ≡ done_status d) × IsWritten d out_old out_new log_old log_new × Appends err_old err_new []) ⊎ ((result ≡ 5) × Failing)
     → result ≢ 4 → result ≢ 5 → AnsweredBySome t program logged result out_old out_new err_old err_new log_old log_new
 written_by_some t program logged n r out_old out_new err_old err_new log_old log_new result d Failing e o p memory device =
-    let done : IfSome (read_of t logged) (λ log. Succeeds t o.bytes log d) =
-    subst (λ x. IfOk x (λ z. IfSome (read_of t logged) (λ log. Succeeds t o.bytes log z))) e o.done in
+    let done : OfSome (read_of t logged) (λ log. Succeeds t o.bytes log d) =
+    subst (λ x. IfOk x (λ z. OfSome (read_of t logged) (λ log. Succeeds t o.bytes log z))) e o.done in
     record {
       bytes = o.bytes;
       are = o.are;
       answered =
-          of_each (λ log. Succeeds t o.bytes log d) (λ log. Answered t o.bytes log result out_old out_new err_old err_new log_old log_new)
+          some_each (λ log. Succeeds t o.bytes log d) (λ log. Answered t o.bytes log result out_old out_new err_old err_new log_old log_new)
           (read_of t logged) (λ log s. written_answer t o.bytes log d out_old out_new err_old err_new log_old log_new result Failing s p
           device) done;
     }
@@ -127,14 +128,11 @@ pub told_by_some : (t : Task) (program logged : Option (List ℕ)) (n : Reads) (
     → result ≢ 4 → result ≢ 5 → AnsweredBySome t program logged result out_old out_new err_old err_new log log
 told_by_some t program logged n r x out_old out_new out_faults out_after err_old err_new err_faults err_after result log e o told memory
     device =
-    let stands : StandsAgainst t (Some o.bytes) logged n x.fault x.said.items =
-    subst (λ z. IfErr z (λ y. StandsAgainst t (Some o.bytes) logged n y.fault y.said.items)) e o.against in
+    let stands : StandsOn t o.bytes logged n x.fault x.said.items =
+    subst (λ z. IfErr z (λ y. StandsOn t o.bytes logged n y.fault y.said.items)) e o.against in
     record {
       bytes = o.bytes;
       are = o.are;
-      answered = of_each (λ one. result ≢ 4 → result ≢ 5 → Answered t o.bytes one result out_old out_new err_old err_new log log)
-          (λ one. Answered t o.bytes one result out_old out_new err_old err_new log log) (read_of t logged) (λ one h. h memory device)
-          (told_answers x.said.items x.fault out_old out_new out_faults out_after err_old err_new err_faults err_after result t (Some
-          o.bytes) logged n stands
-          told log);
+      answered = some_answers x.said.items x.fault out_old out_new out_faults out_after err_old err_new err_faults err_after result t o.bytes logged
+          n stands told log memory device;
     }

@@ -1,6 +1,6 @@
 -- From what is said of a module to what is said of the task on the bytes that give it.
 use Rattle.std.proofs.Common.{◌≡◌, ◌∙◌, ◌||◌, ℕ, ℤ, List, [], Bool, true, false, Option, Some, Result, Ok, Err, IfOk, IfErr, if◌then◌else◌, inl, inr, refl, ap, sym, subst}
-use Rattle.std.specs.Prelude.{IfSome}
+use Rattle.xk_log.specs.SomeBytes.{OfSome}
 use Rattle.xk_types.specs.Acceptance.{IsAccepted}
 use Rattle.xk_types.specs.Code.{ModuleValue}
 use Rattle.xk_types.specs.World.{AreArguments}
@@ -17,7 +17,7 @@ use Rattle.xk_program.specs.Programs.{Gives}
 use Rattle.xk_answers.specs.Refusals.{AgainstExpected, AgainstModule, AgainstRun, AgainstText}
 use Rattle.xk_serve.specs.Devices.{AgainstLog, read_of}
 use Rattle.xk_program.specs.Faults.{GivesNoModule}
-use Rattle.xk_answers.proofs.LogLemmas.{of_any, of_each}
+use Rattle.xk_answers.proofs.LogLemmas.{some_any, some_each}
 
 -- a task that reads more than a program reads what is known
 read_known : (t : Task) (known : Option (List ℕ)) → reads_more t.doing ≡ true → read_of t known ≡ known
@@ -35,11 +35,11 @@ list_more what lists = ap (λ b. reads_log what || b) lists ∙ or_true (reads_l
     or_true false = refl
 
 of_more : (t : Task) (P Q : List ℕ → Type 0) (known : Option (List ℕ)) → reads_more t.doing ≡ true → ((xs : List ℕ) → P xs → Q xs)
-    → IfSome known P → IfSome (read_of t known) Q
-of_more t P Q known reads f h = subst (λ o. IfSome o Q) (sym (read_known t known reads)) (of_each P Q known f h)
+    → OfSome known P → OfSome (read_of t known) Q
+of_more t P Q known reads f h = subst (λ o. OfSome o Q) (sym (read_known t known reads)) (some_each P Q known f h)
 
 of_read : (t : Task) (P Q : List ℕ → Type 0) (known : Option (List ℕ)) → reads_log t.doing ≡ true → ((xs : List ℕ) → P xs → Q xs)
-    → IfSome known P → IfSome (read_of t known) Q
+    → OfSome known P → OfSome (read_of t known) Q
 of_read t P Q known reads f h = of_more t P Q known (log_more t.doing reads) f h
 
 -- ---- what a module comes to
@@ -52,29 +52,29 @@ succeeds t bytes logged m what args d is told given done =
 -- whatever log there is
 pub done_of_any : (t : Task) (bytes : List ℕ) (known : Option (List ℕ)) (m : ModuleValue) (what : Doing) (args : List ℤ) (r : Result Done Fault) → t.doing ≡ what
     → args ≡ t.arguments → Gives t.form bytes m → IfOk r (λ d. (logged : List ℕ) → ComesTo what m args logged d)
-    → IfOk r (λ d. IfSome (read_of t known) (λ logged. Succeeds t bytes logged d))
-done_of_any t bytes known m what args (Ok d) is told given h = of_any _ (read_of t known) (λ logged. succeeds t bytes logged m what args d is told given (h logged))
+    → IfOk r (λ d. OfSome (read_of t known) (λ logged. Succeeds t bytes logged d))
+done_of_any t bytes known m what args (Ok d) is told given h = some_any _ (read_of t known) (λ logged. succeeds t bytes logged m what args d is told given (h logged))
 done_of_any t bytes known m what args (Err f) is told given h = tt
 
 -- and whatever main would be given
 pub done_of_none : (t : Task) (bytes : List ℕ) (known : Option (List ℕ)) (m : ModuleValue) (what : Doing) (r : Result Done Fault) → t.doing ≡ what
     → Gives t.form bytes m → IfOk r (λ d. (args : List ℤ) (logged : List ℕ) → ComesTo what m args logged d)
-    → IfOk r (λ d. IfSome (read_of t known) (λ logged. Succeeds t bytes logged d))
+    → IfOk r (λ d. OfSome (read_of t known) (λ logged. Succeeds t bytes logged d))
 done_of_none t bytes known m what r is given h =
     done_of_any t bytes known m what t.arguments r is refl given (IfOk-weaker r _ (λ d. (logged : List ℕ) → ComesTo what m t.arguments logged d) (λ d done. done t.arguments) h)
 
 -- with the log that is read
 pub done_of_log : (t : Task) (bytes : List ℕ) (known : Option (List ℕ)) (m : ModuleValue) (what : Doing) (args : List ℤ) (r : Result Done Fault) → t.doing ≡ what
-    → args ≡ t.arguments → reads_log what ≡ true → Gives t.form bytes m → IfOk r (λ d. IfSome known (λ logged. ComesTo what m args logged d))
-    → IfOk r (λ d. IfSome (read_of t known) (λ logged. Succeeds t bytes logged d))
+    → args ≡ t.arguments → reads_log what ≡ true → Gives t.form bytes m → IfOk r (λ d. OfSome known (λ logged. ComesTo what m args logged d))
+    → IfOk r (λ d. OfSome (read_of t known) (λ logged. Succeeds t bytes logged d))
 done_of_log t bytes known m what args (Ok d) is told reads given h =
     of_read t _ _ known (ap reads_log is ∙ reads) (λ logged done. succeeds t bytes logged m what args d is told given done) h
 done_of_log t bytes known m what args (Err f) is told reads given h = tt
 
 -- with the list that is read
 pub done_of_list : (t : Task) (bytes : List ℕ) (known : Option (List ℕ)) (m : ModuleValue) (what : Doing) (args : List ℤ) (r : Result Done Fault) → t.doing ≡ what
-    → args ≡ t.arguments → reads_list what ≡ true → Gives t.form bytes m → IfOk r (λ d. IfSome known (λ logged. ComesTo what m args logged d))
-    → IfOk r (λ d. IfSome (read_of t known) (λ logged. Succeeds t bytes logged d))
+    → args ≡ t.arguments → reads_list what ≡ true → Gives t.form bytes m → IfOk r (λ d. OfSome known (λ logged. ComesTo what m args logged d))
+    → IfOk r (λ d. OfSome (read_of t known) (λ logged. Succeeds t bytes logged d))
 done_of_list t bytes known m what args (Ok d) is told lists given h =
     of_more t _ _ known (list_more t.doing (ap reads_list is ∙ lists)) (λ logged done. succeeds t bytes logged m what args d is told given done) h
 done_of_list t bytes known m what args (Err f) is told lists given h = tt
@@ -91,22 +91,22 @@ tells t bytes logged m what args d is told given text = record {
 -- what is told of it, whatever log there is
 pub done_of_text : (t : Task) (bytes : List ℕ) (known : Option (List ℕ)) (m : ModuleValue) (what : Doing) (r : Result Done Fault) → t.doing ≡ what
     → Gives t.form bytes m → ((logged : List ℕ) → IfOk r (IsText (IsTelling what t.form t.file bytes m t.arguments logged)))
-    → IfOk r (λ d. IfSome (read_of t known) (λ logged. Succeeds t bytes logged d))
-done_of_text t bytes known m what (Ok d) is given h = of_any _ (read_of t known) (λ logged. tells t bytes logged m what t.arguments d is refl given (h logged))
+    → IfOk r (λ d. OfSome (read_of t known) (λ logged. Succeeds t bytes logged d))
+done_of_text t bytes known m what (Ok d) is given h = some_any _ (read_of t known) (λ logged. tells t bytes logged m what t.arguments d is refl given (h logged))
 done_of_text t bytes known m what (Err f) is given h = tt
 
 -- what is told of its runs, whatever log there is
 pub done_of_told : (t : Task) (bytes : List ℕ) (known : Option (List ℕ)) (m : ModuleValue) (what : Doing) (args : List ℤ) (r : Result Done Fault) → t.doing ≡ what
     → args ≡ t.arguments → Gives t.form bytes m → ((logged : List ℕ) → IfOk r (IsText (IsTelling what t.form t.file bytes m args logged)))
-    → IfOk r (λ d. IfSome (read_of t known) (λ logged. Succeeds t bytes logged d))
-done_of_told t bytes known m what args (Ok d) is told given h = of_any _ (read_of t known) (λ logged. tells t bytes logged m what args d is told given (h logged))
+    → IfOk r (λ d. OfSome (read_of t known) (λ logged. Succeeds t bytes logged d))
+done_of_told t bytes known m what args (Ok d) is told given h = some_any _ (read_of t known) (λ logged. tells t bytes logged m what args d is told given (h logged))
 done_of_told t bytes known m what args (Err f) is told given h = tt
 
 -- what is told of a run of it, by the log that is read
 pub done_of_run : (t : Task) (bytes : List ℕ) (known : Option (List ℕ)) (m : ModuleValue) (what : Doing) (args : List ℤ) (r : Result Done Fault) → t.doing ≡ what
     → args ≡ t.arguments → reads_log what ≡ true → Gives t.form bytes m
-    → IfOk r (λ d. IfSome known (λ logged. IsText (IsTelling what t.form t.file bytes m args logged) d))
-    → IfOk r (λ d. IfSome (read_of t known) (λ logged. Succeeds t bytes logged d))
+    → IfOk r (λ d. OfSome known (λ logged. IsText (IsTelling what t.form t.file bytes m args logged) d))
+    → IfOk r (λ d. OfSome (read_of t known) (λ logged. Succeeds t bytes logged d))
 done_of_run t bytes known m what args (Ok d) is told reads given h =
     of_read t _ _ known (ap reads_log is ∙ reads) (λ logged text. tells t bytes logged m what args d is told given text) h
 done_of_run t bytes known m what args (Err f) is told reads given h = tt
@@ -116,16 +116,16 @@ done_of_run t bytes known m what args (Err f) is told reads given h = tt
 -- what stands against the task whatever log there is stands against it where no read failed
 pub against_any : (t : Task) (bytes : List ℕ) (known : Option (List ℕ)) (old new : ℕ) (f : Fault) → new ≡ old → ((logged : List ℕ) → FailsBy t bytes logged f)
     → AgainstLog t bytes known old new f
-against_any t bytes known old new (fault.Text f) e h = (e, of_any _ (read_of t known) h)
-against_any t bytes known old new (fault.Front f) e h = (e, of_any _ (read_of t known) h)
-against_any t bytes known old new (fault.Refused r) e h = (e, of_any _ (read_of t known) h)
-against_any t bytes known old new (fault.Arguments wants has) e h = (e, of_any _ (read_of t known) h)
-against_any t bytes known old new (fault.Grammar line) e h = (e, of_any _ (read_of t known) h)
-against_any t bytes known old new fault.Truncated e h = (e, of_any _ (read_of t known) h)
-against_any t bytes known old new (fault.NotEnabled i) e h = (e, of_any _ (read_of t known) h)
-against_any t bytes known old new fault.NotEnded e h = (e, of_any _ (read_of t known) h)
-against_any t bytes known old new (fault.NoOutcome line) e h = (e, of_any _ (read_of t known) h)
-against_any t bytes known old new fault.OutOfMemory e h = (e, of_any _ (read_of t known) h)
+against_any t bytes known old new (fault.Text f) e h = (e, some_any _ (read_of t known) h)
+against_any t bytes known old new (fault.Front f) e h = (e, some_any _ (read_of t known) h)
+against_any t bytes known old new (fault.Refused r) e h = (e, some_any _ (read_of t known) h)
+against_any t bytes known old new (fault.Arguments wants has) e h = (e, some_any _ (read_of t known) h)
+against_any t bytes known old new (fault.Grammar line) e h = (e, some_any _ (read_of t known) h)
+against_any t bytes known old new fault.Truncated e h = (e, some_any _ (read_of t known) h)
+against_any t bytes known old new (fault.NotEnabled i) e h = (e, some_any _ (read_of t known) h)
+against_any t bytes known old new fault.NotEnded e h = (e, some_any _ (read_of t known) h)
+against_any t bytes known old new (fault.NoOutcome line) e h = (e, some_any _ (read_of t known) h)
+against_any t bytes known old new fault.OutOfMemory e h = (e, some_any _ (read_of t known) h)
 against_any t bytes known old new fault.Device e h = absurd (h [])
 
 -- want of memory
@@ -183,7 +183,7 @@ runs_asks Listing h = absurd (false≢true h)
 runs_asks (Run way kept) h = refl
 runs_asks Replay h = refl
 runs_asks (Draw picture) h = refl
-runs_asks Where h = refl
+runs_asks (Where at) h = refl
 runs_asks Races h = refl
 runs_asks (Tally seed runs) h = refl
 runs_asks (Outcomes sets limit pick kept) h = refl
@@ -217,8 +217,8 @@ no_run_fails t bytes logged m fault.Device reads wants given accepted taken h = 
 
 -- what stands against a log, and is no device's, stands against the task
 no_run_stands : (t : Task) (bytes : List ℕ) (known : Option (List ℕ)) (old new : ℕ) (m : ModuleValue) (f : Fault) → reads_log t.doing ≡ true
-    → wants_whole t.doing ≡ true → Gives t.form bytes m → IsAccepted m → AreArguments m t.arguments → (new ≡ old) × IfSome known (λ logged. IsNoRun m t.arguments logged f)
-    → (new ≡ old) × IfSome (read_of t known) (λ logged. FailsBy t bytes logged f)
+    → wants_whole t.doing ≡ true → Gives t.form bytes m → IsAccepted m → AreArguments m t.arguments → (new ≡ old) × OfSome known (λ logged. IsNoRun m t.arguments logged f)
+    → (new ≡ old) × OfSome (read_of t known) (λ logged. FailsBy t bytes logged f)
 no_run_stands t bytes known old new m f reads wants given accepted taken h =
     (h.0, of_read t _ _ known reads (λ logged none. no_run_fails t bytes logged m f reads wants given accepted taken none) h.1)
 
@@ -245,7 +245,7 @@ reads_runs Listing h = absurd (false≢true h)
 reads_runs (Run way kept) h = refl
 reads_runs Replay h = refl
 reads_runs (Draw picture) h = refl
-reads_runs Where h = refl
+reads_runs (Where at) h = refl
 reads_runs Races h = refl
 reads_runs (Tally seed runs) h = refl
 reads_runs (Outcomes sets limit pick kept) h = refl
@@ -278,7 +278,7 @@ against_read t bytes known old new m fault.Truncated reads given (inr h) =
 against_read t bytes known old new m (fault.NotEnabled i) reads given (inr h) = absurd h.2
 against_read t bytes known old new m fault.NotEnded reads given (inr h) = absurd h.2
 against_read t bytes known old new m (fault.NoOutcome line) reads given (inr h) = absurd h.2
-against_read t bytes known old new m fault.OutOfMemory reads given (inr h) = (h.2, of_any _ (read_of t known) (λ logged. tt))
+against_read t bytes known old new m fault.OutOfMemory reads given (inr h) = (h.2, some_any _ (read_of t known) (λ logged. tt))
 against_read t bytes known old new m fault.Device reads given (inr h) = h.2
 
 pub against_text : (t : Task) (bytes : List ℕ) (known : Option (List ℕ)) (old new : ℕ) (m : ModuleValue) (what : Doing) (args : List ℤ) (r : Result Done Fault) → t.doing ≡ what
@@ -296,7 +296,7 @@ lists_runs Listing h = absurd (false≢true h)
 lists_runs (Run way kept) h = refl
 lists_runs Replay h = refl
 lists_runs (Draw picture) h = refl
-lists_runs Where h = refl
+lists_runs (Where at) h = refl
 lists_runs Races h = refl
 lists_runs (Tally seed runs) h = refl
 lists_runs (Outcomes sets limit pick kept) h = refl
@@ -316,7 +316,7 @@ against_listed t bytes known old new m (fault.NotEnabled i) lists given (inr h) 
 against_listed t bytes known old new m fault.NotEnded lists given (inr h) = absurd h.2
 against_listed t bytes known old new m (fault.NoOutcome line) lists given (inr h) =
     (h.2.0, of_more t _ _ known (list_more t.doing lists) (λ logged stray. (lists, (m, given, h.0, (h.1, stray)))) h.2.1)
-against_listed t bytes known old new m fault.OutOfMemory lists given (inr h) = (h.2, of_any _ (read_of t known) (λ logged. tt))
+against_listed t bytes known old new m fault.OutOfMemory lists given (inr h) = (h.2, some_any _ (read_of t known) (λ logged. tt))
 against_listed t bytes known old new m fault.Device lists given (inr h) = h.2
 
 pub against_list : (t : Task) (bytes : List ℕ) (known : Option (List ℕ)) (old new : ℕ) (m : ModuleValue) (what : Doing) (args : List ℤ) (r : Result Done Fault) → t.doing ≡ what

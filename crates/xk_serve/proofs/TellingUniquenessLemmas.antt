@@ -6,6 +6,7 @@ use Rattle.xk_syntax.proofs.TextLemmas.{one_tree}
 use Rattle.xk_law_compiler.proofs.CompiledOnceLaw.{one_units}
 use Rattle.xk_origins.specs.UnitOrigins.{UnitOrigins, unit_origins}
 use Rattle.xk_origins.specs.Laws.{AreOrigins}
+use Rattle.xk_hints.specs.Words.{HintValue, hints}
 use Rattle.xk_listing.proofs.ListingLemmas.{one_listing}
 use Rattle.xk_random.proofs.RunLemmas.{tally_once}
 use Rattle.xk_cli.specs.declared.job.Form.{Form}
@@ -15,7 +16,7 @@ use Rattle.xk_answers.specs.declared.picture.Picture.{Picture}
 use Rattle.xk_answers.specs.declared.picture.Picture.TheVariants as picture
 use Rattle.xk_answers.specs.Results.{Check, Compile, Doing, Draw, Expected, Explain, IsPicture, IsTelling, Listing, Outcomes, Races, Replay, Run, Tally, Where}
 use Rattle.xk_program.specs.Origins.{HaveOrigins, IsByOrigins}
-use Rattle.xk_answers.specs.Explanation.{IsListed, Tale, acceptance_told, events_told, image_told, lanes_told, page_told, races_told, where_told}
+use Rattle.xk_answers.specs.Explanation.{HaveHints, IsListed, Tale, acceptance_told, events_told, image_told, lanes_told, page_told, races_told, where_told}
 use Rattle.xk_cli.specs.declared.job.Order.TheVariants as order
 use Rattle.xk_program.specs.Programs.{Gives}
 use Rattle.xk_types.specs.World.{World}
@@ -42,6 +43,11 @@ by_origins_once : {X : Type 0} (kind : Form) (bytes : List ℕ) (m : ModuleValue
     → IsByOrigins kind bytes text a → IsByOrigins kind bytes text b → a ≡ b
 by_origins_once kind bytes m text a b given h k = h.2 ∙ ap text (origins_once kind bytes m h.0 k.0 given h.1 k.1) ∙ sym k.2
 
+-- a text has one list of hints
+hints_once : (kind : Form) (bytes : List ℕ) (hs is : List HintValue) → HaveHints kind bytes hs → HaveHints kind bytes is → hs ≡ is
+hints_once form.Module bytes hs is h k = h ∙ sym k
+hints_once form.Source bytes hs is h k = h.2 ∙ ap hints (one_tree bytes h.0 k.0 h.1.1 k.1.1) ∙ sym k.2
+
 listed_once : (text : List ℕ) (m : ModuleValue) (o : Option (List UnitOrigins)) (a b : List ℕ) → IsListed text m o a → IsListed text m o b → a ≡ b
 listed_once text m (Some o) a b h k = one_listing text o m a b h k
 listed_once text m None a b h k = one_listing [] [] m a b h k
@@ -62,7 +68,10 @@ picture_once picture.Races kind bytes m args es last a b given h k = by_origins_
 
 pub telling_once : (what : Doing) (kind : Form) (file bytes : List ℕ) (m : ModuleValue) (args : List ℤ) (logged : List ℕ) (a b : Tale) → Gives kind bytes m
     → IsTelling what kind file bytes m args logged a → IsTelling what kind file bytes m args logged b → a ≡ b
-telling_once (Explain json) kind file bytes m args logged a b given h k = by_origins_once kind bytes m (acceptance_told json file bytes m) a b given h.1 k.1
+telling_once (Explain json) kind file bytes m args logged a b given h k =
+    let same = hints_once kind bytes k.1.0 h.1.0 k.1.1 h.1.1 in
+    by_origins_once kind bytes m (acceptance_told json file bytes m h.1.0) a b given h.1.2
+    (subst (λ hs. IsByOrigins kind bytes (acceptance_told json file bytes m hs) b) same k.1.2)
 telling_once Listing kind file bytes m args logged a b given h k =
     let same = origins_once kind bytes m h.0.0 k.0.0 given h.0.1 k.0.1 in
     same_tale (listed_once bytes m h.0.0 a.0 b.0 h.0.2 (subst (λ o. IsListed bytes m o b.0) (sym same) k.0.2)) (h.1 ∙ sym k.1)
@@ -71,11 +80,11 @@ telling_once (Draw picture) kind file bytes m args logged a b given h k =
     let last = last_once m args k.1.0 h.1.0 same k.1.2 h.1.2 in
     picture_once picture kind bytes m args h.1.0 h.1.2.last a b given h.1.3
     (subst (λ w. IsPicture picture kind bytes m args h.1.0 w b) last (subst (λ es. IsPicture picture kind bytes m args es k.1.2.last b) same k.1.3))
-telling_once Where kind file bytes m args logged a b given h k =
+telling_once (Where at) kind file bytes m args logged a b given h k =
     let here = h.1.1 in
     let there = k.1.1 in
     let same = text_once logged there.0 here.0 there.1 here.1 in
-    by_origins_once kind bytes m (where_told bytes m args here.0) a b given here.2 (subst (λ es. IsByOrigins kind bytes (where_told bytes m args es) b) same there.2)
+    by_origins_once kind bytes m (where_told bytes m args at here.0) a b given here.2 (subst (λ es. IsByOrigins kind bytes (where_told bytes m args at es) b) same there.2)
 telling_once Races kind file bytes m args logged a b given h k =
     let here = h.1 in
     let there = k.1 in

@@ -40,7 +40,7 @@ asks_verifier _ = true
 abbrev pub reads_log : Doing → Bool
 reads_log Replay = true
 reads_log (Draw picture) = true
-reads_log Where = true
+reads_log (Where at) = true
 reads_log _ = false
 
 -- whether a list of outcomes is read
@@ -54,7 +54,7 @@ reads_more what = reads_log what || reads_list what
 
 -- whether the log that is read is to be that of a whole run
 abbrev pub wants_whole : Doing → Bool
-wants_whole Where = false
+wants_whole (Where at) = false
 wants_whole _ = true
 
 -- races are those of the run that a log has, if one is given, and else of the run in the order `first`
@@ -74,7 +74,7 @@ doing_of (command.Chart log) = Draw picture.Chart
 doing_of (command.Events log) = Draw picture.Events
 doing_of (command.Lanes log from to svg) = Draw (lanes_given from to svg)
 doing_of (command.Page log from to) = Draw (picture.Page (window_given from to))
-doing_of (command.Where log) = Where
+doing_of (command.Where log at) = Where at
 doing_of (command.Races path) = races_by (is_some path)
 doing_of (command.Tally seed runs) = Tally seed runs
 doing_of (command.Outcomes limit pick path sets) = Outcomes sets limit (unwrap_or pick 1) (is_some path)

@@ -2,6 +2,7 @@
 use Rattle.std.specs.Prelude.{◌≡◌, ◌≢◌, ℕ, ◌⊎◌, true, List, [], Option, Some, Result, IfErr, IfOk, IfSome, string_bytes, if◌then◌else◌}
 use Rattle.std.specs.Io.KnownBytes.{Appends}
 use Rattle.xk_types.specs.Device.{Rose}
+use Rattle.xk_log.specs.SomeBytes.{OfSome}
 use Rattle.xk_cli.specs.Status.{status_device, status_done, status_memory, status_words}
 use Rattle.xk_cli.specs.declared.words_fault.WordsFault.{WordsFault}
 use Rattle.xk_cli.specs.declared.words_fault.WordsFault.TheVariants as words
@@ -65,21 +66,27 @@ abbrev pub StandsAgainst : Task → Option (List ℕ) → Option (List ℕ) → 
 StandsAgainst t known logged n fault.Device said = FailsToRead n × (said ≡ [])
 StandsAgainst t known logged n f said = IsRead n × IfKnown t known logged (λ bytes log. FailsBy t bytes log f × IsSaidOf t bytes f said)
 
+-- The same on these bytes of FILE, and on those of the log or the list that is read, where they are known, or else on some.
+abbrev pub StandsOn : Task → List ℕ → Option (List ℕ) → Reads → Fault → List ℕ → Type 0
+StandsOn t bytes logged n fault.Device said = FailsToRead n × (said ≡ [])
+StandsOn t bytes logged n f said = IsRead n × OfSome (read_of t logged) (λ log. FailsBy t bytes log f × IsSaidOf t bytes f said)
+
 -- these are the bytes that are kept of FILE, where those in it are known
 abbrev pub AreKeptOf : Form → Option (List ℕ) → List ℕ → Type 0
 AreKeptOf form program bytes = IfSome program (λ all. bytes ≡ kept form all)
 
--- On some bytes of FILE, known or not, the task comes to what it is said to come to, or what is said to stand against it does.
+-- On some bytes of FILE, and of the log or the list that is read, each known or not, the task comes to what it is said to come to, or what is said
+-- to stand against it does.
 pub record IsOutcomeOfSome (t : Task) (program logged : Option (List ℕ)) (n : Reads) (r : Result Done Refused) : Type 0 where
   pub bytes : List ℕ
   pub are : AreKeptOf t.form program bytes
-  pub done : IfOk r (λ d. IfSome (read_of t logged) (λ log. Succeeds t bytes log d))
-  pub against : IfErr r (λ x. StandsAgainst t (Some bytes) logged n x.fault x.said.items)
+  pub done : IfOk r (λ d. OfSome (read_of t logged) (λ log. Succeeds t bytes log d))
+  pub against : IfErr r (λ x. StandsOn t bytes logged n x.fault x.said.items)
 
 -- What stands against a task on these bytes, of which the log may still have been read: the numbers are the failures of the log's source.
 abbrev pub AgainstLog : Task → List ℕ → Option (List ℕ) → ℕ → ℕ → Fault → Type 0
 AgainstLog t bytes known old new fault.Device = Rose old new
-AgainstLog t bytes known old new f = (new ≡ old) × IfSome (read_of t known) (λ logged. FailsBy t bytes logged f)
+AgainstLog t bytes known old new f = (new ≡ old) × OfSome (read_of t known) (λ logged. FailsBy t bytes logged f)
 
 -- The line was written, the sink didn't fail and the status is this one; or a beginning of the line was written, the sink
 -- failed and the status is that of a device.
@@ -115,14 +122,13 @@ pub record Answered (t : Task) (bytes logged : List ℕ) (status : ℕ) (out_old
   pub err_is : Appends err_old err_new reply.err
   pub log_is : Appends log_old log_new reply.log
 
--- status and texts are an answer to the task on some bytes of FILE, known or not; and on those of the log or the list that is read, where
--- they are known
+-- status and texts are an answer to the task on some bytes of FILE, and on some of the log or the list that is read, each known or not
 pub record AnsweredBySome (t : Task) (program logged : Option (List ℕ)) (status : ℕ) (out_old out_new err_old err_new log_old log_new :
     Option (List ℕ))
     : Type 0 where
   pub bytes : List ℕ
   pub are : AreKeptOf t.form program bytes
-  pub answered : IfSome (read_of t logged) (λ log. Answered t bytes log status out_old out_new err_old err_new log_old log_new)
+  pub answered : OfSome (read_of t logged) (λ log. Answered t bytes log status out_old out_new err_old err_new log_old log_new)
 
 -- standard output got a beginning of what is said of a fault that stands against the task, and the log nothing
 abbrev pub SaidBegins : Task → List ℕ → List ℕ → Option (List ℕ) → Option (List ℕ) → Option (List ℕ) → Option (List ℕ) → Type 0

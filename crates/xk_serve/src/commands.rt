@@ -1,6 +1,7 @@
 //! The answer to a job, over values.
 
-ghost use Rattle.std.specs.Prelude.{◌≡◌, ℕ, ℤ, List, None, false, true, IfOk, IfErr, IfSome, OnOk};
+ghost use Rattle.std.specs.Prelude.{◌≡◌, ℕ, ℤ, List, None, false, true, IfOk, IfErr, OnOk};
+ghost use Rattle.xk_log.specs.SomeBytes.{OfSome};
 ghost use Rattle.xk_answers.specs.Results.{Check, ComesTo, Compile, IsTelling, IsText, Listing, Run, way_given};
 ghost use Rattle.xk_program.specs.Refusals.{IsNotRun, IsRefusal};
 ghost use Rattle.xk_serve.specs.Answer.{Succeeds, reads_more, task_of};
@@ -35,7 +36,7 @@ pub(crate) fn answer<R: Threads + Wait + Sync, L: Source>(
     log_in: &mut L,
 ) -> Result<Done, Fault>
     requires by_line { explanation job.now.command ≡ None }
-    ensures done { IfOk result (λ d. IfSome (read_of (task_of job.now) (L.remaining log_in.old))
+    ensures done { IfOk result (λ d. OfSome (read_of (task_of job.now) (L.remaining log_in.old))
         (λ logged. Succeeds (task_of job.now) bytes.now logged d)) }
     ensures no_fault { OnOk result (L.fault_count log_in.new ≡ L.fault_count log_in.old) }
     ensures fault { IfErr result (λ f. AgainstLog (task_of job.now) bytes.now
@@ -74,7 +75,7 @@ pub(crate) fn answer<R: Threads + Wait + Sync, L: Source>(
             let page = Picture::Page(window_given(from, to));
             drawn(alloc, page, program, arguments, log_in)
         }
-        Command::Where { .. } => stood(alloc, program, arguments, log_in),
+        Command::Where { at, .. } => stood(alloc, program, at, arguments, log_in),
         Command::Races { log } => {
             let given = log.is_some();
             if given {

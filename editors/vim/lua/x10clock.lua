@@ -35,7 +35,7 @@ local function place(lines, line, column)
   return line - 1, #lines[line]
 end
 
--- The end of the word, or of the character, that begins there.
+-- The end of the word, or of the character, that begins there: programs up to 1.2.0 don't say where that is.
 local function word_end(lines, line, byte)
   local rest = lines[line + 1]:sub(byte + 1)
   return line, byte + #(rest:match("^[%w_]+") or rest:match("^.[\128-\191]*") or "")
@@ -63,14 +63,10 @@ end
 -- All that is said of a fault, in lines.
 local function message(said)
   local told = { said.rule .. " " .. said.name .. ": " .. said.message }
-  if said.holds then
-    local slot = type(said.slot_name) == "string" and "`" .. said.slot_name .. "`" or "slot " .. said.slot
-    table.insert(told, slot .. " may hold here: " .. said.holds)
-  end
-  vim.list_extend(told, stops(said))
   for _, note in ipairs(said.notes or {}) do
     table.insert(told, at(note) .. note.text)
   end
+  vim.list_extend(told, stops(said))
   table.insert(told, "usual repair: " .. said.repair)
   return table.concat(told, "\n")
 end

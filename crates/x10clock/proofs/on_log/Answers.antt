@@ -1,6 +1,6 @@
 use Rattle.std.proofs.Common.{◌∙◌, ap, sym, inl, inr, option_map}
 use Rattle.std.specs.Prelude.{is_some}
-use Rattle.x10clock.proofs.AnswerLemmas.{alone_ends, alone_ends_or, none_opened, not_answered, some_unlogged, unlogged}
+use Rattle.x10clock.proofs.AnswerLemmas.{alone_ends, none_opened, not_answered, some_unlogged, unlogged, unopened_told}
 use Rattle.x10clock.proofs.on_log.Goals as goal
 
 pub returns-in-Ok-Ok-clause-answered : goal.returns-in-Ok-Ok-clause-answered
@@ -35,8 +35,8 @@ returns-in-Err-clause-memory_err g c memory =
 
 pub returns-in-Err-clause-device_err : goal.returns-in-Err-clause-device_err
 returns-in-Err-clause-device_err g c failed =
-    alone_ends_or c.args.request.now (g.P.Read.remaining c.args.program) (g.L.Source.remaining c.args.input.now) _ (g.E.Sink.contents c.args.err.now)
-    (g.E.Sink.contents c.not_opened.new.err) _ (c.not_opened.ensures.device_err failed)
+    unopened_told c.args.request.now (g.P.Read.remaining c.args.program) (g.L.Source.remaining c.args.input.now) (g.E.Sink.contents c.args.err.now)
+    (g.E.Sink.contents c.not_opened.new.err) _ _ (c.not_opened.ensures.device_err failed)
 
 -- ---- on some bytes
 

@@ -7,7 +7,7 @@ pub returns-in-Ok-read_job-clause-told : goal.returns-in-Ok-read_job-clause-told
 returns-in-Ok-read_job-clause-told g c =
     inl (asked c.in-Ok-read_job.request (texts c.deref.result.now) _ _ (ap texts c.deref.ensures.value ∙ c.in-Ok.ensures.same)
     c.in-Ok-read_job.ensures.understood
-    c.in-Ok-read_job.ensures.job c.on_request.ensures.served)
+    c.in-Ok-read_job.ensures.job c.on_asked.ensures.given)
 
 pub returns-clause-told : goal.returns-clause-told
 returns-clause-told g c =
@@ -17,4 +17,4 @@ returns-clause-told g c =
 pub returns-in-Ok-read_job-clause-memory_err : goal.returns-in-Ok-read_job-clause-memory_err
 returns-in-Ok-read_job-clause-memory_err g c = λ memory.
     last_line c.in-Ok-read_job.request (texts c.deref.result.now) _ _ _ _ (ap texts c.deref.ensures.value ∙ c.in-Ok.ensures.same) c.in-Ok-read_job.ensures.understood c.in-Ok-read_job.ensures.job
-    (c.on_request.ensures.memory_err memory)
+    (c.on_asked.ensures.memory_err memory)

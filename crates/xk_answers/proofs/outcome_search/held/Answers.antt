@@ -4,7 +4,7 @@ use Rattle.xk_types.specs.Bound.{activities_bound}
 use Rattle.xk_outcomes.specs.declared.all_outcomes.Limit.{Limit}
 use Rattle.xk_outcomes.specs.Limits.{limit_of}
 use Rattle.xk_answers.specs.Results.{IsHeldOut}
-use Rattle.xk_answers.proofs.LogLemmas.{list_stands, of_each}
+use Rattle.xk_answers.proofs.LogLemmas.{list_stands, some_each}
 use Rattle.xk_answers.proofs.outcome_search.held.Goals as goal
 
 pub returns-clause-done : goal.returns-clause-done
@@ -14,7 +14,7 @@ returns-clause-done g c =
     let sets = c.args.sets in
     let limit_is = c.of-limit.ensures ∙ ap (limit_of c.args.limit) c.activities.ensures in
     IfOk-weaker c.held_by.result _ _
-    (λ d h. of_each _ _ (g.L.Source.remaining c.args.source.now)
+    (λ d h. some_each _ _ (g.L.Source.remaining c.args.source.now)
     (λ bytes held. (
       accepted.1,
       subst (λ m. IsHeldOut m args sets (limit_of c.args.limit (activities_bound m)) bytes d) accepted.0

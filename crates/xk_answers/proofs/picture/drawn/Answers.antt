@@ -1,5 +1,5 @@
 use Rattle.std.proofs.Common.{IfOk, subst}
-use Rattle.std.specs.Prelude.{IfSome}
+use Rattle.xk_log.specs.SomeBytes.{OfSome}
 use Rattle.xk_answers.specs.Results.{Draw, IsTelling, IsText}
 use Rattle.xk_answers.proofs.LogLemmas.{run_stands}
 use Rattle.xk_answers.proofs.picture.drawn.Goals as goal
@@ -10,7 +10,7 @@ drawn_by-requires-clause-taken g c = rw c.in_ok-verified.ensures.accepted.0 c.in
 pub returns-clause-done : goal.returns-clause-done
 returns-clause-done g c = λ form file bytes given.
     let known = g.L.Source.remaining c.args.log_in.now in
-    subst (λ m. IfOk c.drawn_by.result (λ d. IfSome known (λ logged. IsText (IsTelling (Draw c.args.picture) form file bytes m c.args.arguments.now logged) d)))
+    subst (λ m. IfOk c.drawn_by.result (λ d. OfSome known (λ logged. IsText (IsTelling (Draw c.args.picture) form file bytes m c.args.arguments.now logged) d)))
     c.in_ok-verified.ensures.accepted.0 (c.drawn_by.ensures.done form file bytes given)
 
 pub returns-clause-fault : goal.returns-clause-fault

@@ -1,5 +1,5 @@
 use Rattle.std.proofs.Common.{IfOk, subst}
-use Rattle.std.specs.Prelude.{IfSome}
+use Rattle.xk_log.specs.SomeBytes.{OfSome}
 use Rattle.xk_answers.specs.Results.{ComesTo, Replay}
 use Rattle.xk_answers.proofs.LogLemmas.{run_stands}
 use Rattle.xk_answers.proofs.replay.replayed.Goals as goal
@@ -10,7 +10,7 @@ replayed_by-requires-clause-taken g c = rw c.in_ok-verified.ensures.accepted.0 c
 pub returns-clause-done : goal.returns-clause-done
 returns-clause-done g c =
     let known = g.L.Source.remaining c.args.log_in.now in
-    subst (λ m. IfOk c.replayed_by.result (λ d. IfSome known (λ logged. ComesTo Replay m c.args.arguments.now logged d))) c.in_ok-verified.ensures.accepted.0 c.replayed_by.ensures.done
+    subst (λ m. IfOk c.replayed_by.result (λ d. OfSome known (λ logged. ComesTo Replay m c.args.arguments.now logged d))) c.in_ok-verified.ensures.accepted.0 c.replayed_by.ensures.done
 
 pub returns-clause-fault : goal.returns-clause-fault
 returns-clause-fault g c =

@@ -1,6 +1,6 @@
 use Rattle.std.proofs.Common.{◌∙◌, ap, refl}
 use Rattle.xk_answers.specs.Explanation.{where_told}
-use Rattle.xk_answers.proofs.LogLemmas.{of_each}
+use Rattle.xk_answers.proofs.LogLemmas.{some_each}
 use Rattle.xk_answers.proofs.whereabouts.stood_by.Goals as goal
 
 pub returns-clause-done : goal.returns-clause-done
@@ -8,6 +8,7 @@ returns-clause-done g c = λ form file bytes given.
     let v = c.args.verified.now in
     let args = c.args.arguments.now in
     let origins = c.args.from.now.origins in
-    let told = c.in_ok-tale.ensures ∙ ap (λ t. where_told t v args c.entries.result.now origins) given.0 ∙ ap (λ es. where_told bytes v args es origins) c.entries.ensures in
-    of_each _ _ (g.L.Source.remaining c.args.log_in.now)
-    (λ logged text. (c.requires.accepted, (c.requires.taken, (c.in_ok-log.log, text, (origins, given.1 refl, told))))) c.in_ok-log.ensures.told
+    let told = c.in_ok-tale.ensures ∙ ap (λ t. where_told t v args c.args.at c.entries.result.now origins) given.0
+    ∙ ap (λ es. where_told bytes v args c.args.at es origins) c.entries.ensures in
+    some_each _ _ (g.L.Source.remaining c.args.log_in.now)
+    (λ logged text. (c.requires.accepted, (c.requires.taken, (c.in_ok-log.log, text, (origins, given.1 refl, told))))) c.in_ok-log.ensures.of_some

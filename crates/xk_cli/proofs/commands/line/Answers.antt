@@ -1,6 +1,6 @@
 use Rattle.std.proofs.lemmas.Result.{IfOk-weaker}
 use Rattle.std.specs.Prelude.{codes}
-use Rattle.xk_cli.specs.CommandLine.{check_line, compile_line, explain_line, lanes_line, listing_line, on_run, outcomes_line, page_line, program, races_line, run_line}
+use Rattle.xk_cli.specs.CommandLine.{check_line, compile_line, explain_line, lanes_line, listing_line, on_run, outcomes_line, page_line, program, races_line, run_line, where_line}
 use Rattle.xk_cli.proofs.CommandLineLemmas.{names_of}
 use Rattle.xk_cli.proofs.commands.line.Goals as goal
 
@@ -20,4 +20,4 @@ returns c =
     let eleven = c.add-line-11.ensures _ lanes_line ten c.lanes_line.ensures.shape c.lanes_line.ensures.local in
     let twelve = c.add-line-12.ensures _ page_line eleven c.page_line.ensures.shape c.page_line.ensures.local in
     IfOk-weaker c.add.result _ _ (λ r h. (run.0, run.1, h))
-    (c.add.ensures _ (on_run (codes "where")) twelve c.where_line.ensures.shape c.where_line.ensures.local)
+    (c.add.ensures _ where_line twelve c.where_line.ensures.shape c.where_line.ensures.local)

@@ -2,7 +2,7 @@ use Rattle.std.proofs.Common.{◌<◌, ◌≤◌, length, ap, sym, ◌∙◌, su
 use Rattle.std.specs.Io.KnownBytes.{Consumes}
 use Rattle.xk_log.specs.Verdicts.{before}
 use Rattle.xk_log.specs.Reading.{place}
-use Rattle.xk_log.proofs.ReaderLemmas.{tells_stopped, counts_stopped, tells_finished, read_joined, read_grows, read_nothing, falls, held_short}
+use Rattle.xk_log.proofs.ReaderLemmas.{device_told, some_finished, some_stopped, tells_stopped, counts_stopped, tells_finished, read_joined, read_grows, read_nothing, falls, held_short}
 use Rattle.xk_log.proofs.reading.read_lines.Goals as goal
 
 pub returns-in-Err-clause-told : goal.returns-in-Err-clause-told
@@ -10,6 +10,15 @@ returns-in-Err-clause-told g c =
     let l = c.loop-progress in
     let within : l.held ≤ length l.piece = omega arith in
     tells_stopped _ _ _ c.in-Err.fault
+    (read_joined _ _ _ (before (place l.progress)) l.piece c.read.new.buf l.held c.in_ok-count.count _ within c.in_ok-count.ensures.bound.0
+    l.invariant.consumed c.in_ok-count.ensures.bytes.0)
+    c.in-Err.ensures.stopped
+
+pub returns-in-Err-clause-of_some : goal.returns-in-Err-clause-of_some
+returns-in-Err-clause-of_some g c =
+    let l = c.loop-progress in
+    let within : l.held ≤ length l.piece = omega arith in
+    some_stopped _ _ _ c.in-Err.fault
     (read_joined _ _ _ (before (place l.progress)) l.piece c.read.new.buf l.held c.in_ok-count.count _ within c.in_ok-count.ensures.bound.0
     l.invariant.consumed c.in_ok-count.ensures.bytes.0)
     c.in-Err.ensures.stopped
@@ -23,6 +32,15 @@ returns-then-count-eq0-clause-told g c =
     let l = c.loop-progress in
     let room : 0 < length c.read.new.buf = omega arith in
     tells_finished _ _ l.progress.stage l.progress.entries.items l.piece l.held _ l.invariant.ready l.invariant.one_line l.invariant.short
+    l.invariant.none_behind c.finish.ensures
+    (read_nothing _ _ _ _ c.read.new.buf c.in_ok-count.count c.if-count-eq0.true l.invariant.consumed c.in_ok-count.ensures.bytes.0)
+    (c.in_ok-count.ensures.bytes.1 c.if-count-eq0.true room)
+
+pub returns-then-count-eq0-clause-of_some : goal.returns-then-count-eq0-clause-of_some
+returns-then-count-eq0-clause-of_some g c =
+    let l = c.loop-progress in
+    let room : 0 < length c.read.new.buf = omega arith in
+    some_finished _ _ l.progress.stage l.progress.entries.items l.piece l.held _ l.invariant.ready l.invariant.one_line l.invariant.short
     l.invariant.none_behind c.finish.ensures
     (read_nothing _ _ _ _ c.read.new.buf c.in_ok-count.count c.if-count-eq0.true l.invariant.consumed c.in_ok-count.ensures.bytes.0)
     (c.in_ok-count.ensures.bytes.1 c.if-count-eq0.true room)

@@ -103,11 +103,11 @@ returns-in-Page-clause-fault g c =
 
 pub returns-in-Where-clause-done : goal.returns-in-Where-clause-done
 returns-in-Where-clause-done g c =
-    done_of_run (task_of c.args.job.now) c.args.bytes.now (g.L.Source.remaining c.args.log_in.now) _ Where c.as_slice-arguments.result.now c.stood.result (ap doing_of c.in-Where.is) c.as_slice-arguments.ensures.value refl c.in_ok-program.ensures.module (c.stood.ensures.done c.args.job.now.form c.args.job.now.file.now c.args.bytes.now (c.in_ok-program.ensures.from.0, λ _. c.in_ok-program.ensures.from.1 (c.shows_origins.ensures ∙ ap shows_origins c.in-Where.is)))
+    done_of_run (task_of c.args.job.now) c.args.bytes.now (g.L.Source.remaining c.args.log_in.now) _ (Where c.in-Where.at) c.as_slice-arguments.result.now c.stood.result (ap doing_of c.in-Where.is) c.as_slice-arguments.ensures.value refl c.in_ok-program.ensures.module (c.stood.ensures.done c.args.job.now.form c.args.job.now.file.now c.args.bytes.now (c.in_ok-program.ensures.from.0, λ _. c.in_ok-program.ensures.from.1 (c.shows_origins.ensures ∙ ap shows_origins c.in-Where.is)))
 
 pub returns-in-Where-clause-fault : goal.returns-in-Where-clause-fault
 returns-in-Where-clause-fault g c =
-    against_text (task_of c.args.job.now) c.args.bytes.now (g.L.Source.remaining c.args.log_in.now) _ _ _ Where c.as_slice-arguments.result.now c.stood.result (ap doing_of c.in-Where.is) c.as_slice-arguments.ensures.value refl c.in_ok-program.ensures.module c.stood.ensures.fault
+    against_text (task_of c.args.job.now) c.args.bytes.now (g.L.Source.remaining c.args.log_in.now) _ _ _ (Where c.in-Where.at) c.as_slice-arguments.result.now c.stood.result (ap doing_of c.in-Where.is) c.as_slice-arguments.ensures.value refl c.in_ok-program.ensures.module c.stood.ensures.fault
 
 pub returns-then-given-clause-done : goal.returns-then-given-clause-done
 returns-then-given-clause-done g c =

@@ -1,0 +1,10 @@
+//! Hints on a program that is accepted: what is so in it, and is seldom meant.
+#![tactic(auto, using(crate::proofs::RemarkLemmas::remarks_push))]
+
+mod deeds;
+mod places;
+mod remark;
+mod remarks;
+mod words;
+
+pub use words::{Hint, hints};

@@ -1,0 +1,44 @@
+//! What is told, and what is known at a place.
+
+use xk_tree::Name;
+
+/// What is so.
+#[derive(Clone, Copy)]
+pub enum Matter {
+    /// The name is never used.
+    Unused,
+    /// The number of this name is written, and never read.
+    Unread,
+    /// The shared number is read, and never written.
+    Unwritten,
+    /// The method is never called.
+    Uncalled,
+    /// The loop has no turn.
+    Turnless,
+    /// Nobody is on the clock of this name but the activity that makes it.
+    Unjoined,
+    /// Nobody is on the clock of the `clocked finish` but the activity that runs it.
+    UnjoinedFinish,
+    /// The activity isn't on the clock of the `clocked finish` around it, on which others are.
+    Beside,
+    /// The `advanceAll` is that of an activity on no clock.
+    Clockless,
+}
+
+/// What is so, and of which name; where there is none, the name has no letters.
+#[derive(Clone, Copy)]
+pub struct Remark<'t> {
+    /// What is so.
+    pub matter: Matter,
+    /// The name, and where it stands.
+    pub name: Name<'t>,
+}
+
+/// What is known of the activity at a place.
+#[derive(Clone, Copy)]
+pub struct Place {
+    /// It is given no clock, and makes none, neither before nor behind the place.
+    pub is_clockless: bool,
+    /// It is on the clock of the `clocked finish` that encloses the place most closely, and so are others.
+    pub is_shared: bool,
+}

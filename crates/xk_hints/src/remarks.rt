@@ -1,0 +1,315 @@
+//! What is so in a program.
+
+ghost use Rattle.std.specs.Prelude.{◌≡◌, ◌++◌, flat_map, map, IfOk, OnOk};
+ghost use Rattle.std.specs.List.{list_any};
+ghost use Rattle.xk_tree.specs.Program.{tree_value};
+ghost use Rattle.xk_tree.specs.Tree.{method_value, param_value, shared_value, source, statement, statements, word};
+ghost use Rattle.xk_hints.specs.Hints.{all_remarks, declared_remarks, ends_late, here, method_remarks, number_remarks, on, param_remarks};
+ghost use Rattle.xk_hints.specs.Hints.{place_value, remarks, remarks_among, remarks_here, remarks_in, shared_number_remarks};
+ghost use Rattle.xk_hints.specs.Hints.{shared_remarks, unjoined, when};
+
+use crate::deeds::{Deed, some_among, some_of_methods};
+use crate::places::{behind, in_body, in_finish, in_method, is_main};
+use crate::remark::{Matter, Place, Remark};
+use std::alloc::{AllocError, Global};
+use xk_tree::{Binding, Method, Name, Param, Right, Shared, Stmt, Tree};
+
+/// The last offset at which a method may end in a text that is told of.
+const MOST_BYTES: usize = 65_536;
+
+/// Adds what is so of a name, if it is.
+fn add_if<'t>(
+    out: &mut Vec<Remark<'t>>,
+    holds: bool,
+    matter: Matter,
+    name: Name<'t>,
+) -> Result<(), AllocError>
+    ensures { OnOk result (remarks_here out.new.items
+        ≡ remarks_here out.old.items ++ when holds (on matter (word name.entry))) }
+{
+    if holds {
+        out.push(Remark { matter, name })?;
+    }
+    Ok(())
+}
+
+/// Adds what is so at a place, if it is.
+fn add_here(
+    out: &mut Vec<Remark<'_>>,
+    holds: bool,
+    matter: Matter,
+    at: usize,
+) -> Result<(), AllocError>
+    ensures { OnOk result (remarks_here out.new.items
+        ≡ remarks_here out.old.items ++ when holds (here matter at)) }
+{
+    add_if(out, holds, matter, Name { at, text: b"" })
+}
+
+/// Adds what is told of a number, by whether it is used and whether it is written.
+fn add_number<'t>(
+    out: &mut Vec<Remark<'t>>,
+    name: Name<'t>,
+    used: bool,
+    written: bool,
+) -> Result<(), AllocError>
+    ensures { OnOk result (remarks_here out.new.items
+        ≡ remarks_here out.old.items ++ number_remarks (word name.entry) used written) }
+{
+    if used {
+        return Ok(());
+    }
+    if written {
+        return add_if(out, true, Matter::Unread, name);
+    }
+    add_if(out, true, Matter::Unused, name)
+}
+
+/// Adds what is told of a clock that nobody is on but its maker.
+fn add_unjoined<'t>(
+    out: &mut Vec<Remark<'t>>,
+    holds: bool,
+    binding: Binding,
+    name: Name<'t>,
+) -> Result<(), AllocError>
+    ensures { OnOk result (remarks_here out.new.items
+        ≡ remarks_here out.old.items ++ when holds (unjoined binding (word name.entry))) }
+{
+    match binding {
+        Binding::Hidden => add_here(out, holds, Matter::UnjoinedFinish, name.at),
+        Binding::Val => add_if(out, holds, Matter::Unjoined, name),
+        Binding::Var => add_if(out, holds, Matter::Unjoined, name),
+    }
+}
+
+/// Adds what is told of what is declared before these statements.
+fn add_declared<'t>(
+    out: &mut Vec<Remark<'t>>,
+    binding: Binding,
+    name: Name<'t>,
+    right: &Right<'t>,
+    rest: &[Stmt<'t>],
+) -> Result<(), AllocError>
+    ensures { OnOk result (remarks_here out.new.items ≡ remarks_here out.old.items
+        ++ declared_remarks binding (word name.entry) (source right.now) (statements rest.now)) }
+{
+    match right {
+        Right::Make(..) => {
+            let given = some_among(Deed::Give, name.text, rest);
+            add_unjoined(out, !given, binding, name)
+        }
+        Right::Expr(_) => {
+            let used = some_among(Deed::Use, name.text, rest);
+            let written = some_among(Deed::Write, name.text, rest);
+            add_number(out, name, used, written)
+        }
+    }
+}
+
+/// Adds what is told of a statement, and of those that it holds; these stand behind it.
+#[cycle(remarks)]
+fn add_remarks<'t>(
+    out: &mut Vec<Remark<'t>>,
+    place: Place,
+    s: &Stmt<'t>,
+    rest: &[Stmt<'t>],
+) -> Result<(), AllocError>
+    ensures { OnOk result (remarks_here out.new.items ≡ remarks_here out.old.items
+        ++ remarks_in (place_value place) (statement s.now) (statements rest.now)) }
+{
+    match s {
+        Stmt::Declare(binding, name, _, right) => add_declared(out, *binding, *name, right, rest),
+        Stmt::Block(_, ss) => add_all_remarks(out, place, ss),
+        Stmt::If(_, _, _, _, s) => add_remarks(out, place, s, &[]),
+        Stmt::IfElse(_, _, _, _, s, t) => {
+            add_remarks(out, place, s, &[])?;
+            add_remarks(out, place, t, &[])
+        }
+        Stmt::For(at, _, lo, limit, s) => {
+            add_here(out, !limit.has_turns(*lo), Matter::Turnless, *at)?;
+            add_remarks(out, place, s, &[])
+        }
+        Stmt::Async(at, clocks, s) => {
+            let beside = place.is_shared && clocks.is_none();
+            add_here(out, beside, Matter::Beside, *at)?;
+            add_remarks(out, in_body(clocks, s), s, &[])
+        }
+        Stmt::Finish(_, s) => add_remarks(out, in_finish(place), s, &[]),
+        Stmt::AdvanceAll(at, _) => add_here(out, place.is_clockless, Matter::Clockless, *at),
+        Stmt::Empty => Ok(()),
+        Stmt::Assign(..) => Ok(()),
+        Stmt::Atomic(..) => Ok(()),
+        Stmt::Call(..) => Ok(()),
+        Stmt::Resume(..) => Ok(()),
+        Stmt::Drop(..) => Ok(()),
+        Stmt::Print(..) => Ok(()),
+    }
+}
+
+/// The same of statements, one after another.
+#[cycle(remarks)]
+fn add_all_remarks<'t>(
+    out: &mut Vec<Remark<'t>>,
+    place: Place,
+    ss: &[Stmt<'t>],
+) -> Result<(), AllocError>
+    ensures { OnOk result (remarks_here out.new.items ≡ remarks_here out.old.items
+        ++ remarks_among (place_value place) (statements ss.now)) }
+{
+    let mut place = place;
+    for (i, s) in ss.iter().enumerate() {
+        let rest = &ss[i + 1..];
+        add_remarks(out, place, s, rest)?;
+        place = behind(place, s, rest);
+    }
+    Ok(())
+}
+
+/// Adds what is told of a parameter of a method.
+fn add_param<'t>(
+    out: &mut Vec<Remark<'t>>,
+    method: &Method<'t>,
+    param: &Param<'t>,
+) -> Result<(), AllocError>
+    ensures { OnOk result (remarks_here out.new.items ≡ remarks_here out.old.items
+        ++ param_remarks (method_value method.now) (param_value param.now)) }
+{
+    let used = some_among(Deed::Use, param.name.text, &method.body);
+    add_if(out, !used, Matter::Unused, param.name)
+}
+
+/// The same of all of its parameters.
+fn add_params<'t>(out: &mut Vec<Remark<'t>>, method: &Method<'t>) -> Result<(), AllocError>
+    ensures { OnOk result (remarks_here out.new.items ≡ remarks_here out.old.items
+        ++ flat_map (param_remarks (method_value method.now))
+        (map param_value method.now.params.items)) }
+{
+    for param in &method.params {
+        add_param(out, method, param)?;
+    }
+    Ok(())
+}
+
+/// Adds what is told of a method, where these are all.
+#[tactic(auto, unfolding(crate::specs::Hints::method_remarks))]
+fn add_method<'t>(
+    out: &mut Vec<Remark<'t>>,
+    methods: &[Method<'t>],
+    method: &Method<'t>,
+) -> Result<(), AllocError>
+    ensures { OnOk result (remarks_here out.new.items ≡ remarks_here out.old.items
+        ++ method_remarks (map method_value methods.now) (method_value method.now)) }
+{
+    let called = some_of_methods(Deed::Call, method.name.text, methods);
+    add_if(
+        out,
+        !is_main(method) && !called,
+        Matter::Uncalled,
+        method.name,
+    )?;
+    add_params(out, method)?;
+    add_all_remarks(out, in_method(method), &method.body)
+}
+
+/// The same of all methods.
+fn add_methods<'t>(out: &mut Vec<Remark<'t>>, methods: &[Method<'t>]) -> Result<(), AllocError>
+    ensures { OnOk result (remarks_here out.new.items ≡ remarks_here out.old.items
+        ++ flat_map (method_remarks (map method_value methods.now))
+        (map method_value methods.now)) }
+{
+    for method in methods {
+        add_method(out, methods, method)?;
+    }
+    Ok(())
+}
+
+/// Adds what is told of a shared number, by whether it is read and whether it is written.
+fn add_shared_number<'t>(
+    out: &mut Vec<Remark<'t>>,
+    name: Name<'t>,
+    read: bool,
+    written: bool,
+) -> Result<(), AllocError>
+    ensures { OnOk result (remarks_here out.new.items ≡ remarks_here out.old.items
+        ++ shared_number_remarks (word name.entry) read written) }
+{
+    if read {
+        return add_if(out, !written, Matter::Unwritten, name);
+    }
+    add_number(out, name, false, written)
+}
+
+/// Adds what is told of a shared number, where these are the methods.
+#[tactic(auto, unfolding(crate::specs::Hints::shared_remarks))]
+fn add_shared<'t>(
+    out: &mut Vec<Remark<'t>>,
+    methods: &[Method<'t>],
+    number: &Shared<'t>,
+) -> Result<(), AllocError>
+    ensures { OnOk result (remarks_here out.new.items ≡ remarks_here out.old.items
+        ++ shared_remarks (map method_value methods.now) (shared_value number.now)) }
+{
+    let read = some_of_methods(Deed::Use, number.name.text, methods);
+    let written = some_of_methods(Deed::Write, number.name.text, methods);
+    add_shared_number(out, number.name, read, written)
+}
+
+/// The same of all shared numbers.
+fn add_all_shared<'t>(
+    out: &mut Vec<Remark<'t>>,
+    methods: &[Method<'t>],
+    shared: &[Shared<'t>],
+) -> Result<(), AllocError>
+    ensures { OnOk result (remarks_here out.new.items ≡ remarks_here out.old.items
+        ++ flat_map (shared_remarks (map method_value methods.now))
+        (map shared_value shared.now)) }
+{
+    for number in shared {
+        add_shared(out, methods, number)?;
+    }
+    Ok(())
+}
+
+/// Whether a method ends behind so many bytes that nothing is told.
+fn ends_late(method: &Method<'_>) -> bool
+    ensures { result ≡ ends_late (method_value method.now) }
+{
+    method.close > MOST_BYTES
+}
+
+/// Whether one of them does.
+fn is_long(methods: &[Method<'_>]) -> bool
+    ensures { result ≡ list_any ends_late (map method_value methods.now) }
+{
+    for method in methods {
+        if ends_late(method) {
+            return true;
+        }
+    }
+    false
+}
+
+/// All that is told of shared numbers and methods, in the order of the text.
+fn all_remarks<'t>(
+    alloc: Global,
+    shared: &[Shared<'t>],
+    methods: &[Method<'t>],
+) -> Result<Vec<Remark<'t>>, AllocError>
+    ensures { IfOk result (λ v. remarks_here v.items
+        ≡ all_remarks (map shared_value shared.now) (map method_value methods.now)) }
+{
+    let mut out = Vec::new(alloc);
+    add_all_shared(&mut out, methods, shared)?;
+    add_methods(&mut out, methods)?;
+    Ok(out)
+}
+
+/// All that is told of a tree.
+pub(crate) fn remarks<'t>(alloc: Global, tree: &Tree<'t>) -> Result<Vec<Remark<'t>>, AllocError>
+    ensures { IfOk result (λ v. remarks_here v.items ≡ remarks (tree_value tree.now)) }
+{
+    if is_long(&tree.methods) {
+        return Ok(Vec::new(alloc));
+    }
+    all_remarks(alloc, &tree.shared, &tree.methods)
+}

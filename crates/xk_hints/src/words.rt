@@ -1,0 +1,123 @@
+//! Hints in words.
+
+ghost use Rattle.std.specs.Prelude.{◌≡◌, [], ◌∷◌, ◌++◌, map, IfOk, OnOk};
+ghost use Rattle.xk_tree.specs.Program.{tree_value};
+ghost use Rattle.xk_hints.specs.Hints.{remark_value, remarks_here};
+ghost use Rattle.xk_hints.specs.Words.{closing, hint, hints, opening, words};
+
+use crate::remark::{Matter, Remark};
+use crate::remarks::remarks;
+use std::alloc::{AllocError, Global};
+use std::marker::Model;
+use xk_tree::Tree;
+
+/// What is so in a program, and is seldom meant, with its place in the text.
+#[derive(Drop)]
+pub struct Hint {
+    /// The offset of what it speaks of.
+    pub at: usize,
+    /// Its words, without a line feed.
+    pub text: Vec<u8>,
+}
+
+impl Model for Hint {
+    ghost use Rattle.xk_hints.specs.Words.{HintValue};
+
+    ghost Value = { HintValue };
+
+    ghost view = { λ h. record {
+      at = h.at;
+      text = h.text.items;
+    } };
+}
+
+/// What stands before a name.
+fn opening(matter: Matter) -> &'static str
+    ensures { result.now ≡ opening matter }
+{
+    match matter {
+        Matter::Turnless => "hint: this loop has no turn: it goes up, and begins above its end",
+        Matter::UnjoinedFinish => {
+            "hint: nobody joins the clock of this `clocked finish`; `clocked async` starts an activity on it"
+        }
+        Matter::Beside => {
+            "hint: this activity isn't on the clock of the `clocked finish` around it: no advance of that clock waits for it"
+        }
+        Matter::Clockless => "hint: this advanceAll waits for nobody: its activity is on no clock",
+        Matter::Unused => "hint: `",
+        Matter::Unread => "hint: `",
+        Matter::Unwritten => "hint: `",
+        Matter::Uncalled => "hint: `",
+        Matter::Unjoined => "hint: `",
+    }
+}
+
+/// What stands behind it.
+fn closing(matter: Matter) -> &'static str
+    ensures { result.now ≡ closing matter }
+{
+    match matter {
+        Matter::Unused => "` is never used",
+        Matter::Unread => "` is written, and never read",
+        Matter::Unwritten => "` is read, and never written",
+        Matter::Uncalled => "` is never called",
+        Matter::Unjoined => {
+            "` is given to no activity and to no method: nobody is on it but its maker"
+        }
+        Matter::Turnless => "",
+        Matter::UnjoinedFinish => "",
+        Matter::Beside => "",
+        Matter::Clockless => "",
+    }
+}
+
+/// Adds a text.
+fn push_text(out: &mut Vec<u8>, text: &str) -> Result<(), AllocError>
+    ensures { OnOk result (out.new.items ≡ out.old.items ++ text.now) }
+{
+    out.extend_from_slice(text.as_bytes())
+}
+
+/// The words of a remark.
+#[tactic(auto, unfolding(crate::specs::Words::words))]
+fn words(alloc: Global, remark: Remark<'_>) -> Result<Vec<u8>, AllocError>
+    ensures { IfOk result (λ v. v.items ≡ words (remark_value remark.entry)) }
+{
+    let mut out = Vec::new(alloc);
+    push_text(&mut out, opening(remark.matter))?;
+    out.extend_from_slice(remark.name.text)?;
+    push_text(&mut out, closing(remark.matter))?;
+    Ok(out)
+}
+
+/// Adds the hint of a remark.
+fn push_hint(alloc: Global, out: &mut Vec<Hint>, remark: Remark<'_>) -> Result<(), AllocError>
+    ensures { OnOk result (out.new.items
+        ≡ out.old.items ++ hint (remark_value remark.entry) ∷ []) }
+{
+    let text = words(alloc, remark)?;
+    let at = remark.name.at;
+    out.push(Hint { at, text })?;
+    Ok(())
+}
+
+/// The hints of remarks.
+fn hints_of(alloc: Global, remarks: &[Remark<'_>]) -> Result<Vec<Hint>, AllocError>
+    ensures { IfOk result (λ v. v.items ≡ map hint (remarks_here remarks.now)) }
+{
+    let mut out = Vec::new(alloc);
+    for remark in remarks {
+        push_hint(alloc, &mut out, *remark)?;
+    }
+    Ok(out)
+}
+
+/// The hints on a tree, in the order of the text: names, shared numbers and methods that are never used, loops without a turn, clocks
+/// that nobody joins, activities beside the clock of a `clocked finish`, and each `advanceAll` of an activity on no clock. A tree with
+/// a method that ends behind 65,536 bytes has none. Err where memory was refused.
+pub fn hints(alloc: Global, tree: &Tree<'_>) -> Result<Vec<Hint>, AllocError>
+    ensures { IfOk result (λ v. v.items ≡ hints (tree_value tree.now)) }
+{
+    let found = remarks(alloc, tree)?;
+    hints_of(alloc, &found)
+}

@@ -1,0 +1,219 @@
+"""The reference for the hints of `explain` on a text that is accepted (docs/EXPLAIN.md, "Hints"), from its tree."""
+
+from __future__ import annotations
+
+from collections.abc import Callable, Iterable, Iterator
+from dataclasses import dataclass
+
+from tests.reference import source
+from tests.reference.origins import PlacedParser
+from tests.reference.source import (
+    Addition,
+    AdvanceAll,
+    Assignment,
+    Async,
+    Block,
+    Branch,
+    Call,
+    Declaration,
+    Expr,
+    Finish,
+    Loop,
+    Method,
+    Name,
+    NewClock,
+    OnClock,
+    Print,
+    Stmt,
+    Tree,
+)
+
+# A hint: its offset in the text, and its words.
+Hint = tuple[int, str]
+
+# A text with a method that ends behind so many bytes has no hints.
+MOST_BYTES = 65536
+
+TURNLESS = "this loop has no turn: it goes up, and begins above its end"
+CLOCKLESS = "this advanceAll waits for nobody: its activity is on no clock"
+UNJOINED_FINISH = "nobody joins the clock of this `clocked finish`; `clocked async` starts an activity on it"
+BESIDE = "this activity isn't on the clock of the `clocked finish` around it: no advance of that clock waits for it"
+UNJOINED = "is given to no activity and to no method: nobody is on it but its maker"
+
+
+# What statements hold, and which names they use.
+
+
+def held(stmt: Stmt) -> list[Stmt]:
+    match stmt:
+        case Block(statements):
+            return statements
+        case Branch(then=then, otherwise=otherwise):
+            return [then] if otherwise is None else [then, otherwise]
+        case Loop() | Async() | Finish():
+            return [stmt.body]
+    return []
+
+
+def within(stmts: Iterable[Stmt]) -> Iterator[Stmt]:
+    """The statements, and all that they hold."""
+    for stmt in stmts:
+        yield stmt
+        yield from within(held(stmt))
+
+
+def names(expr: Expr | NewClock | None) -> set[str]:
+    match expr:
+        case Name(text):
+            return {text}
+        case source.Parens(inner):
+            return names(inner)
+        case source.Negation(of):
+            return names(of)
+        case source.Operation(_, left, right):
+            return names(left) | names(right)
+    return set()
+
+
+def given(stmt: Stmt) -> set[str]:
+    """The names that an activity or a method is given."""
+    match stmt:
+        case Async(clocks):
+            return {clock.text for clock in clocks}
+        case Call(_, arguments):
+            return set().union(*map(names, arguments))
+    return set()
+
+
+def used(stmt: Stmt) -> set[str]:
+    match stmt:
+        case Declaration(right=right) | Assignment(right=right):
+            return names(right)
+        case Addition(term=term):
+            return names(term)
+        case Branch(left, _, right):
+            return names(left) | names(right)
+        case Loop(limit=limit):
+            return names(limit)
+        case OnClock(name, "resume"):
+            return {name.text}
+        case Print(value):
+            return names(value)
+    return given(stmt)
+
+
+def written(stmt: Stmt) -> set[str]:
+    return {stmt.name.text} if isinstance(stmt, Assignment | Addition) else set()
+
+
+def called(stmt: Stmt) -> set[str]:
+    return {stmt.name.text} if isinstance(stmt, Call) else set()
+
+
+def some(names_of: Callable[[Stmt], set[str]], stmts: Iterable[Stmt], name: Name) -> bool:
+    """Whether some statement does this with a name."""
+    return any(name.text in names_of(stmt) for stmt in within(stmts))
+
+
+def of_number(name: Name, is_used: bool, is_written: bool) -> Iterator[Hint]:
+    if not is_used:
+        yield name.at, f"`{name.text}` is {'written, and never read' if is_written else 'never used'}"
+
+
+# Clocks.
+
+
+def is_joined(finish: Finish) -> bool:
+    """Whether some activity is started on the clock of a `clocked finish`: those in one that it holds are on that
+    one's."""
+    stmts = [finish.body]
+    while stmts:
+        stmt = stmts.pop()
+        if isinstance(stmt, Async) and stmt.clocked is not None:
+            return True
+        if not (isinstance(stmt, Finish) and stmt.clocked is not None):
+            stmts += held(stmt)
+    return False
+
+
+def makes_clock(stmt: Stmt) -> bool:
+    """Whether the activity that runs it makes a clock there."""
+    match stmt:
+        case Declaration(right=NewClock()) | Finish(clocked=int()):
+            return True
+        case Async():
+            return False
+    return any(map(makes_clock, held(stmt)))
+
+
+@dataclass(frozen=True)
+class Activity:
+    """What is known of the activity at a place: that it is never on a clock; that the place is in a `clocked finish`
+    that others have joined."""
+
+    is_clockless: bool
+    is_shared: bool = False
+
+
+class Hints:
+    def __init__(self, parser: PlacedParser, tree: Tree) -> None:
+        self.parser, self.tree = parser, tree
+        self.bodies = [method.body for method in tree.methods]
+
+    def of_program(self) -> Iterator[Hint]:
+        if any(self.parser.ends[id(body)] > MOST_BYTES for body in self.bodies):
+            return
+        for shared in self.tree.shared:
+            name = shared.name
+            is_used, is_written = some(used, self.bodies, name), some(written, self.bodies, name)
+            yield from of_number(name, is_used, is_written)
+            if is_used and not is_written:
+                yield name.at, f"`{name.text}` is read, and never written"
+        for method in self.tree.methods:
+            yield from self.of_method(method)
+
+    def of_method(self, method: Method) -> Iterator[Hint]:
+        is_main = method.name.text == "main"
+        if not (is_main or some(called, self.bodies, method.name)):
+            yield method.name.at, f"`{method.name.text}` is never called"
+        for param in method.params:
+            yield from of_number(param.name, some(used, [method.body], param.name), False)
+        yield from self.of_statement(method.body, Activity(is_main and not makes_clock(method.body)), [])
+
+    def of_declaration(self, stmt: Declaration, behind: list[Stmt]) -> Iterator[Hint]:
+        if not isinstance(stmt.right, NewClock):
+            yield from of_number(stmt.name, some(used, behind, stmt.name), some(written, behind, stmt.name))
+        elif not some(given, behind, stmt.name):
+            yield stmt.name.at, f"`{stmt.name.text}` {UNJOINED}"
+
+    def of_statement(self, stmt: Stmt, activity: Activity, behind: list[Stmt]) -> Iterator[Hint]:
+        """Those of a statement, where these stand behind it in its block."""
+        match stmt:
+            case Declaration():
+                yield from self.of_declaration(stmt, behind)
+            case AdvanceAll() if activity.is_clockless:
+                yield self.parser.places[id(stmt)], CLOCKLESS
+            case Loop(_, low, high) if low > high:
+                yield self.parser.places[id(stmt)], TURNLESS
+            case Async():
+                is_clockless = not stmt.clocks and stmt.clocked is None
+                if activity.is_shared and is_clockless:
+                    yield stmt.at, BESIDE
+                activity = Activity(is_clockless and not makes_clock(stmt.body))
+            case Finish():
+                is_shared = stmt.clocked is not None and is_joined(stmt)
+                if stmt.clocked is not None and not is_shared:
+                    yield stmt.clocked, UNJOINED_FINISH
+                activity = Activity(activity.is_clockless, is_shared)
+        stmts = held(stmt)
+        for at, inner in enumerate(stmts, start=1):
+            yield from self.of_statement(inner, activity, stmts[at:] if isinstance(stmt, Block) else [])
+
+
+def of_accepted(data: bytes, is_module: bool) -> list[Hint]:
+    """The hints on a program that is accepted, in the order of the text; a module has none."""
+    if is_module:
+        return []
+    parser = PlacedParser(data)
+    tree = parser.program()
+    return [(at, f"hint: {words}") for at, words in sorted(Hints(parser, tree).of_program())]
