@@ -35,7 +35,7 @@ MOST = {
     "clauses": 0,
     "code": 254,
     "proofs": 6699,
-    "docs": 71,
+    "docs": 70,
     "scripts": 0,
     "files": 0,
 }
