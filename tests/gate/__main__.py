@@ -38,6 +38,7 @@ ASK = (
     "python3 -m tests.program.pages",
     "python3 -m tests.program.rules",
     "python3 -m tests.program.exercises",
+    "python3 -m tests.program.repairs",
     "python3 -m tests.program.html_pages",
     "python3 -m tests.program.editors",
     "python3 -m tests.program.refused_growths",

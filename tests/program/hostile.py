@@ -240,6 +240,20 @@ def strange_files(tried: Tried) -> None:
         tried.answers(f"exec $x {command} in-step.x10 /dev/null", 3, err="x10clock: L2 Truncated\n")
 
 
+def strange_names(tried: Tried) -> None:
+    """FILE's name moves no terminal, and of a name in the text 60 letters are told in each line."""
+    tried.file("a\x1b[2Jb\u202e.x10", "def main() { val n = 1 }")
+    head = "a\\x1b[2Jb\\u{202e}.x10:1:24: F2 Syntax: this can't stand here\n"
+    ran = tried.shell("exec $x explain a*.x10")
+    tried.wants("explain of a strange name", ran.out.splitlines(keepends=True)[0], head)
+    method, starts = "n" * 50_000, 1_000
+    tried.file("long-name.x10", f"def {method}() {{{' async ;' * starts}}}\ndef main() {{{method}();}}\n")
+    told = f"this `async` is started 1 time in one run of {method[:60]}..\n"
+    ran = tried.shell("exec $x explain long-name.x10")
+    lines = ran.out.count("\n")
+    tried.wants("explain of a long name", (ran.status, ran.out.count(told), lines), (0, starts, starts + 1))
+
+
 def asked(tried: Tried) -> None:
     """Answers that can't be read, that end early, or have no end; and a question stands there before its answer is
     read."""
@@ -454,6 +468,7 @@ def all_of_them() -> Iterator[Callable[[Tried], None]]:
         shared_path,
         fifo,
         strange_files,
+        strange_names,
         asked,
         strange_lists,
         pipes,

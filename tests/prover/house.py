@@ -33,9 +33,9 @@ MOST = {
     "twice": 31,
     "pub": 82,
     "clauses": 0,
-    "code": 254,
-    "proofs": 6699,
-    "docs": 70,
+    "code": 240,
+    "proofs": 6686,
+    "docs": 83,
     "scripts": 0,
     "files": 0,
 }

@@ -6,6 +6,7 @@ from __future__ import annotations
 import re
 from collections.abc import Iterator
 
+from tests.reference.names import SHOWN, cut
 from tests.reference.source import Token, tokens_of
 
 ON_NAMES = ("F5", "F6", "F7", "F8", "F10", "F11", "F12")
@@ -52,6 +53,70 @@ def declarations(text: bytes) -> Iterator[tuple[Token, str]]:
             yield behind[1], "the number of a loop"
 
 
+def closing(tokens: list[Token], i: int) -> int:
+    """The number of the `}` or `)` that closes the bracket of this number."""
+    depth = 0
+    for k in range(i, len(tokens)):
+        depth += (tokens[k].text in ("{", "(")) - (tokens[k].text in ("}", ")"))
+        if depth == 0:
+            return k
+    raise AssertionError("a text that has a tree")
+
+
+def statement_end(tokens: list[Token], i: int) -> int:
+    """The number of the last token of the statement that begins with the token of this number."""
+    word = tokens[i].text
+    if word == "{":
+        return closing(tokens, i)
+    if word in ("if", "for"):
+        end = statement_end(tokens, closing(tokens, i + 1) + 1)
+        has_else = word == "if" and tokens[end + 1].text == "else"
+        return statement_end(tokens, end + 2) if has_else else end
+    if word in ("async", "finish", "clocked"):
+        i += 1
+        while tokens[i].text in ("clocked", "async", "finish", "("):
+            i = closing(tokens, i) + 1 if tokens[i].text == "(" else i + 1
+        return statement_end(tokens, i)
+    while tokens[i].text != ";":
+        i += 1
+    return i
+
+
+def is_listed(tokens: list[Token], i: int) -> bool:
+    """Whether the token of this number begins a statement in a list of statements, which stand behind a `{`, a `;` or
+    a `}`, and don't stand alone behind an `if` and its like."""
+    opened = [k for k in range(i) if tokens[k].text == "{" and closing(tokens, k) > i]
+    k = opened[-1] + 1
+    while k < i:
+        k = statement_end(tokens, k) + 1
+    return k == i
+
+
+def extent(tokens: list[Token], i: int, role: str) -> range:
+    """The offsets at which the name that this token declares is visible."""
+    if role == SHARED:
+        return range(0, tokens[-1].at + 1)
+    if role == "the number of a loop":
+        body = closing(tokens, i - 1) + 1
+        return range(tokens[body].at, tokens[statement_end(tokens, body)].at + 1)
+    if role.startswith("a parameter"):
+        body = next(k for k in range(i, len(tokens)) if tokens[k].text == "{")
+        return range(tokens[i].at + 1, tokens[closing(tokens, body)].at + 1)
+    if not is_listed(tokens, i - 1):
+        return range(0)
+    block = [k for k in range(i) if tokens[k].text == "{" and closing(tokens, k) > i][-1]
+    return range(tokens[statement_end(tokens, i - 1)].at + 1, tokens[closing(tokens, block)].at + 1)
+
+
+def visible(text: bytes, at: int) -> Iterator[tuple[Token, str]]:
+    """The numbers and clocks that are visible at an offset."""
+    tokens = tokens_of(text)
+    numbers = {token.at: i for i, token in enumerate(tokens)}
+    for token, role in declarations(text):
+        if not role.startswith(METHOD) and at in extent(tokens, numbers[token.at], role):
+            yield token, role
+
+
 def namesakes(text: bytes, name: str, at: int) -> list[tuple[Token, str]]:
     """Where else a name is declared."""
     return [(token, role) for token, role in declarations(text) if token.text == name and token.at != at]
@@ -84,13 +149,9 @@ def is_near(one: str, other: str) -> bool:
 
 def meant(text: bytes, name: str, at: int) -> tuple[Token, str] | None:
     """The last declaration that may be meant by a name that isn't visible, and that nothing else has."""
-    called = behind(text, at) == "("
-    may_be = [
-        (token, role)
-        for token, role in declarations(text)
-        if (role.startswith(METHOD) if called else not role.startswith(METHOD) and token.at < at)
-        and is_near(name, token.text)
-    ]
+    methods = ((token, role) for token, role in declarations(text) if role.startswith(METHOD))
+    seen = methods if behind(text, at) == "(" else visible(text, at)
+    may_be = [(token, role) for token, role in seen if is_near(name, token.text)]
     return may_be[-1] if may_be else None
 
 
@@ -110,7 +171,7 @@ def added(text: bytes, name: str, at: int) -> str | None:
     end = at + len(name)
     sign = next(token for token in tokens_of(text) if token.at >= end)
     addend = trimmed(text[sign.at + 1 :].split(b";")[0]).decode("utf-8", "replace")
-    if sign.text not in ("+", "-") or not re.fullmatch(r"[ -.0-~]+", addend):
+    if sign.text not in ("+", "-") or len(addend) > SHOWN or not re.fullmatch(r"[ -.0-~]+", addend):
         return None
     if sign.text == "-" and re.search(r"[+-]", addend):
         return None
@@ -122,24 +183,105 @@ def of_shared(text: bytes, name: str, at: int) -> str:
     """The repair where a shared number is read."""
     front, _, value = text[:at].rpartition(b"=")
     assigned = LAST_WORD.search(blanked(front).rstrip(BLANKS))[0].decode()
+    told = cut(name)
     if assigned != name or re.search(rb"[;{}]", value):
-        return f"read `{name}` first, which is shared: `val t = {name};`"
+        return f"read `{told}` first, which is shared: `val t = {told};`"
     term = None if trimmed(value) else added(text, name, at)
     if term:
-        return f"write `atomic {name} = {name} + {term};`: it adds in one step"
-    step = f"add in one step, as by `atomic {name} = {name} + 1;`"
+        return f"write `atomic {told} = {told} + {term};`: it adds in one step"
+    step = f"add in one step, as by `atomic {told} = {told} + 1;`"
     return f"{step}: between a read and a write another activity may write"
+
+
+def parameters_of(text: bytes, name: str) -> str | None:
+    """The parameters of the first method of a name."""
+    tokens = tokens_of(text)
+    for i, token in enumerate(tokens):
+        if token.text == "def" and tokens[i + 1].text == name:
+            taken = parameters(tokens[i + 3 :])
+            return ", ".join(f"{cut(p.text)}: {'Clock' if role in CLOCKS else 'Long'}" for p, role in taken)
+    return None
+
+
+def callee(text: bytes, at: int) -> str:
+    """The name of what a place is an argument of, behind no other parenthesis; or nothing."""
+    front, _, arguments = text[:at].rpartition(b"(")
+    if re.search(rb"[);{}]", arguments):
+        return ""
+    return LAST_WORD.search(blanked(front).rstrip(BLANKS))[0].decode()
+
+
+# What is said of a name that stays, and is assigned to.
+STAYS = {
+    "a parameter (a number)": "`{0}` is a parameter, which stays: assign to a `var m = {0};`",
+    "the number of a loop": "`{0}` is the number of a loop, which goes on by itself: assign to a `var`",
+    "a clock": "`{0}` is a clock, which stays: make another one by `val d = Clock.make();`",
+    "a parameter (a clock)": "`{0}` is a clock, which stays: make another one by `val d = Clock.make();`",
+}
+# Of a name that isn't visible where it stands.
+UNSEEN = {
+    "the number of a loop": "`{0}` is seen in its loop alone: use it there, or keep it in a `var` that is declared in "
+    "front of the loop",
+    "a parameter (a number)": "`{0}` is a parameter of another method: take it as one here, too",
+    "a parameter (a clock)": "`{0}` is a parameter of another method: make a clock here by `val {0} = Clock.make();`, "
+    "in the innermost `finish`, and drop it before that ends",
+}
+OUTSIDE = (
+    "`{0}` isn't seen outside of its block, nor before it is declared: declare it further out, and where an `async` "
+    "writes it as a shared number"
+)
+KEPT = "take a `val t = {0};` before the `async`: a `var` as `{0}` isn't seen in it"
+WRITTEN = (
+    "an `async` doesn't write `{0}`, which is a `var`: declare it as `shared {0} = 0;` in front of the methods"
+)
+NEW_METHOD = "write a method `def {0}() {{ .. }}`, with as many parameters as it is given, or look for another spelling"
+NEW_NUMBER = (
+    "declare it before, by `var {0} = 0;`, or where an `async` writes it by `shared {0} = 0;` in front of the methods"
+)
+
+
+def role_at(text: bytes, name: str, at: int) -> str | None:
+    """As what a name is declared that is visible."""
+    return next((role for token, role in visible(text, at) if token.text == name), None)
 
 
 def of_kind(text: bytes, name: str, at: int) -> str | None:
     """The repair where a name is used as what it isn't."""
-    seen = [role for token, role in declarations(text) if token.text == name and token.at < at]
-    role = next((role for role in reversed(seen) if not role.startswith(METHOD)), None)
+    role = role_at(text, name, at)
+    if role is None:
+        return None
     if role == SHARED:
         return of_shared(text, name, at)
+    if behind(text, at) == "=":
+        return STAYS.get(role, "`{0}` is a `val`, which stays: declare it by `var`").format(cut(name))
+    method = callee(text, at)
+    taken = parameters_of(text, method) if method else None
+    if taken is not None:
+        kinds = "a number for each `Long` and a clock for each `Clock`"
+        return f"give `{cut(method)}` {kinds}, in the order of `({taken})`"
     if role in CLOCKS:
-        return f"give a number in place of `{name}`, which is a clock"
-    return role and f"give a clock in place of `{name}`, which is a number"
+        return f"give a number in place of `{cut(name)}`, which is a clock"
+    return f"give a clock in place of `{cut(name)}`, which is a number"
+
+
+def of_captured(text: bytes, name: str, at: int) -> str | None:
+    """The repair where the body of an `async` doesn't see a name."""
+    role = role_at(text, name, at)
+    if role in CLOCKS:
+        return f"hand `{cut(name)}` on: write `async clocked ({cut(name)})`"
+    return (WRITTEN if behind(text, at) == "=" else KEPT).format(cut(name)) if role == "a `var`" else None
+
+
+def of_unknown(text: bytes, name: str, at: int) -> str | None:
+    """The repair where a name isn't visible."""
+    same = namesakes(text, name, at)
+    if same:
+        role = same[0][1]
+        return None if role == SHARED or role.startswith(METHOD) else UNSEEN.get(role, OUTSIDE).format(cut(name))
+    near = meant(text, name, at)
+    if near:
+        return f"perhaps `{cut(near[0].text)}` is meant"
+    return (NEW_METHOD if behind(text, at) == "(" else NEW_NUMBER).format(cut(name))
 
 
 def lender(text: bytes, at: int) -> tuple[Token, str] | None:
@@ -152,9 +294,9 @@ def lender(text: bytes, at: int) -> tuple[Token, str] | None:
     if name.text == "main" or b"finish" in text[name.at : at]:
         return None
     taken = parameters(tokens[heads[-1] + 3 :])
-    params = "".join(f"{token.text}: {'Clock' if role in CLOCKS else 'Long'}, " for token, role in taken)
+    params = "".join(f"{cut(token.text)}: {'Clock' if role in CLOCKS else 'Long'}, " for token, role in taken)
     clock = "clock" if any(token.text == "c" for token, _ in declarations(text)) else "c"
-    head = f"def {name.text}({params}{clock}: Clock)"
+    head = f"def {cut(name.text)}({params}{clock}: Clock)"
     return name, f"take the clock as a parameter, `{head}`, and write `async clocked ({clock})`"
 
 
@@ -163,25 +305,32 @@ def repair(text: bytes, rule: str, at: int) -> str | None:
     if rule == "F15":
         found = lender(text, at)
         return found and found[1]
-    name = word_at(text, at) if rule in ("F5", "F7") else ""
-    if rule == "F5" and not namesakes(text, name, at):
-        near = meant(text, name, at)
-        return near and f"perhaps `{near[0].text}` is meant"
-    return of_kind(text, name, at) if rule == "F7" and namesakes(text, name, at) else None
+    name = word_at(text, at)
+    if rule == "F5":
+        return of_unknown(text, name, at)
+    if rule == "F11":
+        taken = parameters_of(text, name)
+        told = f"give `{cut(name)}` one argument for each of `({taken})`, in this order"
+        return None if taken is None or not namesakes(text, name, at) else told
+    if rule not in ("F7", "F8") or not namesakes(text, name, at):
+        return None
+    return of_kind(text, name, at) if rule == "F7" else of_captured(text, name, at)
 
 
 def notes(text: bytes, rule: str, at: int) -> list[tuple[int | None, str]]:
     """The notes beside a fault of a text, each with its offset, if it has one."""
     if rule == "F15":
         found = lender(text, at)
-        return [(found[0].at, f"`{found[0].text}` doesn't see the clocks of those that call it")] if found else []
+        return [(found[0].at, f"`{cut(found[0].text)}` doesn't see the clocks of those that call it")] if found else []
     if rule not in ON_NAMES:
         return []
     name = word_at(text, at)
     same = namesakes(text, name, at)
     if rule == "F5" and not same:
         near = meant(text, name, at)
-        same = [near] if near else []
-    found = [(token.at, f"`{token.text}` is declared here, as {role}") for token, role in same]
-    further = [(None, f"further declarations of `{name}`: {len(found) - MOST}")] if len(found) > MOST else []
+        if not near:
+            return [(None, f"nothing is declared as `{cut(name)}`")]
+        same = [near]
+    found = [(token.at, f"`{cut(token.text)}` is declared here, as {role}") for token, role in same]
+    further = [(None, f"further declarations of `{cut(name)}`: {len(found) - MOST}")] if len(found) > MOST else []
     return found[:MOST] + further

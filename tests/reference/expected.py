@@ -1,11 +1,11 @@
-"""The reference for the notes on what could stand where a token can't: each token is tried there, and the text read up
-to it. It has no table of the grammar."""
+"""The reference for the notes on what could stand where a token can't, and for what is missing before it: each token is
+tried there, and the text read up to it. It has no table of the grammar."""
 
 from __future__ import annotations
 
 import re
 
-from tests.reference.source import Fault, parse
+from tests.reference.source import Fault, Sort, Token, parse, tokens_of
 
 # Each token that is named alone, in the order of docs/EXPLAIN.md, and how it is named.
 ALONE = """; , ) } ( { = : . .. + - * == != < <= > >= shared def else in async finish Clock Long
@@ -41,23 +41,102 @@ def can_end(front: bytes) -> bool:
     return True
 
 
-def repair(text: bytes, rule: str, at: int) -> str | None:
-    """The repair where one token alone could stand."""
-    found = notes(text, rule, at)
-    alone = re.fullmatch(r"could stand here: (`[^`]+`)", found[0][1]) if found else None
-    return f"write {alone[1]} here" if alone else None
+# A sign that stands between others, and may be missing.
+JOINING = "; , ) } ( { : . .. in".split()
+# More than 64 bits: no place takes such a number.
+MOST = 2**63
 
 
-def notes(text: bytes, rule: str, at: int) -> list[tuple[None, str]]:
-    """The note beside a fault of a text: of F2 alone, and at no place."""
-    if rule != "F2":
-        return []
+def next_tokens(text: bytes, at: int) -> list[Token]:
+    """The token at an offset, and the one behind it, if it isn't the end."""
+    found = [token for token in tokens_of(text) if token.at >= at]
+    return found[:2] if found and found[0].sort is not Sort.END else found[:1]
+
+
+def can_follow(front: bytes, tokens: list[Token]) -> bool:
+    """Whether these can stand behind a text, one after another."""
+    text = front
+    for token in tokens:
+        if token.sort is Sort.END:
+            return can_end(text)
+        if token.sort is Sort.STRAY or token.sort is Sort.DIGITS and int(token.text) > MOST:
+            return False
+        if not can_stand(text, token.text):
+            return False
+        text += b"\n" + token.text.encode()
+    return True
+
+
+def missing(text: bytes, at: int) -> list[str]:
+    """The signs with which what comes could stand there."""
+    front, tokens = text[:at], next_tokens(text, at)
+    candidates = [sign for sign in JOINING if not (sign == ";" and tokens[0].text == "{")]
+    return [
+        sign
+        for sign in candidates
+        if can_stand(front, sign) and can_follow(front + b"\n" + sign.encode(), tokens)
+    ]
+
+
+def is_closed_too_often(text: bytes, at: int) -> bool:
+    """Whether a `)` stands there, and no `(` is open."""
+    front = [token.text for token in tokens_of(text) if token.at < at]
+    return next_tokens(text, at)[0].text == ")" and front.count("(") == front.count(")")
+
+
+def repair(text: bytes, rule: str, at: int, is_advised: bool) -> str | None:
+    """What is to be taken away, or is missing; or, if nothing else is advised, the one token that could stand."""
+    if rule != "F2" or not told(text, at):
+        return None
+    if is_closed_too_often(text, at):
+        return "take this `)` away: no `(` is open"
+    signs = missing(text, at)
+    if len(signs) == 1:
+        return f"write `{signs[0]}` before it"
+    alone = re.fullmatch(r"`([^`]+)`", ", ".join(told(text, at)))
+    return None if is_advised or not alone else f"write `{alone[1]}` here"
+
+
+def indent(text: bytes, at: int) -> int:
+    """With how many blanks the line of an offset begins."""
+    line = text[text.rfind(b"\n", 0, at) + 1 :]
+    return len(line) - len(line.lstrip(b" \t"))
+
+
+def unclosed(text: bytes, at: int) -> Token | None:
+    """The bracket that is open at an offset, the last one; of braces the first whose `}` stands further left."""
+    opened, left = [], None
+    for token in tokens_of(text):
+        if token.at >= at:
+            break
+        if token.text in ("(", "{"):
+            opened.append(token)
+        elif token.text in (")", "}"):
+            closed = opened.pop()
+            if token.text == "}" and left is None and indent(text, token.at) < indent(text, closed.at):
+                left = closed
+    if opened and opened[-1].text == "{":
+        return left or opened[-1]
+    return opened[-1] if opened else None
+
+
+def told(text: bytes, at: int) -> list[str]:
+    """What could stand there, group by group and token by token."""
     front = text[:at]
     group, within = next(
         ((said, within) for said, known, within in GROUPS if all(can_stand(front, token) for token in known)),
         (None, set()),
     )
-    told = [group] if group else []
-    told += [f"`{token}`" for token in ALONE if token not in within and can_stand(front, token)]
-    told += [END] if can_end(front) else []
-    return [(None, "could stand here: " + ", ".join(told))]
+    found = [group] if group else []
+    found += [f"`{token}`" for token in ALONE if token not in within and can_stand(front, token)]
+    return found + ([END] if can_end(front) else [])
+
+
+def notes(text: bytes, rule: str, at: int) -> list[tuple[int | None, str]]:
+    """The notes beside a fault of a text: of F2 alone."""
+    if rule != "F2":
+        return []
+    found: list[tuple[int | None, str]] = [(None, "could stand here: " + ", ".join(told(text, at)))]
+    token = next_tokens(text, at)[0]
+    bracket = unclosed(text, at) if token.sort is Sort.END or token.text == "def" else None
+    return found + ([(bracket.at, f"this `{bracket.text}` is not closed")] if bracket else [])

@@ -6,6 +6,7 @@ from collections.abc import Callable, Iterable, Iterator
 from dataclasses import dataclass
 
 from tests.reference import source
+from tests.reference.names import cut
 from tests.reference.origins import PlacedParser
 from tests.reference.source import (
     Addition,
@@ -117,7 +118,7 @@ def some(names_of: Callable[[Stmt], set[str]], stmts: Iterable[Stmt], name: Name
 
 def of_number(name: Name, is_used: bool, is_written: bool) -> Iterator[Hint]:
     if not is_used:
-        yield name.at, f"`{name.text}` is {'written, and never read' if is_written else 'never used'}"
+        yield name.at, f"`{cut(name.text)}` is {'written, and never read' if is_written else 'never used'}"
 
 
 # Clocks.
@@ -168,14 +169,14 @@ class Hints:
             is_used, is_written = some(used, self.bodies, name), some(written, self.bodies, name)
             yield from of_number(name, is_used, is_written)
             if is_used and not is_written:
-                yield name.at, f"`{name.text}` is read, and never written"
+                yield name.at, f"`{cut(name.text)}` is read, and never written"
         for method in self.tree.methods:
             yield from self.of_method(method)
 
     def of_method(self, method: Method) -> Iterator[Hint]:
         is_main = method.name.text == "main"
         if not (is_main or some(called, self.bodies, method.name)):
-            yield method.name.at, f"`{method.name.text}` is never called"
+            yield method.name.at, f"`{cut(method.name.text)}` is never called"
         for param in method.params:
             yield from of_number(param.name, some(used, [method.body], param.name), False)
         yield from self.of_statement(method.body, Activity(is_main and not makes_clock(method.body)), [])
@@ -184,7 +185,7 @@ class Hints:
         if not isinstance(stmt.right, NewClock):
             yield from of_number(stmt.name, some(used, behind, stmt.name), some(written, behind, stmt.name))
         elif not some(given, behind, stmt.name):
-            yield stmt.name.at, f"`{stmt.name.text}` {UNJOINED}"
+            yield stmt.name.at, f"`{cut(stmt.name.text)}` {UNJOINED}"
 
     def of_statement(self, stmt: Stmt, activity: Activity, behind: list[Stmt]) -> Iterator[Hint]:
         """Those of a statement, where these stand behind it in its block."""

@@ -14,6 +14,7 @@ from dataclasses import dataclass
 
 from tests.reference import modules
 from tests.reference.modules import WHOLE_UNIT, Instr, Module, Role, Unit
+from tests.reference.names import cut
 from tests.reference.origins import Origins, program
 
 # A note: its offset in the text, if it has a place there, and its words.
@@ -45,7 +46,7 @@ class Speaker:
     origins: list[Origins] | None
 
     def unit(self, number: int, nameless: str = "this `async`") -> str:
-        return f"unit {number}" if self.origins is None else self.origins[number].name or nameless
+        return f"unit {number}" if self.origins is None else cut(self.origins[number].name or nameless)
 
     def around(self, number: int) -> str:
         """The unit, spoken of at a place in it."""
@@ -55,7 +56,7 @@ class Speaker:
         if self.origins is None:
             return f"slot {slot}"
         names = self.origins[number].slots
-        return f"`{names[slot]}`" if slot in names else "the clock without a name"
+        return f"`{cut(names[slot])}`" if slot in names else "the clock without a name"
 
     def times(self, number: int, times: int) -> str:
         return f"{counted(times, 'time', 'times')} in one run of {self.around(number)}"

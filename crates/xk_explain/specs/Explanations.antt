@@ -1,6 +1,7 @@
 -- What `explain` says of what stands against a program, on standard output: where it is, the line with carets, what is wrong, and how it is usually
 -- repaired. The first line has the form that editors read, `FILE:LINE:COLUMN: ..`. This project's own.
-use Rattle.std.specs.Prelude.{ℕ, min, max, Bool, true, false, nat_le, ◌&&◌, ◌||◌, ◌==◌, List, [], ◌∷◌, ◌++◌, length, drop, flat_map, codes, decimal, if◌then◌else◌}
+use Rattle.std.specs.Prelude.{ℕ, ◌-◌, min, max, Bool, true, false, nat_le, nat_lt, ◌&&◌, ◌||◌, ◌==◌, List, [], ◌∷◌, ◌++◌, length, drop}
+use Rattle.std.specs.Prelude.{flat_map, codes, decimal, if◌then◌else◌}
 use Rattle.std.specs.List.{prefix_len}
 use Rattle.xk_types.specs.declared.rules.Rule.{Rule}
 use Rattle.xk_types.specs.declared.rules.Visit.{Visit}
@@ -17,10 +18,14 @@ use Rattle.xk_bounds.specs.declared.refusal.Refusal.TheVariants as refusal
 use Rattle.xk_lines.specs.declared.lines.Position.{Position}
 use Rattle.xk_lines.specs.Lines.{position_of}
 use Rattle.xk_lines.specs.Excerpts.{excerpt}
+use Rattle.xk_lines.specs.Signs.{signs, shown_signs}
+use Rattle.xk_explain_words.specs.Comments.{to_sign}
+use Rattle.xk_explain_words.specs.Signs.{is_unseen}
 use Rattle.xk_explain.specs.FrontRepairs.{repair_of}
 use Rattle.xk_explain.specs.declared.module_rule.ModuleRule.{ModuleRule}
 use Rattle.xk_explain.specs.Notes.{NoteValue, note_lines, plain_lines}
-use Rattle.xk_explain.specs.Messages.{front_message, front_repair, kind_message, module_message, module_name, module_number, module_repair, rule_message, rule_repair}
+use Rattle.xk_explain.specs.Messages.{front_message, front_repair, kind_message, module_message, module_name, module_number, module_repair}
+use Rattle.xk_explain.specs.Messages.{rule_message, rule_repair}
 
 -- ---- lines
 
@@ -38,13 +43,17 @@ module_title r = codes "M" ++ (decimal (module_number r) ++ (codes " " ++ module
 unfoldable pub repair_line : List ℕ → List ℕ
 repair_line repair = (codes "   = usual repair: " ++ repair) ++ codes "\n"
 
+-- FILE as it is shown: nothing in its name moves a terminal
+abbrev pub shown_file : List ℕ → List ℕ
+shown_file file = shown_signs (signs file)
+
 -- the first line of what has no place in a text: `FILE: M1 NotJson: ..`
 unfoldable pub head : List ℕ → List ℕ → List ℕ → List ℕ
-head file title message = file ++ (codes ": " ++ (title ++ (codes ": " ++ (message ++ codes "\n"))))
+head file title message = shown_file file ++ (codes ": " ++ (title ++ (codes ": " ++ (message ++ codes "\n"))))
 
 -- of what has one: `FILE:3:5: `, the title, and `: ..`
 unfoldable pub place_head : List ℕ → Position → List ℕ
-place_head file p = file ++ (codes ":" ++ (decimal p.line ++ (codes ":" ++ (decimal p.column ++ codes ": "))))
+place_head file p = shown_file file ++ (codes ":" ++ (decimal p.line ++ (codes ":" ++ (decimal p.column ++ codes ": "))))
 
 unfoldable pub message_tail : List ℕ → List ℕ
 message_tail message = codes ": " ++ (message ++ codes "\n")
@@ -76,15 +85,28 @@ has_place _ = true
 unfoldable pub excerpt_lines : List ℕ → ℕ → List ℕ
 excerpt_lines text at = excerpt text at (marked_from (drop at text)) ++ codes "\n"
 
+-- where the carets of a fault begin: where it is, or at the last sign of the tokens, if the text ends there
+abbrev pub seen_at : List ℕ → ℕ → ℕ
+seen_at text at = if nat_lt at (length text) then at else length (to_sign text) - 1
+
+-- how many signs they mark: of one that can't be seen also the next one
+abbrev pub marked_at : List ℕ → ℕ → ℕ
+marked_at text at = if is_unseen (drop at text) then 2 else marked_from (drop (seen_at text at) text)
+
+-- the line of a fault with carets
+unfoldable pub fault_lines : List ℕ → ℕ → List ℕ
+fault_lines text at = excerpt text (seen_at text at) (marked_at text at) ++ codes "\n"
+
 -- all that is said of a fault of a source text that has a place in it, with these notes
 abbrev pub placed_explanation : List ℕ → List ℕ → FrontFault → List NoteValue → List ℕ
 placed_explanation file text f notes =
-    ((head_at file (position_of text (shown_at text f)) (front_title f.rule) (front_message f.rule) ++ excerpt_lines text (shown_at text f))
+    ((head_at file (position_of text (shown_at text f)) (front_title f.rule) (front_message f.rule) ++ fault_lines text (shown_at text f))
     ++ note_lines text notes) ++ repair_line (repair_of text f.rule (shown_at text f) notes)
 
 -- all that is said of one that has none
 abbrev pub unplaced_explanation : List ℕ → List ℕ → FrontRule → List NoteValue → List ℕ
-unplaced_explanation file text r notes = (head file (front_title r) (front_message r) ++ note_lines text notes) ++ repair_line (front_repair r)
+unplaced_explanation file text r notes =
+    (head file (front_title r) (front_message r) ++ note_lines text notes) ++ repair_line (front_repair r)
 
 -- all that is said of a fault of a source text
 abbrev pub front_explanation : List ℕ → List ℕ → FrontFault → List NoteValue → List ℕ
@@ -109,7 +131,8 @@ title_at r unit at = rule_title r ++ (codes ", " ++ place_text unit at)
 
 -- one stop of a walk: `     at 4  out: a clock, dropped`
 unfoldable pub visit_line : Visit → List ℕ
-visit_line v = codes "     at " ++ (decimal v.at ++ (codes "  " ++ (kind_name v.kind ++ (codes ": " ++ (kind_message v.kind ++ codes "\n")))))
+visit_line v =
+    codes "     at " ++ (decimal v.at ++ (codes "  " ++ (kind_name v.kind ++ (codes ": " ++ (kind_message v.kind ++ codes "\n")))))
 
 -- the walk on which a slot comes to the place refused
 unfoldable pub walk_head : ℕ → List ℕ
@@ -128,7 +151,8 @@ limit_line limit = codes "   = at most " ++ (decimal limit ++ codes " are allowe
 
 -- all that is said of a place that breaks a rule on shape, with these lines of notes
 abbrev pub shape_explanation : List ℕ → ShapeFault → List ℕ → List ℕ
-shape_explanation file f notes = (head file (title_at f.rule f.unit f.at) (rule_message f.rule) ++ notes) ++ repair_line (rule_repair f.rule)
+shape_explanation file f notes =
+    (head file (title_at f.rule f.unit f.at) (rule_message f.rule) ++ notes) ++ repair_line (rule_repair f.rule)
 
 abbrev pub kind_explanation : List ℕ → KindFault → List ℕ → List ℕ
 kind_explanation file f notes =

@@ -36,14 +36,16 @@ front_message front.NoHiddenClock = codes "no `clocked finish` has its clock her
 
 -- what is wrong with a program
 abbrev pub rule_message : Rule → List ℕ
-rule_message rule.Target = codes "a jump, or the end of a loop or a finish, doesn't lie ahead and inside the code, or the beginning of one doesn't lie before"
+rule_message rule.Target =
+    codes "a jump, or the end of a loop or a finish, doesn't lie ahead and inside the code, or the beginning of one doesn't lie before"
 rule_message rule.Block = codes "a loop or a finish isn't paired with its end, overlaps another one in part, or is jumped into or out of"
 rule_message rule.Slot = codes "the unit has no such slot"
 rule_message rule.Unit = codes "the unit that is called or started doesn't fit, or main isn't unit 0 alone, or main takes a clock"
 rule_message rule.Cell = codes "there is no such shared number"
 rule_message rule.Loop = codes "the loop's bounds aren't in order, or its slot is its limit, or one of them is written inside of it"
 rule_message rule.End = codes "the last instruction isn't `ret`, or another one is"
-rule_message rule.Home = codes "a method drops a clock that it is lent, or one is made in a parameter, or a slot takes its clocks in more than one block"
+rule_message rule.Home =
+    codes "a method drops a clock that it is lent, or one is made in a parameter, or a slot takes its clocks in more than one block"
 rule_message rule.Registers = codes "a clock is handed on inside a finish and made outside of it, or the other way round"
 rule_message rule.SameClock = codes "one clock is handed on twice"
 rule_message rule.Use = codes "a slot may hold something else here than what is wanted"
@@ -62,7 +64,8 @@ source_message r = rule_message r
 
 -- the usual repair
 abbrev pub rule_repair : Rule → List ℕ
-rule_repair rule.Target = codes "let it name a place behind the instruction, and before the code's end; where a loop or a finish begins lies before it"
+rule_repair rule.Target =
+    codes "let it name a place behind the instruction, and before the code's end; where a loop or a finish begins lies before it"
 rule_repair rule.Block = codes "let the two name each other, and jumps go no further than to the `next` or the `endfinish`"
 rule_repair rule.Slot = codes "slots are counted from 0; give the unit more of them"
 rule_repair rule.Unit = codes "call a method, start a body, of greater number, with as many arguments as it has parameters"
@@ -70,7 +73,8 @@ rule_repair rule.Cell = codes "shared numbers are counted from 0; add one"
 rule_repair rule.Loop = codes "let the lower bound come first, and take another slot inside of the loop"
 rule_repair rule.End = codes "end the code with `ret`, and jump to it from elsewhere"
 rule_repair rule.Home = codes "let the caller drop it; in a module, make each clock in a slot of its own"
-rule_repair rule.Registers = codes "make the clock in the finish and drop it before its end, as `clocked finish` does; or hand it on outside of the finish"
+rule_repair rule.Registers =
+    codes "make the clock in the finish and drop it before its end, as `clocked finish` does; or hand it on outside of the finish"
 rule_repair rule.SameClock = codes "name each clock once"
 rule_repair rule.Use = codes "use a clock only while it is registered: drop it behind the loop, or in both branches or none"
 rule_repair rule.Held = codes "drop it before the end of the finish, on every way; or write `clocked finish`"

@@ -1,5 +1,6 @@
 -- What `explain` says of a source text that the verifier refuses: in the text's own lines and names. This project's own.
-use Rattle.std.specs.Prelude.{ℕ, ◌+◌, nat_eq, nat_le, Bool, false, not, List, [], ◌∷◌, ◌++◌, length, take, drop, min, Option, Some, None, slice_get, unwrap_or, codes, if◌then◌else◌}
+use Rattle.std.specs.Prelude.{ℕ, ◌+◌, nat_eq, nat_le, Bool, false, not, List, [], ◌∷◌, ◌++◌, length, take, drop, min, Option, Some, None}
+use Rattle.std.specs.Prelude.{slice_get, unwrap_or, codes, if◌then◌else◌}
 use Rattle.std.specs.List.{list_any}
 use Rattle.std.specs.Option.{option_map_or}
 use Rattle.xk_types.specs.declared.rules.Rule.{Rule}
@@ -13,9 +14,11 @@ use Rattle.xk_lines.specs.declared.lines.Position.{Position}
 use Rattle.xk_lines.specs.Lines.{position_of, words_at}
 use Rattle.xk_lines.specs.Signs.{signs, shown_signs}
 use Rattle.xk_origins.specs.UnitOrigins.{Head, UnitOrigins}
+use Rattle.xk_explain_words.specs.Names.{told_name}
 use Rattle.xk_explain.specs.Notes.{NoteValue, note_lines, place_title}
 use Rattle.xk_explain.specs.Messages.{kind_message, rule_repair, source_message}
-use Rattle.xk_explain.specs.Explanations.{bound_explanation, excerpt_lines, head_at, kind_explanation, marked_from, repair_line, rule_title, shape_explanation}
+use Rattle.xk_explain.specs.Explanations.{bound_explanation, excerpt_lines, head_at, kind_explanation, marked_from, repair_line, rule_title}
+use Rattle.xk_explain.specs.Explanations.{shape_explanation}
 use Rattle.xk_explain.specs.Explanations.{ways_line}
 
 -- ---- places and names
@@ -31,7 +34,7 @@ mark_end text at = at + min (marked_from (drop at text)) (length (drop at text))
 -- `in main`, `in f`, ``in the `async` at 3:5``
 unfoldable pub unit_title : List ℕ → Head → List ℕ
 unit_title text h =
-    option_map_or (λ name. codes "in " ++ name) h.name (codes "in the `async` at " ++ place_title (position_of text (min h.at (length text))))
+    option_map_or (λ name. codes "in " ++ told_name name) h.name (codes "in the `async` at " ++ place_title (position_of text (min h.at (length text))))
 
 -- a name of the text, and none of those that no text has, which are of blanks
 abbrev pub is_name : List ℕ → Bool
@@ -44,9 +47,10 @@ slot_name names slot = unwrap_or (slice_get names slot) []
 unfoldable pub quoted : List ℕ → List ℕ
 quoted name = (codes "`" ++ name) ++ codes "`"
 
--- a slot by its name, in quotes; the text has none for the clock of a `clocked finish`
+-- a slot by its name, in quotes, no more than 60 letters of it; the text has none for the clock of a `clocked finish`
 abbrev pub slot_title : List (List ℕ) → ℕ → List ℕ
-slot_title names slot = if is_name (slot_name names slot) then quoted (slot_name names slot) else codes "the clock without a name"
+slot_title names slot =
+    if is_name (slot_name names slot) then quoted (told_name (slot_name names slot)) else codes "the clock without a name"
 
 -- a rule, and the unit in which it is broken: `V11 Use, in main`
 abbrev pub title_in : List ℕ → Rule → Head → List ℕ
@@ -85,7 +89,8 @@ is_told (Some told) at [] = nat_eq told at
 is_told (Some told) at (w ∷ vs) = nat_le at told
 
 abbrev pub one_stop : List ℕ → Option ℕ → ℕ → Visit → List Visit → List ℕ
-one_stop text told at v vs = if goes_back v vs then turn_line text at v.kind else (if is_told told at vs then [] else stop_line text at v.kind)
+one_stop text told at v vs =
+    if goes_back v vs then turn_line text at v.kind else (if is_told told at vs then [] else stop_line text at v.kind)
 
 -- where the statement stands that was told last, behind a stop; none behind a turn, since the walk is further up in the text then
 abbrev pub told_behind : Option ℕ → ℕ → Visit → List Visit → Option ℕ

@@ -5,7 +5,7 @@ ghost use Rattle.xk_explain.specs.FrontRepairs.{called_for, repair_by, repair_of
 
 use crate::note::Note;
 use std::alloc::{AllocError, Global};
-use xk_explain_repairs::{Advice, advice_at, advice_text, front_repair, is_usual};
+use xk_explain_repairs::{Advice, advice_at, advice_text, further_advice_at, is_usual};
 use xk_tree::FrontRule;
 
 /// The first repair that one of these notes calls for.
@@ -20,16 +20,16 @@ fn called_for(notes: &[Note]) -> Option<&[u8]>
     None
 }
 
-/// What is advised; where that is what is usual, what the notes call for.
-fn repair_by(advice: Advice, rule: FrontRule, notes: &[Note]) -> &[u8]
-    ensures { result.now ≡ repair_by advice rule notes.now }
+/// What is advised first; where that is what is usual, what the notes call for; and where they call for nothing, what is advised further.
+fn repair_by(advice: Advice, further: Advice, rule: FrontRule, notes: &[Note]) -> &[u8]
+    ensures { result.now ≡ repair_by advice further rule notes.now }
 {
     if !is_usual(advice) {
         return advice_text(advice, rule).as_bytes();
     }
     match called_for(notes) {
         Some(repair) => repair,
-        None => front_repair(rule).as_bytes(),
+        None => advice_text(further, rule).as_bytes(),
     }
 }
 
@@ -46,5 +46,6 @@ pub fn repair_of<'n>(
     ensures { IfOk result (λ r. r.now ≡ repair_of text.now rule at notes.now) }
 {
     let advice = advice_at(alloc, text, rule, at)?;
-    Ok(repair_by(advice, rule, notes))
+    let further = further_advice_at(alloc, text, rule, at)?;
+    Ok(repair_by(advice, further, rule, notes))
 }

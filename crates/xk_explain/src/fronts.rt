@@ -1,20 +1,22 @@
 //! What is said of bytes that give no program.
 
 ghost use Rattle.std.specs.Prelude.{◌≡◌, ◌≤◌, length, IfOk, string_bytes};
-ghost use Rattle.xk_explain.specs.Explanations.{front_explanation, front_title, has_place, module_explanation, module_title, placed_explanation, shown_at, unplaced_explanation};
+ghost use Rattle.xk_explain.specs.Explanations.{front_explanation, front_title, has_place, module_explanation, module_title};
+ghost use Rattle.xk_explain.specs.Explanations.{placed_explanation, shown_at, unplaced_explanation};
 
 use crate::front_repairs::repair_of;
 use crate::lines::{push_head, push_repair};
 use crate::messages::{front_message, module_message, module_repair};
 use crate::module_rule::ModuleRule;
 use crate::note::{Note, note_lines};
-use crate::places::{push_excerpt, push_head_at};
+use crate::places::{push_fault_lines, push_head_at};
 use crate::source_text::SourceText;
 use std::alloc::{AllocError, Global};
 use xk_explain_repairs::front_repair;
 use xk_tree::{FrontFault, FrontRule};
 
 /// All that is said of a fault of the source text in FILE: `FILE:3:5: F2 Syntax: ..`, the line there with carets, these notes, and the usual repair.
+/// Where the text ends at the fault, the carets stand below the last sign of its tokens.
 /// A fault that is said to lie behind the text's end is shown at that, and so is a note; a text that is too long, and a `main` that isn't there,
 /// have no place. Err where memory was refused.
 pub fn explain_front(
@@ -55,7 +57,7 @@ fn explain_placed(
         title.as_bytes(),
         front_message(fault.rule),
     )?;
-    push_excerpt(alloc, &mut out, &source, at)?;
+    push_fault_lines(alloc, &mut out, &source, at)?;
     out.extend_from_slice(&note_lines(alloc, &source, notes)?)?;
     push_repair(alloc, &mut out, repair)?;
     Ok(out)

@@ -4,6 +4,7 @@ ghost use Rattle.std.specs.Prelude.{◌≡◌, ◌++◌, IfOk, OnOk, string_byte
 ghost use Rattle.xk_explain.specs.Explanations.{head, repair_line, rule_title, title_at};
 
 use std::alloc::{AllocError, Global};
+use xk_lines::shown;
 use xk_types::Rule;
 
 /// Adds a text.
@@ -25,10 +26,9 @@ pub(crate) fn push_head(
     ensures { OnOk result
         (out.new.items ≡ out.old.items ++ head file.now title.now message.now) }
 {
-    push_text(
-        out,
-        format!(in alloc; "{file}: {title}: {message}\n")?.as_str(),
-    )
+    let file = shown(alloc, file.as_bytes())?;
+    out.extend_from_slice(&file)?;
+    push_text(out, format!(in alloc; ": {title}: {message}\n")?.as_str())
 }
 
 /// The line of the usual repair.

@@ -2,12 +2,14 @@
 
 ghost use Rattle.std.specs.Prelude.{◌≡◌, ◌++◌, ◌≤◌, drop, length, OnOk};
 ghost use Rattle.std.specs.List.{prefix_len};
-ghost use Rattle.xk_explain.specs.Explanations.{excerpt_lines, head_at, is_word_byte, marked_from, message_tail, place_head};
+ghost use Rattle.xk_explain.specs.Explanations.{excerpt_lines, fault_lines, head_at, is_word_byte, marked_at, marked_from, message_tail};
+ghost use Rattle.xk_explain.specs.Explanations.{place_head, seen_at};
 
 use crate::lines::push_text;
 use crate::source_text::SourceText;
 use std::alloc::{AllocError, Global};
-use xk_lines::Position;
+use xk_explain_words::{is_unseen, to_sign};
+use xk_lines::{Position, shown};
 
 /// Adds the first line of what has a place in the text: `FILE:3:5: F2 Syntax: ..`.
 pub(crate) fn push_head_at(
@@ -38,7 +40,9 @@ fn push_place(
 {
     let line = position.line;
     let column = position.column;
-    push_text(out, format!(in alloc; "{file}:{line}:{column}: ")?.as_str())
+    let file = shown(alloc, file.as_bytes())?;
+    out.extend_from_slice(&file)?;
+    push_text(out, format!(in alloc; ":{line}:{column}: ")?.as_str())
 }
 
 /// Adds what is wrong, up to the end of the line.
@@ -84,6 +88,47 @@ pub(crate) fn push_excerpt(
 {
     let marked = marked_from(source.bytes(), at);
     let excerpt = source.lines().excerpt(alloc, at, marked)?;
+    out.extend_from_slice(&excerpt)?;
+    out.push(b'\n')?;
+    Ok(())
+}
+
+/// Where the carets of a fault begin: where it is, or at the last sign of the tokens, if the text ends there.
+fn seen_at(text: &[u8], at: usize) -> usize
+    ensures value { result ≡ seen_at text.now at }
+    ensures within { result ≤ length text.now }
+{
+    if at < text.len() {
+        return at;
+    }
+    to_sign(text).len().saturating_sub(1)
+}
+
+/// How many signs they mark: of one that can't be seen also the next one.
+fn marked_at(text: &[u8], at: usize) -> usize
+    requires { at ≤ length text.now }
+    ensures { result ≡ marked_at text.now at }
+{
+    if is_unseen(&text[at..]) {
+        return 2;
+    }
+    marked_from(text, seen_at(text, at))
+}
+
+/// Adds the line of a fault with carets.
+#[tactic(auto, unfolding(crate::specs::Explanations::fault_lines))]
+pub(crate) fn push_fault_lines(
+    alloc: Global,
+    out: &mut Vec<u8>,
+    source: &SourceText<'_>,
+    at: usize,
+) -> Result<(), AllocError>
+    requires { at ≤ length source.now }
+    ensures { OnOk result (out.new.items ≡ out.old.items ++ fault_lines source.now at) }
+{
+    let marked = marked_at(source.bytes(), at);
+    let from = seen_at(source.bytes(), at);
+    let excerpt = source.lines().excerpt(alloc, from, marked)?;
     out.extend_from_slice(&excerpt)?;
     out.push(b'\n')?;
     Ok(())

@@ -1,7 +1,8 @@
 //! What is said of a program that the verifier refuses.
 
 ghost use Rattle.std.specs.Prelude.{◌≡◌, ◌++◌, IfOk, OnOk};
-ghost use Rattle.xk_explain.specs.Explanations.{bound_explanation, explanation_with, kind_explanation, limit_line, refusal_explanation, shape_explanation, visit_line, walk_head, walk_lines, ways_line};
+ghost use Rattle.xk_explain.specs.Explanations.{bound_explanation, explanation_with, kind_explanation, limit_line, refusal_explanation};
+ghost use Rattle.xk_explain.specs.Explanations.{shape_explanation, visit_line, walk_head, walk_lines, ways_line};
 
 use crate::lines::{push_head, push_repair, push_text, rule_title, title_at};
 use crate::messages::{kind_message, rule_message, rule_repair};

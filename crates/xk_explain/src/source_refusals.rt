@@ -1,7 +1,8 @@
 //! What is said of a source text that the verifier refuses.
 
 ghost use Rattle.std.specs.Prelude.{◌≡◌, ◌++◌, ◌≤◌, length, IfOk, OnOk};
-ghost use Rattle.xk_explain.specs.SourceExplanations.{explanation_in_source, kind_in_source, origin_at, place_lines, shape_in_source, source_explanation, title_in, walk_in_source};
+ghost use Rattle.xk_explain.specs.SourceExplanations.{explanation_in_source, kind_in_source, origin_at, place_lines, shape_in_source};
+ghost use Rattle.xk_explain.specs.SourceExplanations.{source_explanation, title_in, walk_in_source};
 
 use crate::lines::{push_repair, push_text, rule_title};
 use crate::messages::{rule_repair, source_message};

@@ -1,7 +1,9 @@
 //! Names and walks in the words of a source text.
 
 ghost use Rattle.std.specs.Prelude.{◌≡◌, ◌++◌, ◌≤◌, length, IfOk, OnOk, None, string_bytes};
-ghost use Rattle.xk_explain.specs.SourceExplanations.{goes_back, is_name, is_told, line_text, one_stop, quoted, slot_name, slot_title, stop_head, stop_line, stops, stops_head, told_behind, turn_line, turn_text, unit_title};
+ghost use Rattle.xk_explain.specs.SourceExplanations.{goes_back, is_name, is_told, line_text, one_stop, quoted, slot_name, slot_title};
+ghost use Rattle.xk_explain.specs.SourceExplanations.{stop_head, stop_line, stops, stops_head, told_behind, turn_line, turn_text};
+ghost use Rattle.xk_explain.specs.SourceExplanations.{unit_title};
 
 use crate::lines::push_text;
 use crate::messages::kind_message;
@@ -9,6 +11,7 @@ use crate::note::place_title;
 use crate::source_refusals::origin_at;
 use crate::source_text::SourceText;
 use std::alloc::{AllocError, Global};
+use xk_explain_words::{push_name, told_name};
 use xk_lines::{Position, shown_front};
 use xk_origins::{Head, UnitOrigins};
 use xk_types::{Kind, Visit};
@@ -16,7 +19,7 @@ use xk_types::{Kind, Visit};
 /// How many signs of a line are told at most.
 const TOLD: usize = 60;
 
-/// `in main`, `in f`, or ``in the `async` at 3:5``.
+/// `in main`, `in f`, or ``in the `async` at 3:5``; of a name no more than 60 letters.
 #[tactic(auto, unfolding(crate::specs::SourceExplanations::unit_title))]
 pub(crate) fn unit_title(
     alloc: Global,
@@ -29,7 +32,7 @@ pub(crate) fn unit_title(
     match head.name {
         Some(name) => {
             push_text(&mut out, "in ")?;
-            out.extend_from_slice(name)?;
+            push_name(&mut out, name)?;
             Ok(out)
         }
         None => {
@@ -70,13 +73,13 @@ fn quoted(alloc: Global, name: &[u8]) -> Result<Vec<u8>, AllocError>
     Ok(out)
 }
 
-/// A slot by its name, in quotes; the text has none for the clock of a `clocked finish`. Err where memory was refused.
+/// A slot by its name, in quotes, no more than 60 letters of it; the text has none for the clock of a `clocked finish`. Err where memory was refused.
 pub fn slot_title(alloc: Global, unit: &UnitOrigins<'_>, slot: u16) -> Result<Vec<u8>, AllocError>
     ensures { IfOk result (λ v. v.items ≡ slot_title unit.now.slots slot) }
 {
     let name = slot_name(unit, slot);
     if is_name(name) {
-        return quoted(alloc, name);
+        return quoted(alloc, &told_name(alloc, name)?);
     }
     Vec::from_slice(alloc, b"the clock without a name")
 }

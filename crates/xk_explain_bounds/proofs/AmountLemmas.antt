@@ -1,5 +1,6 @@
 -- Sums and products of numbers as they are kept: of parts that are kept they are those of the numbers themselves.
-use Rattle.std.proofs.Common.{◌≡◌, ℕ, zero, suc, ◌+◌, ◌*◌, ◌<◌, ◌≤◌, min, max, fold, cond, Bool, true, false, List, [], ◌∷◌, length, drop, get_or, map, filter, Some, slice_get, refl, sym, ap, ◌∙◌, arith}
+use Rattle.std.proofs.Common.{◌≡◌, ℕ, zero, suc, ◌+◌, ◌*◌, ◌<◌, ◌≤◌, min, max, fold, cond, Bool, true, false, List, [], ◌∷◌, length, drop}
+use Rattle.std.proofs.Common.{get_or, map, filter, Some, slice_get, refl, sym, ap, ◌∙◌, arith}
 use Rattle.std.proofs.Math.Seq.{drop-cons}
 use Rattle.std.proofs.Math.Nat.{mul_assoc}
 use Rattle.xk_types.specs.declared.instr.Instr.{Instr}

@@ -1,5 +1,6 @@
 -- What a unit comes to is reckoned from what the units of greater number come to.
-use Rattle.std.proofs.Common.{◌≡◌, ℕ, zero, suc, ◌+◌, ◌<◌, ◌≤◌, max, fold, List, [], ◌∷◌, length, map, Option, Some, None, slice_get, slice_index, inl, inr, refl, sym, ap, ◌∙◌, arith}
+use Rattle.std.proofs.Common.{◌≡◌, ℕ, zero, suc, ◌+◌, ◌<◌, ◌≤◌, max, fold, List, [], ◌∷◌, length, map, Option, Some, None, slice_get}
+use Rattle.std.proofs.Common.{slice_index, inl, inr, refl, sym, ap, ◌∙◌, arith}
 use Rattle.std.specs.Option.{option_map_or}
 use Rattle.std.proofs.lemmas.Bool.{cases_lt}
 use Rattle.std.proofs.lemmas.Option.{slice_get_past}

@@ -1,5 +1,6 @@
 -- How often the instructions of a unit are carried out, and what units add up to, as far as such numbers are told. This project's own.
-use Rattle.std.specs.Prelude.{◌≡◌, ℕ, ℤ, ◌-ℤ◌, nat_abs, int_le, suc, ◌+◌, ◌<◌, min, nat_le, nat_lt, nat_eq, Bool, true, ◌&&◌, List, [], ◌∷◌, ◌++◌, length, slice_index, codes, decimal, if◌then◌else◌}
+use Rattle.std.specs.Prelude.{◌≡◌, ℕ, ℤ, ◌-ℤ◌, nat_abs, int_le, suc, ◌+◌, ◌<◌, min, nat_le, nat_lt, nat_eq, Bool, true, ◌&&◌, List, [], ◌∷◌}
+use Rattle.std.specs.Prelude.{◌++◌, length, slice_index, codes, decimal, if◌then◌else◌}
 use Rattle.std.specs.List.{list_all}
 use Rattle.std.specs.Option.{option_map_or}
 use Rattle.xk_types.specs.declared.instr.Instr.{Instr}

@@ -5,6 +5,7 @@ use Rattle.std.specs.Option.{option_map_or}
 use Rattle.xk_types.specs.declared.rules.Kind.{Kind}
 use Rattle.xk_types.specs.declared.rules.Kind.TheVariants as kind
 use Rattle.xk_origins.specs.UnitOrigins.{UnitOrigins}
+use Rattle.xk_explain_words.specs.Names.{told_name}
 use Rattle.xk_explain.specs.Notes.{NoteValue}
 use Rattle.xk_explain.specs.SourceExplanations.{slot_title}
 use Rattle.xk_explain_bounds.specs.declared.remark.Deed.{Deed}
@@ -20,15 +21,15 @@ use Rattle.xk_explain_bounds.specs.Amounts.{amount, counted}
 abbrev pub numbered : ℕ → List ℕ
 numbered unit = codes "unit " ++ decimal unit
 
--- a unit that is spoken of at its own place: `main`, ``this `async` ``
+-- a unit that is spoken of at its own place, with no more than 60 letters of its name: `main`, ``this `async` ``
 abbrev pub this_unit : List UnitOrigins → ℕ → List ℕ
 this_unit origins unit =
-    option_map_or (λ u. option_map_or (λ name. name) u.head.name (codes "this `async`")) (slice_get origins unit) (numbered unit)
+    option_map_or (λ u. option_map_or told_name u.head.name (codes "this `async`")) (slice_get origins unit) (numbered unit)
 
 -- a unit that is spoken of at a place in it: `main`, ``the `async` around it``
 abbrev pub unit_around : List UnitOrigins → ℕ → List ℕ
 unit_around origins unit =
-    option_map_or (λ u. option_map_or (λ name. name) u.head.name (codes "the `async` around it")) (slice_get origins unit) (numbered unit)
+    option_map_or (λ u. option_map_or told_name u.head.name (codes "the `async` around it")) (slice_get origins unit) (numbered unit)
 
 -- a slot of a unit: `` `c` ``, or `slot 3`
 abbrev pub slot_words : List UnitOrigins → ℕ → ℕ → List ℕ
@@ -73,9 +74,13 @@ deed_words origins unit deed.MadeAnew = codes " when it is made anew here"
 deed_words origins unit deed.Left = (codes " when " ++ this_unit origins unit) ++ codes " ends here"
 deed_words origins unit deed.Other = codes " where it is used here"
 
+-- those that a unit of this name starts
+unfoldable pub started_by : List ℕ → List ℕ
+started_by name = (codes "those that " ++ name) ++ codes " starts"
+
 -- who is waited for at the end of a finish
 abbrev pub started_words : List UnitOrigins → Deed → List ℕ
-started_words origins (deed.Called t) = (codes "those that " ++ this_unit origins t) ++ codes " starts"
+started_words origins (deed.Called t) = started_by (this_unit origins t)
 started_words origins _ = codes "the one started here"
 
 unfoldable pub waits_words : List ℕ → List ℕ → List ℕ

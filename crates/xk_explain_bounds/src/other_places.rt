@@ -4,7 +4,10 @@ ghost use Rattle.std.specs.Prelude.{◌≡◌, ◌≤◌, false, length, slice_g
 ghost use Rattle.std.specs.Option.{option_map_or};
 ghost use Rattle.xk_types.specs.Blocks.{block_at, finish_opened, is_end_of, is_inside, makes, same_block, takes_clock};
 ghost use Rattle.xk_shape.specs.Arguments.{clocks};
-ghost use Rattle.xk_explain_bounds.specs.OtherPlaces.{deed_of, first_elsewhere, first_home, handed_on, held_remarks, here, home_remarks, home_slot, is_before, is_outside, kind_remarks, kind_remarks_at, listed, made_before, makes_elsewhere, on_unit, other_home, registers_remarks, remarks_on, shape_remarks, waits_at};
+ghost use Rattle.xk_explain_bounds.specs.OtherPlaces.{deed_of, first_elsewhere, first_home, handed_on, held_remarks, here, home_remarks};
+ghost use Rattle.xk_explain_bounds.specs.OtherPlaces.{home_slot, is_before, is_outside, kind_remarks, kind_remarks_at, listed, made_before};
+ghost use Rattle.xk_explain_bounds.specs.OtherPlaces.{makes_elsewhere, on_unit, other_home, registers_remarks, remarks_on, shape_remarks};
+ghost use Rattle.xk_explain_bounds.specs.OtherPlaces.{waits_at};
 
 use crate::remark::{Deed, Fact, Remark};
 use std::alloc::{AllocError, Global};

@@ -5,7 +5,8 @@ ghost use Rattle.std.specs.Option.{option_map_or};
 ghost use Rattle.xk_types.specs.Bound.{visits};
 ghost use Rattle.xk_types.specs.Code.{begun_from, loop_begun};
 ghost use Rattle.xk_explain_bounds.specs.Amounts.{kept, AreTotals};
-ghost use Rattle.xk_explain_bounds.specs.Parts.{loop_fact, part, part_at, remarks_from, subject_of, sum_remarks, tells_call, tells_loop, tells_make, tells_start, whole, whole_remark};
+ghost use Rattle.xk_explain_bounds.specs.Parts.{loop_fact, part, part_at, remarks_from, subject_of, sum_remarks, tells_call, tells_loop};
+ghost use Rattle.xk_explain_bounds.specs.Parts.{tells_make, tells_start, whole, whole_remark};
 
 use crate::amounts;
 use crate::remark::{Fact, Remark, Subject};

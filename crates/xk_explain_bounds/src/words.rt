@@ -2,12 +2,16 @@
 
 ghost use Rattle.std.specs.Prelude.{◌≡◌, ◌++◌, codes, IfOk, OnOk};
 ghost use Rattle.std.specs.Option.{option_map_or};
-ghost use Rattle.xk_explain_bounds.specs.Words.{deed_words, loop_words, may_hold, most_words, note_of, numbered, place_before, place_in, slot_words, slots_words, started_words, this_unit, times_words, unit_around, waits_words, words};
+ghost use Rattle.xk_explain_words.specs.Names.{told_name};
+ghost use Rattle.xk_explain_bounds.specs.Words.{deed_words, loop_words, may_hold, most_words, note_of, numbered, place_before, place_in};
+ghost use Rattle.xk_explain_bounds.specs.Words.{slot_words, slots_words, started_by, started_words, this_unit, times_words, unit_around};
+ghost use Rattle.xk_explain_bounds.specs.Words.{waits_words, words};
 
 use crate::amounts::{amount, counted};
 use crate::remark::{Deed, Fact, Remark};
 use std::alloc::{AllocError, Global};
 use xk_explain::{Note, slot_title};
+use xk_explain_words::told_name;
 use xk_origins::UnitOrigins;
 use xk_types::Kind;
 
@@ -32,13 +36,13 @@ fn numbered(alloc: Global, unit: u16) -> Result<Vec<u8>, AllocError>
     text(alloc, format!(in alloc; "unit {unit}")?.as_str())
 }
 
-/// The name of a unit, or what stands for that of one without a name.
+/// The name of a unit, no more than 60 letters of it, or what stands for that of one without a name.
 fn name_or(alloc: Global, u: &UnitOrigins<'_>, nameless: &str) -> Result<Vec<u8>, AllocError>
     ensures { IfOk result
-        (λ v. v.items ≡ option_map_or (λ name. name) u.now.head.name nameless.now) }
+        (λ v. v.items ≡ option_map_or told_name u.now.head.name nameless.now) }
 {
     match u.head.name {
-        Some(name) => Vec::from_slice(alloc, name),
+        Some(name) => told_name(alloc, name),
         None => text(alloc, nameless),
     }
 }
@@ -304,6 +308,14 @@ fn holds_note(
     Ok(out)
 }
 
+/// Those that a unit of this name starts.
+#[tactic(auto, unfolding(crate::specs::Words::started_by))]
+fn started_by(alloc: Global, name: &[u8]) -> Result<Vec<u8>, AllocError>
+    ensures { IfOk result (λ v. v.items ≡ started_by name.now) }
+{
+    around(alloc, "those that ", name, " starts")
+}
+
 /// Who is waited for at the end of a finish.
 fn started_words(
     alloc: Global,
@@ -315,7 +327,7 @@ fn started_words(
     match deed {
         Deed::Called(run) => {
             let name = this_unit(alloc, origins, run)?;
-            around(alloc, "those that ", &name, " starts")
+            started_by(alloc, &name)
         }
         _ => text(alloc, "the one started here"),
     }

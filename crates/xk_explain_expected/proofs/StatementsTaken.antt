@@ -15,16 +15,21 @@ use Rattle.xk_tree.specs.declared.tree.TypeName.{TypeName}
 use Rattle.xk_tree.specs.declared.tree.Verb.{Verb}
 use Rattle.xk_tree.specs.declared.tree.Written.{Written}
 use Rattle.xk_tree.specs.declared.tree.Written.TheVariants as written
-use Rattle.xk_tree.specs.Tree.{Word, Expression, Source, Clocks, Statement, Statements, Done, More, Block, Empty, Declare, Assign, Atomic, If, IfElse, For, Async, Finish, Call, Resume, Drop, AdvanceAll, Print}
+use Rattle.xk_tree.specs.Tree.{Word, Expression, Source, Clocks, Statement, Statements, Done, More, Block, Empty, Declare, Assign, Atomic}
+use Rattle.xk_tree.specs.Tree.{If, IfElse, For, Async, Finish, Call, Resume, Drop, AdvanceAll, Print}
 use Rattle.xk_exprs.specs.Marks.{Mark, Name, Operator, Open, CloseAt, Symbol, Reserved}
-use Rattle.xk_syntax.specs.Spelling.{word, number, expr, comparison_sign, binding_word, type_mark, type_part, verb, source, bound, row, behind_comma, commas, clocked_start, start, inside, hidden_text, stmt, stmts, dangles, IsExpr, IsTerm, SourceFits, DeclareFits, WrittenFits, ClocksFit, Fits, AllFit}
+use Rattle.xk_syntax.specs.Spelling.{word, number, expr, comparison_sign, binding_word, type_mark, type_part, verb, source, bound, row}
+use Rattle.xk_syntax.specs.Spelling.{behind_comma, commas, clocked_start, start, inside, hidden_text, stmt, stmts, dangles, IsExpr, IsTerm}
+use Rattle.xk_syntax.specs.Spelling.{SourceFits, DeclareFits, WrittenFits, ClocksFit, Fits, AllFit}
 use Rattle.xk_explain_expected.specs.declared.terminal.Terminal.{Terminal}
 use Rattle.xk_explain_expected.specs.declared.terminal.Terminal.TheVariants as terminal
 use Rattle.xk_explain_expected.specs.declared.grammar.Symbol.{Symbol as Sym}
 use Rattle.xk_explain_expected.specs.declared.grammar.Symbol.TheVariants as symbol
-use Rattle.xk_explain_expected.specs.Grammar.{Behind, Skipped, begun, is_name, name_terminal, keyword_terminal, produced, statement, statements, optional_else}
+use Rattle.xk_explain_expected.specs.Grammar.{Behind, Skipped, begun, is_name, name_terminal, keyword_terminal, produced, statement}
+use Rattle.xk_explain_expected.specs.Grammar.{statements, optional_else}
 use Rattle.xk_explain_expected.specs.Expected.{is_found}
-use Rattle.xk_explain_expected.proofs.TakenLemmas.{run, first, run_same, run_skips, run_begun, name_is, for_names, BeginsWithName, run_name, name_name}
+use Rattle.xk_explain_expected.proofs.TakenLemmas.{run, first, run_same, run_skips, run_begun, name_is, for_names, BeginsWithName, run_name}
+use Rattle.xk_explain_expected.proofs.TakenLemmas.{name_name}
 use Rattle.xk_explain_expected.proofs.ExpressionsTaken.{number_taken, expr_taken, term_taken, argument_taken, source_taken, bound_taken}
 
 -- ---- the parts of statements

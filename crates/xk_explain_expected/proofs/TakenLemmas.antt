@@ -10,13 +10,15 @@ use Rattle.xk_lexer.specs.Tokens.{Lexeme, TokenValue}
 use Rattle.xk_lexer.specs.Tokens as lexeme
 use Rattle.xk_tree.specs.declared.tree.Operator.{Operator as Op}
 use Rattle.xk_tree.specs.declared.tree.Operator.TheVariants as operator
-use Rattle.xk_exprs.specs.Marks.{Mark, Name, Number, Operator, Open, CloseAt, Symbol, Reserved, AsyncAt, FinishAt, ClockedAt, ClockAt, LongAt, Unfit, sign_mark, keyword_mark}
+use Rattle.xk_exprs.specs.Marks.{Mark, Name, Number, Operator, Open, CloseAt, Symbol, Reserved, AsyncAt, FinishAt, ClockedAt, ClockAt}
+use Rattle.xk_exprs.specs.Marks.{LongAt, Unfit, sign_mark, keyword_mark}
 use Rattle.xk_syntax.specs.Spelling.{lexeme_mark, token_mark}
 use Rattle.xk_explain_expected.specs.declared.terminal.Terminal.{Terminal}
 use Rattle.xk_explain_expected.specs.declared.terminal.Terminal.TheVariants as terminal
 use Rattle.xk_explain_expected.specs.declared.grammar.Symbol.{Symbol as Sym}
 use Rattle.xk_explain_expected.specs.declared.grammar.Symbol.TheVariants as symbol
-use Rattle.xk_explain_expected.specs.Grammar.{Entry, Skipped, Behind, begun, is_name, produced, sign_terminal, keyword_terminal, name_terminal, terminal_of}
+use Rattle.xk_explain_expected.specs.Grammar.{Entry, Skipped, Behind, begun, is_name, produced, sign_terminal, keyword_terminal}
+use Rattle.xk_explain_expected.specs.Grammar.{name_terminal, terminal_of}
 use Rattle.xk_explain_expected.specs.Expected.{moved, taken, and_then}
 use Rattle.xk_explain_expected.specs.Laws.{all_taken, token_terminal}
 

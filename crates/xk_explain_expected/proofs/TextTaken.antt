@@ -6,7 +6,8 @@ use Rattle.xk_lexer.specs.Tokens.{TokenValue}
 use Rattle.xk_lexer.proofs.LexingLemmas.{spelled_lexed}
 use Rattle.xk_tree.specs.Tree.{ParamValue, MethodValue, SharedValue, TreeValue}
 use Rattle.xk_exprs.specs.Marks.{Mark, CloseAt, Symbol, Open}
-use Rattle.xk_syntax.specs.Spelling.{number, type_mark, row, behind_comma, commas, param, method, shared, program, stmts, MethodFits, TreeFits}
+use Rattle.xk_syntax.specs.Spelling.{number, type_mark, row, behind_comma, commas, param, method, shared, program, stmts, MethodFits}
+use Rattle.xk_syntax.specs.Spelling.{TreeFits}
 use Rattle.xk_explain_expected.specs.declared.terminal.Terminal.TheVariants as terminal
 use Rattle.xk_explain_expected.specs.declared.grammar.Symbol.{Symbol as Sym}
 use Rattle.xk_explain_expected.specs.declared.grammar.Symbol.TheVariants as symbol

@@ -1,6 +1,7 @@
 -- What could stand where a token of a text can't: the machine takes the tokens before it, one after another, and is asked what it takes next. This
 -- project's own.
-use Rattle.std.specs.Prelude.{ℕ, nat_lt, Bool, true, false, not, ◌&&◌, List, [], ◌∷◌, ◌++◌, flat_map, Option, Some, None, option_map, codes, if◌then◌else◌}
+use Rattle.std.specs.Prelude.{ℕ, nat_lt, Bool, true, false, not, ◌&&◌, List, [], ◌∷◌, ◌++◌, flat_map, Option, Some, None, option_map, codes}
+use Rattle.std.specs.Prelude.{if◌then◌else◌}
 use Rattle.xk_lexer.specs.Tokens.{TokenValue}
 use Rattle.xk_lexer.specs.Lexing.{lexed}
 use Rattle.xk_tree.specs.declared.fault.FrontFault.{FrontFault}
@@ -37,7 +38,8 @@ and_then (Some stack) f = f stack
 -- the same behind all tokens of lesser offsets than this
 abbrev pub taken_before : ℕ → List Symbol → List TokenValue → Option (List Symbol)
 taken_before at stack [] = Some stack
-taken_before at stack (t ∷ ts) = if nat_lt t.at at then and_then (taken stack (terminal_of t.what)) (λ next. taken_before at next ts) else Some stack
+taken_before at stack (t ∷ ts) =
+    if nat_lt t.at at then and_then (taken stack (terminal_of t.what)) (λ next. taken_before at next ts) else Some stack
 
 -- what stands on the stack at an offset of a text, if the tokens up to there can stand so
 unfoldable pub stack_at : List ℕ → ℕ → Option (List Symbol)

@@ -11,7 +11,12 @@ use Rattle.xk_lexer.specs.Tokens as lexeme
 use Rattle.xk_explain_expected.specs.declared.terminal.Terminal.{Terminal}
 use Rattle.xk_explain_expected.specs.declared.terminal.Terminal.TheVariants as terminal
 use Rattle.xk_explain_expected.specs.declared.grammar.Symbol.{Symbol}
-use Rattle.xk_explain_expected.specs.declared.grammar.Symbol.TheVariants.{Takes, Name, Number, Program, Methods, Params, MoreParams, TypeName, OptionalType, Statement, Statements, Declaration, Addition, Condition, Range, Advance, Print, Right, AfterName, Arguments, MoreArguments, OptionalElse, AfterAsync, AfterAsyncClocked, AfterClocked, MoreClocks, Bound, Expression, MoreTerms, Term, MoreFactors, Factor}
+use Rattle.xk_explain_expected.specs.declared.grammar.Symbol.TheVariants.{Takes, Name, Number, Program, Methods, Params, MoreParams}
+use Rattle.xk_explain_expected.specs.declared.grammar.Symbol.TheVariants.{TypeName, OptionalType, Statement, Statements, Declaration}
+use Rattle.xk_explain_expected.specs.declared.grammar.Symbol.TheVariants.{Addition, Condition, Range, Advance, Print, Right, AfterName}
+use Rattle.xk_explain_expected.specs.declared.grammar.Symbol.TheVariants.{Arguments, MoreArguments, OptionalElse, AfterAsync}
+use Rattle.xk_explain_expected.specs.declared.grammar.Symbol.TheVariants.{AfterAsyncClocked, AfterClocked, MoreClocks, Bound, Expression}
+use Rattle.xk_explain_expected.specs.declared.grammar.Symbol.TheVariants.{MoreTerms, Term, MoreFactors, Factor}
 
 -- ---- terminals
 
@@ -215,21 +220,25 @@ declaration t = if is_name t then Behind (OptionalType ∷ Takes terminal.Assign
 
 -- behind `atomic`: NAME "=" NAME "+" term ";"
 abbrev pub addition : Terminal → Entry
-addition t = if is_name t then Behind (Takes terminal.Assign ∷ Name ∷ Takes terminal.Plus ∷ Term ∷ Takes terminal.Semicolon ∷ []) else Refused
+addition t =
+    if is_name t then Behind (Takes terminal.Assign ∷ Name ∷ Takes terminal.Plus ∷ Term ∷ Takes terminal.Semicolon ∷ []) else Refused
 
 -- behind `if`: "(" expr cmp expr ")" stmt [ "else" stmt ]
 abbrev pub condition : Terminal → Entry
-condition terminal.LeftParen = Behind (Expression ∷ Takes terminal.Comparison ∷ Expression ∷ Takes terminal.RightParen ∷ Statement ∷ OptionalElse ∷ [])
+condition terminal.LeftParen =
+    Behind (Expression ∷ Takes terminal.Comparison ∷ Expression ∷ Takes terminal.RightParen ∷ Statement ∷ OptionalElse ∷ [])
 condition _ = Refused
 
 -- behind `for`: "(" NAME "in" number ".." bound ")" stmt
 abbrev pub range : Terminal → Entry
-range terminal.LeftParen = Behind (Name ∷ Takes terminal.In ∷ Number ∷ Takes terminal.DotDot ∷ Bound ∷ Takes terminal.RightParen ∷ Statement ∷ [])
+range terminal.LeftParen =
+    Behind (Name ∷ Takes terminal.In ∷ Number ∷ Takes terminal.DotDot ∷ Bound ∷ Takes terminal.RightParen ∷ Statement ∷ [])
 range _ = Refused
 
 -- behind `Clock`: "." "advanceAll" "(" ")" ";"
 abbrev pub advance : Terminal → Entry
-advance terminal.Dot = Behind (Takes terminal.AdvanceAll ∷ Takes terminal.LeftParen ∷ Takes terminal.RightParen ∷ Takes terminal.Semicolon ∷ [])
+advance terminal.Dot =
+    Behind (Takes terminal.AdvanceAll ∷ Takes terminal.LeftParen ∷ Takes terminal.RightParen ∷ Takes terminal.Semicolon ∷ [])
 advance _ = Refused
 
 -- behind `Console`: "." "OUT" "." "println" "(" expr ")" ";"

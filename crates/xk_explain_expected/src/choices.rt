@@ -2,7 +2,9 @@
 
 ghost use Rattle.std.specs.Prelude.{◌≡◌, ◌++◌, flat_map, IfOk, OnOk};
 ghost use Rattle.xk_explain_expected.specs.Grammar.{is_name};
-ghost use Rattle.xk_explain_expected.specs.Expected.{begins_expression, begins_number, begins_statement, behind_comma, besides, besides_one, choice_text, choices, choices_text, group_by, group_choices, group_of, group_text, is_besides, is_within, listed, told_alone};
+ghost use Rattle.xk_explain_expected.specs.Expected.{begins_expression, begins_number, begins_statement, behind_comma, besides};
+ghost use Rattle.xk_explain_expected.specs.Expected.{besides_one, choice_text, choices, choices_text, group_by, group_choices, group_of};
+ghost use Rattle.xk_explain_expected.specs.Expected.{group_text, is_besides, is_within, listed, told_alone};
 
 use crate::grammar::{Symbol, is_name};
 use crate::machine::takes;
@@ -111,7 +113,7 @@ fn is_within(group: Group, t: Terminal) -> bool
 }
 
 /// What is told one by one, in this order.
-fn told_alone() -> &'static [Terminal]
+pub(crate) fn told_alone() -> &'static [Terminal]
     ensures { result.now ≡ told_alone }
 {
     &[

@@ -1,7 +1,11 @@
 //! The grammar as a table: what a symbol on the stack begins with, and what comes behind that.
 
 ghost use Rattle.std.specs.Prelude.{◌≡◌, option_map};
-ghost use Rattle.xk_explain_expected.specs.Grammar.{addition, advance, after_async, after_async_clocked, after_clocked, after_name, arguments, begun, bound, condition, declaration, factor, is_name, methods, more_arguments, more_clocks, more_factors, more_params, more_terms, number, optional_else, optional_type, params, print, produced, program, range, right, statement, statements, taken_if, type_name};
+ghost use Rattle.xk_explain_expected.specs.Grammar.{addition, advance, after_async, after_async_clocked, after_clocked, after_name};
+ghost use Rattle.xk_explain_expected.specs.Grammar.{arguments, begun, bound, condition, declaration, factor, is_name, methods};
+ghost use Rattle.xk_explain_expected.specs.Grammar.{more_arguments, more_clocks, more_factors, more_params, more_terms, number};
+ghost use Rattle.xk_explain_expected.specs.Grammar.{optional_else, optional_type, params, print, produced, program, range, right};
+ghost use Rattle.xk_explain_expected.specs.Grammar.{statement, statements, taken_if, type_name};
 ghost use Rattle.xk_explain_expected.specs.Views.{entry_value};
 
 use crate::terminal::{Terminal, is_same};

@@ -5,6 +5,7 @@ mod choices;
 mod grammar;
 pub mod laws;
 mod machine;
+mod missing;
 mod notes;
 mod terminal;
 

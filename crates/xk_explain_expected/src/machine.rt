@@ -55,6 +55,23 @@ fn take(stack: &mut Vec<Symbol>, t: Terminal) -> Result<bool, AllocError>
     Ok(false)
 }
 
+/// The stack behind a token, if it can stand here. Err where memory was refused.
+pub(crate) fn taken(
+    alloc: Global,
+    stack: &[Symbol],
+    t: Terminal,
+) -> Result<Option<Vec<Symbol>>, AllocError>
+    ensures { IfOk result (λ o. option_map (λ v. v.items) o ≡ taken stack.now t) }
+{
+    let mut next = stack.to_vec(alloc)?;
+    next.reverse();
+    if !take(&mut next, t)? {
+        return Ok(None);
+    }
+    next.reverse();
+    Ok(Some(next))
+}
+
 /// The stack behind those tokens that stand before an offset, if they can stand so.
 fn stack_before(
     alloc: Global,

@@ -1,5 +1,6 @@
 -- What `explain --json` says of a program: one JSON object. Its members come in groups, of which refusals of one sort share some. This project's own.
-use Rattle.std.specs.Prelude.{ℕ, min, Bool, true, false, List, [], ◌∷◌, ◌++◌, length, Option, Some, None, slice_get, codes, decimal, if◌then◌else◌}
+use Rattle.std.specs.Prelude.{ℕ, min, Bool, true, false, List, [], ◌∷◌, ◌++◌, length, Option, Some, None, slice_get, codes, decimal}
+use Rattle.std.specs.Prelude.{if◌then◌else◌}
 use Rattle.std.specs.Option.{option_map_or}
 use Rattle.serde_json.specs.Data.{Data, null, boolean, string}
 use Rattle.xk_types.specs.declared.rules.Rule.{Rule}
@@ -17,7 +18,8 @@ use Rattle.xk_lines.specs.declared.lines.Position.{Position}
 use Rattle.xk_lines.specs.Lines.{position_of}
 use Rattle.xk_origins.specs.UnitOrigins.{Head, UnitOrigins}
 use Rattle.xk_explain.specs.declared.module_rule.ModuleRule.{ModuleRule}
-use Rattle.xk_explain.specs.Messages.{front_message, kind_message, module_message, module_name, module_number, module_repair, rule_message, rule_repair, source_message}
+use Rattle.xk_explain.specs.Messages.{front_message, kind_message, module_message, module_name, module_number, module_repair, rule_message}
+use Rattle.xk_explain.specs.Messages.{rule_repair, source_message}
 use Rattle.xk_explain.specs.FrontRepairs.{repair_of}
 use Rattle.xk_explain.specs.Explanations.{has_place, shown_at}
 use Rattle.xk_explain.specs.SourceExplanations.{is_name, mark_end, origin_at, slot_name}
@@ -50,7 +52,8 @@ front_repair_member text f notes = (codes "repair", bytes_value (repair_of text 
 
 -- by a rule on module texts
 abbrev pub refused_by_module : List ℕ → ModuleRule → Group
-refused_by_module file r = refused file (codes "M" ++ decimal (module_number r)) (module_name r) (module_message r) ++ repair_member (module_repair r)
+refused_by_module file r =
+    refused file (codes "M" ++ decimal (module_number r)) (module_name r) (module_message r) ++ repair_member (module_repair r)
 
 -- by a rule of the verifier, with what is wrong
 abbrev pub refused_by : List ℕ → Rule → List ℕ → Group
@@ -97,7 +100,8 @@ front_place text f = if has_place f.rule then place_members text (shown_at text 
 
 -- all that is said of a fault of a source text
 abbrev pub front_value : List ℕ → List ℕ → FrontFault → List NoteValue → Data
-front_value file text f notes = object_of (notes_in text notes ∷ refused_by_front file f ∷ front_repair_member text f notes ∷ front_place text f ∷ [])
+front_value file text f notes =
+    object_of (notes_in text notes ∷ refused_by_front file f ∷ front_repair_member text f notes ∷ front_place text f ∷ [])
 
 -- ---- module texts
 
@@ -113,7 +117,8 @@ instruction_members unit at = (codes "place", number_value at) ∷ (codes "unit"
 
 -- the slot in question, and what it may hold there
 abbrev pub slot_members : ℕ → Kind → Group
-slot_members slot k = (codes "holds", string (kind_message k)) ∷ (codes "kind", string (kind_name k)) ∷ (codes "slot", number_value slot) ∷ []
+slot_members slot k =
+    (codes "holds", string (kind_message k)) ∷ (codes "kind", string (kind_name k)) ∷ (codes "slot", number_value slot) ∷ []
 
 -- one stop of a walk: the instruction, and the slot's kind before it
 abbrev pub stop_members : Visit → Group
@@ -202,8 +207,10 @@ kind_in_source file text f u =
 
 -- (Each unit has origins; of one that hadn't, the refusal would be told by its number.)
 abbrev pub source_groups : List ℕ → List ℕ → List UnitOrigins → Refusal → List Group
-source_groups file text origins (refusal.Shape f) = option_map_or (shape_in_source file text f) (slice_get origins f.unit) (shape_groups file f)
-source_groups file text origins (refusal.Kind f) = option_map_or (kind_in_source file text f) (slice_get origins f.unit) (kind_groups file f)
+source_groups file text origins (refusal.Shape f) =
+    option_map_or (shape_in_source file text f) (slice_get origins f.unit) (shape_groups file f)
+source_groups file text origins (refusal.Kind f) =
+    option_map_or (kind_in_source file text f) (slice_get origins f.unit) (kind_groups file f)
 source_groups file text origins (refusal.Bound f) = bound_groups file f
 source_groups file text origins refusal.OutOfMemory = []
 

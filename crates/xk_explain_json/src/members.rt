@@ -2,7 +2,8 @@
 
 ghost use Rattle.std.specs.Prelude.{[], ◌∷◌, ◌≤◌, codes, length, OnOk};
 ghost use Rattle.serde_json.specs.Data.{boolean};
-ghost use Rattle.xk_explain_json.specs.Explanations.{end_members, front_repair_member, instruction_members, limit_member, place_members, position_members};
+ghost use Rattle.xk_explain_json.specs.Explanations.{end_members, front_repair_member, instruction_members, limit_member, place_members};
+ghost use Rattle.xk_explain_json.specs.Explanations.{position_members};
 ghost use Rattle.xk_explain_json.specs.Explanations.{refused, refused_by, refused_by_front, refused_by_module, slot_members};
 ghost use Rattle.xk_explain_json.specs.Objects.{Gains};
 

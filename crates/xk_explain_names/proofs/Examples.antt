@@ -8,13 +8,14 @@ use Rattle.xk_tree.specs.declared.fault.FrontRule.{FrontRule}
 use Rattle.xk_tree.specs.declared.tree.Binding.TheVariants as binding
 use Rattle.xk_tree.specs.declared.tree.Number.{Number}
 use Rattle.xk_tree.specs.declared.tree.Verb.{Verb}
-use Rattle.xk_tree.specs.Tree.{Word, Expression, Literal, Named, Make, Value, UpTo, ParamValue, MethodValue, SharedValue, TreeValue, Statements, Done, More, Block, Declare, For, Async, Finish, Drop, Print}
+use Rattle.xk_tree.specs.Tree.{Word, Expression, Literal, Named, Make, Value, UpTo, ParamValue, MethodValue, SharedValue, TreeValue}
+use Rattle.xk_tree.specs.Tree.{Statements, Done, More, Block, Declare, For, Async, Finish, Drop, Print}
 use Rattle.xk_explain.specs.Notes.{NoteValue}
-use Rattle.xk_explain_names.specs.declared.declaration.Role.TheVariants as role
-use Rattle.xk_explain_names.specs.Declarations.{Declared, declares, declarations}
-use Rattle.xk_explain_names.specs.NearNames.{is_near}
-use Rattle.xk_explain_names.specs.Kinds.{is_written_back, term_added}
-use Rattle.xk_explain_names.specs.Notes.{declared_text, front_notes, further_text, notes_on}
+use Rattle.xk_explain_kinds.specs.declared.declaration.Role.TheVariants as role
+use Rattle.xk_explain_kinds.specs.Declarations.{Declared, declares, declarations}
+use Rattle.xk_explain_words.specs.NearNames.{is_near}
+use Rattle.xk_explain_kinds.specs.Kinds.{is_written_back, term_added}
+use Rattle.xk_explain_names.specs.Notes.{declared_text, front_notes, further_text, loop_alone_text, notes_on}
 
 abbrev x : ℕ → Word
 x at = record { at = at; text = codes "x" }
@@ -48,10 +49,12 @@ loop_text = codes "def m(){for(x in 1..1);Console.OUT.println(x);}"
 abbrev loop : TreeValue
 loop = program [] (method (record { at = 4; text = codes "m" }) [] (More (For 11 (x 12) one (UpTo one) (Block 0 Done)) (print (x 43) Done)) ∷ [])
 
-loop_declares : declarations loop ≡ declares (record { at = 4; text = codes "m" }) (role.Method 0) ∷ declares (x 12) role.Loop ∷ []
+loop_declares : declarations loop ≡ declares (record { at = 4; text = codes "m" }) (role.Method 0) 4 4 ∷ declares (x 12) role.Loop 0 0 ∷ []
 loop_declares = refl
 
-not_visible : front_notes loop loop_text (fault rule.UnknownName 43) ≡ told 12 (codes "`x` is declared here, as the number of a loop") ∷ []
+not_visible :
+    front_notes loop loop_text (fault rule.UnknownName 43)
+    ≡ (record { at = Some 12; text = codes "`x` is declared here, as the number of a loop"; repair = Some (loop_alone_text (codes "x")) }) ∷ []
 unfolding declared_text
 not_visible = refl
 
@@ -88,12 +91,12 @@ clocks =
     (More (Declare binding.Val (x 12) None (Make 16 verb))
     (More (Finish 30 (Block 30 (More (Declare binding.Hidden hidden None (Make 30 verb)) (More (Async 45 None (Block 60 Done)) (More (Drop hidden verb) Done))))) Done)) ∷ [])
 
-clocks_declare : declarations clocks ≡ declares (x 4) (role.Method 0) ∷ declares (x 12) role.Clock ∷ []
+clocks_declare : declarations clocks ≡ declares (x 4) (role.Method 0) 4 4 ∷ declares (x 12) role.Clock 0 0 ∷ []
 clocks_declare = refl
 
 -- ---- of nine the ninth isn't told
 
-nine : notes_on None (codes "x") (replicate 9 (declares (x 4) role.Var))
+nine : notes_on None (codes "x") (replicate 9 (declares (x 4) role.Var 4 9))
     ≡ replicate 8 (told 4 (codes "`x` is declared here, as a `var`")) ++ (record { at = None; text = further_text (codes "x") 1; repair = None }) ∷ []
 unfolding declared_text
 nine = refl

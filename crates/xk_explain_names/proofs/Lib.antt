@@ -1,2 +1,1 @@
-mod DeclarationLemmas
 mod Examples

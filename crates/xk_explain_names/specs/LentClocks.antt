@@ -1,13 +1,14 @@
 -- What is told where a method starts an activity on the clock of a `clocked finish` around a call of it, F15. This project's own.
-use Rattle.std.specs.Prelude.{ℕ, ◌-◌, nat_lt, Bool, true, false, not, ◌&&◌, ◌||◌, List, [], ◌∷◌, ◌++◌, take, drop, flat_map, Option, Some, None, codes, if◌then◌else◌}
+use Rattle.std.specs.Prelude.{ℕ, ◌-◌, nat_lt, Bool, false, not, ◌&&◌, ◌||◌, List, [], ◌∷◌, ◌++◌, take, drop, Option, Some, None}
+use Rattle.std.specs.Prelude.{codes, if◌then◌else◌}
 use Rattle.std.specs.List.{list_any}
 use Rattle.std.specs.Str.{bytes_eq}
-use Rattle.xk_types.specs.declared.unit.ParamKind.{ParamKind}
-use Rattle.xk_types.specs.declared.unit.ParamKind.TheVariants as param
-use Rattle.xk_tree.specs.Tree.{MethodValue, ParamValue, TreeValue}
-use Rattle.xk_explain_repairs.specs.Words.{begins}
+use Rattle.xk_tree.specs.Tree.{MethodValue, TreeValue}
+use Rattle.xk_explain_words.specs.Words.{begins}
+use Rattle.xk_explain_words.specs.Names.{told_name}
 use Rattle.xk_explain.specs.Notes.{NoteValue}
-use Rattle.xk_explain_names.specs.Declarations.{Declared, declarations}
+use Rattle.xk_explain_kinds.specs.Calls.{params_text}
+use Rattle.xk_explain_kinds.specs.Declarations.{Declared, declarations}
 
 -- the method that an offset stands in: the last one that begins before it
 abbrev pub last_method : ℕ → Option MethodValue → List MethodValue → Option MethodValue
@@ -25,13 +26,6 @@ is_lender text at m = not (bytes_eq m.name.text (codes "main")) && not (has_fini
 
 -- ---- the head to write
 
-abbrev pub type_text : ParamKind → List ℕ
-type_text param.Number = codes ": Long, "
-type_text param.Clock = codes ": Clock, "
-
-abbrev pub param_text : ParamValue → List ℕ
-param_text p = p.name.text ++ type_text p.takes.kind
-
 -- a name that isn't declared
 abbrev pub is_named : List ℕ → Declared → Bool
 is_named name d = bytes_eq d.name.text name
@@ -42,12 +36,12 @@ clock_name ds = if list_any (is_named (codes "c")) ds then codes "clock" else co
 -- ``take the clock as a parameter, `def f(n: Long, c: Clock)`, and write `async clocked (c)` ``
 unfoldable pub lent_text : List ℕ → MethodValue → List ℕ
 lent_text clock m =
-    ((((((codes "take the clock as a parameter, `def " ++ m.name.text) ++ codes "(") ++ flat_map param_text m.params) ++ clock)
+    ((((((codes "take the clock as a parameter, `def " ++ told_name m.name.text) ++ codes "(") ++ params_text m.params) ++ clock)
     ++ codes ": Clock)`, and write `async clocked (") ++ clock) ++ codes ")`"
 
 -- `` `f` doesn't see the clocks of those that call it ``
 unfoldable pub unseen_text : List ℕ → List ℕ
-unseen_text name = (codes "`" ++ name) ++ codes "` doesn't see the clocks of those that call it"
+unseen_text name = (codes "`" ++ told_name name) ++ codes "` doesn't see the clocks of those that call it"
 
 abbrev pub lent_note : List ℕ → MethodValue → NoteValue
 lent_note clock m = record { at = Some m.name.at; text = unseen_text m.name.text; repair = Some (lent_text clock m) }

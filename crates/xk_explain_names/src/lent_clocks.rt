@@ -1,19 +1,17 @@
 //! What is told where a method starts an activity on a clock that is hidden from it.
 
-ghost use Rattle.std.specs.Prelude.{◌≡◌, ◌++◌, ◌-◌, None, drop, flat_map, map, option_map, take, IfOk, OnOk};
+ghost use Rattle.std.specs.Prelude.{◌≡◌, ◌-◌, None, drop, map, option_map, take, IfOk};
 ghost use Rattle.xk_tree.specs.Program.{tree_value};
-ghost use Rattle.xk_tree.specs.Tree.{method_value, param_value};
-ghost use Rattle.xk_explain_names.specs.Declarations.{declared, declared_here};
-ghost use Rattle.xk_explain_names.specs.LentClocks.{clock_name, has_finish, is_lender, last_method, lent_by, lent_note, lent_notes, lent_text, param_text, type_text, unseen_text};
+ghost use Rattle.xk_tree.specs.Tree.{method_value};
+ghost use Rattle.xk_explain_kinds.specs.Declarations.{declared_here};
+ghost use Rattle.xk_explain_names.specs.LentClocks.{clock_name, has_finish, is_lender, last_method, lent_by, lent_note, lent_notes};
+ghost use Rattle.xk_explain_names.specs.LentClocks.{lent_text, unseen_text};
 
-use crate::declaration::{Declaration, declarations};
-use crate::near_names::is_same;
-use crate::texts::{around, push_text};
 use std::alloc::{AllocError, Global};
 use xk_explain::Note;
-use xk_explain_repairs::begins;
-use xk_tree::{Method, Param, Tree};
-use xk_types::ParamKind;
+use xk_explain_kinds::{Declaration, around_name, declarations, params_text, push_text};
+use xk_explain_words::{begins, is_same, told_name};
+use xk_tree::{Method, Tree};
 
 /// The method that an offset stands in.
 fn last_method<'m, 't>(at: usize, methods: &'m [Method<'t>]) -> Option<&'m Method<'t>>
@@ -60,36 +58,6 @@ fn is_lender(text: &[u8], at: usize, method: &Method<'_>) -> bool
     !is_same(method.name.text, b"main") && !has_finish(part(text, method.name.at, at))
 }
 
-/// What stands behind the name of a parameter.
-fn type_text(kind: ParamKind) -> &'static str
-    ensures { result.now ≡ type_text kind }
-{
-    match kind {
-        ParamKind::Number => ": Long, ",
-        ParamKind::Clock => ": Clock, ",
-    }
-}
-
-/// Adds a parameter.
-fn push_param(out: &mut Vec<u8>, param: &Param<'_>) -> Result<(), AllocError>
-    ensures { OnOk result (out.new.items
-        ≡ out.old.items ++ param_text (param_value param.now)) }
-{
-    out.extend_from_slice(param.name.text)?;
-    push_text(out, type_text(param.takes.kind))
-}
-
-/// The parameters, each with a comma behind it.
-fn params_text(alloc: Global, params: &[Param<'_>]) -> Result<Vec<u8>, AllocError>
-    ensures { IfOk result (λ v. v.items ≡ flat_map param_text (map param_value params.now)) }
-{
-    let mut out = Vec::new(alloc);
-    for param in params {
-        push_param(&mut out, param)?;
-    }
-    Ok(out)
-}
-
 /// A name that isn't declared.
 fn clock_name(all: &[Declaration<'_>]) -> &'static [u8]
     ensures { result.now ≡ clock_name (declared_here all.now) }
@@ -109,8 +77,9 @@ fn lent_text(alloc: Global, clock: &[u8], method: &Method<'_>) -> Result<Vec<u8>
 {
     let params = params_text(alloc, &method.params)?;
     let mut out = Vec::new(alloc);
+    let told = told_name(alloc, method.name.text)?;
     push_text(&mut out, "take the clock as a parameter, `def ")?;
-    out.extend_from_slice(method.name.text)?;
+    out.extend_from_slice(&told)?;
     push_text(&mut out, "(")?;
     out.extend_from_slice(&params)?;
     out.extend_from_slice(clock)?;
@@ -125,7 +94,7 @@ fn lent_text(alloc: Global, clock: &[u8], method: &Method<'_>) -> Result<Vec<u8>
 fn unseen_text(alloc: Global, name: &[u8]) -> Result<Vec<u8>, AllocError>
     ensures { IfOk result (λ v. v.items ≡ unseen_text name.now) }
 {
-    around(
+    around_name(
         alloc,
         "`",
         name,

@@ -1,20 +1,27 @@
 //! Where else the name that stands at a fault is declared.
 
-ghost use Rattle.std.specs.Prelude.{◌≡◌, [], ◌∷◌, ◌++◌, None, drop, map, option_map, IfOk, OnOk};
+ghost use Rattle.std.specs.Prelude.{◌≡◌, [], ◌∷◌, ◌++◌, None, drop, map, option_map, take, IfOk, OnOk};
 ghost use Rattle.xk_tree.specs.Program.{tree_value};
-ghost use Rattle.xk_explain_names.specs.Declarations.{declared, declared_here};
-ghost use Rattle.xk_explain_names.specs.Kinds.{last_of};
-ghost use Rattle.xk_explain_names.specs.Notes.{declared_text, front_notes, further_notes, further_text, is_called, is_meant, is_namesake, is_on_names, kind_notes, may_be, meant_notes, meant_text, named_notes, namesakes, note_of, notes_on, parameters_text, role_text, unknown_by, unknown_notes, word_at};
+ghost use Rattle.xk_tree.specs.Tree.{method_value};
+ghost use Rattle.xk_explain_kinds.specs.Declarations.{declared, declared_here};
+ghost use Rattle.xk_explain_kinds.specs.Kinds.{last_of};
+ghost use Rattle.xk_explain_names.specs.Notes.{block_text, capture_notes, capture_repair, captured_by, count_notes, declared_text};
+ghost use Rattle.xk_explain_names.specs.Notes.{front_notes, further_notes, further_text, hand_on_text, is_called, is_meant, is_namesake};
+ghost use Rattle.xk_explain_names.specs.Notes.{is_on_names, keep_text, kind_notes, loop_alone_text, may_be, meant_notes, meant_text};
+ghost use Rattle.xk_explain_names.specs.Notes.{named_notes, namesakes, new_method_text, new_number_text, new_text, note_of, notes_on};
+ghost use Rattle.xk_explain_names.specs.Notes.{nowhere_note, nowhere_text, other_clock_text, other_param_text, parameters_text};
+ghost use Rattle.xk_explain_names.specs.Notes.{repair_of_kind, role_text};
+ghost use Rattle.xk_explain_names.specs.Notes.{share_text, unknown_by, unknown_notes, unseen_text, var_text, word_at};
 
-use crate::declaration::{Declaration, Role, declarations};
-use crate::kinds::{behind, is_method, kind_repair, visible};
 use crate::lent_clocks::lent_notes;
-use crate::near_names::{is_near, is_same};
-use crate::texts::{around, push_text};
 use std::alloc::{AllocError, Global};
 use xk_explain::Note;
-use xk_explain_repairs::{begins, first_word, from_sign};
-use xk_tree::{FrontFault, FrontRule, Tree};
+use xk_explain_kinds::{
+    Declaration, Role, around_name, around_twice, behind, callee, count_repair, declarations,
+    is_assigned, is_method, is_visible, kind_repair, method_named, push_text, visible,
+};
+use xk_explain_words::{begins, first_word, from_sign, is_near, is_same};
+use xk_tree::{FrontFault, FrontRule, Method, Tree};
 
 /// How many declarations are told at most.
 const MOST: usize = 8;
@@ -24,17 +31,15 @@ fn is_on_names(rule: FrontRule) -> bool
     ensures { result ≡ is_on_names rule }
 {
     match rule {
-        FrontRule::DuplicateName
-        | FrontRule::NotCaptured
-        | FrontRule::Recursive
-        | FrontRule::Arity
-        | FrontRule::SameClockTwice => true,
+        FrontRule::DuplicateName | FrontRule::Recursive | FrontRule::SameClockTwice => true,
         FrontRule::Token
         | FrontRule::Syntax
         | FrontRule::TooDeep
         | FrontRule::TooLong
         | FrontRule::UnknownName
         | FrontRule::WrongKind
+        | FrontRule::NotCaptured
+        | FrontRule::Arity
         | FrontRule::NoMain
         | FrontRule::Literal
         | FrontRule::Table
@@ -122,10 +127,7 @@ fn push_role(alloc: Global, out: &mut Vec<u8>, role: Role) -> Result<(), AllocEr
 fn declared_text(alloc: Global, d: &Declaration<'_>) -> Result<Vec<u8>, AllocError>
     ensures { IfOk result (λ v. v.items ≡ declared_text (declared d.now)) }
 {
-    let mut out = Vec::new(alloc);
-    push_text(&mut out, "`")?;
-    out.extend_from_slice(d.name.text)?;
-    push_text(&mut out, "` is declared here, as ")?;
+    let mut out = around_name(alloc, "`", d.name.text, "` is declared here, as ")?;
     push_role(alloc, &mut out, d.role)?;
     Ok(out)
 }
@@ -182,10 +184,7 @@ fn push_notes(
 fn further_text(alloc: Global, name: &[u8], count: usize) -> Result<Vec<u8>, AllocError>
     ensures { IfOk result (λ v. v.items ≡ further_text name.now count) }
 {
-    let mut out = Vec::new(alloc);
-    push_text(&mut out, "further declarations of `")?;
-    out.extend_from_slice(name)?;
-    push_text(&mut out, "`: ")?;
+    let mut out = around_name(alloc, "further declarations of `", name, "`: ")?;
     push_text(&mut out, format!(in alloc; "{count}")?.as_str())?;
     Ok(out)
 }
@@ -242,7 +241,7 @@ fn may_be(called: bool, at: usize, d: &Declaration<'_>) -> bool
     if called {
         is_method(d.role)
     } else {
-        !is_method(d.role) && d.name.at < at
+        is_visible(at, d)
     }
 }
 
@@ -277,20 +276,157 @@ fn meant<'t>(
 fn meant_text(alloc: Global, name: &[u8]) -> Result<Vec<u8>, AllocError>
     ensures { IfOk result (λ v. v.items ≡ meant_text name.now) }
 {
-    around(alloc, "perhaps `", name, "` is meant")
+    around_name(alloc, "perhaps `", name, "` is meant")
+}
+
+/// What is declared nowhere.
+#[tactic(auto, unfolding(crate::specs::Notes::nowhere_text))]
+fn nowhere_text(alloc: Global, name: &[u8]) -> Result<Vec<u8>, AllocError>
+    ensures { IfOk result (λ v. v.items ≡ nowhere_text name.now) }
+{
+    around_name(alloc, "nothing is declared as `", name, "`")
+}
+
+/// A method that is to be written.
+#[tactic(auto, unfolding(crate::specs::Notes::new_method_text))]
+fn new_method_text(alloc: Global, name: &[u8]) -> Result<Vec<u8>, AllocError>
+    ensures { IfOk result (λ v. v.items ≡ new_method_text name.now) }
+{
+    around_name(
+        alloc,
+        "write a method `def ",
+        name,
+        "() { .. }`, with as many parameters as it is given, or look for another spelling",
+    )
+}
+
+/// A number that is to be declared.
+#[tactic(auto, unfolding(crate::specs::Notes::new_number_text))]
+fn new_number_text(alloc: Global, name: &[u8]) -> Result<Vec<u8>, AllocError>
+    ensures { IfOk result (λ v. v.items ≡ new_number_text name.now) }
+{
+    around_twice(
+        alloc,
+        "declare it before, by `var ",
+        name,
+        " = 0;`, or where an `async` writes it by `shared ",
+        " = 0;` in front of the methods",
+    )
+}
+
+/// The repair where nothing is declared by a name.
+fn new_text(alloc: Global, called: bool, name: &[u8]) -> Result<Vec<u8>, AllocError>
+    ensures { IfOk result (λ v. v.items ≡ new_text called name.now) }
+{
+    if called {
+        new_method_text(alloc, name)
+    } else {
+        new_number_text(alloc, name)
+    }
+}
+
+/// The note where nothing is declared by a name, and no near one may be meant.
+fn nowhere_note(alloc: Global, called: bool, name: &[u8]) -> Result<Note, AllocError>
+    ensures { IfOk result (λ n. n ≡ nowhere_note called name.now) }
+{
+    let text = nowhere_text(alloc, name)?;
+    let repair = new_text(alloc, called, name)?;
+    Ok(Note {
+        at: None,
+        text,
+        repair: Some(repair),
+    })
 }
 
 /// The note on what is meant.
-fn meant_notes(alloc: Global, d: Option<Declaration<'_>>) -> Result<Vec<Note>, AllocError>
+fn meant_notes(
+    alloc: Global,
+    called: bool,
+    name: &[u8],
+    d: Option<Declaration<'_>>,
+) -> Result<Vec<Note>, AllocError>
     ensures { IfOk result (λ notes. notes.items
-        ≡ meant_notes (option_map (λ d. declared d) d.entry)) }
+        ≡ meant_notes called name.now (option_map (λ d. declared d) d.entry)) }
 {
     let mut notes = Vec::new(alloc);
-    if let Some(d) = d {
-        let repair = meant_text(alloc, d.name.text)?;
-        push_note(alloc, &mut notes, Some(repair.as_slice()), &d)?;
+    match d {
+        Some(d) => {
+            let repair = meant_text(alloc, d.name.text)?;
+            push_note(alloc, &mut notes, Some(repair.as_slice()), &d)?;
+        }
+        None => notes.push(nowhere_note(alloc, called, name)?)?,
     }
     Ok(notes)
+}
+
+/// The number of a loop, elsewhere.
+#[tactic(auto, unfolding(crate::specs::Notes::loop_alone_text))]
+fn loop_alone_text(alloc: Global, name: &[u8]) -> Result<Vec<u8>, AllocError>
+    ensures { IfOk result (λ v. v.items ≡ loop_alone_text name.now) }
+{
+    around_name(
+        alloc,
+        "`",
+        name,
+        "` is seen in its loop alone: use it there, or keep it in a `var` that is declared in front of the loop",
+    )
+}
+
+/// A number that is a parameter of another method.
+#[tactic(auto, unfolding(crate::specs::Notes::other_param_text))]
+fn other_param_text(alloc: Global, name: &[u8]) -> Result<Vec<u8>, AllocError>
+    ensures { IfOk result (λ v. v.items ≡ other_param_text name.now) }
+{
+    around_name(
+        alloc,
+        "`",
+        name,
+        "` is a parameter of another method: take it as one here, too",
+    )
+}
+
+/// A clock that is one.
+#[tactic(auto, unfolding(crate::specs::Notes::other_clock_text))]
+fn other_clock_text(alloc: Global, name: &[u8]) -> Result<Vec<u8>, AllocError>
+    ensures { IfOk result (λ v. v.items ≡ other_clock_text name.now) }
+{
+    around_twice(
+        alloc,
+        "`",
+        name,
+        "` is a parameter of another method: make a clock here by `val ",
+        " = Clock.make();`, in the innermost `finish`, and drop it before that ends",
+    )
+}
+
+/// What is declared in another block, or further on.
+#[tactic(auto, unfolding(crate::specs::Notes::block_text))]
+fn block_text(alloc: Global, name: &[u8]) -> Result<Vec<u8>, AllocError>
+    ensures { IfOk result (λ v. v.items ≡ block_text name.now) }
+{
+    around_name(
+        alloc,
+        "`",
+        name,
+        "` isn't seen outside of its block, nor before it is declared: declare it further out, and where an `async` writes it as a shared number",
+    )
+}
+
+/// The repair where a name is declared so, and isn't visible.
+fn unseen_text(alloc: Global, name: &[u8], role: Role) -> Result<Option<Vec<u8>>, AllocError>
+    ensures { IfOk result
+        (λ o. option_map (λ v. v.items) o ≡ unseen_text name.now role) }
+{
+    match role {
+        Role::Loop => Ok(Some(loop_alone_text(alloc, name)?)),
+        Role::NumberParam => Ok(Some(other_param_text(alloc, name)?)),
+        Role::ClockParam => Ok(Some(other_clock_text(alloc, name)?)),
+        Role::Val => Ok(Some(block_text(alloc, name)?)),
+        Role::Var => Ok(Some(block_text(alloc, name)?)),
+        Role::Clock => Ok(Some(block_text(alloc, name)?)),
+        Role::Shared => Ok(None),
+        Role::Method(_) => Ok(None),
+    }
 }
 
 /// Beside a name that isn't visible, of which these are declared elsewhere.
@@ -306,8 +442,14 @@ fn unknown_by(
         ≡ unknown_by name.now rest.now at (declared_here same.now) (declared_here all.now)) }
 {
     match same {
-        [] => meant_notes(alloc, meant(is_called(name, rest), name, at, all)),
-        [_, ..] => notes_on(alloc, None, name, same),
+        [] => {
+            let called = is_called(name, rest);
+            meant_notes(alloc, called, name, meant(called, name, at, all))
+        }
+        [first, ..] => {
+            let repair = unseen_text(alloc, first.name.text, first.role)?;
+            repair_notes(alloc, repair, name, same)
+        }
     }
 }
 
@@ -342,6 +484,32 @@ fn repair_notes(
     }
 }
 
+/// What stands before an offset.
+fn before(text: &[u8], at: usize) -> &[u8]
+    ensures { result.now ≡ take at text.now }
+{
+    &text[..text.len().min(at)]
+}
+
+/// The repair of a name that is used as what it isn't.
+fn repair_of_kind(
+    alloc: Global,
+    name: &[u8],
+    text: &[u8],
+    at: usize,
+    methods: &[Method<'_>],
+    all: &[Declaration<'_>],
+) -> Result<Option<Vec<u8>>, AllocError>
+    ensures { IfOk result (λ o. option_map (λ v. v.items) o
+        ≡ repair_of_kind name.now text.now at (map method_value methods.now)
+        (declared_here all.now)) }
+{
+    let before = before(text, at);
+    let method = callee(before, methods);
+    let seen = visible(name, at, all);
+    kind_repair(alloc, name, before, from(text, at), method, seen)
+}
+
 /// Beside a name that is used as what it isn't.
 #[tactic(auto, unfolding(crate::specs::Notes::kind_notes))]
 fn kind_notes(
@@ -349,14 +517,132 @@ fn kind_notes(
     name: &[u8],
     text: &[u8],
     at: usize,
+    methods: &[Method<'_>],
+    all: &[Declaration<'_>],
+) -> Result<Vec<Note>, AllocError>
+    ensures { IfOk result (λ notes. notes.items ≡ kind_notes name.now text.now at
+        (map method_value methods.now) (declared_here all.now)) }
+{
+    let same = namesakes(alloc, name, at, all)?;
+    let repair = repair_of_kind(alloc, name, text, at, methods, all)?;
+    repair_notes(alloc, repair, name, &same)
+}
+
+/// A clock that is handed on.
+#[tactic(auto, unfolding(crate::specs::Notes::hand_on_text))]
+fn hand_on_text(alloc: Global, name: &[u8]) -> Result<Vec<u8>, AllocError>
+    ensures { IfOk result (λ v. v.items ≡ hand_on_text name.now) }
+{
+    around_twice(alloc, "hand `", name, "` on: write `async clocked (", ")`")
+}
+
+/// A `var` that an `async` writes.
+#[tactic(auto, unfolding(crate::specs::Notes::share_text))]
+fn share_text(alloc: Global, name: &[u8]) -> Result<Vec<u8>, AllocError>
+    ensures { IfOk result (λ v. v.items ≡ share_text name.now) }
+{
+    around_twice(
+        alloc,
+        "an `async` doesn't write `",
+        name,
+        "`, which is a `var`: declare it as `shared ",
+        " = 0;` in front of the methods",
+    )
+}
+
+/// A `var` that it reads.
+#[tactic(auto, unfolding(crate::specs::Notes::keep_text))]
+fn keep_text(alloc: Global, name: &[u8]) -> Result<Vec<u8>, AllocError>
+    ensures { IfOk result (λ v. v.items ≡ keep_text name.now) }
+{
+    around_twice(
+        alloc,
+        "take a `val t = ",
+        name,
+        ";` before the `async`: a `var` as `",
+        "` isn't seen in it",
+    )
+}
+
+/// A `var`.
+fn var_text(alloc: Global, name: &[u8], rest: &[u8]) -> Result<Vec<u8>, AllocError>
+    ensures { IfOk result (λ v. v.items ≡ var_text name.now rest.now) }
+{
+    if is_assigned(name, rest) {
+        return share_text(alloc, name);
+    }
+    keep_text(alloc, name)
+}
+
+/// The repair of a name that is declared so, and that an `async` doesn't see.
+fn captured_by(
+    alloc: Global,
+    name: &[u8],
+    rest: &[u8],
+    role: Role,
+) -> Result<Option<Vec<u8>>, AllocError>
+    ensures { IfOk result
+        (λ o. option_map (λ v. v.items) o ≡ captured_by name.now rest.now role) }
+{
+    match role {
+        Role::Clock => Ok(Some(hand_on_text(alloc, name)?)),
+        Role::ClockParam => Ok(Some(hand_on_text(alloc, name)?)),
+        Role::Var => Ok(Some(var_text(alloc, name, rest)?)),
+        Role::Shared => Ok(None),
+        Role::Method(_) => Ok(None),
+        Role::NumberParam => Ok(None),
+        Role::Val => Ok(None),
+        Role::Loop => Ok(None),
+    }
+}
+
+/// The same, if the name is declared.
+fn capture_repair(
+    alloc: Global,
+    name: &[u8],
+    rest: &[u8],
+    d: Option<Declaration<'_>>,
+) -> Result<Option<Vec<u8>>, AllocError>
+    ensures { IfOk result (λ o. option_map (λ v. v.items) o
+        ≡ capture_repair name.now rest.now (option_map (λ d. declared d) d.entry)) }
+{
+    match d {
+        Some(d) => captured_by(alloc, name, rest, d.role),
+        None => Ok(None),
+    }
+}
+
+/// Beside a name that an `async` doesn't see.
+#[tactic(auto, unfolding(crate::specs::Notes::capture_notes))]
+fn capture_notes(
+    alloc: Global,
+    name: &[u8],
+    rest: &[u8],
+    at: usize,
     all: &[Declaration<'_>],
 ) -> Result<Vec<Note>, AllocError>
     ensures { IfOk result (λ notes. notes.items
-        ≡ kind_notes name.now text.now at (declared_here all.now)) }
+        ≡ capture_notes name.now rest.now at (declared_here all.now)) }
 {
     let same = namesakes(alloc, name, at, all)?;
-    let before = &text[..text.len().min(at)];
-    let repair = kind_repair(alloc, name, before, from(text, at), visible(name, at, all))?;
+    let repair = capture_repair(alloc, name, rest, visible(name, at, all))?;
+    repair_notes(alloc, repair, name, &same)
+}
+
+/// Beside a call with more or fewer arguments.
+#[tactic(auto, unfolding(crate::specs::Notes::count_notes))]
+fn count_notes(
+    alloc: Global,
+    name: &[u8],
+    at: usize,
+    methods: &[Method<'_>],
+    all: &[Declaration<'_>],
+) -> Result<Vec<Note>, AllocError>
+    ensures { IfOk result (λ notes. notes.items ≡ count_notes name.now at
+        (map method_value methods.now) (declared_here all.now)) }
+{
+    let same = namesakes(alloc, name, at, all)?;
+    let repair = count_repair(alloc, method_named(name, methods))?;
     repair_notes(alloc, repair, name, &same)
 }
 
@@ -394,17 +680,17 @@ pub fn front_notes(
     let all = declarations(alloc, tree)?;
     match rule {
         FrontRule::UnknownName => unknown_notes(alloc, name, from(text, at), at, &all),
-        FrontRule::WrongKind => kind_notes(alloc, name, text, at, &all),
+        FrontRule::WrongKind => kind_notes(alloc, name, text, at, &tree.methods, &all),
+        FrontRule::NotCaptured => capture_notes(alloc, name, from(text, at), at, &all),
+        FrontRule::Arity => count_notes(alloc, name, at, &tree.methods, &all),
         FrontRule::NoHiddenClock => lent_notes(alloc, tree, text, at),
         FrontRule::Token
         | FrontRule::Syntax
         | FrontRule::TooDeep
         | FrontRule::TooLong
         | FrontRule::DuplicateName
-        | FrontRule::NotCaptured
         | FrontRule::NoMain
         | FrontRule::Recursive
-        | FrontRule::Arity
         | FrontRule::SameClockTwice
         | FrontRule::Literal
         | FrontRule::Table => named_notes(alloc, rule, name, at, &all),

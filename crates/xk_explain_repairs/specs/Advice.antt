@@ -3,6 +3,8 @@ use Rattle.std.specs.Prelude.{ℕ, Bool, true, false, List, codes}
 use Rattle.xk_tree.specs.declared.fault.FrontRule.{FrontRule}
 use Rattle.xk_explain_repairs.specs.declared.advice.Advice.{Advice}
 use Rattle.xk_explain_repairs.specs.declared.advice.Advice.TheVariants as advice
+use Rattle.xk_explain_repairs.specs.declared.advice.Reserved.{Reserved}
+use Rattle.xk_explain_repairs.specs.declared.advice.Reserved.TheVariants as reserved
 use Rattle.xk_explain_repairs.specs.Rules.{front_repair}
 
 -- nothing else is advised than what is usual
@@ -27,7 +29,8 @@ sign_text _ other = other
 
 -- of signs that aren't of ASCII, and of the text's end
 abbrev pub foreign_text : Advice → List ℕ → List ℕ
-foreign_text advice.ByteOrderMark other = codes "the text begins with a byte order mark, which isn't to be seen: save it as UTF-8 without one"
+foreign_text advice.ByteOrderMark other =
+    codes "the text begins with a byte order mark, which isn't to be seen: save it as UTF-8 without one"
 foreign_text advice.TypographicQuote other = codes "a typographic quote, and there are no texts: print a number"
 foreign_text advice.NoBreakSpace other = codes "a no-break space is here, which looks like a blank: write a blank"
 foreign_text advice.Dash other = codes "this is a dash: write `-`"
@@ -37,7 +40,7 @@ foreign_text advice.TextEnds other = codes "the text ends too early: look for a 
 foreign_text advice.NothingBack other = codes "a method gives nothing back: write to a shared number, and put an `if` around the rest"
 foreign_text advice.LoopGoesOn other = codes "a loop goes on to its end: put an `if` around the rest of a turn"
 foreign_text advice.Declaration other = codes "write `val n = 5;`, or `var` where it changes; a parameter is `n: Long`"
-foreign_text advice.NoObjects other = codes "there are no objects: a clock is `val c = Clock.make();`, and an array a shared number for each cell"
+foreign_text advice.NoObjects other = codes "there are no objects: a clock is `val c = Clock.make();`, an activity `async work();`, and an array a shared number for each cell"
 foreign_text advice.Loop other = codes "write a `for`: how often something is done, at most, has to be known beforehand"
 foreign_text _ other = other
 
@@ -63,7 +66,8 @@ there_text advice.NoValue other = codes "a method gives nothing back: call it by
 there_text advice.Program other = codes "a program is `shared` numbers and methods: begin with `def main() {`"
 there_text advice.SharedNumber other = codes "write `shared s = 0;`, with a number, in front of the methods"
 there_text advice.MethodsBeside other = codes "methods stand beside each other: look for a `}` that is missing before it"
-there_text advice.ElseBehind other = codes "an `else` stands behind the one statement of its `if`: look for a `;` too many, or a `{` that is missing"
+there_text advice.ElseBehind other =
+    codes "an `else` stands behind the one statement of its `if`: look for a `;` too many, or a `{` that is missing"
 there_text advice.AdvanceAll other = codes "write `Clock.advanceAll();`: it waits for all clocks of the activity"
 there_text advice.MadeOrTaken other = codes "write `val c = Clock.make();` where a clock is made, and `c: Clock` where one is taken"
 there_text advice.DropByName other = codes "a clock is dropped by its name, `c.drop();`; that of a `clocked finish` is dropped at its end"
@@ -93,13 +97,65 @@ name_text advice.NamedClock other = codes "of a clock write `c.resume();` or `c.
 name_text advice.Types other = codes "a type is `Long`, a number, or `Clock`"
 name_text advice.Parentheses other = codes "a method is called with parentheses: write `work();`"
 name_text advice.NoTruth other = codes "there are no truth values: write the number 1 or 0"
-name_text advice.ClockBinding other = codes "a clock is a `val` that is made there, `val c = Clock.make();`, and isn't copied; all else is `Long`"
+name_text advice.ClockBinding other =
+    codes "a clock is a `val` that is made there, `val c = Clock.make();`, and isn't copied; all else is `Long`"
 name_text advice.SharedAtomic other = codes "an `atomic` adds to a shared number alone: declare it `shared n = 0;` in front of the methods"
 name_text advice.SameTwice other = codes "an `atomic` adds to the number that it writes, as `atomic n = n + 1;`"
-name_text advice.Variable other = codes "a `var` and a shared number alone are assigned to: write `var n` where it is declared"
 name_text _ other = other
+
+-- of what other languages have
+abbrev pub habit_text : Advice → List ℕ → List ℕ
+habit_text advice.Parallel other =
+    codes "there are no pragmas: start activities by `finish for (i in 1..4) async { .. }`, and write a barrier as `Clock.advanceAll();`"
+habit_text advice.NoAnnotations other = codes "there are no annotations: take it away"
+habit_text advice.Returns other = codes "a method ends at its `}`: take the `return` away, or put an `if` around the rest"
+habit_text advice.EndFirst other = codes "to wait until activities have ended, put a `finish { .. }` around them"
+habit_text advice.StartActivity other = codes "start an activity by `async work();`"
+habit_text advice.NoThen other = codes "there is no `then`: write `if (a == 1) b = 2;`"
+habit_text advice.NothingDone other = codes "a statement that does nothing is `;`"
+habit_text advice.NoExceptions other = codes "there are no exceptions: leave `try`, `catch`, `finally` and `throw` away"
+habit_text advice.OnePlace other = codes "there is one place: leave `at (..)` away"
+habit_text advice.NoShift other = codes "there are no shifts: multiply, as in `2 * n`"
+habit_text _ other = other
+
+-- of signs, and of parts of a statement
+abbrev pub part_text : Advice → List ℕ → List ℕ
+part_text advice.OtherBlank other = codes "a blank of another width is here: write a blank"
+part_text advice.NoWidth other = codes "a sign without any width is here, which isn't to be seen: take it away"
+part_text advice.ComparisonSign other = codes "write `<=`, `>=` or `!=`"
+part_text advice.MultiplicationSign other = codes "write `*`"
+part_text advice.TwoPoints other = codes "write two points, `..`"
+part_text advice.NotEqual other = codes "write `!=`"
+part_text advice.OrderSign other = codes "write `<=` or `>=`"
+part_text advice.Parameter other = codes "a parameter is `n: Long`, and one that takes a clock is `c: Clock`"
+part_text advice.OneEach other = codes "write each on its own, with a `;` behind it, as in `val a = 1; val b = 2;`"
+part_text advice.NoComparison other = codes "a comparison stands in an `if` alone: `var b = 0; if (a == 1) b = 1;`"
+part_text advice.FirstValue other = codes "a `val` and a `var` begin with a value: write `var n = 0;`"
+part_text advice.MissingValue other = codes "a number or a name is missing before it"
+part_text advice.PlainWrite other = codes "an `atomic` adds, as `atomic n = n + 5;`; to write a number is one step without it, `n = 5;`"
+part_text advice.ClosesNothing other = codes "take this `}` away: no `{` is open"
+part_text _ other = other
+
+-- the word that may be meant
+abbrev pub meant_text : Reserved → List ℕ
+meant_text reserved.Async = codes "perhaps `async` is meant"
+meant_text reserved.Atomic = codes "perhaps `atomic` is meant"
+meant_text reserved.Clocked = codes "perhaps `clocked` is meant"
+meant_text reserved.Def = codes "perhaps `def` is meant"
+meant_text reserved.Else = codes "perhaps `else` is meant"
+meant_text reserved.Finish = codes "perhaps `finish` is meant"
+meant_text reserved.For = codes "perhaps `for` is meant"
+meant_text reserved.If = codes "perhaps `if` is meant"
+meant_text reserved.Shared = codes "perhaps `shared` is meant"
+meant_text reserved.Val = codes "perhaps `val` is meant"
+meant_text reserved.Var = codes "perhaps `var` is meant"
+
+abbrev pub near_text : Advice → List ℕ → List ℕ
+near_text (advice.Meant word) other = meant_text word
+near_text _ other = other
 
 -- the words of an advice on a fault of this rule
 abbrev pub advice_text : Advice → FrontRule → List ℕ
 advice_text a r =
-    sign_text a (foreign_text a (behind_text a (there_text a (statement_text a (name_text a (front_repair r))))))
+    sign_text a (foreign_text a (behind_text a (there_text a (statement_text a (name_text a
+    (habit_text a (part_text a (near_text a (front_repair r)))))))))

@@ -1,10 +1,38 @@
 //! What is advised where a text has a fault, by what stands there.
 
 ghost use Rattle.std.specs.Prelude.{◌≡◌};
-ghost use Rattle.xk_explain_repairs.specs.Advice.{advice_text, behind_text, foreign_text, is_usual, name_text, sign_text, statement_text, there_text};
+ghost use Rattle.xk_explain_repairs.specs.Advice.{advice_text, behind_text, foreign_text, habit_text, is_usual, meant_text, name_text};
+ghost use Rattle.xk_explain_repairs.specs.Advice.{near_text, part_text, sign_text, statement_text, there_text};
 
 use crate::rules::front_repair;
 use xk_tree::FrontRule;
+
+/// A word that a statement begins with, or a part of one.
+#[derive(Clone, Copy, Debug)]
+pub enum Reserved {
+    /// `async`.
+    Async,
+    /// `atomic`.
+    Atomic,
+    /// `clocked`.
+    Clocked,
+    /// `def`.
+    Def,
+    /// `else`.
+    Else,
+    /// `finish`.
+    Finish,
+    /// `for`.
+    For,
+    /// `if`.
+    If,
+    /// `shared`.
+    Shared,
+    /// `val`.
+    Val,
+    /// `var`.
+    Var,
+}
 
 /// What is advised: the usual repair of the rule, or one for what stands at the fault.
 #[derive(Clone, Copy, Debug)]
@@ -139,8 +167,56 @@ pub enum Advice {
     SharedAtomic,
     /// The second name of an `atomic`.
     SameTwice,
-    /// What is assigned to.
-    Variable,
+    /// What is said to a compiler elsewhere.
+    Parallel,
+    /// An annotation.
+    NoAnnotations,
+    /// A `return` without a value.
+    Returns,
+    /// Waiting for the end of an activity.
+    EndFirst,
+    /// An activity that is started.
+    StartActivity,
+    /// A `then`.
+    NoThen,
+    /// A statement that does nothing.
+    NothingDone,
+    /// An exception.
+    NoExceptions,
+    /// Another place.
+    OnePlace,
+    /// A shift.
+    NoShift,
+    /// Another blank.
+    OtherBlank,
+    /// A sign that isn't to be seen.
+    NoWidth,
+    /// A sign for a comparison.
+    ComparisonSign,
+    /// A sign for a product.
+    MultiplicationSign,
+    /// Three points in one sign.
+    TwoPoints,
+    /// Another sign for `!=`.
+    NotEqual,
+    /// Another sign for `<=` or `>=`.
+    OrderSign,
+    /// A parameter.
+    Parameter,
+    /// A list of statements.
+    OneEach,
+    /// A comparison elsewhere than in an `if`.
+    NoComparison,
+    /// A value that is missing.
+    FirstValue,
+    /// A value that is missing before something else.
+    MissingValue,
+    /// A number that an `atomic` writes.
+    PlainWrite,
+    /// A `}` too many.
+    ClosesNothing,
+    /// A word of the language that is near one that stands there.
+    Meant(Reserved),
 }
 
 /// Whether nothing else is advised than what is usual.
@@ -197,7 +273,7 @@ fn foreign_text(advice: Advice, other: &'static str) -> &'static str
         Advice::Declaration =>
             "write `val n = 5;`, or `var` where it changes; a parameter is `n: Long`",
         Advice::NoObjects =>
-            "there are no objects: a clock is `val c = Clock.make();`, and an array a shared number for each cell",
+            "there are no objects: a clock is `val c = Clock.make();`, an activity `async work();`, and an array a shared number for each cell",
         Advice::Loop =>
             "write a `for`: how often something is done, at most, has to be known beforehand",
         _ => other,
@@ -297,8 +373,84 @@ fn name_text(advice: Advice, other: &'static str) -> &'static str
             "an `atomic` adds to a shared number alone: declare it `shared n = 0;` in front of the methods",
         Advice::SameTwice =>
             "an `atomic` adds to the number that it writes, as `atomic n = n + 1;`",
-        Advice::Variable =>
-            "a `var` and a shared number alone are assigned to: write `var n` where it is declared",
+        _ => other,
+    }
+}
+
+/// Those of what other languages have.
+fn habit_text(advice: Advice, other: &'static str) -> &'static str
+    ensures { result.now ≡ habit_text advice other.now }
+{
+    match advice {
+        Advice::Parallel =>
+            "there are no pragmas: start activities by `finish for (i in 1..4) async { .. }`, and write a barrier as `Clock.advanceAll();`",
+        Advice::NoAnnotations => "there are no annotations: take it away",
+        Advice::Returns =>
+            "a method ends at its `}`: take the `return` away, or put an `if` around the rest",
+        Advice::EndFirst =>
+            "to wait until activities have ended, put a `finish { .. }` around them",
+        Advice::StartActivity => "start an activity by `async work();`",
+        Advice::NoThen => "there is no `then`: write `if (a == 1) b = 2;`",
+        Advice::NothingDone => "a statement that does nothing is `;`",
+        Advice::NoExceptions =>
+            "there are no exceptions: leave `try`, `catch`, `finally` and `throw` away",
+        Advice::OnePlace => "there is one place: leave `at (..)` away",
+        Advice::NoShift => "there are no shifts: multiply, as in `2 * n`",
+        _ => other,
+    }
+}
+
+/// Those of signs, and of parts of a statement.
+fn part_text(advice: Advice, other: &'static str) -> &'static str
+    ensures { result.now ≡ part_text advice other.now }
+{
+    match advice {
+        Advice::OtherBlank => "a blank of another width is here: write a blank",
+        Advice::NoWidth => "a sign without any width is here, which isn't to be seen: take it away",
+        Advice::ComparisonSign => "write `<=`, `>=` or `!=`",
+        Advice::MultiplicationSign => "write `*`",
+        Advice::TwoPoints => "write two points, `..`",
+        Advice::NotEqual => "write `!=`",
+        Advice::OrderSign => "write `<=` or `>=`",
+        Advice::Parameter => "a parameter is `n: Long`, and one that takes a clock is `c: Clock`",
+        Advice::OneEach =>
+            "write each on its own, with a `;` behind it, as in `val a = 1; val b = 2;`",
+        Advice::NoComparison =>
+            "a comparison stands in an `if` alone: `var b = 0; if (a == 1) b = 1;`",
+        Advice::FirstValue => "a `val` and a `var` begin with a value: write `var n = 0;`",
+        Advice::MissingValue => "a number or a name is missing before it",
+        Advice::PlainWrite =>
+            "an `atomic` adds, as `atomic n = n + 5;`; to write a number is one step without it, `n = 5;`",
+        Advice::ClosesNothing => "take this `}` away: no `{` is open",
+        _ => other,
+    }
+}
+
+/// The word that may be meant.
+fn meant_text(word: Reserved) -> &'static str
+    ensures { result.now ≡ meant_text word }
+{
+    match word {
+        Reserved::Async => "perhaps `async` is meant",
+        Reserved::Atomic => "perhaps `atomic` is meant",
+        Reserved::Clocked => "perhaps `clocked` is meant",
+        Reserved::Def => "perhaps `def` is meant",
+        Reserved::Else => "perhaps `else` is meant",
+        Reserved::Finish => "perhaps `finish` is meant",
+        Reserved::For => "perhaps `for` is meant",
+        Reserved::If => "perhaps `if` is meant",
+        Reserved::Shared => "perhaps `shared` is meant",
+        Reserved::Val => "perhaps `val` is meant",
+        Reserved::Var => "perhaps `var` is meant",
+    }
+}
+
+/// The same, if one is.
+fn near_text(advice: Advice, other: &'static str) -> &'static str
+    ensures { result.now ≡ near_text advice other.now }
+{
+    match advice {
+        Advice::Meant(word) => meant_text(word),
         _ => other,
     }
 }
@@ -307,7 +459,9 @@ fn name_text(advice: Advice, other: &'static str) -> &'static str
 pub fn advice_text(advice: Advice, rule: FrontRule) -> &'static str
     ensures { result.now ≡ advice_text advice rule }
 {
-    let other = name_text(advice, front_repair(rule));
+    let other = near_text(advice, front_repair(rule));
+    let other = habit_text(advice, part_text(advice, other));
+    let other = name_text(advice, other);
     let other = there_text(advice, statement_text(advice, other));
     sign_text(advice, foreign_text(advice, behind_text(advice, other)))
 }

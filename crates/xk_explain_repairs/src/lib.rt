@@ -2,14 +2,12 @@
 #![tactic(auto)]
 
 mod advice;
-mod comments;
-mod heads;
+mod further;
 mod repairs;
 mod rules;
-mod words;
+mod syntax;
+mod tokens;
 
-pub use advice::{Advice, advice_text, is_usual};
-pub use comments::{from_sign, to_sign};
-pub use repairs::advice_at;
+pub use advice::{Advice, Reserved, advice_text, is_usual};
+pub use repairs::{advice_at, further_advice_at};
 pub use rules::front_repair;
-pub use words::{begins, first_word, is_word_byte, last_word};

@@ -1,6 +1,7 @@
 -- The words of hints. This project's own.
 use Rattle.std.specs.Prelude.{ℕ, List, ◌++◌, map, codes}
 use Rattle.xk_tree.specs.Tree.{TreeValue}
+use Rattle.xk_explain_words.specs.Names.{told_name}
 use Rattle.xk_hints.specs.declared.remark.Matter.{Matter}
 use Rattle.xk_hints.specs.declared.remark.Matter.TheVariants as matter
 use Rattle.xk_hints.specs.Hints.{RemarkValue, remarks}
@@ -29,7 +30,7 @@ closing matter.Unjoined = codes "` is given to no activity and to no method: nob
 closing _ = codes ""
 
 unfoldable pub words : RemarkValue → List ℕ
-words r = (opening r.matter ++ r.name.text) ++ closing r.matter
+words r = (opening r.matter ++ told_name r.name.text) ++ closing r.matter
 
 abbrev pub hint : RemarkValue → HintValue
 hint r = record { at = r.name.at; text = words r }

@@ -9,6 +9,7 @@ use crate::remark::{Matter, Remark};
 use crate::remarks::remarks;
 use std::alloc::{AllocError, Global};
 use std::marker::Model;
+use xk_explain_words::push_name;
 use xk_tree::Tree;
 
 /// What is so in a program, and is seldom meant, with its place in the text.
@@ -78,14 +79,14 @@ fn push_text(out: &mut Vec<u8>, text: &str) -> Result<(), AllocError>
     out.extend_from_slice(text.as_bytes())
 }
 
-/// The words of a remark.
+/// The words of a remark, with no more than 60 letters of its name.
 #[tactic(auto, unfolding(crate::specs::Words::words))]
 fn words(alloc: Global, remark: Remark<'_>) -> Result<Vec<u8>, AllocError>
     ensures { IfOk result (λ v. v.items ≡ words (remark_value remark.entry)) }
 {
     let mut out = Vec::new(alloc);
     push_text(&mut out, opening(remark.matter))?;
-    out.extend_from_slice(remark.name.text)?;
+    push_name(&mut out, remark.name.text)?;
     push_text(&mut out, closing(remark.matter))?;
     Ok(out)
 }

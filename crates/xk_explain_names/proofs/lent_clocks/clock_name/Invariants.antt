@@ -1,7 +1,7 @@
 use Rattle.std.proofs.Common.{◌≡◌, drop}
 use Rattle.std.specs.Prelude.{codes}
 use Rattle.std.specs.List.{list_any}
-use Rattle.xk_explain_names.specs.Declarations.{declared_here}
+use Rattle.xk_explain_kinds.specs.Declarations.{declared_here}
 use Rattle.xk_explain_names.specs.LentClocks.{is_named}
 use Rattle.xk_explain_names.proofs.lent_clocks.clock_name.Given as goal
 

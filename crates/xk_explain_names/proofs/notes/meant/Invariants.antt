@@ -1,6 +1,6 @@
 use Rattle.std.proofs.Common.{◌≡◌, drop, None, option_map}
-use Rattle.xk_explain_names.specs.Declarations.{declared, declared_here}
-use Rattle.xk_explain_names.specs.Kinds.{last_of}
+use Rattle.xk_explain_kinds.specs.Declarations.{declared, declared_here}
+use Rattle.xk_explain_kinds.specs.Kinds.{last_of}
 use Rattle.xk_explain_names.specs.Notes.{is_meant}
 use Rattle.xk_explain_names.proofs.notes.meant.Given as goal
 

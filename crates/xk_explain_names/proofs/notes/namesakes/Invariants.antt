@@ -1,5 +1,5 @@
 use Rattle.std.proofs.Common.{◌≡◌, ◌++◌, drop}
-use Rattle.xk_explain_names.specs.Declarations.{declared_here}
+use Rattle.xk_explain_kinds.specs.Declarations.{declared_here}
 use Rattle.xk_explain_names.specs.Notes.{namesakes}
 use Rattle.xk_explain_names.proofs.notes.namesakes.Given as goal
 

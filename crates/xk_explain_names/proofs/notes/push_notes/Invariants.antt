@@ -1,5 +1,5 @@
 use Rattle.std.proofs.Common.{◌≡◌, ◌++◌, drop, map, option_map}
-use Rattle.xk_explain_names.specs.Declarations.{declared_here}
+use Rattle.xk_explain_kinds.specs.Declarations.{declared_here}
 use Rattle.xk_explain_names.specs.Notes.{note_of}
 use Rattle.xk_explain_names.proofs.notes.push_notes.Given as goal
 

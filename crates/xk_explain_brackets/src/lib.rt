@@ -1,0 +1,6 @@
+//! Brackets that are open at a place of a text.
+#![tactic(auto)]
+
+mod brackets;
+
+pub use brackets::{closes_nothing, push_bracket};

@@ -1,0 +1,3 @@
+def main() {
+    finsh { async Console.OUT.println(1); }
+}

@@ -1,0 +1,7 @@
+def work(n: Long) {
+    n = n + 1;
+}
+
+def main() {
+    work(1);
+}

@@ -1,0 +1,4 @@
+def main() {
+    val a = 1;
+    Console.OUT.println(a));
+}
