@@ -34,7 +34,7 @@ MOST = {
     "pub": 82,
     "clauses": 0,
     "code": 254,
-    "proofs": 6699,
+    "proofs": 6689,
     "docs": 71,
     "scripts": 0,
     "files": 0,
