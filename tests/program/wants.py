@@ -87,14 +87,14 @@ def to_chart(advances: int) -> int:
 
 
 def to_events(steps: int) -> int:
-    """Four times the text, of which a line has some 40 bytes here."""
-    return 4 * 40 * steps
+    """Four times the text, of which a line has some 40 bytes here, and what the steps of a source text were about."""
+    return (4 * 40 + 90) * steps
 
 
 def to_lanes(steps: int) -> int:
-    """Twice the text, of which a row has some 28 bytes here, and the lists of the steps that others see and of those
-    that are drawn."""
-    return (2 * 28 + 128) * steps
+    """Twice the text, of which a row has some 28 bytes here, the lists of the steps that others see and of those that
+    are drawn, and what the steps of a source text were about."""
+    return (2 * 28 + 128 + 90) * steps
 
 
 def to_list(text: str) -> int:

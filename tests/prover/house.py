@@ -34,7 +34,7 @@ MOST = {
     "pub": 82,
     "clauses": 0,
     "code": 240,
-    "proofs": 6686,
+    "proofs": 6689,
     "docs": 83,
     "scripts": 0,
     "files": 0,

@@ -1,4 +1,5 @@
-"""The reference for `events`: a line for each step of a logged run that others see."""
+"""The reference for `events` of a module, and for the lines of a page: a line for each step of a logged run that others
+see. Those of a source text have names and values (tests/reference/naming.py)."""
 
 from __future__ import annotations
 

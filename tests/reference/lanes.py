@@ -3,10 +3,13 @@ for each clock that advances."""
 
 from __future__ import annotations
 
+from collections.abc import Callable
+
 from tests.reference import events, modules
 from tests.reference.events import Program
 from tests.reference.logs import Advance, Played, Taken
 from tests.reference.modules import Module, Status, World
+from tests.reference.naming import Naming
 
 NUMBER, GAP = 6, 2
 MOST_LANES, NARROWEST = 64, 8
@@ -16,13 +19,26 @@ Window = range
 WHOLE = range(1 << 64)
 
 
-class Grid:
-    """The widths of the columns, and how many lanes there are."""
+def clock_number(clock: int) -> str:
+    return f"clock {clock}"
 
-    def __init__(self, program: Program, played: Played, window: Window) -> None:
+
+class Grid:
+    """The widths of the columns, and how many lanes there are, where steps and clocks are told so."""
+
+    def __init__(
+        self,
+        program: Program,
+        played: Played,
+        window: Window,
+        words: Callable[[Taken], str] = events.words,
+        clock: Callable[[int], str] = clock_number,
+    ) -> None:
         seen = asked(played, window)
+        self.words = words
+        self.clock = clock
         self.place = GAP + max(len("at"), *(len(spot(program, taken)) for taken in seen), 0)
-        self.lane = max(NARROWEST, GAP + max((len(events.words(taken)) for taken in seen), default=0))
+        self.lane = max(NARROWEST, GAP + max((len(words(taken)) for taken in seen), default=0))
         self.lanes = range(min(MOST_LANES, len(played.world.activities)))
         self.left_out = len(played.world.activities) - len(self.lanes)
 
@@ -39,7 +55,7 @@ class Grid:
             signs[at] = "="
         for lane in marked:
             signs[self.lane * lane] = "+"
-        label = f"clock {advance.clock} phase {advance.phase} by {who}"
+        label = f"{self.clock(advance.clock)} phase {advance.phase} by {who}"
         return " " * (NUMBER + GAP + self.place) + "".join(signs) + label + "\n"
 
 
@@ -68,7 +84,7 @@ def mark(module: Module, world: World, who: int) -> str:
 def rows(program: Program, played: Played, grid: Grid, taken: Taken) -> str:
     """The row of a step that others see, and its bars. One who has no lane stands behind all lanes."""
     others = [mark(played.module, taken.step.world, lane) for lane in grid.lanes]
-    words = events.words(taken)
+    words = grid.words(taken)
     cells = [words if lane == taken.who else other for lane, other in zip(grid.lanes, others, strict=True)]
     behind = "" if taken.who in grid.lanes else f"{title(taken.who)} {words}"
     bars = [grid.bar(taken.who, advance) for advance in taken.advances]
@@ -77,7 +93,9 @@ def rows(program: Program, played: Played, grid: Grid, taken: Taken) -> str:
 
 def drawing(program: Program, played: Played, window: Window = WHOLE) -> tuple[str, bool]:
     """The lanes of the steps that are asked for, and whether each activity has one."""
-    grid = Grid(program, played, window)
+    naming = None if program.is_module else Naming(program, played)
+    told = (naming.words, naming.clocks.__getitem__) if naming else (events.words, clock_number)
+    grid = Grid(program, played, window, *told)
     titles = [title(lane) for lane in grid.lanes]
     drawn = "".join(rows(program, played, grid, taken) for taken in asked(played, window))
     rest = f"lanes left out: {grid.left_out}\n" if grid.left_out else ""

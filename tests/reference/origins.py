@@ -15,9 +15,11 @@ CLOSERS = ("next", "endfinish")
 
 @dataclass
 class Origins:
-    """Of a unit: its word or name, where it stands, where each instruction comes from, and the names of slots."""
+    """Of a unit: its word or name, the name of the method that it is in, where it stands, where each instruction comes
+    from, and the names of slots."""
 
     name: str | None
+    method: str
     at: int
     offsets: list[int]
     slots: dict[int, str]
@@ -117,8 +119,14 @@ def origins(data: bytes) -> list[Origins]:
     for unit in source.in_order(names, coders):
         made = coders[unit]
         offsets = [made.offsets[at] for at in range(len(made.code))]
-        told.append(Origins(method_names.get(id(unit)), unit.at, offsets, slot_names(data, names, unit)))
+        name, method = method_names.get(id(unit)), method_names[id(outermost(unit))]
+        told.append(Origins(name, method, unit.at, offsets, slot_names(data, names, unit)))
     return told
+
+
+def outermost(unit: UnitForm) -> UnitForm:
+    """The method that a unit is in, or is."""
+    return outermost(unit.around) if unit.around else unit
 
 
 @lru_cache(maxsize=4)

@@ -12,7 +12,7 @@ import pathlib
 import sys
 from functools import partial
 
-from tests.reference import events, lanes, logs, modules, page, picture, races, source, where
+from tests.reference import lanes, logs, modules, naming, page, picture, races, source, where
 from tests.reference.events import Program
 from tests.reference.lanes import WHOLE
 from tests.reference.logs import Answer, Played, Teller
@@ -34,7 +34,7 @@ def teller(command: str, data: bytes, is_module: bool, window: range = WHOLE, is
     if command in ("lanes", "page"):
         draw = page.drawing if command == "page" else picture.drawing if is_picture else lanes.drawing
         return lambda played: draw(Program(data, is_module), played, window)
-    of_program = {"events": events.events, "races": races_of}
+    of_program = {"events": naming.text, "races": races_of}
     if command in of_program:
         return partial(of_program[command], Program(data, is_module))
     return {"replay": Played.output, "chart": Played.chart}[command]

@@ -1,6 +1,6 @@
 -- Runs in an order, as the run of a chooser gives them.
 use Rattle.std.proofs.Common.{◌≡◌, ◌∙◌, ℕ, ℤ, Bool, Global, Vec, List, Option, None, Some, false, true, ap, refl, subst}
-use Rattle.std.specs.Prelude.{option_map, unwrap_or}
+use Rattle.std.specs.Prelude.{map, option_map, unwrap_or}
 use Rattle.xk_types.specs.declared.world.Entry.{Entry}
 use Rattle.xk_types.specs.Acceptance.{IsAccepted}
 use Rattle.xk_types.specs.Code.{ModuleValue}
@@ -85,15 +85,24 @@ worked_run m n args log numbers c steps same given run over counted =
       steps_are = counted;
     }
 
--- what is told by the origins of the bytes is a picture
+-- what is told by the origins and names of the bytes is a picture
 pub is_picture : (p : Picture) (kind : Form) (bytes : List ℕ) (from : Provenance) (m : ModuleValue) (args : List ℤ) (es : List Entry) (last : World) (told : Tale)
-    → IsFrom (shows_origins p) kind bytes from → told ≡ picture_told p from.text.now m args es last from.origins → IsPicture p kind bytes m args es last told
+    → IsFrom (shows_origins p) kind bytes from
+    → told ≡ picture_told p from.text.now (map (λ x. x.now) from.shared.items) m args es last from.origins
+    → IsPicture p kind bytes m args es last told
 is_picture picture.Chart kind bytes from m args es last told is h = h
-is_picture picture.Events kind bytes from m args es last told is h = (from.origins, is.1 refl, h ∙ ap (λ t. events_told t m args es from.origins) is.0)
-is_picture (picture.Lanes window) kind bytes from m args es last told is h = (from.origins, is.1 refl, h ∙ ap (λ t. lanes_told t window m es last from.origins) is.0)
-is_picture (picture.Image window) kind bytes from m args es last told is h = (from.origins, is.1 refl, h ∙ ap (λ t. image_told t window m es last from.origins) is.0)
-is_picture (picture.Page window) kind bytes from m args es last told is h = (from.origins, is.1 refl, h ∙ ap (λ t. page_told t window m es last from.origins) is.0)
-is_picture picture.Races kind bytes from m args es last told is h = (from.origins, is.1 refl, h ∙ ap (λ t. races_told t m args es from.origins) is.0)
+is_picture picture.Events kind bytes from m args es last told is h =
+    let shared = map (λ x. x.now) from.shared.items in
+    (shared, (is.1 refl).1, (from.origins, (is.1 refl).0, h ∙ ap (λ t. events_told t m args es shared from.origins) is.0))
+is_picture (picture.Lanes window) kind bytes from m args es last told is h =
+    let shared = map (λ x. x.now) from.shared.items in
+    (shared, (is.1 refl).1, (from.origins, (is.1 refl).0, h ∙ ap (λ t. lanes_told t window m es last shared from.origins) is.0))
+is_picture (picture.Image window) kind bytes from m args es last told is h =
+    (from.origins, (is.1 refl).0, h ∙ ap (λ t. image_told t window m es last from.origins) is.0)
+is_picture (picture.Page window) kind bytes from m args es last told is h =
+    (from.origins, (is.1 refl).0, h ∙ ap (λ t. page_told t window m es last from.origins) is.0)
+is_picture picture.Races kind bytes from m args es last told is h =
+    (from.origins, (is.1 refl).0, h ∙ ap (λ t. races_told t m args es from.origins) is.0)
 
 -- the log of such a run is that of a whole run, and its picture is told of it
 pub pictured : (p : Picture) (kind : Form) (file bytes : List ℕ) (n m : ModuleValue) (args : List ℤ) (log : List Entry) (logged : List ℕ) (told : Tale) (c : CoreValue) {numbers : List ℤ}

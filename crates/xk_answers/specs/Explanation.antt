@@ -22,7 +22,9 @@ use Rattle.xk_explain_bounds.specs.Notes.{accepted_notes, module_notes, refusal_
 use Rattle.xk_hints.specs.Words.{HintValue, hints}
 use Rattle.xk_listing.specs.Listing.{IsListing}
 use Rattle.xk_show_events.specs.Events.{PlacesValue, events_text, no_text}
+use Rattle.xk_show_names.specs.Events.{named_events_text}
 use Rattle.xk_show_lanes.specs.Lanes.{are_lanes_whole, lanes_text}
+use Rattle.xk_show_lanes.specs.NamedLanes.{named_lanes_text}
 use Rattle.xk_show_lanes.specs.declared.window.Window.{Window}
 use Rattle.xk_show_picture.specs.Picture.{is_drawn, picture_text}
 use Rattle.xk_show_page.specs.Page.{page_text}
@@ -139,13 +141,21 @@ abbrev pub places_in : List ℕ → Option (List UnitOrigins) → PlacesValue
 places_in text None = no_text
 places_in text (Some origins) = record { text = text; origins = origins }
 
--- what others see of the run of a log
-abbrev pub events_told : List ℕ → ModuleValue → List ℤ → List Entry → Option (List UnitOrigins) → Tale
-events_told text m args log origins = all_told (events_text (places_in text origins) m args log)
+-- what others see of the run of a log; of a source text by names, where its shared numbers have these, and with values
+abbrev pub events_of : List ℕ → List (List ℕ) → ModuleValue → List ℤ → List Entry → Option (List UnitOrigins) → List ℕ
+events_of text shared m args log None = events_text no_text m args log
+events_of text shared m args log (Some origins) = named_events_text (places_in text (Some origins)) shared m args log
+
+abbrev pub events_told : List ℕ → ModuleValue → List ℤ → List Entry → List (List ℕ) → Option (List UnitOrigins) → Tale
+events_told text m args log shared origins = all_told (events_of text shared m args log origins)
 
 -- the same, with a lane for each activity, of the steps in this window; the run ends in this world
-abbrev pub lanes_told : List ℕ → Window → ModuleValue → List Entry → World → Option (List UnitOrigins) → Tale
-lanes_told text window m log last origins = (lanes_text (places_in text origins) window m log last, are_lanes_whole last)
+abbrev pub lanes_of : List ℕ → List (List ℕ) → Window → ModuleValue → List Entry → World → Option (List UnitOrigins) → List ℕ
+lanes_of text shared window m log last None = lanes_text no_text window m log last
+lanes_of text shared window m log last (Some origins) = named_lanes_text (places_in text (Some origins)) shared window m log last
+
+abbrev pub lanes_told : List ℕ → Window → ModuleValue → List Entry → World → List (List ℕ) → Option (List UnitOrigins) → Tale
+lanes_told text window m log last shared origins = (lanes_of text shared window m log last origins, are_lanes_whole last)
 
 -- the same as an image
 abbrev pub image_told : List ℕ → Window → ModuleValue → List Entry → World → Option (List UnitOrigins) → Tale

@@ -31,7 +31,7 @@ use Rattle.xk_outcomes.specs.Expected.{AreExpected}
 use Rattle.xk_random.specs.Runs.{IsTallyText}
 use Rattle.xk_replay.specs.Replay.{IsStoppedAt, IsUnfinished}
 use Rattle.xk_answers.specs.OrderedRun.{IsLoggedRun, IsOrderedRun, IsReplay, IsSomeRun, IsWholeRun}
-use Rattle.xk_program.specs.Origins.{IsByOrigins}
+use Rattle.xk_program.specs.Origins.{IsByNames, IsByOrigins}
 use Rattle.xk_hints.specs.Words.{HintValue}
 use Rattle.xk_answers.specs.Explanation.{HaveHints, IsProgramListed, Tale, acceptance_told, all_told, events_told, image_told, lanes_told, page_told, races_told, where_told}
 
@@ -140,12 +140,12 @@ ComesTo (Outcomes sets limit pick keeps) m args logged d = IsAccepted m × IsFou
 ComesTo (Expected sets limit) m args logged d = IsAccepted m × IsHeldOut m args sets (limit_of limit (activities_bound m)) logged d
 ComesTo _ m args logged _ = ⊥
 
--- What is told of a run of the module that the bytes give, by their lines where they are a source text: its chart, what others see of its steps, the
--- same with a lane for each activity, as a text, as an image or as a page, or its races.
+-- What is told of a run of the module that the bytes give, by their lines where they are a source text: its chart; by their names, too,
+-- what others see of its steps, and the same with a lane for each activity; that as an image or as a page, or its races.
 abbrev pub IsPicture : Picture → Form → List ℕ → ModuleValue → List ℤ → List Entry → World → Tale → Type 0
 IsPicture picture.Chart kind bytes m args es last told = told ≡ all_told (chart_text m args es)
-IsPicture picture.Events kind bytes m args es last told = IsByOrigins kind bytes (events_told bytes m args es) told
-IsPicture (picture.Lanes window) kind bytes m args es last told = IsByOrigins kind bytes (lanes_told bytes window m es last) told
+IsPicture picture.Events kind bytes m args es last told = IsByNames kind bytes (events_told bytes m args es) told
+IsPicture (picture.Lanes window) kind bytes m args es last told = IsByNames kind bytes (lanes_told bytes window m es last) told
 IsPicture (picture.Image window) kind bytes m args es last told = IsByOrigins kind bytes (image_told bytes window m es last) told
 IsPicture (picture.Page window) kind bytes m args es last told = IsByOrigins kind bytes (page_told bytes window m es last) told
 IsPicture picture.Races kind bytes m args es last told = IsByOrigins kind bytes (races_told bytes m args es) told
@@ -155,14 +155,14 @@ abbrev pub shows_origins : Picture → Bool
 shows_origins picture.Chart = false
 shows_origins _ = true
 
--- what is told, where the instructions have these origins in the text
-abbrev pub picture_told : Picture → List ℕ → ModuleValue → List ℤ → List Entry → World → Option (List UnitOrigins) → Tale
-picture_told picture.Chart bytes m args es last origins = all_told (chart_text m args es)
-picture_told picture.Events bytes m args es last origins = events_told bytes m args es origins
-picture_told (picture.Lanes window) bytes m args es last origins = lanes_told bytes window m es last origins
-picture_told (picture.Image window) bytes m args es last origins = image_told bytes window m es last origins
-picture_told (picture.Page window) bytes m args es last origins = page_told bytes window m es last origins
-picture_told picture.Races bytes m args es last origins = races_told bytes m args es origins
+-- what is told, where the instructions have these origins in the text, and shared numbers these names
+abbrev pub picture_told : Picture → List ℕ → List (List ℕ) → ModuleValue → List ℤ → List Entry → World → Option (List UnitOrigins) → Tale
+picture_told picture.Chart bytes shared m args es last origins = all_told (chart_text m args es)
+picture_told picture.Events bytes shared m args es last origins = events_told bytes m args es shared origins
+picture_told (picture.Lanes window) bytes shared m args es last origins = lanes_told bytes window m es last shared origins
+picture_told (picture.Image window) bytes shared m args es last origins = image_told bytes window m es last origins
+picture_told (picture.Page window) bytes shared m args es last origins = page_told bytes window m es last origins
+picture_told picture.Races bytes shared m args es last origins = races_told bytes m args es origins
 
 -- Where things stand behind the steps of a log, or behind so many, is told by the lines of a source text. The log need not be that of a whole run.
 abbrev pub IsWhereabouts : Option ℕ → Form → List ℕ → ModuleValue → List ℤ → List ℕ → Tale → Type 0

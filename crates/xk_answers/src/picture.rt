@@ -1,6 +1,6 @@
 //! What is told of the run that a log has.
 
-ghost use Rattle.std.specs.Prelude.{◌≡◌, ◌≢◌, ℕ, List, true, IfOk, IfErr, OnOk};
+ghost use Rattle.std.specs.Prelude.{◌≡◌, ◌≢◌, ℕ, List, true, map, Some, IfOk, IfErr, OnOk};
 ghost use Rattle.xk_log.specs.SomeBytes.{OfSome};
 ghost use Rattle.xk_types.specs.Acceptance.{IsAccepted};
 ghost use Rattle.xk_types.specs.World.{AreArguments};
@@ -16,12 +16,14 @@ use crate::job_result::Done;
 use crate::replay::run_again;
 use std::alloc::{AllocError, Global};
 use xk_bounds::Verified;
+use xk_origins::UnitOrigins;
 use xk_program::{Fault, Program, Provenance, runnable};
 use xk_races::{module_races, source_races};
 use xk_replay::chart;
 use xk_scheduler::Ended;
-use xk_show_events::{module_events, source_events};
-use xk_show_lanes::{Window, module_lanes, source_lanes};
+use xk_show_events::module_events;
+use xk_show_lanes::{Window, lanes_with_names, module_lanes};
+use xk_show_names::named_events;
 use xk_show_page::{module_page, source_page};
 use xk_show_picture::{module_picture, source_picture};
 use xk_types::Source;
@@ -131,9 +133,9 @@ fn picture_of(
     ended: &Ended<'_>,
 ) -> Result<Tale, AllocError>
     ensures { IfOk result (λ tale. (tale.text.items, tale.whole)
-        ≡ picture_told picture from.now.text.now ended.now.module.now
-        ended.now.core.world.arguments ended.now.log.items ended.now.core.world
-        from.now.origins) }
+        ≡ picture_told picture from.now.text.now (map (λ x. x.now) from.now.shared.items)
+        ended.now.module.now ended.now.core.world.arguments ended.now.log.items
+        ended.now.core.world from.now.origins) }
 {
     match picture {
         Picture::Chart => Ok(Tale {
@@ -148,16 +150,35 @@ fn picture_of(
     }
 }
 
-/// What others see of its steps.
+/// What others see of its steps; of a source text by names, and with values.
 fn events_of(alloc: Global, from: &Provenance<'_>, ended: &Ended<'_>) -> Result<Tale, AllocError>
     ensures { IfOk result (λ tale. (tale.text.items, tale.whole)
         ≡ events_told from.now.text.now ended.now.module.now
-        ended.now.core.world.arguments ended.now.log.items from.now.origins) }
+        ended.now.core.world.arguments ended.now.log.items
+        (map (λ x. x.now) from.now.shared.items) from.now.origins) }
 {
-    let text = match &from.origins {
-        Some(origins) => source_events(alloc, from.text, origins.units(), ended)?,
-        None => module_events(alloc, ended)?,
-    };
+    match &from.origins {
+        Some(origins) => named_events_of(alloc, from, origins.units(), ended),
+        None => Ok(Tale {
+            text: module_events(alloc, ended)?.into_bytes(),
+            whole: true,
+        }),
+    }
+}
+
+/// The same of a source text whose units have these origins.
+fn named_events_of(
+    alloc: Global,
+    from: &Provenance<'_>,
+    units: &[UnitOrigins<'_>],
+    ended: &Ended<'_>,
+) -> Result<Tale, AllocError>
+    ensures { IfOk result (λ tale. (tale.text.items, tale.whole)
+        ≡ events_told from.now.text.now ended.now.module.now
+        ended.now.core.world.arguments ended.now.log.items
+        (map (λ x. x.now) from.now.shared.items) (Some units.now)) }
+{
+    let text = named_events(alloc, from.text, units, &from.shared, ended)?;
     Ok(Tale {
         text: text.into_bytes(),
         whole: true,
@@ -173,12 +194,33 @@ fn lanes_of(
 ) -> Result<Tale, AllocError>
     ensures { IfOk result (λ tale. (tale.text.items, tale.whole)
         ≡ lanes_told from.now.text.now window ended.now.module.now ended.now.log.items
-        ended.now.core.world from.now.origins) }
+        ended.now.core.world (map (λ x. x.now) from.now.shared.items) from.now.origins) }
 {
-    let drawing = match &from.origins {
-        Some(origins) => source_lanes(alloc, from.text, origins.units(), ended, window)?,
-        None => module_lanes(alloc, ended, window)?,
-    };
+    match &from.origins {
+        Some(origins) => named_lanes_of(alloc, from, origins.units(), ended, window),
+        None => {
+            let drawing = module_lanes(alloc, ended, window)?;
+            Ok(Tale {
+                text: drawing.text,
+                whole: drawing.whole,
+            })
+        }
+    }
+}
+
+/// The same of a source text whose units have these origins.
+fn named_lanes_of(
+    alloc: Global,
+    from: &Provenance<'_>,
+    units: &[UnitOrigins<'_>],
+    ended: &Ended<'_>,
+    window: Window,
+) -> Result<Tale, AllocError>
+    ensures { IfOk result (λ tale. (tale.text.items, tale.whole)
+        ≡ lanes_told from.now.text.now window ended.now.module.now ended.now.log.items
+        ended.now.core.world (map (λ x. x.now) from.now.shared.items) (Some units.now)) }
+{
+    let drawing = lanes_with_names(alloc, from.text, units, &from.shared, ended, window)?;
     Ok(Tale {
         text: drawing.text,
         whole: drawing.whole,

@@ -1,8 +1,9 @@
 -- The program that bytes give: its module, and where its instructions come from. This project's own.
-use Rattle.std.specs.Prelude.{◌≡◌, ℕ, Bool, true, List, Option, Some, None}
+use Rattle.std.specs.Prelude.{◌≡◌, ℕ, Bool, true, List, [], map, Option, Some, None}
 use Rattle.xk_types.specs.Code.{ModuleValue}
 use Rattle.xk_tree.specs.Tree.{TreeValue}
 use Rattle.xk_tree.specs.declared.fault.FrontFault.{FrontFault}
+use Rattle.xk_names.specs.Captures.{shared_texts}
 use Rattle.xk_origins.specs.UnitOrigins.{UnitOrigins}
 use Rattle.xk_origins.specs.Laws.{AreOrigins}
 use Rattle.xk_cli.specs.declared.job.Form.{Form}
@@ -19,13 +20,24 @@ HaveOrigins form.Module bytes origins = origins ≡ None
 HaveOrigins form.Source bytes (Some origins) = (tree : TreeValue) × IsSource bytes tree × AreOrigins tree origins
 HaveOrigins form.Source bytes None = (f : FrontFault) × IsNoSource bytes f
 
--- The text is these bytes, and where origins were asked for they are those of the module that the bytes give.
+-- What the shared numbers are called of the module that the bytes give, in the order of their numbers: of a source text by the tree that
+-- it spells. A module text says nothing of that.
+abbrev pub HaveSharedNames : Form → List ℕ → List (List ℕ) → Type 0
+HaveSharedNames form.Module bytes names = names ≡ []
+HaveSharedNames form.Source bytes names = (tree : TreeValue) × IsSource bytes tree × (names ≡ shared_texts tree.shared)
+
+-- The text is these bytes, and where origins were asked for they are those of the module that the bytes give, and so are the names.
 abbrev pub IsFrom : Bool → Form → List ℕ → Provenance → Type 0
-IsFrom has_origins kind bytes from = (from.text.now ≡ bytes) × (has_origins ≡ true → HaveOrigins kind bytes from.origins)
+IsFrom has_origins kind bytes from = (from.text.now ≡ bytes)
+    × (has_origins ≡ true → HaveOrigins kind bytes from.origins × HaveSharedNames kind bytes (map (λ x. x.now) from.shared.items))
 
 -- what is told is a function of these
 abbrev pub IsByOrigins : {X : Type 0} → Form → List ℕ → (Option (List UnitOrigins) → X) → X → Type 0
 IsByOrigins kind bytes text told = (origins : Option (List UnitOrigins)) × HaveOrigins kind bytes origins × (told ≡ text origins)
+
+-- what is told is a function of these and of the names of shared numbers
+abbrev pub IsByNames : {X : Type 0} → Form → List ℕ → (List (List ℕ) → Option (List UnitOrigins) → X) → X → Type 0
+IsByNames kind bytes text told = (shared : List (List ℕ)) × HaveSharedNames kind bytes shared × IsByOrigins kind bytes (text shared) told
 
 -- A program: its module, and where its instructions come from.
 abbrev pub Program : Type 0

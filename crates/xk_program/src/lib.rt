@@ -4,6 +4,7 @@
 mod bounded_read;
 mod fault;
 mod program_loader;
+mod shared_names;
 mod verification;
 
 pub use bounded_read::{read_front, read_program};

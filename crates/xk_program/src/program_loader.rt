@@ -1,15 +1,16 @@
 //! From the bytes of FILE to a program: a module, and where it comes from.
 
-ghost use Rattle.std.specs.Prelude.{◌≡◌, ◌≤◌, Bool, true, length, IfOk, OnOk, IfErr, IsUtf8};
+ghost use Rattle.std.specs.Prelude.{◌≡◌, ◌≤◌, Bool, true, length, map, IfOk, OnOk, IfErr, IsUtf8};
 ghost use Rattle.xk_names.specs.WellScoped.{IsScoped};
 ghost use Rattle.xk_numbering.specs.Recursion.{IsFalling};
 ghost use Rattle.xk_program.specs.Faults.{GivesNoModule};
-ghost use Rattle.xk_program.specs.Origins.{HaveOrigins, IsFrom};
+ghost use Rattle.xk_program.specs.Origins.{HaveOrigins, HaveSharedNames, IsFrom};
 ghost use Rattle.xk_program.specs.Programs.{Gives, IsNoText, IsSource, IsUnfit, IsUnfitModule, IsUnspelled, longest_source};
 ghost use Rattle.xk_tree.specs.Program.{tree_value};
 ghost use Rattle.xk_cli.specs.declared.job.Form.TheVariants as form;
 
 use crate::fault::Fault;
+use crate::shared_names::shared_names;
 use std::alloc::{AllocError, Global};
 use xk_cli::Form;
 use xk_codegen::compile;
@@ -25,13 +26,16 @@ pub(crate) const LONGEST_SOURCE: usize = 1_048_576;
 /// The most bytes that a module's text has: more than twice what the greatest module's text has without white space.
 pub(crate) const LONGEST_MODULE: usize = 268_435_456;
 
-/// Where a module comes from: its text, and the origins of its instructions in it, if they were asked for. A module text says nothing of these.
+/// Where a module comes from: its text, and the origins of its instructions in it and the names of its shared numbers,
+/// if they were asked for. A module text says nothing of these.
 #[derive(Drop)]
 pub struct Provenance<'t> {
     /// The bytes of FILE.
     pub text: &'t [u8],
     /// The origins, unit by unit.
     pub origins: Option<Origins<'t>>,
+    /// The names of shared numbers, in their order.
+    pub shared: Vec<&'t [u8]>,
 }
 
 /// A program.
@@ -74,6 +78,7 @@ fn module_program(alloc: Global, bytes: &[u8]) -> Result<Program<'_>, ModuleFaul
         from: Provenance {
             text: bytes,
             origins: None,
+            shared: Vec::new(alloc),
         },
     })
 }
@@ -115,11 +120,13 @@ fn tree_program<'t>(
 {
     let module = compile(alloc, tree)?;
     let origins = origins_if(alloc, has_origins, bytes, tree)?;
+    let shared = shared_names_if(alloc, has_origins, bytes, tree)?;
     Ok(Program {
         module,
         from: Provenance {
             text: bytes,
             origins,
+            shared,
         },
     })
 }
@@ -142,6 +149,25 @@ fn origins_if<'t>(
         return Ok(Some(origins(alloc, tree)?));
     }
     Ok(None)
+}
+
+/// The names of the shared numbers of the tree of these bytes, where they are asked for.
+fn shared_names_if<'t>(
+    alloc: Global,
+    has_origins: bool,
+    bytes: &[u8],
+    tree: &Tree<'t>,
+) -> Result<Vec<&'t [u8]>, AllocError>
+    requires source { IsSource bytes.now (tree_value tree.now) }
+    ensures { has_origins ≡ true → IfOk result
+        (λ v. HaveSharedNames form.Source bytes.now (map (λ x. x.now) v.items)) }
+{
+    // For the clauses alone, which say that the tree is that of these bytes.
+    let _bytes = bytes;
+    if !has_origins {
+        return Ok(Vec::new(alloc));
+    }
+    shared_names(alloc, &tree.shared)
 }
 
 /// The tree of a source text.

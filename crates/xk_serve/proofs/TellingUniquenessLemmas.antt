@@ -2,6 +2,7 @@
 use Rattle.std.proofs.Common.{◌≡◌, ◌∙◌, ℕ, ℤ, Bool, List, [], map, Option, Some, None, sym, ap, subst}
 use Rattle.xk_types.specs.Code.{ModuleValue}
 use Rattle.xk_tree.specs.Tree.{TreeValue}
+use Rattle.xk_names.specs.Captures.{shared_texts}
 use Rattle.xk_syntax.proofs.TextLemmas.{one_tree}
 use Rattle.xk_law_compiler.proofs.CompiledOnceLaw.{one_units}
 use Rattle.xk_origins.specs.UnitOrigins.{UnitOrigins, unit_origins}
@@ -15,7 +16,7 @@ use Rattle.xk_types.specs.declared.world.Entry.{Entry}
 use Rattle.xk_answers.specs.declared.picture.Picture.{Picture}
 use Rattle.xk_answers.specs.declared.picture.Picture.TheVariants as picture
 use Rattle.xk_answers.specs.Results.{Check, Compile, Doing, Draw, Expected, Explain, IsPicture, IsTelling, Listing, Outcomes, Races, Replay, Run, Tally, Where}
-use Rattle.xk_program.specs.Origins.{HaveOrigins, IsByOrigins}
+use Rattle.xk_program.specs.Origins.{HaveOrigins, HaveSharedNames, IsByNames, IsByOrigins}
 use Rattle.xk_answers.specs.Explanation.{HaveHints, IsListed, Tale, acceptance_told, events_told, image_told, lanes_told, page_told, races_told, where_told}
 use Rattle.xk_cli.specs.declared.job.Order.TheVariants as order
 use Rattle.xk_program.specs.Programs.{Gives}
@@ -48,6 +49,20 @@ hints_once : (kind : Form) (bytes : List ℕ) (hs is : List HintValue) → HaveH
 hints_once form.Module bytes hs is h k = h ∙ sym k
 hints_once form.Source bytes hs is h k = h.2 ∙ ap hints (one_tree bytes h.0 k.0 h.1.1 k.1.1) ∙ sym k.2
 
+-- a text has one list of names
+shared_once : (kind : Form) (bytes : List ℕ) (xs ys : List (List ℕ)) → HaveSharedNames kind bytes xs → HaveSharedNames kind bytes ys
+    → xs ≡ ys
+shared_once form.Module bytes xs ys h k = h ∙ sym k
+shared_once form.Source bytes xs ys h k = h.2 ∙ ap (λ (t : TreeValue). shared_texts t.shared) (one_tree bytes h.0 k.0 h.1.1 k.1.1) ∙ sym k.2
+
+-- what is told by names, too, is one text
+by_names_once : {X : Type 0} (kind : Form) (bytes : List ℕ) (m : ModuleValue) (text : List (List ℕ) → Option (List UnitOrigins) → X)
+    (a b : X) → Gives kind bytes m
+    → IsByNames kind bytes text a → IsByNames kind bytes text b → a ≡ b
+by_names_once kind bytes m text a b given h k =
+    let same = shared_once kind bytes k.0 h.0 k.1 h.1 in
+    by_origins_once kind bytes m (text h.0) a b given h.2 (subst (λ names. IsByOrigins kind bytes (text names) b) same k.2)
+
 listed_once : (text : List ℕ) (m : ModuleValue) (o : Option (List UnitOrigins)) (a b : List ℕ) → IsListed text m o a → IsListed text m o b → a ≡ b
 listed_once text m (Some o) a b h k = one_listing text o m a b h k
 listed_once text m None a b h k = one_listing [] [] m a b h k
@@ -60,8 +75,9 @@ same_tale e d = cc
 picture_once : (p : Picture) (kind : Form) (bytes : List ℕ) (m : ModuleValue) (args : List ℤ) (es : List Entry) (last : World) (a b : Tale) → Gives kind bytes m
     → IsPicture p kind bytes m args es last a → IsPicture p kind bytes m args es last b → a ≡ b
 picture_once picture.Chart kind bytes m args es last a b given h k = h ∙ sym k
-picture_once picture.Events kind bytes m args es last a b given h k = by_origins_once kind bytes m (events_told bytes m args es) a b given h k
-picture_once (picture.Lanes window) kind bytes m args es last a b given h k = by_origins_once kind bytes m (lanes_told bytes window m es last) a b given h k
+picture_once picture.Events kind bytes m args es last a b given h k = by_names_once kind bytes m (events_told bytes m args es) a b given h k
+picture_once (picture.Lanes window) kind bytes m args es last a b given h k =
+    by_names_once kind bytes m (lanes_told bytes window m es last) a b given h k
 picture_once (picture.Image window) kind bytes m args es last a b given h k = by_origins_once kind bytes m (image_told bytes window m es last) a b given h k
 picture_once (picture.Page window) kind bytes m args es last a b given h k = by_origins_once kind bytes m (page_told bytes window m es last) a b given h k
 picture_once picture.Races kind bytes m args es last a b given h k = by_origins_once kind bytes m (races_told bytes m args es) a b given h k

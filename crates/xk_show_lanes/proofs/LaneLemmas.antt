@@ -15,10 +15,13 @@ use Rattle.xk_types.specs.Logs.{schedule_of}
 use Rattle.xk_core.specs.Core.{advanced_now, has_advanced}
 use Rattle.xk_collections.proofs.RisingListLemmas.{member_passes}
 use Rattle.xk_show_events.specs.declared.steps.RunStep.{RunStep}
+use Rattle.xk_show_names.specs.declared.accounts.Account.{Account}
+use Rattle.xk_show_names.specs.Accounts.{account, recounted_by, tell_seen_accounts}
 use Rattle.xk_show_events.specs.Steps.{Teller, run_step, tell_by, tell_seen, told, told_on, told_of_run}
 use Rattle.xk_show_lanes.specs.declared.window.Window.{Window}
 use Rattle.xk_show_lanes.specs.Fields.{longest}
 use Rattle.xk_show_lanes.specs.Lanes.{if_asked, is_asked, steps_asked}
+use Rattle.xk_show_lanes.specs.NamedLanes.{account_if_asked, accounts_asked}
 
 longest_append : (xs : List (List ℕ)) (x : List ℕ) → longest (xs ++ x ∷ []) ≡ max (longest xs) (length x)
 longest_append [] x = omega arith
@@ -66,6 +69,41 @@ asked_from window m (a ∷ list) w = of (step m w a) (asked_from window m list)
 -- those that are asked for are told
 pub asked_told : (window : Window) (m : ModuleValue) (log : List Entry) (last : World) → told_of_run (tell_asked window) m last.arguments log ≡ steps_asked window m log last
 asked_told window m log last = asked_from window m (schedule_of log) (opening m last.arguments)
+
+-- ---- the same, with what steps were about
+
+kept_account : (p : Account → Bool) (a : Account) (b : Bool) → (if p a && not b then a ∷ [] else []) ≡ filter p (if b then [] else a ∷ [])
+kept_account p a b = grind arith
+
+abbrev tell_asked_accounts : Window → ModuleValue → Teller Account
+tell_asked_accounts window m = recounted_by m (λ v a. account_if_asked window a)
+
+accounts_from : (window : Window) (m : ModuleValue) (list : List ℕ) (w : World)
+    → told (tell_asked_accounts window m) m list w
+    ≡ filter (λ (a : Account). is_asked window a.step.number) (told (tell_seen_accounts m) m list w)
+accounts_from window m [] w = refl
+accounts_from window m (a ∷ list) w = of (step m w a) (accounts_from window m list)
+  where
+    p : Account → Bool
+    p x = is_asked window x.step.number
+
+    of : (o : Outcome) →
+        ((v : World) → told (tell_asked_accounts window m) m list v
+        ≡ filter (λ (x : Account). is_asked window x.step.number) (told (tell_seen_accounts m) m list v))
+        → told_on (tell_asked_accounts window m) a w o (told (tell_asked_accounts window m) m list)
+        ≡ filter (λ (x : Account). is_asked window x.step.number)
+        (told_on (tell_seen_accounts m) a w o (told (tell_seen_accounts m) m list))
+    of Blocked rest = refl
+    of (Wrong c) rest = refl
+    of (Stepped v e) rest =
+        ap (λ l. l ++ told (tell_asked_accounts window m) m list v) (kept_account p (account m a w v e) (is_local e))
+        ∙ ap (λ l. filter p (tell_seen_accounts m a w v e) ++ l) (rest v)
+        ∙ sym (filter-append p (tell_seen_accounts m a w v e) (told (tell_seen_accounts m) m list v))
+
+-- those that are asked for are told
+pub asked_accounts : (window : Window) (m : ModuleValue) (log : List Entry) (last : World)
+    → told_of_run (tell_asked_accounts window m) m last.arguments log ≡ accounts_asked window m log last
+asked_accounts window m log last = accounts_from window m (schedule_of log) (opening m last.arguments)
 
 -- ---- clocks that advanced
 

@@ -90,7 +90,7 @@ fn push_bar_lane(
 }
 
 /// Adds what the bar of a clock shows in all lanes.
-fn push_bar_lanes(
+pub(crate) fn push_bar_lanes(
     line: &mut Vec<u8>,
     core: &Core<'_>,
     grid: Grid,

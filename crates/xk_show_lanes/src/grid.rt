@@ -55,7 +55,7 @@ pub fn spot(alloc: Global, places: &Places<'_>, step: &RunStep) -> Result<String
 }
 
 /// The greater one of two numbers.
-fn greater(a: usize, b: usize) -> usize
+pub(crate) fn greater(a: usize, b: usize) -> usize
     ensures { result ≡ max a b }
 {
     a.max(b)

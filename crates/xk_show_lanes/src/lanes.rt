@@ -68,7 +68,7 @@ impl Describe<u8> for LaneTeller<'_, '_> {
 }
 
 /// Adds how many activities have no lane, if some have none.
-fn push_left_out(alloc: Global, out: &mut Vec<u8>, count: u32) -> Result<(), AllocError>
+pub(crate) fn push_left_out(alloc: Global, out: &mut Vec<u8>, count: u32) -> Result<(), AllocError>
     ensures { OnOk result (out.new.items ≡ out.old.items ++ left_out_by count) }
 {
     if count == 0 {

@@ -5,11 +5,13 @@ mod bars;
 mod fields;
 mod grid;
 mod lanes;
+mod named_lanes;
 mod rows;
 mod window;
 
 pub use bars::{any_behind, any_below, bar_label, is_on};
 pub use grid::{Grid, grid_of, spot};
 pub use lanes::{AskedSteps, Drawing, module_lanes, source_lanes};
+pub use named_lanes::lanes_with_names;
 pub use rows::title;
 pub use window::Window;

@@ -1,10 +1,10 @@
 //! The rows of steps, and the head above them.
 
 ghost use Rattle.std.specs.Prelude.{◌≡◌, ◌++◌, decimal, IfOk, OnOk, string_bytes};
-ghost use Rattle.xk_show_events.specs.Events.{event_words};
 ghost use Rattle.xk_show_events.specs.Worlds.{each_below};
 ghost use Rattle.xk_show_lanes.specs.Fields.{at_left, at_right};
-ghost use Rattle.xk_show_lanes.specs.Lanes.{cell, head_line, lane_line, line_front, mark, row, row_if_seen, spot, title, words_behind};
+ghost use Rattle.xk_show_lanes.specs.Lanes.{head_line, lane_line, line_front, mark, row, row_if_seen, spot, title};
+ghost use Rattle.xk_show_lanes.specs.NamedLanes.{behind_lanes, cell_of};
 
 use crate::fields::{push_at_left, push_at_right, push_line, push_text};
 use crate::grid::{Grid, spot};
@@ -84,9 +84,8 @@ fn push_cell(
     words: &[u8],
     lane: u32,
 ) -> Result<(), AllocError>
-    requires { words.now ≡ event_words step.now }
-    ensures { OnOk result (line.new.items ≡ line.old.items
-        ++ at_left grid.lane (cell core.now.module_run core.now.world step.now lane)) }
+    ensures { OnOk result (line.new.items ≡ line.old.items ++ at_left grid.lane
+        (cell_of words.now core.now.module_run core.now.world step.now lane)) }
 {
     if lane == step.act {
         return push_at_left(line, grid.lane, words);
@@ -95,17 +94,15 @@ fn push_cell(
 }
 
 /// Adds what stands in all lanes.
-fn push_cells(
+pub(crate) fn push_cells(
     line: &mut Vec<u8>,
     core: &Core<'_>,
     grid: Grid,
     step: &RunStep,
     words: &[u8],
 ) -> Result<(), AllocError>
-    requires { words.now ≡ event_words step.now }
-    ensures { OnOk result (line.new.items ≡ line.old.items ++ each_below
-        (λ b. at_left grid.lane (cell core.now.module_run core.now.world step.now b))
-        grid.lanes) }
+    ensures { OnOk result (line.new.items ≡ line.old.items ++ each_below (λ b. at_left grid.lane
+        (cell_of words.now core.now.module_run core.now.world step.now b)) grid.lanes) }
 {
     for lane in 0..grid.lanes {
         push_cell(line, core, grid, step, words, lane)?;
@@ -114,7 +111,7 @@ fn push_cells(
 }
 
 /// The first two fields of a step's row.
-fn row_front(
+pub(crate) fn row_front(
     alloc: Global,
     grid: Grid,
     places: &Places<'_>,
@@ -130,15 +127,15 @@ fn row_front(
 }
 
 /// Adds who took the step and what was done, words that are given, if that one has no lane.
-fn push_words_behind(
+pub(crate) fn push_words_behind(
     alloc: Global,
     line: &mut Vec<u8>,
     grid: Grid,
     step: &RunStep,
     words: &[u8],
 ) -> Result<(), AllocError>
-    requires { words.now ≡ event_words step.now }
-    ensures { OnOk result (line.new.items ≡ line.old.items ++ words_behind grid step.now) }
+    ensures { OnOk result (line.new.items
+        ≡ line.old.items ++ behind_lanes grid words.now step.now) }
 {
     if step.act < grid.lanes {
         return Ok(());

@@ -17,7 +17,7 @@ returns c = λ form bytes given.
       log_without_state (λ enabled. 0) c.args.verified.now c.args.arguments.now _ e.log.items e.printed.items e.core.world.steps is.run,
       (
         origins,
-        given.1 refl,
+        (given.1 refl).0,
         h ∙ ap (λ t. races_told t e.module.now e.core.world.arguments e.log.items origins) given.0
             ∙ ap (λ m. races_told bytes m e.core.world.arguments e.log.items origins) is.same_module
             ∙ ap (λ args. races_told bytes c.args.verified.now args e.log.items origins) is.same_arguments,

@@ -11,4 +11,5 @@ returns-clause-done g c = λ form file bytes given.
     let told = c.in_ok-tale.ensures ∙ ap (λ t. where_told t v args c.args.at c.entries.result.now origins) given.0
     ∙ ap (λ es. where_told bytes v args c.args.at es origins) c.entries.ensures in
     some_each _ _ (g.L.Source.remaining c.args.log_in.now)
-    (λ logged text. (c.requires.accepted, (c.requires.taken, (c.in_ok-log.log, text, (origins, given.1 refl, told))))) c.in_ok-log.ensures.of_some
+    (λ logged text. (c.requires.accepted, (c.requires.taken, (c.in_ok-log.log, text, (origins, (given.1 refl).0, told)))))
+    c.in_ok-log.ensures.of_some

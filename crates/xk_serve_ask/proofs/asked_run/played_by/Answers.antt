@@ -7,7 +7,7 @@ returns-in-Ok-clause-answers g c = λ form bytes given.
     asked_by form bytes c.args.from.now.text.now (Some c.in-Some.origins) c.args.verified.now c.args.arguments.now
     (g.L.Source.remaining c.args.input.now) c.in-Ok.played.log.items
     (g.E.Sink.contents c.args.err.now) (g.E.Sink.contents c.source_ask.new.err) given.0
-    (rw c.in-Some.is at given.1 refl)
+    (rw c.in-Some.is at (given.1 refl).0)
     (rw c.units-units.ensures at c.in-Ok.ensures.by_answers)
 
 pub returns-in-Ok-clause-begins : goal.returns-in-Ok-clause-begins
@@ -15,7 +15,7 @@ returns-in-Ok-clause-begins g c = λ form bytes given.
     begun_by form bytes c.args.from.now.text.now (Some c.in-Some.origins) c.args.verified.now c.args.arguments.now
     (g.L.Source.remaining c.args.input.now)
     (g.E.Sink.contents c.args.err.now) (g.E.Sink.contents c.source_ask.new.err) given.0
-    (rw c.in-Some.is at given.1 refl)
+    (rw c.in-Some.is at (given.1 refl).0)
     (rw c.units-units.ensures at c.source_ask.ensures.begins_by)
 
 pub returns-in-Err-clause-begins : goal.returns-in-Err-clause-begins
@@ -23,7 +23,7 @@ returns-in-Err-clause-begins g c = λ form bytes given.
     begun_by form bytes c.args.from.now.text.now (Some c.in-Some.origins) c.args.verified.now c.args.arguments.now
     (g.L.Source.remaining c.args.input.now)
     (g.E.Sink.contents c.args.err.now) (g.E.Sink.contents c.source_ask.new.err) given.0
-    (rw c.in-Some.is at given.1 refl)
+    (rw c.in-Some.is at (given.1 refl).0)
     (rw c.units-units.ensures at c.source_ask.ensures.begins_by)
 
 pub returns-in-Ok-module_ask-clause-answers : goal.returns-in-Ok-module_ask-clause-answers
@@ -31,7 +31,7 @@ returns-in-Ok-module_ask-clause-answers g c = λ form bytes given.
     asked_by form bytes c.args.from.now.text.now None c.args.verified.now c.args.arguments.now
     (g.L.Source.remaining c.args.input.now) c.in-Ok-module_ask.played.log.items
     (g.E.Sink.contents c.args.err.now) (g.E.Sink.contents c.module_ask.new.err) given.0
-    (rw c.in-None.is at given.1 refl)
+    (rw c.in-None.is at (given.1 refl).0)
     c.in-Ok-module_ask.ensures.by_answers
 
 pub returns-in-Ok-module_ask-clause-begins : goal.returns-in-Ok-module_ask-clause-begins
@@ -39,7 +39,7 @@ returns-in-Ok-module_ask-clause-begins g c = λ form bytes given.
     begun_by form bytes c.args.from.now.text.now None c.args.verified.now c.args.arguments.now
     (g.L.Source.remaining c.args.input.now)
     (g.E.Sink.contents c.args.err.now) (g.E.Sink.contents c.module_ask.new.err) given.0
-    (rw c.in-None.is at given.1 refl)
+    (rw c.in-None.is at (given.1 refl).0)
     c.module_ask.ensures.begins_by
 
 pub returns-in-Err-module_ask-clause-begins : goal.returns-in-Err-module_ask-clause-begins
@@ -47,5 +47,5 @@ returns-in-Err-module_ask-clause-begins g c = λ form bytes given.
     begun_by form bytes c.args.from.now.text.now None c.args.verified.now c.args.arguments.now
     (g.L.Source.remaining c.args.input.now)
     (g.E.Sink.contents c.args.err.now) (g.E.Sink.contents c.module_ask.new.err) given.0
-    (rw c.in-None.is at given.1 refl)
+    (rw c.in-None.is at (given.1 refl).0)
     c.module_ask.ensures.begins_by

@@ -1,0 +1,4 @@
+pub mod SubjectLemmas
+pub mod WriterLemmas
+pub mod ClockNameLemmas
+mod EventExamples
