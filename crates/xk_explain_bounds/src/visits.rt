@@ -1,7 +1,7 @@
 //! How often the instructions of a unit are carried out.
 
 ghost use Rattle.std.specs.Prelude.{◌≡◌, ◌≤◌, ◌*◌, Some, filter, length, IfOk, if◌then◌else◌};
-ghost use Rattle.xk_types.specs.Code.{if_ended, is_next_of, is_round, loop_begun, loops, turns};
+ghost use Rattle.xk_types.specs.Code.{if_ended, is_round, loop_begun, loops, turns};
 ghost use Rattle.xk_types.specs.Bound.{product, visits};
 ghost use Rattle.xk_explain_bounds.specs.Amounts.{kept, AreVisits};
 
@@ -53,22 +53,12 @@ impl Loop {
     }
 }
 
-/// Whether the instruction is a `next` that names this place.
-fn is_next_of(instr: &Instr, first: u16) -> bool
-    ensures { result ≡ is_next_of first (Some instr.now) }
-{
-    match instr {
-        Instr::Next(named) => *named == first,
-        _ => false,
-    }
-}
-
 /// The loop, if it ends at a `next` that names its first place.
 fn if_ended(u: &Unit, l: Loop) -> Option<Loop>
     ensures { result ≡ if_ended u.now l }
 {
     match u.code.get(l.last as usize) {
-        Some(instr) if is_next_of(instr, l.first) => Some(l),
+        Some(Instr::Next(named)) if *named == l.first => Some(l),
         _ => None,
     }
 }
