@@ -63,7 +63,8 @@ def can_follow(front: bytes, tokens: list[Token]) -> bool:
             return False
         if not can_stand(text, token.text):
             return False
-        text += b"\n" + token.text.encode()
+        # A number that no place takes, as 007, would be refused before what stands behind it.
+        text += b"\n" + (b"1" if token.sort is Sort.DIGITS else token.text.encode())
     return True
 
 
