@@ -23,7 +23,8 @@ use Rattle.xk_show_lanes.specs.Fields.{longest}
 use Rattle.xk_show_lanes.specs.Lanes.{if_asked, is_asked, steps_asked}
 use Rattle.xk_show_lanes.specs.NamedLanes.{account_if_asked, accounts_asked}
 
-longest_append : (xs : List (List ℕ)) (x : List ℕ) → longest (xs ++ x ∷ []) ≡ max (longest xs) (length x)
+-- with one more text
+pub longest_append : (xs : List (List ℕ)) (x : List ℕ) → longest (xs ++ x ∷ []) ≡ max (longest xs) (length x)
 longest_append [] x = omega arith
 longest_append (y ∷ xs) x = ap (max (length y)) (longest_append xs x) ∙ omega arith
 

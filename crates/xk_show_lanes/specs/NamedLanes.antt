@@ -40,6 +40,10 @@ named_grid p n w steps k = record {
   lanes = min most_lanes k;
 }
 
+-- for these steps of the run that a log stands for, which ends in this world
+abbrev pub grid_by_names : PlacesValue → NamesValue → Window → ModuleValue → List Entry → World → Grid
+grid_by_names p n w m log last = named_grid p n w (accounts_asked w m log last) (length last.activities)
+
 -- ---- a row
 
 -- behind a step that led to world v, of which these words are told: in the lane of who took it, the words
@@ -83,7 +87,7 @@ named_lanes_in g p n m log last =
 
 -- with these names
 abbrev pub lanes_by_names : PlacesValue → NamesValue → Window → ModuleValue → List Entry → World → List ℕ
-lanes_by_names p n w m log last = named_lanes_in (named_grid p n w (accounts_asked w m log last) (length last.activities)) p n m log last
+lanes_by_names p n w m log last = named_lanes_in (grid_by_names p n w m log last) p n m log last
 
 -- The lanes of these steps of the run that a log stands for, which ends in this world, where shared numbers have these names, and clocks
 -- those that they were made under.

@@ -7,7 +7,7 @@ ghost use Rattle.xk_show_names.specs.Events.{account_words};
 ghost use Rattle.xk_show_lanes.specs.Fields.{longest};
 ghost use Rattle.xk_show_lanes.specs.Lanes.{are_lanes_whole, spot};
 ghost use Rattle.xk_show_lanes.specs.NamedLanes.{account_if_asked, accounts_asked, named_bar, named_grid, named_label, named_row};
-ghost use Rattle.xk_show_lanes.specs.NamedLanes.{lanes_by_names, named_lanes_in, named_lanes_of_step, named_lanes_text, named_row_and_bars, named_row_if_seen};
+ghost use Rattle.xk_show_lanes.specs.NamedLanes.{grid_by_names, lanes_by_names, named_lanes_in, named_lanes_of_step, named_lanes_text, named_row_and_bars, named_row_if_seen};
 
 use crate::bars::push_bar_lanes;
 use crate::fields::{push_line, push_text, push_times};
@@ -115,6 +115,28 @@ fn accounts_asked(
     Ok(steps)
 }
 
+/// The columns for these steps of a run, with these names. The log is played again for it. Err where memory was refused.
+pub fn grid_by_names(
+    alloc: Global,
+    places: &Places<'_>,
+    names: &Names<'_>,
+    ended: &Ended<'_>,
+    window: Window,
+) -> Result<Grid, AllocError>
+    ensures { IfOk result (λ g. g ≡ grid_by_names places.now names.now window
+        ended.now.module.now ended.now.log.items ended.now.core.world) }
+{
+    let steps = accounts_asked(alloc, ended, window)?;
+    named_grid(
+        alloc,
+        places,
+        names,
+        window,
+        &steps,
+        ended.core.activities(),
+    )
+}
+
 /// Tells of the steps that are asked for, by their rows and bars.
 #[derive(Drop)]
 struct NamedTeller<'a, 't> {
@@ -173,9 +195,9 @@ fn push_row_if_seen(
     Ok(())
 }
 
-/// What stands behind a bar: `c phase 1 by 1`.
+/// What stands behind a bar: `c phase 1 by 1`. Err where memory was refused.
 #[tactic(auto, unfolding(crate::specs::NamedLanes::named_label))]
-fn named_label(
+pub fn named_label(
     alloc: Global,
     core: &Core<'_>,
     names: &Names<'_>,
@@ -311,11 +333,9 @@ fn lanes_by_names(
         ended.now.module.now ended.now.log.items ended.now.core.world) }
     ensures whole { IfOk result (λ d. d.whole ≡ are_lanes_whole ended.now.core.world) }
 {
-    let steps = accounts_asked(alloc, ended, window)?;
-    let activities = ended.core.activities();
-    let grid = named_grid(alloc, places, names, window, &steps, activities)?;
+    let grid = grid_by_names(alloc, places, names, ended, window)?;
     let text = named_lanes_in(alloc, grid, places, names, ended)?;
-    let whole = activities <= DRAWN;
+    let whole = ended.core.activities() <= DRAWN;
     Ok(Drawing { text, whole })
 }
 

@@ -1,5 +1,5 @@
 -- The moments of a small run, and a text as HTML has it.
-use Rattle.std.proofs.Common.{◌≡◌, ℕ, ◌<◌, pos, List, [], ◌∷◌, ◌++◌, refl, lit<}
+use Rattle.std.proofs.Common.{◌≡◌, ℕ, ◌<◌, pos, List, [], ◌∷◌, ◌++◌, None, refl, lit<}
 use Rattle.std.specs.Prelude.{codes}
 use Rattle.std.specs.Fmt.{digits}
 use Rattle.xk_types.specs.declared.instr.Instr.TheVariants as instr
@@ -36,7 +36,7 @@ abbrev middle : Window
 middle = record { first = 6; last = 6 }
 
 -- step 6; of step 5, which stands before it, that it printed; of step 9, which prints too, nothing
-told_middle : moments middle no_text held_back log last.0
+told_middle : moments middle no_text None held_back log last.0
     ≡ codes "steps 0\nact 0 unit 0 place 0 can step\n"
     ++ (codes "step 5 act 0 unit 0 place 3 print 1\n"
     ++ (codes "step 6 act 0 unit 0 place 4 arrive\nsteps 6\nact 0 unit 0 place 4 can step, clock 0 ahead\n"

@@ -1,7 +1,7 @@
 -- A run on a page of HTML: its source text, the picture of its lanes (`xk_show_picture`), and how things stand behind each step (`xk_show_where`). These are
 -- the run's. The elements that hold them are spelled here, and so is the policy. What stands in each page besides, the script that shows them too, means
 -- nothing to a run: `src/furniture.rt` has these texts. That it is told so is this project's own.
-use Rattle.std.specs.Prelude.{ℕ, ◌==◌, nat_le, Bool, not, ◌&&◌, List, [], ◌∷◌, ◌++◌, flat_map, None, codes, if◌then◌else◌}
+use Rattle.std.specs.Prelude.{ℕ, ◌==◌, nat_le, Bool, not, ◌&&◌, List, [], ◌∷◌, ◌++◌, flat_map, Option, Some, None, codes, if◌then◌else◌}
 use Rattle.xk_types.specs.declared.world.Entry.{Entry}
 use Rattle.xk_types.specs.declared.world.Event.{Event}
 use Rattle.xk_types.specs.declared.world.Event.TheVariants as event
@@ -9,8 +9,12 @@ use Rattle.xk_types.specs.Code.{ModuleValue}
 use Rattle.xk_types.specs.World.{World, opening}
 use Rattle.xk_types.specs.Schedule.{is_local}
 use Rattle.xk_show_events.specs.declared.steps.RunStep.{RunStep}
-use Rattle.xk_show_events.specs.Steps.{tell_by, told_of_run}
+use Rattle.xk_show_events.specs.Steps.{told_of_run}
 use Rattle.xk_show_events.specs.Events.{PlacesValue, event_line}
+use Rattle.xk_show_names.specs.declared.accounts.Account.{Account}
+use Rattle.xk_show_names.specs.Accounts.{recounted_by}
+use Rattle.xk_show_names.specs.ClockNames.{NamesValue, names_in_run}
+use Rattle.xk_show_names.specs.Events.{account_words, step_words}
 use Rattle.xk_show_lanes.specs.declared.window.Window.{Window}
 use Rattle.xk_show_lanes.specs.Lanes.{is_asked}
 use Rattle.xk_show_picture.specs.Picture.{is_drawn, picture_text}
@@ -29,9 +33,9 @@ page_top =
     ++ (codes "<meta charset=\"utf-8\">\n"
     ++ (codes "<meta name=\"viewport\" content=\"width=device-width, initial-scale=1\">\n"
     ++ (codes "<meta http-equiv=\"Content-Security-Policy\" content=\"default-src 'none'; "
-    ++ (codes "style-src 'sha256-rqDgg6Gohj15oatNQVa5x4nb+K1EYRUrQ0bAL6oBY4I=' "
+    ++ (codes "style-src 'sha256-afzZlw2dFEfRCy2le3IDMk4XNiTfzJCsWiolFL6YS4M=' "
     ++ (codes "'sha256-1Mhn6nywKkLaXR5W9I5AIbKxhh5lqmYSXkp8j1iVKwY='; "
-    ++ (codes "script-src 'sha256-fBcH5/Pwr1itfiMf+3bU2CB/fcDG5ilunBXqbLlij8Q='\">\n"
+    ++ (codes "script-src 'sha256-QDIBJWpcp8IsOzCFRNUc1zMG8sxp5o545NPIg13SvEQ='\">\n"
     ++ (codes "<title>A run, step by step</title>\n"
     ++ (codes "<style>\n"))))))))))
 
@@ -85,22 +89,31 @@ escaped text = flat_map escaped_byte text
 abbrev pub is_moment : Window → RunStep → Bool
 is_moment window r = not (is_local r.event) && is_asked window r.number
 
+-- `step 9 act 1 at 7:9 read total 2`
+unfoldable pub named_line : PlacesValue → NamesValue → Account → List ℕ
+named_line p n a = step_words p a.step ++ (codes " " ++ (account_words n a ++ codes "\n"))
+
+-- the line of a step: of a source text's module by the names of what it was about, and with values
+abbrev pub line_of : PlacesValue → Option NamesValue → Account → List ℕ
+line_of p None a = event_line p a.step
+line_of p (Some n) a = named_line p n a
+
 -- what was done in a step that led to world v, and how things stand there
-abbrev pub moment : PlacesValue → ModuleValue → World → RunStep → List ℕ
-moment p m v r = event_line p r ++ standings_text p m v None
+abbrev pub moment : PlacesValue → Option NamesValue → ModuleValue → World → Account → List ℕ
+moment p n m v a = line_of p n a ++ standings_text p m v None
 
 -- of a step that isn't told so: that it printed, if it did, and the last step that is asked for isn't behind
-abbrev pub print_by : Window → PlacesValue → RunStep → Event → List ℕ
-print_by window p r (event.Printed n) = if nat_le r.number window.last then event_line p r else []
-print_by window p r _ = []
+abbrev pub print_by : Window → PlacesValue → Option NamesValue → Account → Event → List ℕ
+print_by window p n a (event.Printed number) = if nat_le a.step.number window.last then line_of p n a else []
+print_by window p n a _ = []
 
-abbrev pub told_step : Window → PlacesValue → ModuleValue → World → RunStep → List ℕ
-told_step window p m v r = if is_moment window r then moment p m v r else print_by window p r r.event
+abbrev pub told_step : Window → PlacesValue → Option NamesValue → ModuleValue → World → Account → List ℕ
+told_step window p n m v a = if is_moment window a.step then moment p n m v a else print_by window p n a a.step.event
 
 -- how things stand before the first step, and what is told of each
-abbrev pub moments : Window → PlacesValue → ModuleValue → List Entry → World → List ℕ
-moments window p m log last =
-    standings_text p m (opening m last.arguments) None ++ told_of_run (tell_by (told_step window p m)) m last.arguments log
+abbrev pub moments : Window → PlacesValue → Option NamesValue → ModuleValue → List Entry → World → List ℕ
+moments window p n m log last =
+    standings_text p m (opening m last.arguments) None ++ told_of_run (recounted_by m (told_step window p n m)) m last.arguments log
 
 -- ---- the page
 
@@ -113,5 +126,10 @@ abbrev pub page_by : Bool → List ℕ → List ℕ → List ℕ → List ℕ
 page_by drawn text picture told = if drawn then page_of text picture told else picture
 
 -- the page of these steps of the run that a log stands for, which ends in this world
-abbrev pub page_text : PlacesValue → Window → ModuleValue → List Entry → World → List ℕ
-page_text p window m log last = page_by (is_drawn window m log last) p.text (picture_text p window m log last) (moments window p m log last)
+abbrev pub page_text : PlacesValue → Option NamesValue → Window → ModuleValue → List Entry → World → List ℕ
+page_text p n window m log last =
+    page_by (is_drawn window m log last) p.text (picture_text p n window m log last) (moments window p n m log last)
+
+-- the same where shared numbers have these names, and clocks those that they were made under
+abbrev pub named_page_text : PlacesValue → List (List ℕ) → Window → ModuleValue → List Entry → World → List ℕ
+named_page_text p shared w m log last = page_text p (Some (names_in_run p shared m last.arguments log)) w m log last

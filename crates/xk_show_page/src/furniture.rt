@@ -17,9 +17,9 @@ pub(crate) fn top() -> &'static str
 <meta charset=\"utf-8\">\n\
 <meta name=\"viewport\" content=\"width=device-width, initial-scale=1\">\n\
 <meta http-equiv=\"Content-Security-Policy\" content=\"default-src 'none'; \
-style-src 'sha256-rqDgg6Gohj15oatNQVa5x4nb+K1EYRUrQ0bAL6oBY4I=' \
+style-src 'sha256-afzZlw2dFEfRCy2le3IDMk4XNiTfzJCsWiolFL6YS4M=' \
 'sha256-1Mhn6nywKkLaXR5W9I5AIbKxhh5lqmYSXkp8j1iVKwY='; \
-script-src 'sha256-fBcH5/Pwr1itfiMf+3bU2CB/fcDG5ilunBXqbLlij8Q='\">\n\
+script-src 'sha256-QDIBJWpcp8IsOzCFRNUc1zMG8sxp5o545NPIg13SvEQ='\">\n\
 <title>A run, step by step</title>\n\
 <style>\n"
 }
@@ -88,11 +88,13 @@ header{position:sticky;top:0;z-index:1;padding:.6rem 1rem;background:var(--page)
 button{padding:.3rem .8rem;border:1px solid var(--edge);border-radius:6px;background:var(--panel);color:inherit;font:inherit}
 button:disabled{color:var(--faint);opacity:.6}
 #event{display:block;min-height:1.5em;font-weight:bold}
-main{display:grid;grid-template-columns:minmax(17rem,2fr) minmax(0,3fr);grid-template-rows:auto 1fr;gap:1rem;padding:1rem}
+main{display:grid;grid-template-columns:minmax(17rem,2fr) minmax(0,3fr);grid-template-rows:auto auto 1fr;gap:1rem;padding:1rem}
 section{min-width:0}
-.lanes{grid-column:2;grid-row:1/3}
+.lanes{grid-column:2;grid-row:1/4}
 #picture{max-height:calc(100vh - 11rem);overflow:auto;border:1px solid var(--edge);border-radius:6px}
 #picture svg{display:block}
+#picture .head{position:sticky;top:0;z-index:1}
+#picture .head + svg{margin-top:-112px}
 @media (min-width:700px){.lanes{position:sticky;top:8.5rem;align-self:start}}
 @media (max-width:699px){
   header{padding:.5rem .75rem}
@@ -100,6 +102,16 @@ section{min-width:0}
   main{display:block;padding:.75rem}
   section{margin-bottom:1rem}
   #picture{max-height:70vh}
+}
+/* On paper all of the text and the picture, one below the other. */
+@media print{
+  header,.lanes{position:static}
+  main{display:block}
+  #controls,.help,.words,#picture .head{display:none}
+  #source,#picture,#activities{max-height:none;overflow:visible;border:0}
+  #source .row{width:auto;white-space:pre-wrap}
+  #picture .head + svg{margin-top:0}
+  #picture svg{max-width:100%;height:auto}
 }
 "#;
 
@@ -111,7 +123,8 @@ pub(crate) const MARKS: &str = r#"/* The source text: marked lines, and who stan
 #source .line{display:inline-block;width:3.2em;padding-right:.9em;text-align:right;color:var(--faint);user-select:none}
 #source .row.can{background:var(--can-line)}
 #source .row.waits{background:var(--waits-line)}
-#source .badges{position:sticky;right:.5rem;margin-left:.5em}
+#source .badges{display:inline-block;min-width:var(--badges);margin-right:.5em}
+#source .row.goes,#picture .goes{cursor:pointer}
 .badge{display:inline-block;min-width:1.6em;margin:0 .2em;padding:0 .35em;border:1px solid var(--edge);border-radius:.8em}
 .badge{background:var(--panel);font-weight:bold;text-align:center}
 .badge.can{border-color:var(--can);background:var(--can);color:var(--page)}
@@ -127,6 +140,11 @@ li.waits{border-left-style:dashed;border-color:var(--waits)}
 li.ended{color:var(--faint)}
 li.moved{font-weight:bold}
 #printed{margin:0;overflow-wrap:anywhere}
+.words{grid-column:1;font-size:.85rem}
+.words summary{cursor:pointer;color:var(--faint)}
+.words dl{margin:.35rem 0 0}
+.words dt{float:left;clear:left;min-width:6.5rem;font:13px/1.5 ui-monospace,Menlo,Consolas,monospace}
+.words dd{margin:0 0 .15rem 6.5rem}
 /* The picture: the box of the step. */
 #picture .now rect{stroke:var(--seen);stroke-width:3}
 "#;
@@ -140,8 +158,11 @@ pub(crate) const CONTROLS: &str = r#"<body class="still">
 <button type="button" id="back">Back</button>
 <input id="slider" type="range" min="0" max="0" value="0" aria-label="Step of the run">
 <button type="button" id="next">Next</button>
+<button type="button" id="same">Its next</button>
+<button type="button" id="advance">Advance</button>
 </div>
-<p class="help">Move the slider, or press the keys left, right, home and end.</p>
+<p class="help">Move the slider, press the keys left, right, home and end, or click on a box, a line or a lane's name. Key S goes to the next step of
+the same activity, key A to the next advance of a clock. The address names the step.</p>
 <noscript><p>Scripts are off: here are the source text and the picture of the run, but not its single steps.</p></noscript>
 </header>
 <main>
@@ -163,6 +184,24 @@ pub(crate) const LISTS: &str =
 <h2>Printed so far</h2>
 <p id="printed"></p>
 </section>
+<section class="words">
+<details>
+<summary>What the words and colours mean</summary>
+<dl>
+<dt>make</dt><dd>it made a clock; read, write, add: a shared number, and what it was then</dd>
+<dt>arrive</dt><dd>it came to an advanceAll: it has resumed all its clocks</dd>
+<dt>pass</dt><dd>it went on behind the advanceAll, when all of them had advanced</dd>
+<dt>resume, drop</dt><dd>it resumed one clock, or left it</dd>
+<dt>finish</dt><dd>it began a finish; endfinish: all that was started in it has ended</dd>
+<dt>async</dt><dd>it started the activity of this number</dd>
+<dt>open</dt><dd>where it stands on a clock: not resumed in this phase</dd>
+<dt>signalled</dt><dd>resumed, and the clock hasn't advanced since: here an advanceAll waits</dd>
+<dt>ahead</dt><dd>resumed, and the clock has advanced: an advanceAll doesn't wait for it</dd>
+<dt>blue</dt><dd>a step on clocks; green: on a shared number; yellow: a print; grey: others</dd>
+<dt>red bar</dt><dd>a clock advanced; rings: who is on it; stripes: its phases, two colours in turn</dd>
+</dl>
+</details>
+</section>
 <section class="lanes">
 <h2>Lanes</h2>
 "#;
@@ -179,7 +218,7 @@ for (const line of byId("moments").textContent.split("\n")) {
   const word = line.split(" ")[0];
   if (word === "step") {
     done = line;
-    const print = / print (-?\d+)$/.exec(line);
+    const print = /^step \d+ act \d+ (?:at \S+|unit \d+ place \d+) print (-?\d+)$/.exec(line);
     if (print) printed.push(print[1]);
   } else if (word === "steps") {
     moments.push({steps: Number(line.split(" ")[1]), done, printed: printed.length, act: [], clock: [], shared: []});
@@ -202,24 +241,58 @@ const source = byId("source");
 const lines = source.textContent.replace(/\n$/, "").split("\n");
 const rows = lines.map((text, i) => {
   const row = make("div", "row", "");
-  row.append(make("span", "line", i + 1), make("span", "code", text), make("span", "badges", ""));
+  row.append(make("span", "line", i + 1), make("span", "badges", ""), make("span", "code", text));
   return row;
 });
 source.parentNode.hidden = source.textContent === "";
 source.replaceChildren(...rows);
 
+// The line where a step was taken, or where an activity stands: "act 1 at 5:9 can step".
+function lineOf(told) {
+  const at = / at (\d+):/.exec(told);
+  return at ? Number(at[1]) : 0;
+}
+
+// Room for as many badges as ever stand at one line.
+let most = 0;
+for (const moment of moments) {
+  const here = new Map();
+  for (const line of moment.act) here.set(lineOf(line), (here.get(lineOf(line)) || 0) + 1);
+  here.delete(0);
+  most = Math.max(most, ...here.values());
+}
+source.style.setProperty("--badges", Math.min(most, 6) * 2.3 + "em");
+
 // The boxes of the picture, by the numbers of their steps: a title is "step 5 act 0 at 8:13 print 1".
 const boxes = new Map();
 for (const title of document.querySelectorAll("#picture g > title"))
   boxes.set(Number(title.textContent.split(" ")[1]), title.parentNode);
+
+// The picture's head, what its colours mean and the names of lanes, stands still as one scrolls: as a copy above it.
+const picture = byId("picture").firstElementChild;
+const lanes = [];
+if (picture) {
+  const head = picture.cloneNode(false), names = picture.querySelectorAll(".lane");
+  head.setAttribute("class", "head");
+  head.setAttribute("height", "112");
+  head.setAttribute("viewBox", "0 0 " + picture.getAttribute("width") + " 112");
+  head.setAttribute("aria-hidden", "true");
+  head.removeAttribute("aria-labelledby");
+  for (const part of picture.children) {
+    if (!["style", "title", "desc", "defs"].includes(part.nodeName)) head.append(part.cloneNode(true));
+    if (part === names[names.length - 1]) break;
+  }
+  lanes.push(...head.querySelectorAll(".lane"));
+  picture.before(head);
+}
 "##;
 
 /// The script's second part: it shows a moment.
 pub(crate) const SHOWER: &str = r##"
-// Scrolls a pane, and nothing else, so that something in it can be seen.
-function reveal(pane, seen) {
+// Scrolls a pane, and nothing else, so that something in it can be seen, below a head that is so high.
+function reveal(pane, seen, high = 0) {
   const a = pane.getBoundingClientRect(), b = seen.getBoundingClientRect();
-  if (b.top < a.top || b.bottom > a.bottom) pane.scrollTop += b.top - a.top - pane.clientHeight / 2;
+  if (b.top < a.top + high || b.bottom > a.bottom) pane.scrollTop += b.top - a.top - pane.clientHeight / 2;
   if (b.left < a.left || b.right > a.right) pane.scrollLeft += b.left - a.left - pane.clientWidth / 2;
 }
 
@@ -233,14 +306,15 @@ function doing(line) {
 function mark(acts, who) {
   const more = new Map();
   for (const row of rows) {
-    row.className = "row";
-    row.lastChild.replaceChildren();
+    row.classList.remove("can", "waits", "ended");
+    row.children[1].replaceChildren();
   }
   for (const line of acts) {
     const at = /^act (\d+) at (\d+):/.exec(line), row = at && rows[at[2] - 1];
     if (!row) continue;
-    const badges = row.lastChild, moved = at[1] === who;
-    if (!row.classList.contains("can")) row.className = "row " + doing(line);
+    const badges = row.children[1], moved = at[1] === who;
+    if (doing(line) === "can") row.classList.remove("waits");
+    if (!row.classList.contains("can")) row.classList.add(doing(line));
     if (badges.childElementCount < 4 || moved) badges.append(make("span", "badge " + doing(line) + (moved ? " moved" : ""), at[1]));
     else more.set(badges, (more.get(badges) || 0) + 1);
     if (moved) reveal(source, row);
@@ -256,6 +330,8 @@ function show(k) {
   byId("slider").setAttribute("aria-valuetext", said);
   byId("back").disabled = k === 0;
   byId("next").disabled = k === moments.length - 1;
+  byId("same").disabled = sameBehind(k) < 0;
+  byId("advance").disabled = advanceBehind(k) < 0;
   byId("activities").replaceChildren(...moment.act.map(line => make("li", doing(line), line)));
   byId("clocks").replaceChildren(...moment.clock.map(line => make("li", "", line)));
   byId("shared").replaceChildren(...moment.shared.map(line => make("li", "", line)));
@@ -270,19 +346,63 @@ function show(k) {
   const box = boxes.get(moment.steps);
   if (box) {
     box.classList.add("now");
-    reveal(byId("picture"), box);
+    reveal(byId("picture"), box, 112);
   } else byId("picture").scrollTop = 0;
 }
 "##;
 
 /// The script's third part: it goes to a moment as it is told.
-pub(crate) const MOVER: &str = r#"
-// Goes to a moment, or the nearest one that there is.
-const slider = byId("slider");
-function go(k) {
-  slider.value = k;
-  show(Number(slider.value));
+pub(crate) const MOVER: &str = r##"
+// The first moment behind this one that passes, or -1.
+function behind(k, passes) {
+  for (let n = k + 1; n < moments.length; n++) if (passes(n)) return n;
+  return -1;
 }
+
+// The next step of the same activity; before the first step, of main.
+function sameBehind(k) {
+  const who = moments[k].done.split(" ")[3] || "0";
+  return behind(k, n => moments[n].done.split(" ")[3] === who);
+}
+
+// The next moment in which a clock has gone on.
+const phases = line => / phase (\d+)$/.exec(line)[1];
+function advanceBehind(k) {
+  return behind(k, n => moments[n].clock.some((line, c) => phases(line) > 0 && (!moments[n - 1].clock[c] || phases(line) !== phases(moments[n - 1].clock[c]))));
+}
+
+// Goes to a moment, or the nearest one that there is; the address follows, where the browser lets it.
+const slider = byId("slider");
+function shown() {
+  const k = Number(slider.value);
+  show(k);
+  try { history.replaceState(null, "", "#" + moments[k].steps); } catch { return; }
+}
+function go(k) {
+  if (k < 0) return;
+  slider.value = k;
+  shown();
+}
+
+// A click on a box goes to its step, one on a line to the next step that was taken there, and one on a lane's name to the next of its activity; behind the
+// last one the first comes again.
+function goOn(passes) {
+  const k = behind(Number(slider.value), passes);
+  go(k < 0 ? behind(-1, passes) : k);
+}
+function onClick(element, act) {
+  element.classList.add("goes");
+  element.addEventListener("click", act);
+}
+moments.forEach((moment, k) => {
+  const box = boxes.get(moment.steps);
+  if (box && moment.done) onClick(box, () => go(k));
+});
+rows.forEach((row, i) => {
+  const taken = n => lineOf(moments[n].done) === i + 1;
+  if (behind(-1, taken) >= 0) onClick(row, () => goOn(taken));
+});
+lanes.forEach((name, b) => onClick(name, () => goOn(n => moments[n].done.split(" ")[3] === String(b))));
 
 // The moment that the address names by a step's number, as in "page.html#12", or the last one before it.
 function named() {
@@ -291,18 +411,27 @@ function named() {
 }
 
 // The keys, wherever one is on the page; the slider has its own.
-const keys = {ArrowLeft: k => k - 1, ArrowRight: k => k + 1, Home: () => 0, End: () => moments.length - 1};
+const keys = {
+  ArrowLeft: k => Math.max(k - 1, 0), ArrowRight: k => k + 1, Home: () => 0, End: () => moments.length - 1,
+  s: sameBehind, S: sameBehind, a: advanceBehind, A: advanceBehind,
+};
 document.addEventListener("keydown", pressed => {
   const move = keys[pressed.key];
   if (!move || pressed.target === slider || pressed.altKey || pressed.ctrlKey || pressed.metaKey || pressed.shiftKey) return;
   pressed.preventDefault();
   go(move(Number(slider.value)));
 });
-slider.addEventListener("input", () => show(Number(slider.value)));
+slider.addEventListener("input", shown);
 byId("back").addEventListener("click", () => go(Number(slider.value) - 1));
 byId("next").addEventListener("click", () => go(Number(slider.value) + 1));
-window.addEventListener("hashchange", () => go(named()));
+byId("same").addEventListener("click", () => go(sameBehind(Number(slider.value))));
+byId("advance").addEventListener("click", () => go(advanceBehind(Number(slider.value))));
+function begin() {
+  slider.value = named();
+  show(Number(slider.value));
+}
+window.addEventListener("hashchange", begin);
 slider.max = moments.length - 1;
 document.body.classList.remove("still");
-go(named());
-"#;
+begin();
+"##;

@@ -1,17 +1,18 @@
 //! How things stand behind each step.
 
-ghost use Rattle.std.specs.Prelude.{◌≡◌, None, ◌++◌, OnOk};
+ghost use Rattle.std.specs.Prelude.{◌≡◌, None, ◌++◌, IfOk, OnOk, string_bytes};
 ghost use Rattle.xk_types.specs.World.{opening};
-ghost use Rattle.xk_show_events.specs.Events.{event_line};
+ghost use Rattle.xk_show_names.specs.Events.{step_words};
 ghost use Rattle.xk_show_where.specs.Where.{standings_text};
-ghost use Rattle.xk_show_page.specs.Page.{is_moment, moment, print_by, told_step};
+ghost use Rattle.xk_show_page.specs.Page.{is_moment, line_of, moment, named_line, print_by, told_step};
 
 use crate::texts::put;
 use std::alloc::{AllocError, Global};
 use xk_core::Core;
 use xk_scheduler::Ended;
-use xk_show_events::{Describe, Places, RunStep, event_line, is_seen};
+use xk_show_events::{Places, RunStep, event_line, is_seen, place_words};
 use xk_show_lanes::Window;
+use xk_show_names::{Account, Names, Recount, account_words};
 use xk_show_where::standings_text;
 use xk_types::Event;
 
@@ -22,16 +23,62 @@ fn is_moment(window: Window, step: &RunStep) -> bool
     is_seen(step.event) && window.asks(step.number)
 }
 
+/// A step, and where it was taken: `step 9 act 1 at 7:9`.
+#[tactic(auto, unfolding(xk_show_names::specs::Events::step_words))]
+fn step_words(alloc: Global, places: &Places<'_>, step: &RunStep) -> Result<String, AllocError>
+    ensures { IfOk result (λ text. string_bytes text ≡ step_words places.now step.now) }
+{
+    let number = step.number;
+    let act = step.act;
+    let origin = places.origin(step.unit, step.place);
+    let place = place_words(alloc, step.unit, step.place, origin)?;
+    format!(in alloc; "step {number} act {act} {place}")
+}
+
+/// The line of a step with names and values: `step 9 act 1 at 7:9 read total 2`.
+#[tactic(auto, unfolding(crate::specs::Page::named_line))]
+fn named_line(
+    alloc: Global,
+    places: &Places<'_>,
+    names: &Names<'_>,
+    account: &Account,
+) -> Result<String, AllocError>
+    ensures { IfOk result (λ text. string_bytes text
+        ≡ named_line places.now names.now account.now) }
+{
+    let front = step_words(alloc, places, &account.step)?;
+    let words = account_words(alloc, names, account)?;
+    format!(in alloc; "{front} {words}\n")
+}
+
+/// The line of a step.
+fn line_of(
+    alloc: Global,
+    places: &Places<'_>,
+    names: &Option<Names<'_>>,
+    account: &Account,
+) -> Result<String, AllocError>
+    ensures { IfOk result
+        (λ text. string_bytes text ≡ line_of places.now names.now account.now) }
+{
+    match names {
+        Some(names) => named_line(alloc, places, names, account),
+        None => event_line(alloc, places, &account.step),
+    }
+}
+
 /// Adds the line of a step.
 fn push_line(
     alloc: Global,
     out: &mut Vec<u8>,
     places: &Places<'_>,
-    step: &RunStep,
+    names: &Option<Names<'_>>,
+    account: &Account,
 ) -> Result<(), AllocError>
-    ensures { OnOk result (out.new.items ≡ out.old.items ++ event_line places.now step.now) }
+    ensures { OnOk result (out.new.items
+        ≡ out.old.items ++ line_of places.now names.now account.now) }
 {
-    let line = event_line(alloc, places, step)?;
+    let line = line_of(alloc, places, names, account)?;
     put(out, line.as_str())
 }
 
@@ -55,12 +102,13 @@ fn push_moment(
     out: &mut Vec<u8>,
     core: &Core<'_>,
     places: &Places<'_>,
-    step: &RunStep,
+    names: &Option<Names<'_>>,
+    account: &Account,
 ) -> Result<(), AllocError>
     ensures { OnOk result (out.new.items ≡ out.old.items
-        ++ moment places.now core.now.module_run core.now.world step.now) }
+        ++ moment places.now names.now core.now.module_run core.now.world account.now) }
 {
-    push_line(alloc, out, places, step)?;
+    push_line(alloc, out, places, names, account)?;
     push_standings(alloc, out, places, core)
 }
 
@@ -70,16 +118,17 @@ fn push_print(
     out: &mut Vec<u8>,
     window: Window,
     places: &Places<'_>,
-    step: &RunStep,
+    names: &Option<Names<'_>>,
+    account: &Account,
     event: Event,
 ) -> Result<(), AllocError>
     ensures { OnOk result (out.new.items ≡ out.old.items
-        ++ print_by window places.now step.now event) }
+        ++ print_by window places.now names.now account.now event) }
 {
     match event {
         Event::Printed(_) => {
-            if step.number <= window.last {
-                return push_line(alloc, out, places, step);
+            if account.step.number <= window.last {
+                return push_line(alloc, out, places, names, account);
             }
             Ok(())
         }
@@ -92,22 +141,33 @@ fn push_print(
 pub(crate) struct MomentTeller<'a, 't> {
     pub window: Window,
     pub places: &'a Places<'t>,
+    pub names: &'a Option<Names<'t>>,
 }
 
-impl Describe<u8> for MomentTeller<'_, '_> {
-    ghost describe = { λ teller m v s. told_step teller.window teller.places.now m v s };
+impl Recount<u8> for MomentTeller<'_, '_> {
+    ghost recount = { λ teller m v a.
+        told_step teller.window teller.places.now teller.names.now m v a };
 
     fn push(
         &self,
         alloc: Global,
         out: &mut Vec<u8>,
         core: &Core<'_>,
-        step: &RunStep,
+        account: &Account,
     ) -> Result<(), AllocError> {
+        let step = &account.step;
         if is_moment(self.window, step) {
-            return push_moment(alloc, out, core, self.places, step);
+            return push_moment(alloc, out, core, self.places, self.names, account);
         }
-        push_print(alloc, out, self.window, self.places, step, step.event)
+        push_print(
+            alloc,
+            out,
+            self.window,
+            self.places,
+            self.names,
+            account,
+            step.event,
+        )
     }
 }
 

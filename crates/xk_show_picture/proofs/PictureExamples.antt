@@ -1,5 +1,5 @@
 -- A small picture.
-use Rattle.std.proofs.Common.{◌≡◌, ℕ, ◌<◌, pos, List, [], ◌∷◌, ◌++◌, refl, true, lit<}
+use Rattle.std.proofs.Common.{◌≡◌, ℕ, ◌<◌, pos, List, [], ◌∷◌, ◌++◌, None, refl, true, lit<}
 use Rattle.std.specs.Prelude.{codes}
 use Rattle.std.specs.Fmt.{digits}
 use Rattle.xk_types.specs.declared.instr.Instr.TheVariants as instr
@@ -46,6 +46,6 @@ drawn = refl
 abbrev middle : Window
 middle = record { first = 5; last = 6 }
 
-drawn_middle : picture_text no_text middle held_back log last.0 ≡ codes "<svg xmlns='http://www.w3.org/2000/svg' width='680' height='200' viewBox='0 0 680 200' role='img' aria-labelledby='title desc'>\n<title id='title'>The lanes of a run</title>\n<desc id='desc'>A lane for each of 2 activities, and 3 rows, from the top: one for each step that others see, and one for each advance of a clock.</desc>\n" ++ (furniture ++ codes "<text class='lane' x='172' y='104'>main</text>\n<text class='lane' x='244' y='104'>act 1</text>\n<use href='#held' x='244' y='112'/>\n<use href='#even' x='288' y='112'/>\n<text class='number' x='80' y='128'>5</text><text class='at' x='88' y='128'>0.3</text>\n<g class='print'><title>step 5 act 0 at 0.3 print 1</title><rect x='140' y='114' width='64' height='20' rx='3'/><text class='words' x='172' y='128'>print 1</text></g>\n<use href='#free' x='244' y='136'/>\n<use href='#odd' x='288' y='136'/>\n<text class='number' x='80' y='152'>6</text><text class='at' x='88' y='152'>0.4</text>\n<g class='clock'><title>step 6 act 0 at 0.4 arrive</title><rect x='140' y='138' width='64' height='20' rx='3'/><text class='words' x='172' y='152'>arrive</text></g>\n<use href='#free' x='172' y='160'/>\n<use href='#free' x='244' y='160'/>\n<use href='#odd' x='288' y='160'/>\n<path class='bar' d='M172 172h36'/>\n<use href='#ring' x='172' y='172'/>\n<path class='bar' d='M208 172h36'/>\n<use href='#ring' x='244' y='172'/>\n<text x='310' y='176'>clock 0 phase 1 by 0</text>\n</svg>\n")
+drawn_middle : picture_text no_text None middle held_back log last.0 ≡ codes "<svg xmlns='http://www.w3.org/2000/svg' width='680' height='200' viewBox='0 0 680 200' role='img' aria-labelledby='title desc'>\n<title id='title'>The lanes of a run</title>\n<desc id='desc'>A lane for each of 2 activities, and 3 rows, from the top: one for each step that others see, and one for each advance of a clock.</desc>\n" ++ (furniture ++ codes "<text class='lane' x='172' y='104'>main</text>\n<text class='lane' x='244' y='104'>act 1</text>\n<use href='#held' x='244' y='112'/>\n<use href='#even' x='288' y='112'/>\n<text class='number' x='80' y='128'>5</text><text class='at' x='88' y='128'>0.3</text>\n<g class='print'><title>step 5 act 0 at 0.3 print 1</title><rect x='140' y='114' width='64' height='20' rx='3'/><text class='words' x='172' y='128'>print 1</text></g>\n<use href='#free' x='244' y='136'/>\n<use href='#odd' x='288' y='136'/>\n<text class='number' x='80' y='152'>6</text><text class='at' x='88' y='152'>0.4</text>\n<g class='clock'><title>step 6 act 0 at 0.4 arrive</title><rect x='140' y='138' width='64' height='20' rx='3'/><text class='words' x='172' y='152'>arrive</text></g>\n<use href='#free' x='172' y='160'/>\n<use href='#free' x='244' y='160'/>\n<use href='#odd' x='288' y='160'/>\n<path class='bar' d='M172 172h36'/>\n<use href='#ring' x='172' y='172'/>\n<path class='bar' d='M208 172h36'/>\n<use href='#ring' x='244' y='172'/>\n<text x='310' y='176'>clock 0 phase 1 by 0</text>\n</svg>\n")
 unfolding last style shapes legend head svg_head described lane_title drawn_row boxed box_head box_frame box_words front shape stroke label drawn_bar bar_label spot event_words digits
 drawn_middle = refl

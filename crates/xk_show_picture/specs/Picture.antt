@@ -1,7 +1,7 @@
 -- The picture of a run: what its lanes tell (`xk_show_lanes`), drawn. Time goes down. A row for each step that others can see, and below it one for each
 -- clock that advanced in it; a column for each activity. Who can take a step and when clocks advance, `xk_types` says in `Step.antt`; that it is
 -- drawn so is this project's own.
-use Rattle.std.specs.Prelude.{◌≡◌, ℕ, ◌+◌, ◌-◌, ◌*◌, ◌%◌, min, nat_eq, nat_lt, nat_le, Bool, true, false, not, ◌&&◌, ◌||◌, ℤ, List, [], ◌∷◌, ◌++◌, length, count_by, flat_map, replicate, codes, if◌then◌else◌}
+use Rattle.std.specs.Prelude.{◌≡◌, ℕ, ◌+◌, ◌-◌, ◌*◌, ◌%◌, min, nat_eq, nat_lt, nat_le, Bool, true, false, not, ◌&&◌, ◌||◌, ℤ, List, [], ◌∷◌, ◌++◌, length, count_by, flat_map, replicate, Option, Some, None, codes, if◌then◌else◌}
 use Rattle.xk_types.specs.declared.world.Entry.{Entry}
 use Rattle.xk_types.specs.declared.world.Event.{Event}
 use Rattle.xk_types.specs.declared.world.Event.TheVariants as event
@@ -12,9 +12,16 @@ use Rattle.xk_core.specs.Core.{advanced_now, is_living, is_quiet}
 use Rattle.xk_show_events.specs.declared.steps.RunStep.{RunStep}
 use Rattle.xk_show_events.specs.Steps.{tell_by, told_of_run}
 use Rattle.xk_show_events.specs.Events.{PlacesValue, event_words}
-use Rattle.xk_show_lanes.specs.declared.window.Window.{Window}
 use Rattle.xk_show_events.specs.Worlds.{each_below, phase_of}
+use Rattle.xk_show_names.specs.declared.accounts.Account.{Account}
+use Rattle.xk_show_names.specs.Accounts.{recounted_by}
+use Rattle.xk_show_names.specs.ClockNames.{NamesValue, names_in_run}
+use Rattle.xk_show_names.specs.Events.{account_words, clock_word}
+use Rattle.xk_show_lanes.specs.declared.grid.Grid.{Grid}
+use Rattle.xk_show_lanes.specs.declared.window.Window.{Window}
+use Rattle.xk_show_lanes.specs.Fields.{longest}
 use Rattle.xk_show_lanes.specs.Lanes.{any_behind, any_below, bar_label, grid_for, is_asked, is_on, most_lanes, spot, title}
+use Rattle.xk_show_lanes.specs.NamedLanes.{grid_by_names, named_label}
 use Rattle.xk_show_picture.specs.declared.picture.Planned.{Planned}
 use Rattle.xk_show_picture.specs.declared.picture.Planned.TheVariants as planned
 use Rattle.xk_show_picture.specs.declared.sheet.Sheet.{Sheet}
@@ -47,6 +54,27 @@ row_of rows n = min (count_by (λ k. nat_lt k n) rows) most_rows
 -- in which row the bar of clock c is drawn, which advanced in the step that led here: below the step, and those of smaller clocks
 abbrev pub bar_row : List ℕ → World → ℕ → ℕ
 bar_row rows v c = row_of rows v.steps + (1 + min (count_by (λ d. nat_lt d c) (advanced_now v)) most_rows)
+
+-- ---- words
+
+-- what a step did: of a source text's module by the names of what it was about, and with values
+abbrev pub words_of : Option NamesValue → Account → List ℕ
+words_of None a = event_words a.step
+words_of (Some n) a = account_words n a
+
+-- what is said of the bar of clock c, which advanced in a step of activity a
+abbrev pub label_of : Option NamesValue → World → ℕ → ℕ → List ℕ
+label_of None v a c = bar_label v a c
+label_of (Some n) v a c = named_label n v a c
+
+-- how long the longest of the names of the first k clocks is
+abbrev pub widest_name : NamesValue → ℕ → ℕ
+widest_name n k = longest (each_below (λ c. clock_word n c ∷ []) k)
+
+-- for how many signs there is room behind a bar: 22 for phase and activity, and the names of so many clocks
+abbrev pub signs_of : Option NamesValue → ℕ → ℕ
+signs_of None k = 32
+signs_of (Some n) k = 22 + min 100 (widest_name n k)
 
 -- ---- what stands in each row
 
@@ -100,12 +128,14 @@ start_by s k r _ = []
 abbrev pub other_line : Sheet → ModuleValue → World → RunStep → ℕ → ℕ → List ℕ
 other_line s m v r k b = if nat_eq b r.act then [] else line s m v k b
 
-unfoldable pub drawn_row : Sheet → PlacesValue → ModuleValue → World → RunStep → ℕ → List ℕ
-drawn_row s p m v r k =
-    (((each_below (other_line s m v r k) s.lanes ++ bands s v k) ++ front (top k + 16) r.number (spot p r)) ++ boxed s k r (spot p r) (event_words r)) ++ start_by s k r r.event
+-- of which these words are told
+unfoldable pub drawn_row : Sheet → PlacesValue → List ℕ → ModuleValue → World → RunStep → ℕ → List ℕ
+drawn_row s p words m v r k =
+    (((each_below (other_line s m v r k) s.lanes ++ bands s v k) ++ front (top k + 16) r.number (spot p r)) ++ boxed s k r (spot p r) words) ++ start_by s k r r.event
 
-abbrev pub step_row : Sheet → List ℕ → PlacesValue → ModuleValue → World → RunStep → List ℕ
-step_row s rows p m v r = if is_local r.event then [] else drawn_row s p m v r (row_of rows r.number)
+abbrev pub step_row : Sheet → List ℕ → PlacesValue → Option NamesValue → ModuleValue → World → Account → List ℕ
+step_row s rows p n m v a =
+    if is_local a.step.event then [] else drawn_row s p (words_of n a) m v a.step (row_of rows a.step.number)
 
 -- ---- the row of a bar
 
@@ -124,21 +154,22 @@ bar_piece s k b here before behind =
 abbrev pub lane_strokes : Sheet → World → ℕ → ℕ → ℕ → List ℕ
 lane_strokes s v c k b = bar_piece s k b (is_on v c b) (any_below (is_on v c) b) (any_behind (is_on v c) b s.lanes)
 
-unfoldable pub drawn_bar : Sheet → ModuleValue → World → ℕ → ℕ → ℕ → List ℕ
-drawn_bar s m v a c k =
-    ((each_below (line s m v k) s.lanes ++ bands s v k) ++ each_below (lane_strokes s v c k) s.lanes) ++ label (labels s) (top k + 16) (bar_label v a c)
+-- of which these words are said
+unfoldable pub drawn_bar : Sheet → ModuleValue → World → List ℕ → ℕ → ℕ → List ℕ
+drawn_bar s m v words c k =
+    ((each_below (line s m v k) s.lanes ++ bands s v k) ++ each_below (lane_strokes s v c k) s.lanes) ++ label (labels s) (top k + 16) words
 
-abbrev pub clock_bar : Sheet → List ℕ → ModuleValue → World → ℕ → ℕ → List ℕ
-clock_bar s rows m v a c = drawn_bar s m v a c (bar_row rows v c)
+abbrev pub clock_bar : Sheet → List ℕ → Option NamesValue → ModuleValue → World → ℕ → ℕ → List ℕ
+clock_bar s rows n m v a c = drawn_bar s m v (label_of n v a c) c (bar_row rows v c)
 
 -- ---- the picture
 
-abbrev pub rows_of_step : Sheet → List ℕ → PlacesValue → ModuleValue → World → RunStep → List ℕ
-rows_of_step s rows p m v r = step_row s rows p m v r ++ flat_map (clock_bar s rows m v r.act) (advanced_now v)
+abbrev pub rows_of_step : Sheet → List ℕ → PlacesValue → Option NamesValue → ModuleValue → World → Account → List ℕ
+rows_of_step s rows p n m v a = step_row s rows p n m v a ++ flat_map (clock_bar s rows n m v a.step.act) (advanced_now v)
 
 -- of a step that is shown: its row, and below it the bars
-abbrev pub drawn_step : Sheet → List ℕ → PlacesValue → ModuleValue → World → RunStep → List ℕ
-drawn_step s rows p m v r = if is_shown s.window v r.event then rows_of_step s rows p m v r else []
+abbrev pub drawn_step : Sheet → List ℕ → PlacesValue → Option NamesValue → ModuleValue → World → Account → List ℕ
+drawn_step s rows p n m v a = if is_shown s.window v a.step.event then rows_of_step s rows p n m v a else []
 
 abbrev pub lane_head : Sheet → ℕ → List ℕ
 lane_head s b = lane_title (middle s b) (title b)
@@ -163,34 +194,43 @@ fits rows activities = nat_le rows most_rows && nat_le activities most_lanes
 abbrev pub picture_end : List ℕ
 picture_end = codes "</svg>\n"
 
-abbrev pub picture_in : Sheet → List ℕ → PlacesValue → ModuleValue → List Entry → World → List ℕ
-picture_in s rows p m log last =
-    (head s (length last.activities) (length rows) ++ told_of_run (tell_by (drawn_step s rows p m)) m last.arguments log) ++ picture_end
+abbrev pub picture_in : Sheet → List ℕ → PlacesValue → Option NamesValue → ModuleValue → List Entry → World → List ℕ
+picture_in s rows p n m log last =
+    (head s (length last.activities) (length rows) ++ told_of_run (recounted_by m (drawn_step s rows p n m)) m last.arguments log) ++ picture_end
 
 -- it isn't too large to be drawn
 abbrev pub is_drawn : Window → ModuleValue → List Entry → World → Bool
 is_drawn w m log last = fits (length (rows_of w m last.arguments log)) (length last.activities)
 
+-- the columns of lanes, for these words
+abbrev pub columns : PlacesValue → Option NamesValue → Window → ModuleValue → List Entry → World → Grid
+columns p None w m log last = grid_for p w m log last
+columns p (Some n) w m log last = grid_by_names p n w m log last
+
 -- where the columns stand of the run that a log stands for, which ends in this world
-abbrev pub sheet_for : PlacesValue → Window → ModuleValue → List Entry → World → Sheet
-sheet_for p w m log last = sheet_of (grid_for p w m log last) (length last.clocks)
+abbrev pub sheet_for : PlacesValue → Option NamesValue → Window → ModuleValue → List Entry → World → Sheet
+sheet_for p n w m log last = sheet_of (columns p n w m log last) (signs_of n (length last.clocks)) (length last.clocks)
 
 -- the picture of these rows, if it is drawn, or else a line that says how large it would be
-abbrev pub picture_by : Bool → PlacesValue → Window → List ℕ → ModuleValue → List Entry → World → List ℕ
-picture_by drawn p w rows m log last =
-    if drawn then picture_in (sheet_for p w m log last) rows p m log last else too_large (length rows) (length last.activities)
+abbrev pub picture_by : Bool → PlacesValue → Option NamesValue → Window → List ℕ → ModuleValue → List Entry → World → List ℕ
+picture_by drawn p n w rows m log last =
+    if drawn then picture_in (sheet_for p n w m log last) rows p n m log last else too_large (length rows) (length last.activities)
 
 -- the picture of these steps of that run
-abbrev pub picture_text : PlacesValue → Window → ModuleValue → List Entry → World → List ℕ
-picture_text p w m log last = picture_by (is_drawn w m log last) p w (rows_of w m last.arguments log) m log last
+abbrev pub picture_text : PlacesValue → Option NamesValue → Window → ModuleValue → List Entry → World → List ℕ
+picture_text p n w m log last = picture_by (is_drawn w m log last) p n w (rows_of w m last.arguments log) m log last
+
+-- the same where shared numbers have these names, and clocks those that they were made under
+abbrev pub named_picture_text : PlacesValue → List (List ℕ) → Window → ModuleValue → List Entry → World → List ℕ
+named_picture_text p shared w m log last = picture_text p (Some (names_in_run p shared m last.arguments log)) w m log last
 
 -- ---- its plan
 
 -- a picture is drawn so, or isn't, and this is told in its place
-abbrev pub IsPlanned : PlacesValue → Window → ModuleValue → List Entry → World → Planned → Type 0
-IsPlanned p w m log last (planned.Drawn plan) =
+abbrev pub IsPlanned : PlacesValue → Option NamesValue → Window → ModuleValue → List Entry → World → Planned → Type 0
+IsPlanned p n w m log last (planned.Drawn plan) =
     (is_drawn w m log last ≡ true)
-    × ((plan.sheet ≡ sheet_for p w m log last)
+    × ((plan.sheet ≡ sheet_for p n w m log last)
     × ((plan.rows.items ≡ rows_of w m last.arguments log) × (plan.activities ≡ length last.activities)))
-IsPlanned p w m log last (planned.TooLarge text) =
+IsPlanned p n w m log last (planned.TooLarge text) =
     (is_drawn w m log last ≡ false) × (text.items ≡ too_large (length (rows_of w m last.arguments log)) (length last.activities))

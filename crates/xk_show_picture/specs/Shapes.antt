@@ -1,5 +1,5 @@
 -- The pieces of a picture, each a line of SVG or less. Attributes stand in single quotes. What is filled in are numbers and words of letters, digits,
--- blanks, dots and colons: nothing of it has to be escaped. This project's own.
+-- blanks, dots, colons and such signs as `_`, `#` and `->`: nothing of it has to be escaped. This project's own.
 use Rattle.std.specs.Prelude.{ℕ, ◌+◌, ◌*◌, List, ◌++◌, codes, decimal}
 
 -- how far down row k begins

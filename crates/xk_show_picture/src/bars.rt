@@ -3,17 +3,18 @@
 ghost use Rattle.std.specs.Prelude.{◌≡◌, ◌<◌, ◌++◌, length, flat_map, IfOk, OnOk, string_bytes};
 ghost use Rattle.xk_core.specs.Core.{advanced_now};
 ghost use Rattle.xk_show_events.specs.Worlds.{each_below};
-ghost use Rattle.xk_show_picture.specs.Picture.{bar_piece, clock_bar, drawn_bar, lane_strokes, ring_if, stroke_if};
+ghost use Rattle.xk_show_picture.specs.Picture.{bar_piece, clock_bar, drawn_bar, label_of, lane_strokes, ring_if, stroke_if};
 
 use crate::layout::bar_row;
 use crate::lines::{push_bands, push_lines, put};
-use crate::picture::Plan;
+use crate::picture::PictureTeller;
 use crate::shapes::{label, shape, stroke, top};
 use crate::sheet::{Sheet, labels, lane_left, middle};
+use crate::words::label_of;
 use std::alloc::{AllocError, Global};
 use xk_core::Core;
 use xk_show_events::advanced;
-use xk_show_lanes::{any_behind, any_below, bar_label, is_on};
+use xk_show_lanes::{any_behind, any_below, is_on};
 use xk_types::ClockId;
 
 /// A stroke, if there is one.
@@ -106,30 +107,29 @@ fn push_bar_lanes(
     Ok(())
 }
 
-/// The bar of a clock that advanced in the last step: which clock, who took the step, and the row of the bar.
+/// The bar of a clock that advanced in the last step: which clock, and the row of the bar.
 #[derive(Clone, Copy)]
 struct Bar {
     clock: ClockId,
-    act: u32,
     row: u32,
 }
 
-/// Adds the row of a bar.
+/// Adds the row of a bar, of which these words are said.
 #[tactic(auto, unfolding(crate::specs::Picture::drawn_bar))]
 fn push_bar_at(
     alloc: Global,
     out: &mut Vec<u8>,
     core: &Core<'_>,
     sheet: Sheet,
+    words: &str,
     bar: Bar,
 ) -> Result<(), AllocError>
     requires { bar.clock < length core.now.world.clocks }
     ensures { OnOk result (out.new.items ≡ out.old.items
-        ++ drawn_bar sheet core.now.module_run core.now.world bar.act bar.clock bar.row) }
+        ++ drawn_bar sheet core.now.module_run core.now.world words.now bar.clock bar.row) }
 {
     let row = bar.row;
-    let words = bar_label(alloc, core, bar.act, bar.clock)?;
-    let text = label(alloc, labels(sheet), top(row) + 16, words.as_str())?;
+    let text = label(alloc, labels(sheet), top(row) + 16, words)?;
     push_lines(alloc, out, core, sheet, row)?;
     push_bands(alloc, out, core, sheet, row)?;
     push_bar_lanes(alloc, out, core, sheet, bar.clock, row)?;
@@ -141,21 +141,22 @@ fn push_bars_of(
     alloc: Global,
     out: &mut Vec<u8>,
     core: &Core<'_>,
-    plan: &Plan,
+    teller: &PictureTeller<'_, '_>,
     act: u32,
     clocks: &[u32],
 ) -> Result<(), AllocError>
     requires { clocks.now ≡ advanced_now core.now.world }
-    ensures { OnOk result (out.new.items ≡ out.old.items ++ flat_map (clock_bar plan.now.sheet
-        plan.now.rows.items core.now.module_run core.now.world act) clocks.now) }
+    ensures { OnOk result (out.new.items ≡ out.old.items ++ flat_map (clock_bar
+        teller.now.plan.now.sheet teller.now.plan.now.rows.items teller.now.names.now
+        core.now.module_run core.now.world act) clocks.now) }
 {
     for clock in clocks {
         let bar = Bar {
             clock: ClockId(*clock),
-            act,
-            row: bar_row(&plan.rows, core, clocks, *clock),
+            row: bar_row(&teller.plan.rows, core, clocks, *clock),
         };
-        push_bar_at(alloc, out, core, plan.sheet, bar)?;
+        let words = label_of(alloc, core, teller.names, act, bar.clock)?;
+        push_bar_at(alloc, out, core, teller.plan.sheet, words.as_str(), bar)?;
     }
     Ok(())
 }
@@ -165,13 +166,13 @@ pub(crate) fn push_bars(
     alloc: Global,
     out: &mut Vec<u8>,
     core: &Core<'_>,
-    plan: &Plan,
+    teller: &PictureTeller<'_, '_>,
     act: u32,
 ) -> Result<(), AllocError>
-    ensures { OnOk result (out.new.items ≡ out.old.items ++ flat_map (clock_bar plan.now.sheet
-        plan.now.rows.items core.now.module_run core.now.world act)
-        (advanced_now core.now.world)) }
+    ensures { OnOk result (out.new.items ≡ out.old.items ++ flat_map (clock_bar
+        teller.now.plan.now.sheet teller.now.plan.now.rows.items teller.now.names.now
+        core.now.module_run core.now.world act) (advanced_now core.now.world)) }
 {
     let clocks = advanced(alloc, core)?;
-    push_bars_of(alloc, out, core, plan, act, &clocks)
+    push_bars_of(alloc, out, core, teller, act, &clocks)
 }

@@ -9,6 +9,7 @@ mod picture;
 mod rows;
 mod shapes;
 mod sheet;
+mod words;
 
 pub use picture::{PictureTeller, Plan, Planned, module_picture, plan_for, source_picture};
 pub use sheet::Sheet;

@@ -1,10 +1,11 @@
 //! The whole picture.
 
-ghost use Rattle.std.specs.Prelude.{◌≡◌, ◌++◌, length, IfOk, OnOk};
+ghost use Rattle.std.specs.Prelude.{◌≡◌, ◌++◌, length, map, None, IfOk, OnOk};
 ghost use Rattle.xk_show_events.specs.Events.{no_text, places_of};
 ghost use Rattle.xk_show_events.specs.Worlds.{each_below};
 ghost use Rattle.xk_show_lanes.specs.Lanes.{steps_asked};
-ghost use Rattle.xk_show_picture.specs.Picture.{IsPlanned, drawn_step, fits, furniture, head, high, is_drawn, lane_head, picture_end, picture_in, picture_text, rows_of_step, sheet_for};
+ghost use Rattle.xk_show_picture.specs.Picture.{IsPlanned, columns, drawn_step, fits, furniture, head, high, is_drawn, lane_head};
+ghost use Rattle.xk_show_picture.specs.Picture.{named_picture_text, picture_end, picture_in, picture_text, rows_of_step, sheet_for};
 
 use crate::bars::push_bars;
 use crate::furniture::{legend, shapes, style};
@@ -13,12 +14,14 @@ use crate::lines::put;
 use crate::rows::push_row;
 use crate::shapes::{described, lane_title, svg_head, too_large, top};
 use crate::sheet::{Sheet, middle, sheet_of, wide};
+use crate::words::signs_of;
 use std::alloc::{AllocError, Global};
 use xk_core::Core;
 use xk_origins::UnitOrigins;
 use xk_scheduler::Ended;
-use xk_show_events::{Describe, Places, RunStep, describe_run};
-use xk_show_lanes::{Drawing, Window, grid_of, title};
+use xk_show_events::{Places, RunStep};
+use xk_show_lanes::{Drawing, Grid, Window, grid_by_names, grid_of, title};
+use xk_show_names::{Account, Names, Recount, recount_run};
 
 /// The most rows that are drawn.
 const ROWS: usize = 2000;
@@ -32,36 +35,38 @@ fn push_row_and_bars(
     out: &mut Vec<u8>,
     core: &Core<'_>,
     teller: &PictureTeller<'_, '_>,
-    step: &RunStep,
+    account: &Account,
 ) -> Result<(), AllocError>
     ensures { OnOk result (out.new.items ≡ out.old.items ++ rows_of_step
-        teller.now.plan.now.sheet teller.now.plan.now.rows.items teller.now.places.now
-        core.now.module_run core.now.world step.now) }
+        teller.now.plan.now.sheet teller.now.plan.now.rows.items
+        teller.now.places.now teller.now.names.now
+        core.now.module_run core.now.world account.now) }
 {
-    push_row(alloc, out, core, teller, step)?;
-    push_bars(alloc, out, core, teller.plan, step.act)
+    push_row(alloc, out, core, teller, account)?;
+    push_bars(alloc, out, core, teller, account.step.act)
 }
 
-/// Tells of the steps that are shown, by their rows.
+/// Tells of the steps that are shown, by their rows; by names where there are any.
 #[derive(Drop)]
 pub struct PictureTeller<'a, 't> {
     pub plan: &'a Plan,
     pub places: &'a Places<'t>,
+    pub names: &'a Option<Names<'t>>,
 }
 
-impl Describe<u8> for PictureTeller<'_, '_> {
-    ghost describe = { λ teller m v s. drawn_step
-        teller.plan.now.sheet teller.plan.now.rows.items teller.places.now m v s };
+impl Recount<u8> for PictureTeller<'_, '_> {
+    ghost recount = { λ teller m v a. drawn_step teller.plan.now.sheet
+        teller.plan.now.rows.items teller.places.now teller.names.now m v a };
 
     fn push(
         &self,
         alloc: Global,
         out: &mut Vec<u8>,
         core: &Core<'_>,
-        step: &RunStep,
+        account: &Account,
     ) -> Result<(), AllocError> {
-        if is_shown(core, self.plan.sheet.window, step.event) {
-            push_row_and_bars(alloc, out, core, self, step)?;
+        if is_shown(core, self.plan.sheet.window, account.step.event) {
+            push_row_and_bars(alloc, out, core, self, account)?;
         }
         Ok(())
     }
@@ -159,31 +164,54 @@ fn fits(rows: &[u64], activities: u32) -> bool
     rows.len() <= ROWS && activities <= LANES
 }
 
+/// The columns of lanes.
+fn columns(
+    alloc: Global,
+    places: &Places<'_>,
+    names: &Option<Names<'_>>,
+    ended: &Ended<'_>,
+    window: Window,
+    steps: &[RunStep],
+) -> Result<Grid, AllocError>
+    requires { steps.now ≡ steps_asked window ended.now.module.now
+        ended.now.log.items ended.now.core.world }
+    ensures { IfOk result (λ g. g ≡ columns places.now names.now window ended.now.module.now
+        ended.now.log.items ended.now.core.world) }
+{
+    match names {
+        Some(names) => grid_by_names(alloc, places, names, ended, window),
+        None => grid_of(alloc, places, window, steps, ended.core.activities()),
+    }
+}
+
 /// Where the columns stand.
 fn sheet_for(
     alloc: Global,
     places: &Places<'_>,
+    names: &Option<Names<'_>>,
     ended: &Ended<'_>,
     window: Window,
     steps: &[RunStep],
 ) -> Result<Sheet, AllocError>
     requires { steps.now ≡ steps_asked window ended.now.module.now
         ended.now.log.items ended.now.core.world }
-    ensures { IfOk result (λ s. s ≡ sheet_for places.now window ended.now.module.now
-        ended.now.log.items ended.now.core.world) }
+    ensures { IfOk result (λ s. s ≡ sheet_for places.now names.now window
+        ended.now.module.now ended.now.log.items ended.now.core.world) }
 {
-    let grid = grid_of(alloc, places, window, steps, ended.core.activities())?;
-    Ok(sheet_of(grid, ended.core.clocks()))
+    let grid = columns(alloc, places, names, ended, window, steps)?;
+    let signs = signs_of(alloc, names, ended.core.clocks())?;
+    Ok(sheet_of(grid, signs, ended.core.clocks()))
 }
 
 /// How the picture of these steps of a run is drawn, if it is. Err where memory was refused.
 pub fn plan_for(
     alloc: Global,
     places: &Places<'_>,
+    names: &Option<Names<'_>>,
     ended: &Ended<'_>,
     window: Window,
 ) -> Result<Planned, AllocError>
-    ensures { IfOk result (IsPlanned places.now window ended.now.module.now
+    ensures { IfOk result (IsPlanned places.now names.now window ended.now.module.now
         ended.now.log.items ended.now.core.world) }
 {
     let layout = layout_of(alloc, ended, window)?;
@@ -192,7 +220,7 @@ pub fn plan_for(
         let told = too_large(alloc, layout.rows.len(), activities)?;
         return Ok(Planned::TooLarge(told.into_bytes()));
     }
-    let sheet = sheet_for(alloc, places, ended, window, &layout.steps)?;
+    let sheet = sheet_for(alloc, places, names, ended, window, &layout.steps)?;
     Ok(Planned::Drawn(Plan {
         sheet,
         rows: layout.rows,
@@ -200,21 +228,21 @@ pub fn plan_for(
     }))
 }
 
-/// The picture of a run, by its plan.
+/// The picture of a run.
 fn picture_in(
     alloc: Global,
-    plan: &Plan,
-    places: &Places<'_>,
+    teller: &PictureTeller<'_, '_>,
     ended: &Ended<'_>,
 ) -> Result<Vec<u8>, AllocError>
-    requires { plan.now.activities ≡ length ended.now.core.world.activities }
-    ensures { IfOk result (λ v. v.items ≡ picture_in plan.now.sheet plan.now.rows.items places.now
+    requires { teller.now.plan.now.activities ≡ length ended.now.core.world.activities }
+    ensures { IfOk result (λ v. v.items ≡ picture_in teller.now.plan.now.sheet
+        teller.now.plan.now.rows.items teller.now.places.now teller.now.names.now
         ended.now.module.now ended.now.log.items ended.now.core.world) }
 {
     let mut out = Vec::new(alloc);
-    plan.push_front(alloc, &mut out)?;
-    describe_run(&PictureTeller { plan, places }, alloc, &mut out, ended)?;
-    plan.push_end(&mut out)?;
+    teller.plan.push_front(alloc, &mut out)?;
+    recount_run(teller, alloc, &mut out, ended)?;
+    teller.plan.push_end(&mut out)?;
     Ok(out)
 }
 
@@ -222,17 +250,23 @@ fn picture_in(
 fn picture(
     alloc: Global,
     places: &Places<'_>,
+    names: &Option<Names<'_>>,
     ended: &Ended<'_>,
     window: Window,
 ) -> Result<Drawing, AllocError>
-    ensures text { IfOk result (λ d. d.text.items ≡ picture_text places.now window
+    ensures text { IfOk result (λ d. d.text.items ≡ picture_text places.now names.now window
         ended.now.module.now ended.now.log.items ended.now.core.world) }
     ensures whole { IfOk result (λ d. d.whole ≡ is_drawn window
         ended.now.module.now ended.now.log.items ended.now.core.world) }
 {
-    match plan_for(alloc, places, ended, window)? {
+    match plan_for(alloc, places, names, ended, window)? {
         Planned::Drawn(plan) => {
-            let text = picture_in(alloc, &plan, places, ended)?;
+            let teller = PictureTeller {
+                plan: &plan,
+                places,
+                names,
+            };
+            let text = picture_in(alloc, &teller, ended)?;
             Ok(Drawing { text, whole: true })
         }
         Planned::TooLarge(text) => Ok(Drawing { text, whole: false }),
@@ -240,36 +274,41 @@ fn picture(
 }
 
 /// The picture of these steps of a run of a source text's module, in SVG: a column for each activity, and from the top
-/// a row for each step that others can see, and for each advance of a clock. One of more than 2,000 rows or 64
-/// activities isn't drawn: a line says so, and it isn't whole. Err where memory was refused.
+/// a row for each step that others can see, and for each advance of a clock. What was read, written or added to is told
+/// by the shared number's name, which is given, with what it was then; and clocks by the names that they were made under.
+/// One of more than 2,000 rows or 64 activities isn't drawn: a line says so, and it isn't whole. Err where memory was
+/// refused.
 pub fn source_picture(
     alloc: Global,
     text: &[u8],
     origins: &[UnitOrigins<'_>],
+    shared: &[&[u8]],
     ended: &Ended<'_>,
     window: Window,
 ) -> Result<Drawing, AllocError>
-    ensures text { IfOk result (λ d. d.text.items
-        ≡ picture_text (places_of text.now origins.now) window
+    ensures text { IfOk result (λ d. d.text.items ≡ named_picture_text
+        (places_of text.now origins.now) (map (λ x. x.now) shared.now) window
         ended.now.module.now ended.now.log.items ended.now.core.world) }
     ensures whole { IfOk result (λ d. d.whole ≡ is_drawn window
         ended.now.module.now ended.now.log.items ended.now.core.world) }
 {
     let places = Places::of_source(alloc, text, origins)?;
-    picture(alloc, &places, ended, window)
+    let names = Some(Names::of_run(alloc, text, origins, shared, ended)?);
+    picture(alloc, &places, &names, ended, window)
 }
 
-/// The same of a module without a text, with the unit and place of each step. Err where memory was refused.
+/// The same of a module without a text, with the unit and place of each step, and with the numbers of what it was about.
+/// Err where memory was refused.
 pub fn module_picture(
     alloc: Global,
     ended: &Ended<'_>,
     window: Window,
 ) -> Result<Drawing, AllocError>
-    ensures text { IfOk result (λ d. d.text.items ≡ picture_text no_text window
+    ensures text { IfOk result (λ d. d.text.items ≡ picture_text no_text None window
         ended.now.module.now ended.now.log.items ended.now.core.world) }
     ensures whole { IfOk result (λ d. d.whole ≡ is_drawn window
         ended.now.module.now ended.now.log.items ended.now.core.world) }
 {
     let places = Places::of_module(alloc)?;
-    picture(alloc, &places, ended, window)
+    picture(alloc, &places, &None, ended, window)
 }

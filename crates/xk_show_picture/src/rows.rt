@@ -1,20 +1,21 @@
 //! The rows of steps.
 
 ghost use Rattle.std.specs.Prelude.{◌≡◌, ◌+◌, ◌++◌, IfOk, OnOk, string_bytes};
-ghost use Rattle.xk_show_events.specs.Events.{event_words};
 ghost use Rattle.xk_show_lanes.specs.Lanes.{spot};
 ghost use Rattle.xk_show_picture.specs.Shapes.{front, top};
-ghost use Rattle.xk_show_picture.specs.Picture.{boxed, drawn_row, kind, start_by, step_row};
+ghost use Rattle.xk_show_picture.specs.Picture.{boxed, drawn_row, kind, start_by, step_row, words_of};
 
 use crate::layout::row_of;
 use crate::lines::{push_bands, push_other_lines, put};
 use crate::picture::PictureTeller;
 use crate::shapes::{arrow, box_frame, box_head, box_words, front, top};
 use crate::sheet::{Sheet, lane_left, middle};
+use crate::words::words_of;
 use std::alloc::{AllocError, Global};
 use xk_core::Core;
-use xk_show_events::{Places, RunStep, event_words, is_seen};
+use xk_show_events::{Places, RunStep, is_seen};
 use xk_show_lanes::spot;
+use xk_show_names::Account;
 use xk_types::Event;
 
 /// What kind of step one is, by which boxes are coloured.
@@ -83,19 +84,18 @@ fn push_step_itself(
     alloc: Global,
     out: &mut Vec<u8>,
     sheet: Sheet,
-    places: &Places<'_>,
+    spot: &str,
+    words: &str,
     step: &RunStep,
     row: u32,
 ) -> Result<(), AllocError>
     ensures { OnOk result (out.new.items ≡ ((out.old.items
-        ++ front (top row + 16) step.now.number (spot places.now step.now))
-        ++ boxed sheet row step.now (spot places.now step.now) (event_words step.now))
+        ++ front (top row + 16) step.now.number spot.now)
+        ++ boxed sheet row step.now spot.now words.now)
         ++ start_by sheet row step.now step.now.event) }
 {
-    let spot = spot(alloc, places, step)?;
-    let words = event_words(alloc, step)?;
-    let front = front(alloc, top(row) + 16, step.number, spot.as_str())?;
-    let frame = box_of(alloc, sheet, row, step, spot.as_str(), words.as_str())?;
+    let front = front(alloc, top(row) + 16, step.number, spot)?;
+    let frame = box_of(alloc, sheet, row, step, spot, words)?;
     let start = start_by(alloc, sheet, row, step, step.event)?;
     put(out, front.as_str())?;
     put(out, frame.as_str())?;
@@ -109,17 +109,28 @@ fn push_row_at(
     out: &mut Vec<u8>,
     core: &Core<'_>,
     teller: &PictureTeller<'_, '_>,
-    step: &RunStep,
+    account: &Account,
     row: u32,
 ) -> Result<(), AllocError>
     ensures { OnOk result (out.new.items ≡ out.old.items
         ++ drawn_row teller.now.plan.now.sheet teller.now.places.now
-        core.now.module_run core.now.world step.now row) }
+        (words_of teller.now.names.now account.now)
+        core.now.module_run core.now.world account.now.step row) }
 {
     let sheet = teller.plan.sheet;
-    push_other_lines(alloc, out, core, sheet, step, row)?;
+    let spot = spot(alloc, teller.places, &account.step)?;
+    let words = words_of(alloc, teller.names, account)?;
+    push_other_lines(alloc, out, core, sheet, &account.step, row)?;
     push_bands(alloc, out, core, sheet, row)?;
-    push_step_itself(alloc, out, sheet, teller.places, step, row)
+    push_step_itself(
+        alloc,
+        out,
+        sheet,
+        spot.as_str(),
+        words.as_str(),
+        &account.step,
+        row,
+    )
 }
 
 /// Adds the row of a step that led to the core, if others can see it.
@@ -128,15 +139,16 @@ pub(crate) fn push_row(
     out: &mut Vec<u8>,
     core: &Core<'_>,
     teller: &PictureTeller<'_, '_>,
-    step: &RunStep,
+    account: &Account,
 ) -> Result<(), AllocError>
     ensures { OnOk result (out.new.items ≡ out.old.items
         ++ step_row teller.now.plan.now.sheet teller.now.plan.now.rows.items
-        teller.now.places.now core.now.module_run core.now.world step.now) }
+        teller.now.places.now teller.now.names.now
+        core.now.module_run core.now.world account.now) }
 {
-    if !is_seen(step.event) {
+    if !is_seen(account.step.event) {
         return Ok(());
     }
-    let row = row_of(&teller.plan.rows, step.number);
-    push_row_at(alloc, out, core, teller, step, row)
+    let row = row_of(&teller.plan.rows, account.step.number);
+    push_row_at(alloc, out, core, teller, account, row)
 }

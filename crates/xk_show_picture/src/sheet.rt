@@ -1,14 +1,15 @@
 //! Where the columns of a picture stand.
 
 ghost use Rattle.std.specs.Prelude.{◌≡◌, ◌+◌, ◌*◌, ◌<◌, ◌^◌};
-ghost use Rattle.xk_show_picture.specs.Sheet.{band_left, bands_left, labels, lane_left, middle, sheet_of, wide};
+ghost use Rattle.xk_show_picture.specs.Sheet.{band_left, bands_left, labels, lane_left, middle, room, sheet_of, wide};
 
 use xk_show_lanes::{Grid, Window};
 
 /// The most bands of clocks that are drawn.
 const BANDS: u32 = 8;
 
-/// Which steps are drawn, where the lanes begin, half the width of a lane, how many lanes there are, and how many bands of phases.
+/// Which steps are drawn, where the lanes begin, half the width of a lane, how many lanes there are, how many bands of
+/// phases, and for how many signs there is room behind bars.
 #[derive(Clone, Copy)]
 pub struct Sheet {
     pub window: Window,
@@ -16,18 +17,20 @@ pub struct Sheet {
     pub half: u16,
     pub lanes: u32,
     pub bands: u32,
+    pub signs: u16,
 }
 
-/// The sheet for these columns and so many clocks.
-pub(crate) fn sheet_of(grid: Grid, clocks: u32) -> Sheet
-    ensures { result ≡ sheet_of grid clocks }
+/// The sheet for these columns, so many signs behind bars, and so many clocks.
+pub(crate) fn sheet_of(grid: Grid, signs: u16, clocks: u32) -> Sheet
+    ensures { result ≡ sheet_of grid signs clocks }
 {
     Sheet {
         window: grid.window,
         left: 96 + 8 * grid.place.min(40) as u16,
-        half: 4 * grid.lane.min(40) as u16,
+        half: 4 * grid.lane.min(100) as u16,
         lanes: grid.lanes,
         bands: clocks.min(BANDS),
+        signs,
     }
 }
 
@@ -79,9 +82,20 @@ pub(crate) fn labels(sheet: Sheet) -> u64
     band_left(sheet, sheet.bands) + 8
 }
 
+/// The room for what is said of bars, if there are clocks.
+fn room(sheet: Sheet) -> u64
+    ensures wide { result ≡ room sheet }
+    ensures small { result < 2 ^ 20 }
+{
+    if sheet.bands == 0 {
+        return 0;
+    }
+    8 * u64::from(sheet.signs)
+}
+
 /// How wide the picture is.
 pub(crate) fn wide(sheet: Sheet) -> u64
     ensures { result ≡ wide sheet }
 {
-    (labels(sheet) + (256 * u64::from(sheet.bands.min(1)) + 8)).max(680)
+    (labels(sheet) + (room(sheet) + 8)).max(680)
 }
