@@ -6,7 +6,7 @@ with what the program says of the same run.
 
 Of some runs, one of them of a module, and some of texts that have what HTML takes for something else: the text of the
 element `source` is FILE's; that of `moments` is what `where` prints before the first step and behind each that is asked
-for, each after the line of `events` without names and values, with those of the other steps that printed; that of
+for, each after the line of `events` without whose write was read, with those of the other steps that printed; that of
 `picture` is what `lanes --svg` prints. The policy stands in the head before all that could fetch, no element fetches,
 and all elements are closed, in order. Then a page is made wrong on purpose, in several ways, each of which has to be
 refused.
@@ -56,6 +56,8 @@ RUNS: tuple[tuple[str, str, tuple[int, ...]], ...] = (
     ("ends-of-lines.x10", "first", ()),
     ("tags.x10", "first", ()),
 )
+# Whose write was read, in a line of `events`.
+WRITER = re.compile(r" \((?:step \d+|opening)\)$")
 # Elements that have no end, elements that fetch something, and attributes that say what is fetched; `href` is for parts
 # of the page alone.
 WITHOUT_END = {"meta", "input"}
@@ -145,19 +147,10 @@ class Run(NamedTuple):
         return "" if self.is_module else self.file.read_bytes().decode()
 
     def events(self) -> dict[int, str]:
-        """The lines that the page has of the steps that others see, by their numbers: of a source text those of
-        `events`, with the words that its module's have, which are without names and values."""
-        lines = self.ask("events", self.log).splitlines()
-        if not self.is_module:
-            both = zip(lines, self.plain(), strict=True)
-            lines = [f"{step_at(line)} {words_of(plain)}" for line, plain in both]
+        """The lines that the page has of the steps that others see, by their numbers: those of `events`, but for whose
+        write was read."""
+        lines = (WRITER.sub("", line) for line in self.ask("events", self.log).splitlines())
         return {int(line.split()[1]): line for line in lines}
-
-    def plain(self) -> list[str]:
-        """The lines of `events` of its module."""
-        module = self.log.with_suffix(".json")
-        module.write_text(answered([self.program, "compile", self.file]))
-        return answered([self.program, "events", "--module", module, self.log]).splitlines()
 
     def asked(self) -> list[int]:
         """The steps behind which the page shows how things stand; 0 is before the first."""
@@ -175,16 +168,6 @@ class Run(NamedTuple):
                 yield f"{line}\n{self.where(step)}"
             elif " print " in line and step <= last:
                 yield f"{line}\n"
-
-
-def step_at(line: str) -> str:
-    """Of a line of `events` which step it was, whose, and where in the text."""
-    return " ".join(line.split()[:6])
-
-
-def words_of(line: str) -> str:
-    """Of a line of `events` of a module what the step did."""
-    return " ".join(line.split()[8:])
 
 
 def made(program: pathlib.Path, name: str, order: str, part: tuple[int, ...], folder: pathlib.Path) -> Run:

@@ -1,5 +1,5 @@
-"""The reference for `events` of a module, and for the lines of a page: a line for each step of a logged run that others
-see. Those of a source text have names and values (tests/reference/naming.py)."""
+"""The reference for `events` of a module, and for the lines of its page: a line for each step of a logged run that
+others see. Those of a source text have names and values (tests/reference/naming.py)."""
 
 from __future__ import annotations
 

@@ -1,5 +1,5 @@
-"""The reference for the names and values in `events` and `lanes` of a source text: which shared number or clock a step
-was about, what the number was before it and behind it, and which step wrote what is read."""
+"""The reference for the names and values in `events`, `lanes`, pictures and pages of a source text: which shared number
+or clock a step was about, what the number was before it and behind it, and which step wrote what is read."""
 
 from __future__ import annotations
 
@@ -106,9 +106,12 @@ class Naming:
         writer = self.writers[taken.number]
         return f" (step {writer})" if writer else " (opening)"
 
-    def line(self, taken: Taken) -> str:
+    def told(self, taken: Taken) -> str:
         place = self.program.position(events.frame_before(taken))
-        return f"step {taken.number} act {taken.who} at {place} {self.words(taken)}{self.source(taken)}\n"
+        return f"step {taken.number} act {taken.who} at {place} {self.words(taken)}"
+
+    def line(self, taken: Taken) -> str:
+        return f"{self.told(taken)}{self.source(taken)}\n"
 
 
 def text(program: Program, played: Played) -> str:

@@ -14,7 +14,8 @@ from tests.harness import TOP
 from tests.reference import events, picture
 from tests.reference.events import Program
 from tests.reference.lanes import WHOLE, Window
-from tests.reference.logs import Played
+from tests.reference.logs import Played, Taken
+from tests.reference.naming import Naming
 from tests.reference.where import Place
 
 FURNITURE = TOP / "crates/xk_show_page/src/furniture.rt"
@@ -65,19 +66,25 @@ def source(program: Program) -> str:
     return text.replace("&", "&amp;").replace("<", "&lt;").replace("\r", "&#13;")
 
 
+def line(program: Program, naming: Naming | None, taken: Taken) -> str:
+    """What was done in a step: of a source text with names and values, but without whose write was read."""
+    return f"{naming.told(taken)}\n" if naming else events.line(program, taken)
+
+
 def moments(program: Program, played: Played, window: Window) -> Iterator[str]:
     """How things stand before the first step, and behind each that is asked for and that others see; of another one,
     but behind all of these, that it printed, if it did."""
     behind = Played(played.module, played.taken[0].before)
+    naming = None if program.is_module else Naming(program, played)
     yield Place(program, behind, None).text()
     for taken in played.taken:
         behind.taken.append(taken)
         behind.world = taken.step.world
         behind.phases.update({advance.clock: advance.phase for advance in taken.advances})
         if taken.step.event and taken.number in window:
-            yield events.line(program, taken) + Place(program, behind, None).text()
+            yield line(program, naming, taken) + Place(program, behind, None).text()
         elif taken.step.printed is not None and taken.number < window.stop:
-            yield events.line(program, taken)
+            yield line(program, naming, taken)
 
 
 def drawing(program: Program, played: Played, window: Window = WHOLE) -> tuple[str, bool]:

@@ -6,11 +6,16 @@ from tests.reference import events, lanes, modules
 from tests.reference.events import Program
 from tests.reference.lanes import WHOLE, Window
 from tests.reference.logs import Advance, Played, Taken
+from tests.reference.naming import Naming
 
 # The most rows and activities that are drawn.
 MOST_ROWS, MOST_LANES = 2000, 64
 # Places, in units of the picture: a row's height, where the first one begins, a sign's width, and so on.
-ROW, TOP, SIGN, MOST_SIGNS = 24, 112, 8, 40
+ROW, TOP, SIGN = 24, 112, 8
+# The most signs of a place, of a lane, and of a clock's name; how many there are behind a bar besides that name, and
+# where clocks have none.
+MOST_PLACE, MOST_LANE, MOST_NAME = 40, 100, 100
+BEHIND_NAME, BEHIND = 22, 32
 NUMBER_END, PLACE_START = 80, 88
 MOST_BANDS, BAND = 8, 14
 NARROWEST = 680
@@ -95,7 +100,10 @@ class Sheet:
     """Where things stand: which rows there are, and how wide the columns are."""
 
     def __init__(self, program: Program, played: Played, window: Window) -> None:
-        grid = lanes.Grid(program, played, window)
+        naming = None if program.is_module else Naming(program, played)
+        self.words = naming.words if naming else events.words
+        self.clock = naming.clocks.__getitem__ if naming else lanes.clock_number
+        grid = lanes.Grid(program, played, window, self.words, self.clock)
         self.steps = [
             taken for taken in played.taken if taken.number in window and (taken.step.event or taken.advances)
         ]
@@ -103,11 +111,14 @@ class Sheet:
         self.activities = len(played.world.activities)
         self.lanes = range(min(MOST_LANES, self.activities))
         self.bands = range(min(MOST_BANDS, len(played.world.clocks)))
-        self.left = PLACE_START + SIGN + SIGN * min(MOST_SIGNS, grid.place)
-        self.lane = SIGN * min(MOST_SIGNS, grid.lane)
+        self.left = PLACE_START + SIGN + SIGN * min(MOST_PLACE, grid.place)
+        self.lane = SIGN * min(MOST_LANE, grid.lane)
         self.bands_left = self.left + self.lane * len(self.lanes) + 8
         self.labels = self.bands_left + BAND * len(self.bands) + 8
-        self.width = max(NARROWEST, self.labels + (264 if self.bands else 8))
+        behind = BEHIND
+        if naming:
+            behind = BEHIND_NAME + min(MOST_NAME, max(map(len, naming.clocks), default=0))
+        self.width = max(NARROWEST, self.labels + (SIGN * behind if self.bands else 0) + 8)
         self.height = TOP + ROW * self.rows + 16
 
     def fits(self) -> bool:
@@ -166,7 +177,7 @@ class Drawn:
     def box(self) -> str:
         """The step itself: its number, its place, and in the lane of who took it what was done."""
         taken, sheet, top = self.taken, self.sheet, self.top(0)
-        words = events.words(taken)
+        words = sheet.words(taken)
         spot = lanes.spot(self.program, taken)
         left, middle = sheet.left + sheet.lane * taken.who + 4, sheet.middle(taken.who)
         return (
@@ -198,7 +209,7 @@ class Drawn:
                 pieces += f"<path class='bar' d='M{sheet.middle(lane)} {top + 12}h{sheet.lane // 2}'/>\n"
             if lane in on:
                 pieces += f"<use href='#ring' x='{sheet.middle(lane)}' y='{top + 12}'/>\n"
-        label = f"clock {advance.clock} phase {advance.phase} by {self.taken.who}"
+        label = f"{sheet.clock(advance.clock)} phase {advance.phase} by {self.taken.who}"
         return (
             self.lines(top, None)
             + self.bands(top)

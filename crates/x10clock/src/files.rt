@@ -71,9 +71,10 @@ impl<F: Write + Seek + OpenFile> Write for LogFile<F> {
     }
 }
 
-/// Holds the places of the standard streams that the caller closed, as long as they are kept: so no file that is opened takes such a place, and what is
-/// written to standard output can't get into a log. To read from a closed standard input fails, and so does to write to the others. A place that can't
-/// be held, as where no file may be opened, is left.
+/// Holds the places of the standard streams that the caller closed, as long as they are kept: so no file that is opened
+/// takes such a place, and what is written to standard output can't get into a log. To read from a closed standard
+/// input fails, and so does to write to the others. A place that can't be held, as where no file may be opened, is
+/// left.
 pub fn hold_streams<R: Files>(rt: &R) -> [Option<R::File>; 3] {
     let mut writing = OpenOptions::new();
     writing.write(true);

@@ -26,8 +26,8 @@ use Rattle.xk_show_names.specs.Events.{named_events_text}
 use Rattle.xk_show_lanes.specs.Lanes.{are_lanes_whole, lanes_text}
 use Rattle.xk_show_lanes.specs.NamedLanes.{named_lanes_text}
 use Rattle.xk_show_lanes.specs.declared.window.Window.{Window}
-use Rattle.xk_show_picture.specs.Picture.{is_drawn, picture_text}
-use Rattle.xk_show_page.specs.Page.{page_text}
+use Rattle.xk_show_picture.specs.Picture.{is_drawn, named_picture_text, picture_text}
+use Rattle.xk_show_page.specs.Page.{named_page_text, page_text}
 use Rattle.xk_races.specs.Races.{is_race_free}
 use Rattle.xk_races.specs.Text.{races_text}
 use Rattle.xk_show_where.specs.Where.{are_steps_legal, where_text}
@@ -158,12 +158,20 @@ abbrev pub lanes_told : List ℕ → Window → ModuleValue → List Entry → W
 lanes_told text window m log last shared origins = (lanes_of text shared window m log last origins, are_lanes_whole last)
 
 -- the same as an image
-abbrev pub image_told : List ℕ → Window → ModuleValue → List Entry → World → Option (List UnitOrigins) → Tale
-image_told text window m log last origins = (picture_text (places_in text origins) window m log last, is_drawn window m log last)
+abbrev pub image_of : List ℕ → List (List ℕ) → Window → ModuleValue → List Entry → World → Option (List UnitOrigins) → List ℕ
+image_of text shared window m log last None = picture_text no_text None window m log last
+image_of text shared window m log last (Some origins) = named_picture_text (places_in text (Some origins)) shared window m log last
+
+abbrev pub image_told : List ℕ → Window → ModuleValue → List Entry → World → List (List ℕ) → Option (List UnitOrigins) → Tale
+image_told text window m log last shared origins = (image_of text shared window m log last origins, is_drawn window m log last)
 
 -- the same as a page
-abbrev pub page_told : List ℕ → Window → ModuleValue → List Entry → World → Option (List UnitOrigins) → Tale
-page_told text window m log last origins = (page_text (places_in text origins) window m log last, is_drawn window m log last)
+abbrev pub page_of : List ℕ → List (List ℕ) → Window → ModuleValue → List Entry → World → Option (List UnitOrigins) → List ℕ
+page_of text shared window m log last None = page_text no_text None window m log last
+page_of text shared window m log last (Some origins) = named_page_text (places_in text (Some origins)) shared window m log last
+
+abbrev pub page_told : List ℕ → Window → ModuleValue → List Entry → World → List (List ℕ) → Option (List UnitOrigins) → Tale
+page_told text window m log last shared origins = (page_of text shared window m log last origins, is_drawn window m log last)
 
 -- its races
 abbrev pub races_told : List ℕ → ModuleValue → List ℤ → List Entry → Option (List UnitOrigins) → Tale

@@ -141,13 +141,13 @@ ComesTo (Expected sets limit) m args logged d = IsAccepted m × IsHeldOut m args
 ComesTo _ m args logged _ = ⊥
 
 -- What is told of a run of the module that the bytes give, by their lines where they are a source text: its chart; by their names, too,
--- what others see of its steps, and the same with a lane for each activity; that as an image or as a page, or its races.
+-- what others see of its steps, and the same with a lane for each activity, also as an image or as a page; or its races.
 abbrev pub IsPicture : Picture → Form → List ℕ → ModuleValue → List ℤ → List Entry → World → Tale → Type 0
 IsPicture picture.Chart kind bytes m args es last told = told ≡ all_told (chart_text m args es)
 IsPicture picture.Events kind bytes m args es last told = IsByNames kind bytes (events_told bytes m args es) told
 IsPicture (picture.Lanes window) kind bytes m args es last told = IsByNames kind bytes (lanes_told bytes window m es last) told
-IsPicture (picture.Image window) kind bytes m args es last told = IsByOrigins kind bytes (image_told bytes window m es last) told
-IsPicture (picture.Page window) kind bytes m args es last told = IsByOrigins kind bytes (page_told bytes window m es last) told
+IsPicture (picture.Image window) kind bytes m args es last told = IsByNames kind bytes (image_told bytes window m es last) told
+IsPicture (picture.Page window) kind bytes m args es last told = IsByNames kind bytes (page_told bytes window m es last) told
 IsPicture picture.Races kind bytes m args es last told = IsByOrigins kind bytes (races_told bytes m args es) told
 
 -- whether it is told by the lines of a source text
@@ -160,8 +160,8 @@ abbrev pub picture_told : Picture → List ℕ → List (List ℕ) → ModuleVal
 picture_told picture.Chart bytes shared m args es last origins = all_told (chart_text m args es)
 picture_told picture.Events bytes shared m args es last origins = events_told bytes m args es shared origins
 picture_told (picture.Lanes window) bytes shared m args es last origins = lanes_told bytes window m es last shared origins
-picture_told (picture.Image window) bytes shared m args es last origins = image_told bytes window m es last origins
-picture_told (picture.Page window) bytes shared m args es last origins = page_told bytes window m es last origins
+picture_told (picture.Image window) bytes shared m args es last origins = image_told bytes window m es last shared origins
+picture_told (picture.Page window) bytes shared m args es last origins = page_told bytes window m es last shared origins
 picture_told picture.Races bytes shared m args es last origins = races_told bytes m args es origins
 
 -- Where things stand behind the steps of a log, or behind so many, is told by the lines of a source text. The log need not be that of a whole run.

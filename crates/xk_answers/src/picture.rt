@@ -236,12 +236,33 @@ fn image_of(
 ) -> Result<Tale, AllocError>
     ensures { IfOk result (λ tale. (tale.text.items, tale.whole)
         ≡ image_told from.now.text.now window ended.now.module.now ended.now.log.items
-        ended.now.core.world from.now.origins) }
+        ended.now.core.world (map (λ x. x.now) from.now.shared.items) from.now.origins) }
 {
-    let drawing = match &from.origins {
-        Some(origins) => source_picture(alloc, from.text, origins.units(), ended, window)?,
-        None => module_picture(alloc, ended, window)?,
-    };
+    match &from.origins {
+        Some(origins) => named_image_of(alloc, from, origins.units(), ended, window),
+        None => {
+            let drawing = module_picture(alloc, ended, window)?;
+            Ok(Tale {
+                text: drawing.text,
+                whole: drawing.whole,
+            })
+        }
+    }
+}
+
+/// The same of a source text whose units have these origins.
+fn named_image_of(
+    alloc: Global,
+    from: &Provenance<'_>,
+    units: &[UnitOrigins<'_>],
+    ended: &Ended<'_>,
+    window: Window,
+) -> Result<Tale, AllocError>
+    ensures { IfOk result (λ tale. (tale.text.items, tale.whole)
+        ≡ image_told from.now.text.now window ended.now.module.now ended.now.log.items
+        ended.now.core.world (map (λ x. x.now) from.now.shared.items) (Some units.now)) }
+{
+    let drawing = source_picture(alloc, from.text, units, &from.shared, ended, window)?;
     Ok(Tale {
         text: drawing.text,
         whole: drawing.whole,
@@ -257,12 +278,33 @@ fn page_of(
 ) -> Result<Tale, AllocError>
     ensures { IfOk result (λ tale. (tale.text.items, tale.whole)
         ≡ page_told from.now.text.now window ended.now.module.now ended.now.log.items
-        ended.now.core.world from.now.origins) }
+        ended.now.core.world (map (λ x. x.now) from.now.shared.items) from.now.origins) }
 {
-    let drawing = match &from.origins {
-        Some(origins) => source_page(alloc, from.text, origins.units(), ended, window)?,
-        None => module_page(alloc, ended, window)?,
-    };
+    match &from.origins {
+        Some(origins) => named_page_of(alloc, from, origins.units(), ended, window),
+        None => {
+            let drawing = module_page(alloc, ended, window)?;
+            Ok(Tale {
+                text: drawing.text,
+                whole: drawing.whole,
+            })
+        }
+    }
+}
+
+/// The same of a source text whose units have these origins.
+fn named_page_of(
+    alloc: Global,
+    from: &Provenance<'_>,
+    units: &[UnitOrigins<'_>],
+    ended: &Ended<'_>,
+    window: Window,
+) -> Result<Tale, AllocError>
+    ensures { IfOk result (λ tale. (tale.text.items, tale.whole)
+        ≡ page_told from.now.text.now window ended.now.module.now ended.now.log.items
+        ended.now.core.world (map (λ x. x.now) from.now.shared.items) (Some units.now)) }
+{
+    let drawing = source_page(alloc, from.text, units, &from.shared, ended, window)?;
     Ok(Tale {
         text: drawing.text,
         whole: drawing.whole,

@@ -78,8 +78,10 @@ picture_once picture.Chart kind bytes m args es last a b given h k = h ∙ sym k
 picture_once picture.Events kind bytes m args es last a b given h k = by_names_once kind bytes m (events_told bytes m args es) a b given h k
 picture_once (picture.Lanes window) kind bytes m args es last a b given h k =
     by_names_once kind bytes m (lanes_told bytes window m es last) a b given h k
-picture_once (picture.Image window) kind bytes m args es last a b given h k = by_origins_once kind bytes m (image_told bytes window m es last) a b given h k
-picture_once (picture.Page window) kind bytes m args es last a b given h k = by_origins_once kind bytes m (page_told bytes window m es last) a b given h k
+picture_once (picture.Image window) kind bytes m args es last a b given h k =
+    by_names_once kind bytes m (image_told bytes window m es last) a b given h k
+picture_once (picture.Page window) kind bytes m args es last a b given h k =
+    by_names_once kind bytes m (page_told bytes window m es last) a b given h k
 picture_once picture.Races kind bytes m args es last a b given h k = by_origins_once kind bytes m (races_told bytes m args es) a b given h k
 
 pub telling_once : (what : Doing) (kind : Form) (file bytes : List ℕ) (m : ModuleValue) (args : List ℤ) (logged : List ℕ) (a b : Tale) → Gives kind bytes m
