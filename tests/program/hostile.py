@@ -313,12 +313,13 @@ def strange_lists(tried: Tried) -> None:
     tried.answers(
         "head -n 1 outcomes | $x outcomes --expect /dev/stdin in-step.x10", 6, OUTCOMES.splitlines(keepends=True)[1]
     )
-    tried.answers("exec $x outcomes --expect . in-step.x10", 5, err=DEVICE)
-    tried.answers("exec $x outcomes --expect no-such-file in-step.x10", 5, err=DEVICE)
+    no_list = unopened("outcomes", "no-such-file", "no such file or folder")
+    tried.answers("exec $x outcomes --expect . in-step.x10", 5, err=unopened("outcomes", ".", "it is a folder"))
+    tried.answers("exec $x outcomes --expect no-such-file in-step.x10", 5, err=no_list)
     tried.answers("exec $x outcomes --expect /dev/null in-step.x10", 6, OUTCOMES.splitlines(keepends=True)[0])
     tried.answers("exec $x outcomes --expect /dev/zero in-step.x10", 3, err="x10clock: L6 NoOutcome line 1\n")
     tried.answers("exec $x outcomes --expect in-step.x10 in-step.x10", 3, err="x10clock: L6 NoOutcome line 1\n")
-    tried.answers("exec $x outcomes --expect no-such-file bad.x10", 5, err=DEVICE)
+    tried.answers("exec $x outcomes --expect no-such-file bad.x10", 5, err=no_list)
     tried.answers("exec $x outcomes --expect /dev/zero bad.x10", 1, err="x10clock: F2 Syntax at 0\n")
     tried.answers("yes | $x outcomes --expect /dev/stdin in-step.x10", 3, err="x10clock: L6 NoOutcome line 1\n")
     tried.answers("{ cat outcomes; yes ''; } | $x outcomes --expect /dev/stdin in-step.x10", 0, last)

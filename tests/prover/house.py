@@ -34,8 +34,8 @@ MOST = {
     "pub": 82,
     "clauses": 0,
     "code": 240,
-    "proofs": 6689,
-    "docs": 83,
+    "proofs": 6676,
+    "docs": 80,
     "scripts": 0,
     "files": 0,
 }
