@@ -23,7 +23,7 @@ FOLDER = TOP / "examples/exercises"
 PAGE = FOLDER / "README.md"
 WAITS = ("Clock.advanceAll();", "finish ")
 # The status of an answer that is a no.
-NO = 6
+NO = 7
 
 
 def without_waits(text: str) -> str:

@@ -97,7 +97,7 @@ CALLS = [
     Call("explain V9", b""),
     Call("outcomes --limit 1 --pick 2 --log LOG -", IN_STEP, status=6),
     Call("outcomes --expect SECOND -", IN_STEP, OUTCOMES),
-    Call("outcomes --expect SECOND -", IN_STEP, b"outcome 1 prints 7\n", status=6),
+    Call("outcomes --expect SECOND -", IN_STEP, b"outcome 1 prints 7\n", status=7),
     Call("outcomes --expect SECOND -", IN_STEP, BEGINNING, status=3),
     Call("lanes --svg - SECOND", MANY, MANY_LOG, status=6),
     Call("page - SECOND", MANY, MANY_LOG, status=6),

@@ -311,12 +311,12 @@ def strange_lists(tried: Tried) -> None:
         last,
     )
     tried.answers(
-        "head -n 1 outcomes | $x outcomes --expect /dev/stdin in-step.x10", 6, OUTCOMES.splitlines(keepends=True)[1]
+        "head -n 1 outcomes | $x outcomes --expect /dev/stdin in-step.x10", 7, OUTCOMES.splitlines(keepends=True)[1]
     )
     no_list = unopened("outcomes", "no-such-file", "no such file or folder")
     tried.answers("exec $x outcomes --expect . in-step.x10", 5, err=unopened("outcomes", ".", "it is a folder"))
     tried.answers("exec $x outcomes --expect no-such-file in-step.x10", 5, err=no_list)
-    tried.answers("exec $x outcomes --expect /dev/null in-step.x10", 6, OUTCOMES.splitlines(keepends=True)[0])
+    tried.answers("exec $x outcomes --expect /dev/null in-step.x10", 7, OUTCOMES.splitlines(keepends=True)[0])
     tried.answers("exec $x outcomes --expect /dev/zero in-step.x10", 3, err="x10clock: L6 NoOutcome line 1\n")
     tried.answers("exec $x outcomes --expect in-step.x10 in-step.x10", 3, err="x10clock: L6 NoOutcome line 1\n")
     tried.answers("exec $x outcomes --expect no-such-file bad.x10", 5, err=no_list)

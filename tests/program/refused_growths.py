@@ -346,7 +346,7 @@ def each_list(calls: Calls, folder: str) -> None:
                 b"outcomes 2 complete\n",
                 b"",
             ),
-            ("some", "outcome 1 prints 1 2\n", 6, b"outcome 2 prints 2 1\n", b""),
+            ("some", "outcome 1 prints 1 2\n", 7, b"outcome 2 prints 2 1\n", b""),
             ("none", "outcome 1 prints 1 2\n1 2\n", 3, b"", b"x10clock: L6 NoOutcome line 2\n")):
         kept = pathlib.Path(folder) / f"{name}.list"
         kept.write_text(lines)

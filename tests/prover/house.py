@@ -33,7 +33,7 @@ MOST = {
     "twice": 31,
     "pub": 82,
     "clauses": 0,
-    "code": 240,
+    "code": 239,
     "proofs": 6676,
     "docs": 80,
     "scripts": 0,

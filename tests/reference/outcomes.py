@@ -34,7 +34,7 @@ USUAL_LIMIT = 100_000
 # It keeps apart worlds that are the same here, as by what an activity held that has ended: so many times as many are
 # granted.
 SPARE = 4
-WHOLE, NOT_WHOLE, NO_LIST = 0, 6, 3
+WHOLE, NOT_WHOLE, REFUTED, NO_LIST = 0, 6, 7, 3
 # What is behind these bytes of a list isn't looked at.
 LONGEST_LIST = 100_000_000
 
@@ -233,7 +233,7 @@ def held_faults(walk: Walk | None, asked: Asked, told: set[bytes], given: Answer
         yield "neither an outcome nor a last line is told"
         return
     is_whole = bool(last) and last[2] == "complete"
-    if given.status != (WHOLE if is_whole else NOT_WHOLE):
+    if given.status != (REFUTED if line else WHOLE if is_whole else NOT_WHOLE):
         yield f"the status is {given.status}"
     outcomes = asked.outcomes(walk) if walk else None
     if line:
@@ -264,7 +264,7 @@ def held(walk: Walk, asked: Asked, told: set[bytes]) -> Answer:
         outcomes
     )
     return (
-        Answer(NOT_WHOLE, lines[untold])
+        Answer(REFUTED, lines[untold])
         if untold is not None
         else Answer(WHOLE if is_complete else NOT_WHOLE, lines[-1])
     )

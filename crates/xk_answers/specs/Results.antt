@@ -118,10 +118,9 @@ longest_list = 100_000_000
 abbrev pub list_in : List ℕ → List ℕ
 list_in bytes = take longest_list bytes
 
--- What a module can print that is given these arguments is held against the list in these bytes: the answer is whole where that is all, and each is
--- in the list.
+-- What a module can print that is given these arguments is held against the list in these bytes, and this is what that says of the list.
 abbrev pub IsHeldOut : ModuleValue → List ℤ → Bool → Limit → List ℕ → Done → Type 0
-IsHeldOut m args sets limit bytes (done.Outcomes text whole None) = AreArguments m args × AreExpected m args sets limit (list_in bytes) text.items whole
+IsHeldOut m args sets limit bytes (done.Held text found) = AreArguments m args × AreExpected m args sets limit (list_in bytes) text.items found
 IsHeldOut m args sets limit bytes _ = ⊥
 
 -- What is to be done with a module, whose main is given these arguments where it is run, and with the bytes of a log or a list where one is read, comes

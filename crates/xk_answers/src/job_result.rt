@@ -6,7 +6,7 @@ ghost use Rattle.std.specs.Option.{option_map_or};
 ghost use Rattle.xk_types.specs.Device.{Rose};
 ghost use Rattle.xk_io.specs.Writing.{AppendsBeginning};
 ghost use Rattle.xk_log.specs.LogText.{log_text};
-ghost use Rattle.xk_answers.specs.Printed.{done_status};
+ghost use Rattle.xk_answers.specs.Printed.{done_status, verdict_status};
 ghost use Rattle.xk_answers.specs.Printed.{done_ending, done_front, done_log, done_text};
 ghost use Rattle.xk_answers.specs.declared.job_result.Done.TheVariants.{Ended};
 ghost use Rattle.xk_messages.specs.Lines.{accepted_line, ended_line};
@@ -16,6 +16,7 @@ use std::alloc::{AllocError, Global};
 use xk_cli::status;
 use xk_io::{Device, write_all, write_numbers};
 use xk_messages::{accepted_line, ended_line};
+use xk_outcomes::Verdict;
 use xk_types::{Entry, Sink};
 
 /// What a job comes to where nothing stands against it.
@@ -43,13 +44,19 @@ pub enum Done {
         /// Who took a step after whom, where that is to be kept.
         log: Option<Vec<Entry>>,
     },
-    /// `outcomes`: this is told of what the module can print, or of what isn't in a list.
+    /// `outcomes`: this is told of what the module can print.
     Outcomes {
         text: Vec<u8>,
         /// Whether that is all, and the log that is to be kept is there.
         whole: bool,
         /// The log of one of them, where that is to be kept.
         log: Option<Vec<Entry>>,
+    },
+    /// `outcomes --expect`: this is told of what the module can print, held against a list.
+    Held {
+        text: Vec<u8>,
+        /// What that says of the list.
+        verdict: Verdict,
     },
 }
 
@@ -75,7 +82,8 @@ impl Done {
             | Done::Outcomes { log: None, .. }
             | Done::Compiled(_)
             | Done::Accepted { .. }
-            | Done::Told { .. } => None,
+            | Done::Told { .. }
+            | Done::Held { .. } => None,
         }
     }
 
@@ -92,6 +100,7 @@ impl Done {
             | Done::Compiled(_)
             | Done::Accepted { .. }
             | Done::Ended { .. } => status::DONE,
+            Done::Held { verdict, .. } => verdict_status(*verdict),
         }
     }
 
@@ -106,7 +115,9 @@ impl Done {
                 activities,
                 clocks,
             } => accepted_line(alloc, *steps, *activities, *clocks),
-            Done::Told { .. } | Done::Outcomes { .. } => Ok(String::new(alloc)),
+            Done::Told { .. } | Done::Outcomes { .. } | Done::Held { .. } => {
+                Ok(String::new(alloc))
+            }
             Done::Ended { steps, .. } => ended_line(alloc, *steps),
         }
     }
@@ -140,7 +151,19 @@ impl Done {
             Done::Accepted { .. } => Ok(()),
             Done::Told { text, .. } => write_all(out, text),
             Done::Outcomes { text, .. } => write_all(out, text),
+            Done::Held { text, .. } => write_all(out, text),
             Done::Ended { printed, .. } => write_numbers(printed, out),
         }
+    }
+}
+
+/// The status of what outcomes say of a list.
+fn verdict_status(verdict: Verdict) -> u8
+    ensures { result ≡ verdict_status verdict }
+{
+    match verdict {
+        Verdict::Complete => status::DONE,
+        Verdict::Undecided => status::PARTIAL,
+        Verdict::Refuted => status::REFUTED,
     }
 }

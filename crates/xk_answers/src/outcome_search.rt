@@ -109,10 +109,9 @@ fn held_by<L: Source>(
 {
     let bytes = read_front(alloc, source, LONGEST_LIST)?;
     match expected_outcomes(alloc, sets, verified, arguments, limit, &bytes) {
-        Ok(held) => Ok(Done::Outcomes {
+        Ok(held) => Ok(Done::Held {
             text: held.text,
-            whole: held.whole,
-            log: None,
+            verdict: held.verdict,
         }),
         Err(fault) => match fault {
             ListFault::Stray(line) => Err(Fault::NoOutcome(line)),

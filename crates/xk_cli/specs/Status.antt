@@ -28,3 +28,7 @@ status_device = 5
 -- answered, but not whole
 abbrev pub status_partial : ℕ
 status_partial = 6
+
+-- answered: an outcome isn't in the list
+abbrev pub status_refuted : ℕ
+status_refuted = 7

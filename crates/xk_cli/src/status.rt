@@ -20,3 +20,6 @@ pub const DEVICE: u8 = 5;
 
 /// The job is done, but its answer isn't whole.
 pub const PARTIAL: u8 = 6;
+
+/// The job is done, and the answer is that an outcome isn't in the list.
+pub const REFUTED: u8 = 7;

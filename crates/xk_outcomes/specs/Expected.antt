@@ -8,6 +8,8 @@ use Rattle.xk_outcomes.specs.Limits.{GoesFar}
 use Rattle.xk_outcomes.specs.declared.reading.ListFault.{ListFault}
 use Rattle.xk_outcomes.specs.declared.reading.ListFault.TheVariants as fault
 use Rattle.xk_outcomes.specs.declared.listing.Outcome.{Outcome}
+use Rattle.xk_outcomes.specs.declared.holding.Verdict.{Verdict}
+use Rattle.xk_outcomes.specs.declared.holding.Verdict.TheVariants as verdict
 use Rattle.xk_io.specs.Row.{numbers_text}
 use Rattle.xk_types.specs.Code.{ModuleValue}
 use Rattle.xk_outcomes.specs.Sets.{AreAllAs, AreDistinctAs, AreShownAs}
@@ -111,27 +113,31 @@ pub record IsFirstUntold (told : List (List ℕ)) (list : List Outcome) (place :
   pub untold : ¬ IsTold told x.numbers.items
   pub before : AreTold told list place
 
--- the first outcome that isn't told has this line, numbered from 1, and the answer isn't whole
-abbrev pub TellsUntold : List (List ℕ) → List Outcome → List ℕ → Bool → Type 0
-TellsUntold told list text whole =
-    (place : ℕ) × (x : Outcome) × IsFirstUntold told list place x × (text ≡ outcome_line (place + 1) x.numbers.items) × (whole ≡ false)
+-- the first outcome that isn't told has this line, numbered from 1, and refutes the list
+abbrev pub TellsUntold : List (List ℕ) → List Outcome → List ℕ → Verdict → Type 0
+TellsUntold told list text found =
+    (place : ℕ) × (x : Outcome) × IsFirstUntold told list place x × (text ≡ outcome_line (place + 1) x.numbers.items) × (found ≡ verdict.Refuted)
 
 -- the last line of outcomes: how many they are, and whether they are all
 abbrev pub last_line : List Outcome → Bool → List ℕ
 last_line list complete = codes "outcomes " ++ (decimal (length list) ++ completeness complete)
 
--- all outcomes are told; this is their last line, and the answer is whole where they are all
-abbrev pub TellsAll : List (List ℕ) → List Outcome → Bool → List ℕ → Bool → Type 0
-TellsAll told list complete text whole = AreTold told list (length list) × (text ≡ last_line list complete) × (whole ≡ complete)
+-- where each outcome that was found is told: the list has all where these are all, and else nothing is decided
+abbrev pub verdict_of : Bool → Verdict
+verdict_of true = verdict.Complete
+verdict_of false = verdict.Undecided
+
+-- all outcomes are told, and this is their last line
+abbrev pub TellsAll : List (List ℕ) → List Outcome → Bool → List ℕ → Verdict → Type 0
+TellsAll told list complete text found = AreTold told list (length list) × (text ≡ last_line list complete) × (found ≡ verdict_of complete)
 
 -- what is said of outcomes that are held against what is told
-abbrev pub AreHeld : List (List ℕ) → List Outcome → Bool → List ℕ → Bool → Type 0
-AreHeld told list complete text whole = TellsUntold told list text whole ⊎ TellsAll told list complete text whole
+abbrev pub AreHeld : List (List ℕ) → List Outcome → Bool → List ℕ → Verdict → Type 0
+AreHeld told list complete text found = TellsUntold told list text found ⊎ TellsAll told list complete text found
 
 -- What a module can print that is given these arguments, as lists of numbers or without their order, is held against the list in these bytes: the text
--- tells the first outcome that isn't in it, or whether they are all. The answer is whole where they are all and each is in the list. They are looked for up to
--- this limit.
-pub record AreExpected (m : ModuleValue) (args : List ℤ) (sets : Bool) (limit : Limit) (bytes text : List ℕ) (whole : Bool) : Type 0 where
+-- tells the first outcome that isn't in it, which refutes it, or whether they are all. They are looked for up to this limit.
+pub record AreExpected (m : ModuleValue) (args : List ℤ) (sets : Bool) (limit : Limit) (bytes text : List ℕ) (found : Verdict) : Type 0 where
   pub list : List Outcome
   pub complete : Bool
   pub shown : AreShownAs sets m args list
@@ -139,4 +145,4 @@ pub record AreExpected (m : ModuleValue) (args : List ℤ) (sets : Bool) (limit 
   pub all : complete ≡ true → AreAllAs sets m args list
   pub far : GoesFar m args sets limit list complete
   pub may_stand : stray_line bytes ≡ None
-  pub held : AreHeld (told_by bytes) list complete text whole
+  pub held : AreHeld (told_by bytes) list complete text found

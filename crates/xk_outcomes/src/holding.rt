@@ -3,7 +3,7 @@
 ghost use Rattle.std.specs.Prelude.{◌≡◌, ℕ, ◌<◌, ◌++◌, ◌+◌, length, false, true, map, slice_get, IfOk, IfSome, IfNone, Some, codes, decimal, string_bytes, List, None, IfErr};
 ghost use Rattle.xk_outcomes.specs.declared.listing.Outcome.{Outcome as AnOutcome};
 ghost use Rattle.xk_types.specs.World.{AreArguments};
-ghost use Rattle.xk_outcomes.specs.Expected.{AreExpected, AreHeld, AreTold, IsFirstUntold, IsStrayIn, IsTold, stray_line, told_by};
+ghost use Rattle.xk_outcomes.specs.Expected.{AreExpected, AreHeld, AreTold, IsFirstUntold, IsStrayIn, IsTold, stray_line, told_by, verdict_of};
 ghost use Rattle.xk_io.specs.Row.{numbers_text};
 
 use crate::all_outcomes::{Limit, outcomes_as};
@@ -15,13 +15,37 @@ use std::alloc::{AllocError, Global};
 use xk_bounds::Verified;
 use xk_io::numbers_text;
 
+/// What the outcomes that were found say of a list.
+#[derive(Clone, Copy, Debug)]
+pub enum Verdict {
+    /// They are all, and each is in it.
+    Complete,
+    /// Each is in it, and there may be others.
+    Undecided,
+    /// One isn't in it.
+    Refuted,
+}
+
+impl Verdict {
+    /// Where each is in the list, and these are all or not.
+    fn of(complete: bool) -> Verdict
+        ensures { result ≡ verdict_of complete }
+    {
+        if complete {
+            Verdict::Complete
+        } else {
+            Verdict::Undecided
+        }
+    }
+}
+
 /// What is said of outcomes that are held against a list.
 #[derive(Debug, Drop)]
 pub struct Held {
     /// The line of the first that isn't in it, or the last line of outcomes.
     pub text: Vec<u8>,
-    /// Whether they are all, and each is in the list.
-    pub whole: bool,
+    /// What they say of the list.
+    pub verdict: Verdict,
 }
 
 /// Whether the numbers of an outcome are told.
@@ -61,21 +85,21 @@ fn hold(
     complete: bool,
     expected: &Expected<'_>,
 ) -> Result<Held, AllocError>
-    ensures { IfOk result (λ r. AreHeld expected.now list.now complete r.text.items r.whole) }
+    ensures { IfOk result (λ r. AreHeld expected.now list.now complete r.text.items r.verdict) }
 {
     match first_untold(alloc, expected, list)? {
         Some(place) => {
             let line = outcome_line(alloc, place + 1, &list[place])?;
             Ok(Held {
                 text: line.into_bytes(),
-                whole: false,
+                verdict: Verdict::Refuted,
             })
         }
         None => {
             let line = last_line(alloc, list.len(), complete)?;
             Ok(Held {
                 text: line.into_bytes(),
-                whole: complete,
+                verdict: Verdict::of(complete),
             })
         }
     }
@@ -93,7 +117,7 @@ pub fn expected_outcomes(
 ) -> Result<Held, ListFault>
     requires { AreArguments verified.now arguments.now }
     ensures held { IfOk result (λ r.
-        AreExpected verified.now arguments.now sets limit list.now r.text.items r.whole) }
+        AreExpected verified.now arguments.now sets limit list.now r.text.items r.verdict) }
     ensures stray { IfErr result (IsStrayIn list.now) }
 {
     let expected = read_expected(alloc, list)?;
@@ -115,7 +139,7 @@ fn held_by(
     requires { AreArguments verified.now arguments.now }
     ensures { (bytes : List ℕ) → stray_line bytes ≡ None → expected.now ≡ told_by bytes
         → IfOk result (λ r.
-        AreExpected verified.now arguments.now sets limit bytes r.text.items r.whole) }
+        AreExpected verified.now arguments.now sets limit bytes r.text.items r.verdict) }
 {
     let found = outcomes_as(alloc, sets, verified, arguments, limit)?;
     let held = hold(alloc, &found.list, found.complete, expected)?;

@@ -16,7 +16,7 @@ mod search;
 mod text;
 
 pub use all_outcomes::{Limit, outcome_sets, outcomes, outcomes_as};
-pub use holding::{Held, expected_outcomes};
+pub use holding::{Held, Verdict, expected_outcomes};
 pub use listing::{Outcome, Outcomes};
 pub use reading::ListFault;
 pub use text::{is_whole, outcomes_text};

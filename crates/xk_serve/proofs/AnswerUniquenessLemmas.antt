@@ -93,7 +93,7 @@ prints Races m args logged d h = absurd h
 prints (Tally seed runs) m args logged d h = absurd h
 prints (Outcomes sets limit pick kept) m args logged (done.Outcomes t whole log) h = (h.0, h.1.taken)
 prints (Outcomes sets limit pick kept) m args logged _ h = absurd h.1
-prints (Expected sets limit) m args logged (done.Outcomes t whole None) h = (h.0, h.1.0, h.1.1.may_stand)
+prints (Expected sets limit) m args logged (done.Held t found) h = (h.0, h.1.0, h.1.1.may_stand)
 prints (Expected sets limit) m args logged _ h = absurd h.1
 
 -- what it comes to has the status of what is done, but where outcomes are looked for
@@ -113,6 +113,21 @@ done_zero Races m args logged (done.Outcomes t whole log) one h = absurd h
 done_zero (Tally seed runs) m args logged (done.Outcomes t whole log) one h = absurd h
 done_zero (Outcomes sets limit pick kept) m args logged (done.Outcomes t whole log) one h = absurd one
 done_zero (Expected sets limit) m args logged (done.Outcomes t whole log) one h = absurd one
+done_zero Compile m args logged (done.Held t found) one h = absurd h
+done_zero Check m args logged (done.Held t found) one h = absurd h
+done_zero (Explain json) m args logged (done.Held t found) one h = absurd h
+done_zero Listing m args logged (done.Held t found) one h = absurd h
+done_zero (Run (In o) false) m args logged (done.Held t found) one h = absurd h
+done_zero (Run (In o) true) m args logged (done.Held t found) one h = absurd h
+done_zero (Run (By n) false) m args logged (done.Held t found) one h = absurd h
+done_zero (Run (By n) true) m args logged (done.Held t found) one h = absurd h
+done_zero Replay m args logged (done.Held t found) one h = absurd h
+done_zero (Draw picture) m args logged (done.Held t found) one h = absurd h
+done_zero (Where at) m args logged (done.Held t found) one h = absurd h
+done_zero Races m args logged (done.Held t found) one h = absurd h
+done_zero (Tally seed runs) m args logged (done.Held t found) one h = absurd h
+done_zero (Outcomes sets limit pick kept) m args logged (done.Held t found) one h = absurd one
+done_zero (Expected sets limit) m args logged (done.Held t found) one h = absurd one
 done_zero what m args logged (done.Compiled t) one h = refl
 done_zero what m args logged (done.Accepted steps activities clocks) one h = refl
 done_zero Compile m args logged (done.Told t whole) one h = absurd h
@@ -336,6 +351,7 @@ text_told P (done.Told text whole) h = (whole, h, refl, refl)
 text_told P (done.Compiled text) h = absurd h
 text_told P (done.Accepted steps activities clocks) h = absurd h
 text_told P (done.Outcomes text whole log) h = absurd h
+text_told P (done.Held text found) h = absurd h
 text_told P (done.Ended numbers steps log) h = absurd h
 
 -- what is told of the same bytes is one

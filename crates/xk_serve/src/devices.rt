@@ -4,7 +4,7 @@ ghost use Rattle.std.specs.Prelude.{◌≡◌, ◌≢◌, ◌⊎◌, false, [], 
 ghost use Rattle.std.specs.Io.KnownBytes.{Appends};
 ghost use Rattle.xk_types.specs.Device.{Rose};
 ghost use Rattle.xk_io.specs.Writing.{AppendsBeginning};
-ghost use Rattle.xk_cli.specs.Status.{status_device, status_done, status_memory, status_partial, status_program};
+ghost use Rattle.xk_cli.specs.Status.{status_device, status_done, status_memory, status_partial, status_program, status_refuted};
 ghost use Rattle.xk_serve.specs.Answer.{Succeeds, reads_more, task_of};
 ghost use Rattle.xk_answers.specs.Printed.{done_status};
 ghost use Rattle.xk_program.specs.Bytes.{IsReadToLimit};
@@ -25,13 +25,13 @@ use xk_messages::MEMORY_LINE;
 use xk_program::{DEVICE_LINE, Fault, read_program};
 use xk_types::{Sink, Source};
 
-/// Reads the program, does the job, and writes what comes of it: its result to `out` and then the log of a run that is to have one
-/// to `log_out`, or one line to `err`. The answer is the exit status: 0 where the job is done, 6 where it is
-/// done but its answer isn't whole, 1 where the program is refused, or is to be run and its
-/// main takes another number of arguments than it is given, 3 where the log or the list of outcomes is refused, 4 where memory ran out, 5 where a device failed. A run by workers is some run of the program: a call with such a job may wait for them, and
-/// what is said here holds where it returns. Whatever the answer but 5, no read or write failed. The result is written piece by piece, once
-/// all is known and no more memory is wanted, so `out` and `log_out` stay empty but at 0, 6 and 5, and at 1 where `explain` says more of a fault;
-/// and `err` never gets more than one line.
+/// Reads the program, does the job, and writes what comes of it: its result to `out` and then the log of a run that is to have one to
+/// `log_out`, or one line to `err`. The answer is the exit status: 0 where the job is done, 6 where it is done but its answer isn't whole,
+/// 7 where an outcome isn't in the list, 1 where the program is refused, or is to be run and its main takes another number of arguments
+/// than it is given, 3 where the log or the list of outcomes is refused, 4 where memory ran out, 5 where a device failed. A run by workers
+/// is some run of the program: a call with such a job may wait for them, and what is said here holds where it returns. Whatever the answer
+/// but 5, no read or write failed. The result is written piece by piece, once all is known and no more memory is wanted, so `out` and
+/// `log_out` stay empty but at 0, 6, 7 and 5, and at 1 where `explain` says more of a fault; and `err` never gets more than one line.
 pub fn serve<R: Threads + Wait + Sync, P: Source, L: Source, O: Sink, E: Sink, K: Sink>(
     rt: &R,
     alloc: Global,
@@ -161,7 +161,8 @@ fn print<O: Sink, E: Sink, K: Sink>(
         ⊎ ((result ≡ status_device) × (Rose (O.fault_count out.old) (O.fault_count out.new)
         ⊎ Rose (K.fault_count log_out.old) (K.fault_count log_out.new))) }
     ensures known { (result ≡ status_done)
-        ⊎ ((result ≡ status_partial) ⊎ (result ≡ status_device)) }
+        ⊎ ((result ≡ status_partial)
+        ⊎ ((result ≡ status_refuted) ⊎ (result ≡ status_device))) }
     ensures told { result ≡ status_device
         → Appends (E.contents err.old) (E.contents err.new) device_line
         ⊎ Rose (E.fault_count err.old) (E.fault_count err.new) }

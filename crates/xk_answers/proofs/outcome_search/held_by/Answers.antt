@@ -8,7 +8,7 @@ returns-in-Ok-clause-done g c =
     some_each _ _ (g.L.Source.remaining c.args.source.now)
     (λ all is. (
       c.requires,
-      subst (λ bytes. AreExpected c.args.verified.now c.args.arguments.now c.args.sets c.args.limit bytes c.in-Ok.held.text.items c.in-Ok.held.whole)
+      subst (λ bytes. AreExpected c.args.verified.now c.args.arguments.now c.args.sets c.args.limit bytes c.in-Ok.held.text.items c.in-Ok.held.verdict)
           (c.deref.ensures.value ∙ is) c.in-Ok.ensures.held,
     ))
     (front_of _ _ _ c.in_ok-bytes.ensures.few c.in_ok-bytes.ensures.front)

@@ -14,6 +14,6 @@ returns c bytes stands told =
       all = c.in_ok-found.ensures.all;
       far = record { entries = found.entries; kept = c.in_ok-found.ensures.kept; met = c.in_ok-found.ensures.limit; few = c.in_ok-found.ensures.most };
       may_stand = stands;
-      held = subst (λ texts. AreHeld texts found.list.items found.complete said.text.items said.whole) told
-          (subst (λ list. AreHeld c.args.expected.now list found.complete said.text.items said.whole) c.deref.ensures.value c.in_ok-held.ensures);
+      held = subst (λ texts. AreHeld texts found.list.items found.complete said.text.items said.verdict) told
+          (subst (λ list. AreHeld c.args.expected.now list found.complete said.text.items said.verdict) c.deref.ensures.value c.in_ok-held.ensures);
     }
