@@ -10,5 +10,6 @@ mod RisingLemmas
 mod ListingLemmas
 mod ListedLemmas
 mod PlainRunLemmas
+mod LoneOutcomeLemmas
 mod ExpectedLemmas
 mod TextLemmas
