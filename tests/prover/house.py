@@ -34,7 +34,7 @@ MOST = {
     "pub": 82,
     "clauses": 0,
     "code": 239,
-    "proofs": 6676,
+    "proofs": 6674,
     "docs": 80,
     "scripts": 0,
     "files": 0,
