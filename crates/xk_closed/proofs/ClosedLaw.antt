@@ -1,6 +1,5 @@
--- The first step that somebody of a closed set takes may be moved to the front of a schedule by which all have ended.
--- So nothing is missed where from
--- each world the steps of a closed set were taken, and one of several worlds that are the same was kept.
+-- The first step that somebody of a closed set takes may be moved to the front of a schedule by which all have ended. So nothing is missed
+-- where from each world the steps of a closed set were taken, and one of several worlds that are the same was kept.
 use Rattle.std.proofs.Common.{◌≡◌, ℕ, ℤ, zero, suc, ◌≤◌, ◌⊎◌, inl, inr, not, Bool, true, false, true≢false, List, [], ◌∷◌, ◌++◌, length}
 use Rattle.std.proofs.Common.{filter, Option, None, refl, sym, ap, ◌∙◌, subst, append_assoc, arith}
 use Rattle.std.specs.List.{filter_map}

@@ -1,6 +1,5 @@
--- A set of activities that can take steps is closed where these have nothing to do with what others may still carry
--- out. So it is of one alone whose next
--- instruction neither prints nor has to do with a shared number, be it to make a clock or to start an activity.
+-- A set of activities that can take steps is closed where these have nothing to do with what others may still carry out. So it is of one
+-- alone whose next instruction neither prints nor has to do with a shared number, be it to make a clock or to start an activity.
 use Rattle.std.proofs.Common.{◌≡◌, ℕ, ◌⊎◌, inl, inr, Bool, true, false, true≢false, List, [], ◌∷◌, Option, Some, None, refl, sym, ap, ◌∙◌}
 use Rattle.std.proofs.Common.{subst, eqb-true}
 use Rattle.std.specs.Prelude.{slice_get, option_and_then}
@@ -8,7 +7,6 @@ use Rattle.std.specs.Option.{option_map_or}
 use Rattle.xk_types.specs.declared.instr.Instr.{Instr}
 use Rattle.xk_types.specs.declared.instr.Instr.TheVariants as instr
 use Rattle.xk_types.specs.declared.world.Event.{Event}
-use Rattle.xk_types.specs.declared.world.Event.TheVariants as event
 use Rattle.xk_types.specs.Code.{ModuleValue}
 use Rattle.xk_types.specs.World.{Activity, World, instruction_at}
 use Rattle.xk_types.specs.Step.{Stepped, step}
@@ -19,19 +17,16 @@ use Rattle.xk_law_commute.proofs.ChangeSquareLemmas.{found_of}
 use Rattle.xk_law_commute.proofs.QuietStepLaw.{enabled_step}
 use Rattle.xk_law_traces.specs.Edges.{AreApart, prints, does}
 use Rattle.xk_law_traces.specs.Moments.{is_print}
+use Rattle.xk_law_traces.proofs.PrintLemmas.{other_silent}
 use Rattle.xk_law_traces.proofs.StepEventLemmas.{others_stay, print_says}
 use Rattle.xk_closed.specs.Closed.{AreOutside, NotBothPrint, IsClosed, IsStuck}
 use Rattle.xk_closed.specs.Futures.{IsFuture, IsFree, is_private, alone}
-
-silent_of : (e : Event) → is_print e ≡ false → number_printed e ≡ None
-silent_of (event.Printed n) h = absurd (true≢false h)
-silent_of _ h = refl
 
 -- an instruction that doesn't print has no event that does
 no_print : (m : ModuleValue) (w u : World) (a : ℕ) (e : Event) → step m w a ≡ Stepped u e
     → option_map_or prints (next_instruction m w a) false ≡ false
     → number_printed e ≡ None
-no_print m w u a e takes h = silent_of e (by (is_print e) refl)
+no_print m w u a e takes h = other_silent e (by (is_print e) refl)
   where
     by : (q : Bool) → is_print e ≡ q → is_print e ≡ false
     by true g = absurd (true≢false (sym (print_says m w u a e takes g) ∙ h))

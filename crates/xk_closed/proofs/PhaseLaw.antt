@@ -1,6 +1,5 @@
--- As long as somebody who holds a clock up takes no step, nobody passes an `advance` who is registered on that clock
--- and isn't ahead on it, unless it has
--- left the clock. For its stage there is beyond that of the holder, which stays, and so does the phase.
+-- As long as somebody who holds a clock up takes no step, nobody passes an `advance` who is registered on that clock and isn't ahead on it,
+-- unless it has left the clock. For its stage there is beyond that of the holder, which stays, and so does the phase.
 use Rattle.std.proofs.Common.{◌≡◌, ℕ, suc, ◌+◌, ◌<◌, ◌≤◌, ◌⊎◌, inl, inr, Bool, true, false, true≢false, cond, List, [], ◌∷◌, length, Option}
 use Rattle.std.proofs.Common.{Some, None, refl, sym, ap, ◌∙◌, subst, arith}
 use Rattle.std.specs.Prelude.{slice_get}

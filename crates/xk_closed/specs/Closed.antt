@@ -1,7 +1,6 @@
--- Sets of activities whose steps suffice: as long as nobody of such a set moves, what others do has nothing to do with
--- the steps that these are
--- about to take. In the field they are persistent sets, or strong stubborn sets. And exploration by such sets, up to
--- worlds that are the same in some way.
+-- Sets of activities whose steps suffice: as long as nobody of such a set moves, what others do has nothing to do with the steps that these
+-- are about to take. In the field they are persistent sets, or strong stubborn sets. And exploration by such sets, up to worlds that are
+-- the same in some way.
 use Rattle.std.specs.Prelude.{◌≡◌, ℕ, ℤ, ◌⊎◌, Bool, true, false, List, [], ◌∷◌, ◌++◌, None}
 use Rattle.std.specs.Option.{option_to_list}
 use Rattle.xk_types.specs.declared.world.Event.{Event}
@@ -20,9 +19,8 @@ AreOutside set (b ∷ list) = (set b ≡ false) × AreOutside set list
 abbrev pub NotBothPrint : Event → Event → Type 0
 NotBothPrint e f = (number_printed e ≡ None) ⊎ (number_printed f ≡ None)
 
--- As long as others move alone: no step of another's conflicts with a step of one of the set, nor do both print; and
--- nobody of the set can take a step
--- who couldn't at first.
+-- As long as others move alone: no step of another's conflicts with a step of one of the set, nor do both print; and nobody of the set can
+-- take a step who couldn't at first.
 pub record IsClosed (m : ModuleValue) (w : World) (set : ℕ → Bool) : Type 0 where
   pub apart : (list : List ℕ) (v : World) → AreOutside set list → run m list w ≡ Through v → (a b : ℕ) → set a ≡ true → set b ≡ false
       → (x y : World) (e f : Event) → step m v a ≡ Stepped x e → step m v b ≡ Stepped y f → AreConflictFree m v b a × NotBothPrint e f
@@ -36,9 +34,8 @@ IsStuck m w set r = (list : List ℕ) (v x : World) (e : Event) → AreOutside s
 
 -- ---- exploration
 
--- Who can take a step in one of two worlds that are the same can take one in the other, by a number of its own there,
--- with the same event, to worlds that
--- are the same; and all have ended in both or in neither.
+-- Who can take a step in one of two worlds that are the same can take one in the other, by a number of its own there, with the same event,
+-- to worlds that are the same; and all have ended in both or in neither.
 pub record IsCarried (m : ModuleValue) (Same : World → World → Type 0) : Type 0 where
   pub steps : (w v u : World) (a : ℕ) (e : Event) → IsReached m w → Same w v → step m w a ≡ Stepped u e
       → (b : ℕ) × (z : World) × (step m v b ≡ Stepped z e) × Same u z

@@ -1,6 +1,5 @@
--- Shared numbers that nobody can read any more, by a table of what may still be carried out. To add to a number isn't
--- to read it: what comes of it is seen
--- by who reads the number alone.
+-- Shared numbers that nobody can read any more, by a table of what may still be carried out. To add to a number isn't to read it: what
+-- comes of it is seen by who reads the number alone.
 use Rattle.std.specs.Prelude.{◌≡◌, ℕ, false, [], length, ◌⊎◌, Some, slice_get}
 use Rattle.xk_types.specs.declared.instr.Instr.TheVariants as instr
 use Rattle.xk_types.specs.World.{Activity, World, is_ended}
@@ -24,8 +23,7 @@ pub record AreAlikeButUnread (rest : Table) (w v : World) : Type 0 where
   pub many : length w.cells ≡ length v.cells
   pub cells : (s : ℕ) → (slice_get w.cells s ≡ slice_get v.cells s) ⊎ IsUnread rest w s
 
--- They are the same but for names, and differ at most in slots that are dead, in what activities that have ended left
--- behind, and in shared numbers that
--- nobody can read any more.
+-- They are the same but for names, and differ at most in slots that are dead, in what activities that have ended left behind, and in shared
+-- numbers that nobody can read any more.
 abbrev pub WhereRead : SlotTable → Table → World → World → Type 0
 WhereRead live rest w v = (u : World) × WhereLive live w u × AreAlikeButUnread rest u v

@@ -17,7 +17,7 @@ use Rattle.xk_types.specs.Schedule.{Through, run, IsReached, all_ended}
 use Rattle.xk_law_schedules.proofs.ReachabilityLemmas.{opening_reached}
 use Rattle.xk_law_commute.specs.Conflicts.{next_instruction}
 use Rattle.xk_law_traces.specs.Moments.{is_print}
-use Rattle.xk_law_traces.specs.Classes.{HasNeverTwo}
+use Rattle.xk_law_traces.specs.RaceFreedom.{HasNeverTwo}
 use Rattle.xk_law_traces.specs.Edges.{StepName, turns_of, IsBefore, instruction_of, prints, AreOneByOne}
 use Rattle.xk_law_traces.proofs.StepEventLemmas.{print_says}
 use Rattle.xk_law_traces.proofs.InstructionEventLemmas.{shows}

@@ -12,7 +12,7 @@ use Rattle.xk_types.specs.World.{World, AreArguments, opening}
 use Rattle.xk_types.specs.Schedule.{Through, run, IsReached, all_ended}
 use Rattle.xk_law_schedules.proofs.ReachabilityLemmas.{opening_reached}
 use Rattle.xk_law_commute.specs.Conflicts.{next_instruction}
-use Rattle.xk_law_traces.specs.Classes.{HasNoRace}
+use Rattle.xk_law_traces.specs.RaceFreedom.{HasNoRace}
 use Rattle.xk_law_traces.specs.Edges.{StepName, turns_of, IsBefore, instruction_of, AreApart, AreOrdered}
 use Rattle.xk_law_traces.proofs.OneRunLaw.{ordered_run}
 use Rattle.xk_law_traces.proofs.PassEdgeLaw.{causes_sound}

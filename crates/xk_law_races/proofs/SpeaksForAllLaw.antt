@@ -7,7 +7,7 @@ use Rattle.xk_types.specs.Code.{ModuleValue, IsWithinLimits}
 use Rattle.xk_types.specs.World.{World, AreArguments, opening}
 use Rattle.xk_types.specs.Schedule.{printed}
 use Rattle.xk_types.specs.Logs.{schedule_of}
-use Rattle.xk_law_traces.specs.Classes.{HasNoRace}
+use Rattle.xk_law_traces.specs.RaceFreedom.{HasNoRace}
 use Rattle.xk_law_traces.specs.OneRun.{IsWholeRun, ComeToOne}
 use Rattle.xk_law_traces.proofs.OneRunLaw.{one_every, one_prints}
 use Rattle.xk_races.specs.Races.{gap_in, is_race_free, sights_of_run}

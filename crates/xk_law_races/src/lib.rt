@@ -5,7 +5,7 @@
 pub mod laws;
 
 ghost use Rattle.std.specs.Prelude.{◌≡◌, ℕ, ℤ, true, List, None};
-ghost use Rattle.xk_law_traces.specs.Classes.{HasNoRace};
+ghost use Rattle.xk_law_traces.specs.RaceFreedom.{HasNoRace};
 ghost use Rattle.xk_law_traces.specs.OneRun.{ComeToOne, IsWholeRun};
 ghost use Rattle.xk_races.specs.Races.{gap_in, is_race_free, sights_of_run};
 ghost use Rattle.xk_types.specs.Acceptance.{IsAccepted};

@@ -14,7 +14,8 @@ use Rattle.xk_law_commute.proofs.ExplorationLaw.{nobody_steps}
 use Rattle.xk_law_names.specs.Names.{all_named, exchange_of}
 use Rattle.xk_law_names.proofs.NameLaw.{squares_but_names, same_ends}
 use Rattle.xk_law_names.proofs.ActivityNameOrderLaw.{run_first}
-use Rattle.xk_law_traces.specs.Classes.{DoCommute, AreSwapped, AreOneClass, names_along, HasNoRace}
+use Rattle.xk_law_traces.specs.Classes.{DoCommute, AreSwapped, AreOneClass, names_along}
+use Rattle.xk_law_traces.specs.RaceFreedom.{HasNoRace}
 use Rattle.xk_law_traces.specs.OneRun.{GoesAsWell, IsBegun}
 use Rattle.xk_law_traces.proofs.ClassLemmas.{class_same, class_swap, class_on, class_behind, met_itself, met_by, met_behind, class_as_well}
 

@@ -16,7 +16,8 @@ use Rattle.xk_law_names.specs.Names.{Exchange, all_named, AreSameBy, exchange_of
 use Rattle.xk_law_names.proofs.NameLaw.{same_itself, same_joined, named_same, named_append, clocks_unnamed, clock_append}
 use Rattle.xk_law_names.proofs.ActivityNameOrderLaw.{run_first}
 use Rattle.xk_law_traces.specs.Moments.{is_print, moments, is_start, starters, positions_of, started_by}
-use Rattle.xk_law_traces.specs.Classes.{DoCommute, AreSwapped, Turn, AreJoined, AreOneClass, names_along, name_in, IsMet, HasNeverTwo}
+use Rattle.xk_law_traces.specs.Classes.{DoCommute, AreSwapped, Turn, AreJoined, AreOneClass, names_along, name_in, IsMet}
+use Rattle.xk_law_traces.specs.RaceFreedom.{HasNeverTwo}
 use Rattle.xk_law_traces.specs.OneRun.{GoesAsWell}
 use Rattle.xk_law_traces.proofs.SwapLemmas.{Deed, Entry, deed_named, entry_named, stand_of, entry_of, entries, entries_on, event_in, events_filtered, reached_run, IsExchange, exchange}
 use Rattle.xk_law_traces.proofs.ExchangeLemmas.{stays_named}

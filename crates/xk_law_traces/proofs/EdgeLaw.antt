@@ -23,7 +23,8 @@ use Rattle.xk_law_commute.proofs.ExplorationLaw.{ended_at}
 use Rattle.xk_law_names.specs.Names.{Exchange, all_named}
 use Rattle.xk_law_names.proofs.NameLaw.{same_ends, all_unnamed, named_unnamed}
 use Rattle.xk_law_names.proofs.ActivityNameOrderLaw.{run_first}
-use Rattle.xk_law_traces.specs.Classes.{AreJoined, AreOneClass, names_along, name_in, IsMet, HasNoRace, HasNeverTwo}
+use Rattle.xk_law_traces.specs.Classes.{AreJoined, AreOneClass, names_along, name_in, IsMet}
+use Rattle.xk_law_traces.specs.RaceFreedom.{HasNoRace, HasNeverTwo}
 use Rattle.xk_law_traces.specs.Edges.{StepName, turns_of, IsTaken, carried_by, instruction_of, AreApart, IsLink, IsWay, IsBefore, AreSound, AreOrdered, AreOneByOne}
 use Rattle.xk_law_traces.specs.OneRun.{GoesAsWell}
 use Rattle.xk_law_traces.proofs.StepEventLemmas.{others_stay}

@@ -20,7 +20,8 @@ use Rattle.xk_law_names.specs.Names.{all_named}
 use Rattle.xk_law_names.proofs.NameLaw.{same_cells}
 use Rattle.xk_law_names.proofs.ActivityNameOrderLaw.{run_first}
 use Rattle.xk_law_traces.specs.Moments.{is_print, printed_by, printed_at, led_to, started_by}
-use Rattle.xk_law_traces.specs.Classes.{AreOneClass, names_along, HasNoRace, HasNeverTwo}
+use Rattle.xk_law_traces.specs.Classes.{AreOneClass, names_along}
+use Rattle.xk_law_traces.specs.RaceFreedom.{HasNoRace, HasNeverTwo}
 use Rattle.xk_law_traces.specs.OneRun.{GoesAsWell, IsBegun, IsWholeRun, ComeToOne, gets_or_puts, AddsInUnit, AddsAtMost}
 use Rattle.xk_law_traces.proofs.SwapLemmas.{get_map}
 use Rattle.xk_law_traces.proofs.ClassLemmas.{main_stays, class_as_well, class_prints}

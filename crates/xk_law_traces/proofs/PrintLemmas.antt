@@ -36,7 +36,8 @@ local_silent event.Local h = refl
 local_silent (event.Printed n) h = absurd (true≢false h)
 local_silent _ h = refl
 
-other_silent : (e : Event) → is_print e ≡ false → number_printed e ≡ None
+-- another event prints nothing
+pub other_silent : (e : Event) → is_print e ≡ false → number_printed e ≡ None
 other_silent (event.Printed n) h = absurd (true≢false h)
 other_silent _ h = refl
 

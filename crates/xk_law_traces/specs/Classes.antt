@@ -1,11 +1,11 @@
 -- Schedules that differ in the order of steps that commute alone, which are one run as far as anybody can see. In the field these are the
 -- traces of Mazurkiewicz. Steps commute here up to names: two may make a clock each, or start an activity each, in either order.
-use Rattle.std.specs.Prelude.{◌≡◌, ℕ, Bool, true, List, [], ◌∷◌, ◌++◌, map}
+use Rattle.std.specs.Prelude.{◌≡◌, ℕ, List, [], ◌∷◌, ◌++◌, map}
 use Rattle.xk_types.specs.declared.world.Event.{Event}
 use Rattle.xk_types.specs.Code.{ModuleValue}
 use Rattle.xk_types.specs.World.{World}
 use Rattle.xk_types.specs.Step.{Stepped, step}
-use Rattle.xk_types.specs.Schedule.{Through, run, is_enabled}
+use Rattle.xk_types.specs.Schedule.{Through, run}
 use Rattle.xk_law_commute.specs.Conflicts.{AreConflictFree}
 use Rattle.xk_law_names.specs.Names.{Exchange, all_named, exchange_of}
 
@@ -63,14 +63,3 @@ pub record IsMet (m : ModuleValue) (w : World) (s : List ℕ) (v : World) : Type
   pub after : List ℕ
   pub member : AreOneClass m w s (before ++ after)
   pub leads : run m before w ≡ Through v
-
--- No schedule of the class of s comes to a world where two activities can take steps that conflict on a shared number. (To look along s
--- alone isn't enough: proofs/Examples.antt.)
-abbrev pub HasNoRace : ModuleValue → World → List ℕ → Type 0
-HasNoRace m w s = (v : World) → IsMet m w s v → (a b : ℕ) → (b ≡ a → ⊥)
-    → is_enabled m v a ≡ true → is_enabled m v b ≡ true → AreConflictFree m v a b
-
--- No schedule of the class of s comes to a world where two activities can take steps both of whose events pass the test.
-abbrev pub HasNeverTwo : (Event → Bool) → ModuleValue → World → List ℕ → Type 0
-HasNeverTwo test m w s = (v : World) → IsMet m w s v → (a b : ℕ) → (b ≡ a → ⊥) → (x y : World) (e f : Event)
-    → step m v a ≡ Stepped x e → step m v b ≡ Stepped y f → test e ≡ true → test f ≡ true → ⊥

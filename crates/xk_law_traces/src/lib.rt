@@ -2,7 +2,8 @@
 #![tactic(auto)]
 
 ghost use Rattle.std.specs.Prelude.{◌≡◌, ℕ, ℤ, List};
-ghost use Rattle.xk_law_traces.specs.Classes.{AreOneClass, HasNeverTwo, HasNoRace};
+ghost use Rattle.xk_law_traces.specs.Classes.{AreOneClass};
+ghost use Rattle.xk_law_traces.specs.RaceFreedom.{HasNeverTwo, HasNoRace};
 ghost use Rattle.xk_law_traces.specs.Edges.{AreOneByOne, AreOrdered, AreSound, IsCause, IsEdge, StepName, prints};
 ghost use Rattle.xk_law_traces.specs.Moments.{is_print};
 ghost use Rattle.xk_law_traces.specs.OneRun.{AddsAtMost, ComeToOne, GoesAsWell, IsBegun, IsWholeRun};

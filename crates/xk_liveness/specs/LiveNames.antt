@@ -13,9 +13,8 @@ pub record AreSameWhereLive (live : SlotTable) (xs : List Exchange) (w v : World
   pub there : ArePairs xs w
   pub alike : AreAlikeWhereLive live (all_exchanged xs w) v
 
--- An activity that can take a step in world w can take one in v by its number there, with the same event, to worlds
--- that are the same so by these
--- exchanges; all have ended in both worlds or in neither; and the shared numbers are the same.
+-- An activity that can take a step in world w can take one in v by its number there, with the same event, to worlds that are the same so by
+-- these exchanges; all have ended in both worlds or in neither; and the shared numbers are the same.
 pub record GoAsOneWhereLive (m : ModuleValue) (live : SlotTable) (xs : List Exchange) (w v : World) : Type 0 where
   pub steps : (u : World) (a : ℕ) (e : Event) → step m w a ≡ Stepped u e
       → (z : World) × (step m v (all_named xs a) ≡ Stepped z e) × AreSameWhereLive live xs u z

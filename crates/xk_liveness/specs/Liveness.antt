@@ -1,8 +1,6 @@
--- Live slots: those whose values may still be read before they are written anew (liveness, as compilers compute it,
--- backwards along the code). Worlds
--- that differ in dead slots alone, and in what activities that have ended left behind, go on alike. A slot that names a
--- clock is one like others: on which
--- clocks an activity is registered stands with the clocks.
+-- Live slots: those whose values may still be read before they are written anew (liveness, as compilers compute it, backwards along the
+-- code). Worlds that differ in dead slots alone, and in what activities that have ended left behind, go on alike. A slot that names a clock
+-- is one like others: on which clocks an activity is registered stands with the clocks.
 use Rattle.std.specs.Prelude.{◌≡◌, ℕ, suc, ◌+◌, ◌==◌, Bool, true, false, not, ◌&&◌, ◌||◌, List, [], ◌∷◌, map, Option, Some, None}
 use Rattle.std.specs.Prelude.{option_and_then, if◌then◌else◌}
 use Rattle.std.specs.List.{list_any}
@@ -143,9 +141,8 @@ AreAlikeButEnded w v = plain (without_ended w) ≡ plain (without_ended v)
 
 -- ---- going on
 
--- Activities can take the same steps in both worlds, with the same events, to worlds that are alike; all have ended in
--- both or in neither; and the shared
--- numbers are the same.
+-- Activities can take the same steps in both worlds, with the same events, to worlds that are alike; all have ended in both or in neither;
+-- and the shared numbers are the same.
 pub record GoOnAlike (m : ModuleValue) (Alike : World → World → Type 0) (w v : World) : Type 0 where
   pub steps : (u : World) (a : ℕ) (e : Event) → step m w a ≡ Stepped u e → (z : World) × (step m v a ≡ Stepped z e) × Alike u z
   pub ends : all_ended w ≡ all_ended v
