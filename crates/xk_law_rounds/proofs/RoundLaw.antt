@@ -1,0 +1,153 @@
+-- How many rounds a run takes at least.
+use Rattle.std.proofs.Common.{◌≡◌, ◌∙◌, ℕ, ℤ, suc, ◌+◌, ◌<◌, ◌≤◌, ◌⊎◌, inl, inr, true, List, [], ◌∷◌, ◌++◌, length, map, refl}
+use Rattle.std.proofs.Common.{sym, ap, subst, arith, append_assoc, length-append}
+use Rattle.std.proofs.lemmas.Bool.{cases_lt}
+use Rattle.std.proofs.lemmas.List.{append-nil, length-map}
+use Rattle.xk_types.specs.Acceptance.{IsAccepted}
+use Rattle.xk_types.specs.Code.{ModuleValue, IsWithinLimits}
+use Rattle.xk_types.specs.World.{World, AreArguments, opening}
+use Rattle.xk_types.specs.Step.{step}
+use Rattle.xk_types.specs.Schedule.{Through, run, all_ended, is_enabled}
+use Rattle.xk_types.proofs.RunLemmas.{run_then}
+use Rattle.xk_law_schedules.proofs.ReachabilityLemmas.{first_step, opening_reached}
+use Rattle.xk_law_commute.proofs.ExplorationLaw.{nobody_steps}
+use Rattle.xk_law_names.specs.Names.{all_named}
+use Rattle.xk_law_traces.specs.Classes.{Turn, AreSwapped, AreJoined, AreOneClass, names_along, name_in, HasNoRace}
+use Rattle.xk_law_traces.specs.Edges.{StepName, turns_of, IsTaken, IsLink, AreSound}
+use Rattle.xk_law_traces.specs.OneRun.{GoesAsWell, IsBegun, IsWholeRun}
+use Rattle.xk_law_traces.proofs.ClassLemmas.{deeds, same_deeds}
+use Rattle.xk_law_traces.proofs.SwapLemmas.{deed_named}
+use Rattle.xk_law_traces.proofs.EdgeLaw.{turns_on, turns_done}
+use Rattle.xk_law_traces.proofs.OneRunLaw.{same, begun}
+use Rattle.xk_law_rounds.specs.Rounds.{IsRound, AreRounds, steps_in, IsChain, HasNoLonger}
+
+-- ---- a whole run is of the class
+
+-- nothing follows where all have ended
+nothing_more : (m : ModuleValue) (rest : List ℕ) (y z : World) → all_ended y ≡ true → run m rest y ≡ Through z → rest ≡ []
+nothing_more m [] y z ended g = refl
+nothing_more m (a ∷ rest) y z ended g =
+    let x = first_step y z (step m y a) (run m rest) g in absurd (nobody_steps m y x.0 a x.1 x.2 ended)
+
+pub whole_member : (m : ModuleValue) (args : List ℤ) (limits : IsWithinLimits m) (ok : IsAccepted m) (taken : AreArguments m args)
+    (s t : List ℕ) (z y : World) → IsWholeRun m args s z → HasNoRace m (opening m args) s → IsWholeRun m args t y
+    → AreOneClass m (opening m args) s t
+whole_member m args limits ok taken s t z y one free other =
+    let b : IsBegun m (opening m args) s t = begun m args limits ok taken s t z y one free other.legal in
+    let g : GoesAsWell m (opening m args) s (t ++ b.rest) b.member z = same m args limits ok taken s (t ++ b.rest) z one.legal b.member in
+    let none : b.rest ≡ [] =
+    nothing_more m b.rest y g.last other.ended (sym (run_then m t b.rest (opening m args) y other.legal) ∙ g.legal) in
+    subst (AreOneClass m (opening m args) s) (ap (λ l. t ++ l) none ∙ append-nil t) b.member
+
+-- ---- as many steps
+
+swapped_length : (m : ModuleValue) (w : World) (s t : List ℕ) (u : Turn) → AreSwapped m w s u.0 t → length t ≡ length s
+swapped_length m w s t u k =
+    let names = map (all_named u.0) k.after in
+    let a = ap length k.this in
+    let b = ap length k.other in
+    let this = length-append k.before (k.first ∷ k.second ∷ k.after) in
+    let other = length-append k.before (k.second ∷ k.first ∷ names) in
+    omega (arith, a, b, this, other, length-map k.after (all_named u.0))
+
+joined_length : (m : ModuleValue) (w : World) (us : List Turn) (s t : List ℕ) → AreJoined m w s us t → length t ≡ length s
+joined_length m w [] s t h = ap length (sym h)
+joined_length m w (u ∷ us) s t h = joined_length m w us u.1 t h.1 ∙ swapped_length m w s u.1 u h.0
+
+pub same_work : (m : ModuleValue) (args : List ℤ) (s t : List ℕ) (z y : World) → IsWithinLimits m → IsAccepted m
+    → AreArguments m args
+    → IsWholeRun m args s z → HasNoRace m (opening m args) s → IsWholeRun m args t y → length t ≡ length s
+same_work m args s t z y limits ok taken one free other =
+    let member = whole_member m args limits ok taken s t z y one free other in
+    joined_length m (opening m args) member.between s t member.joined
+
+-- ---- rounds
+
+module _ (m : ModuleValue) (args : List ℤ) (limits : IsWithinLimits m) (ok : IsAccepted m) (taken : AreArguments m args)
+    (s : List ℕ) (z y : World) (edges : List (StepName × StepName)) (t : List ℕ)
+    (one : IsWholeRun m args s z) (sound : AreSound m (opening m args) s edges)
+    (whole : AreOneClass m (opening m args) s t) where
+  abbrev w : World
+  w = opening m args
+
+  -- a link to a step that can be taken
+  pub link_taken : (before after : List ℕ) (v : World) → t ≡ before ++ after → run m before w ≡ Through v
+      → (x k : StepName) → IsLink edges x k
+      → turns_of (name_in whole k.0) before ≡ k.1 → is_enabled m v (name_in whole k.0) ≡ true
+      → IsTaken before (name_in whole x.0, x.1)
+  link_taken before after v is leads x k (inl edge) turn enabled =
+      let member : AreOneClass m w s (before ++ after) =
+      record { between = whole.between; joined = subst (AreJoined m w s whole.between) is whole.joined } in
+      sound x k edge before after v member leads turn enabled
+  link_taken before after v is leads x k (inr own) turn enabled =
+      let lower : x.1 < k.1 = own.1 in
+      let less : x.1 < turns_of (name_in whole k.0) before = omega (arith, lower, turn) in
+      subst (λ a. x.1 < turns_of (name_in whole a) before) (sym own.0) less
+
+  -- no chain up to a step that is taken by then has more steps
+  abbrev NoLonger : List ℕ → ℕ → Type 0
+  NoLonger before n = (k : StepName) (xs : List StepName) → IsChain edges k xs → IsTaken before (name_in whole k.0, k.1)
+      → suc (length xs) ≤ n
+
+  -- after one more round
+  one_more : (before r after : List ℕ) (v u : World) (n : ℕ) → t ≡ before ++ (r ++ after) → run m before w ≡ Through v
+      → IsRound m v r u
+      → NoLonger before n → NoLonger (before ++ r) (suc n)
+  one_more before r after v u n is leads round none k xs chain taken = by (cases_lt k.1 (turns_of (name_in whole k.0) before))
+    where
+      some : k.1 < turns_of (name_in whole k.0) before + turns_of (name_in whole k.0) r
+      some = subst (λ i. k.1 < i) (turns_on (name_in whole k.0) before r) taken
+
+      of : (xs : List StepName) → IsChain edges k xs → turns_of (name_in whole k.0) before ≤ k.1 → suc (length xs) ≤ suc n
+      of [] c ge = omega arith
+      of (x ∷ xs) c ge =
+          let most = round.once (name_in whole k.0) in
+          let turn : turns_of (name_in whole k.0) before ≡ k.1 = omega (arith, ge, some, most) in
+          let enabled = round.enabled (name_in whole k.0) (omega (arith, ge, some)) in
+          let a = none x xs c.1 (link_taken before (r ++ after) v is leads x k c.0 turn enabled) in
+          omega (arith, a)
+
+      by : (k.1 < turns_of (name_in whole k.0) before) ⊎ (turns_of (name_in whole k.0) before ≤ k.1) → suc (length xs) ≤ suc n
+      by (inl less) = let a = none k xs chain less in omega (arith, a)
+      by (inr ge) = of xs chain ge
+
+  all_rounds : (rest : List (List ℕ)) (before : List ℕ) (v : World) (n : ℕ) → t ≡ before ++ steps_in rest
+      → run m before w ≡ Through v
+      → AreRounds m v rest y → NoLonger before n → NoLonger t (n + length rest)
+  all_rounds [] before v n is leads rounds none k xs chain taken =
+      let a = none k xs chain (subst (λ l. IsTaken l (name_in whole k.0, k.1)) (is ∙ append-nil before) taken) in
+      omega (arith, a)
+  all_rounds (r ∷ rest) before v n is leads rounds none k xs chain taken =
+      let a = all_rounds rest (before ++ r) rounds.0 (suc n) (is ∙ sym (append_assoc before r (steps_in rest)))
+      (run_then m before r w v leads ∙ rounds.1.leads) rounds.2
+      (one_more before r (steps_in rest) v rounds.0 n is leads rounds.1 none) k xs chain taken in
+      omega (arith, a)
+
+  -- each activity takes as many steps in both
+  pub same_turns : (a : ℕ) → turns_of (name_in whole a) t ≡ turns_of a s
+  same_turns a =
+      let g : GoesAsWell m w s t whole z = same m args limits ok taken s t z one.legal whole in
+      sym (turns_done m t w g.last (name_in whole a) g.legal)
+      ∙ ap length (same_deeds m limits ok w z (opening_reached m args taken) s t whole one.legal a)
+      ∙ length-map (deeds m s w a) (deed_named (names_along whole.between))
+      ∙ turns_done m s w z a one.legal
+
+  -- a step of the one run is taken in the other
+  taken_there : (k : StepName) → IsTaken s k → IsTaken t (name_in whole k.0, k.1)
+  taken_there k h = subst (λ i. k.1 < i) (sym (same_turns k.0)) h
+
+  first : NoLonger [] 0
+  first k xs chain taken = absurd (omega (arith, taken))
+
+  no_longer : (rounds : List (List ℕ)) → t ≡ steps_in rounds → AreRounds m w rounds y → HasNoLonger edges s (length rounds)
+  no_longer rounds is all k xs chain here =
+      let a = all_rounds rounds [] w 0 is refl all first k xs chain (taken_there k here) in omega (arith, a)
+
+pub at_least : (m : ModuleValue) (args : List ℤ) (s : List ℕ) (z y : World) (edges : List (StepName × StepName)) (rounds : List (List ℕ))
+    → IsWithinLimits m → IsAccepted m → AreArguments m args
+    → IsWholeRun m args s z → HasNoRace m (opening m args) s → AreSound m (opening m args) s edges
+    → AreRounds m (opening m args) rounds y → IsWholeRun m args (steps_in rounds) y
+    → HasNoLonger edges s (length rounds)
+at_least m args s z y edges rounds limits ok taken one free sound all other =
+    no_longer m args limits ok taken s z y edges (steps_in rounds) one sound
+    (whole_member m args limits ok taken s (steps_in rounds) z y one free other) rounds refl all
