@@ -9,7 +9,8 @@ use Rattle.xk_types.specs.World.{World, AreArguments, opening}
 use Rattle.xk_types.specs.Schedule.{Through, run, is_enabled}
 use Rattle.xk_types.proofs.RunLemmas.{run_then}
 use Rattle.xk_law_names.proofs.NameLaw.{all_unnamed, named_unnamed}
-use Rattle.xk_law_traces.specs.Classes.{AreJoined, AreOneClass, names_along, name_in, HasNoRace}
+use Rattle.xk_law_traces.specs.Classes.{AreJoined, AreOneClass, names_along, name_in}
+use Rattle.xk_law_traces.specs.RaceFreedom.{HasNoRace}
 use Rattle.xk_law_traces.specs.Edges.{StepName, IsEdge, turns_of, IsTaken, IsLink, AreSound}
 use Rattle.xk_law_traces.specs.OneRun.{IsWholeRun}
 use Rattle.xk_law_traces.proofs.EdgeLaw.{turns_on, turns_same}

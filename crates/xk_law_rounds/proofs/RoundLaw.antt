@@ -12,7 +12,8 @@ use Rattle.xk_types.proofs.RunLemmas.{run_then}
 use Rattle.xk_law_schedules.proofs.ReachabilityLemmas.{first_step, opening_reached}
 use Rattle.xk_law_commute.proofs.ExplorationLaw.{nobody_steps}
 use Rattle.xk_law_names.specs.Names.{all_named}
-use Rattle.xk_law_traces.specs.Classes.{Turn, AreSwapped, AreJoined, AreOneClass, names_along, name_in, HasNoRace}
+use Rattle.xk_law_traces.specs.Classes.{Turn, AreSwapped, AreJoined, AreOneClass, names_along, name_in}
+use Rattle.xk_law_traces.specs.RaceFreedom.{HasNoRace}
 use Rattle.xk_law_traces.specs.Edges.{StepName, turns_of, IsTaken, IsLink, AreSound}
 use Rattle.xk_law_traces.specs.OneRun.{GoesAsWell, IsBegun, IsWholeRun}
 use Rattle.xk_law_traces.proofs.ClassLemmas.{deeds, same_deeds}

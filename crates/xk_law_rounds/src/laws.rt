@@ -1,7 +1,7 @@
 //! What is proved of runs by rounds: nothing here is computed.
 
 ghost use Rattle.std.specs.Prelude.{◌≡◌, ℕ, ℤ, List, length};
-ghost use Rattle.xk_law_traces.specs.Classes.{HasNoRace};
+ghost use Rattle.xk_law_traces.specs.RaceFreedom.{HasNoRace};
 ghost use Rattle.xk_law_traces.specs.Edges.{AreSound, StepName};
 ghost use Rattle.xk_law_traces.specs.OneRun.{IsWholeRun};
 ghost use Rattle.xk_law_rounds.specs.Rounds.{AreComplete, AreCompleteThere, AreGreedy, AreRounds, HasChain, HasNoLonger, steps_in};
