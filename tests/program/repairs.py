@@ -226,6 +226,53 @@ def whole(fault: Fault, found: re.Match[str]) -> str:
     return fault.before() + re.sub(r"\A[\w.]+", "", fault.rest())
 
 
+def parameter(fault: Fault, found: re.Match[str]) -> str:
+    """The type of a parameter stands behind its name."""
+    if fault.rest()[0] in ";),":
+        return insert(fault, re.match("(.*)", ": Long"))
+    if fault.word() == "Long":
+        return fault.before() + re.sub(r"\ALong(\s+\w+)?", lambda name: f"{name[1] or 'n'}: Long", fault.rest())
+    front = re.sub(r"(?:\w+\s+)+\Z", "", fault.before())
+    return front + re.sub(r"\A(\w+)", r"\1: Long", fault.rest())
+
+
+def without_parameters(fault: Fault, found: re.Match[str]) -> str:
+    """The method takes nothing."""
+    begin = fault.text.rindex("(", 0, fault.at)
+    return fault.text[: begin + 1] + fault.text[fault.text.index(")", begin) :]
+
+
+def brace_behind(fault: Fault, found: re.Match[str]) -> str:
+    """The `{` in the place of a type of what a method gives back."""
+    return fault.before() + re.sub(r"\A:[ \t]*\w*[ \t]*\{?", " {", fault.rest())
+
+
+def ranged(fault: Fault, found: re.Match[str]) -> str:
+    return fault.before() + re.sub(r"\Arange\s*\([^()]*\)", "0..2", fault.rest())
+
+
+def looped(fault: Fault, found: re.Match[str]) -> str:
+    """The head of a loop, up to its body."""
+    begin = [where.start() for where in re.finditer(r"\b(?:for|For|foreach|repeat|loop)\b", fault.before())][-1]
+    head = re.match(r"\w+[^({]*(?:\((?:[^()]|\([^()]*\))*\))?", fault.text[begin:])
+    rest = re.sub(r"\A[^{;]*\{", "{", fault.text[begin + head.end() :])
+    return fault.text[:begin] + f"for (i in 1..3) {rest}"
+
+
+def left_away(fault: Fault, found: re.Match[str]) -> str:
+    """Without the statement around the fault."""
+    begin, end = statement(fault)
+    return fault.text[:begin] + fault.text[end + 1 :]
+
+
+def without_zero(fault: Fault, found: re.Match[str]) -> str:
+    return fault.before() + re.sub(r"\A0+(?=[0-9])", "", fault.rest())
+
+
+def greatest(fault: Fault, found: re.Match[str]) -> str:
+    return fault.before() + re.sub(r"\A[0-9]+", "9223372036854775807", fault.rest())
+
+
 def stop_at(fault: Fault, found: re.Match[str]) -> str:
     """The comment is closed at the text's end, or its line's."""
     end = fault.text.find("\n", fault.at)
@@ -260,6 +307,14 @@ APPLIED: list[Rule] = [
     (re.compile(r"take another name"), renamed),
     (re.compile(r"to take away, add a negative number: .*"), negative),
     (re.compile(r"a number is whole, and of digits alone: .*"), whole),
+    (re.compile(r"a parameter is `n: Long`, and one that takes a clock is `c: Clock`"), parameter),
+    (re.compile(r"write `def main\(\) \{`, or for an `--arg` .*"), without_parameters),
+    (re.compile(r"a method gives nothing back: its `\{` stands right behind the `\)`"), brace_behind),
+    (re.compile(r"write `for \(i in 0\.\.2\)` for 0, 1 and 2"), ranged),
+    (re.compile(r"write `for \(i in 1\.\.3\)` for 1, 2 and 3(?:, or .*)?"), looped),
+    (re.compile(r"an activity is on a clock from its start, .*: leave `register` away"), left_away),
+    (re.compile(r"write it without the 0, .*"), without_zero),
+    (re.compile(r"a number is from -9223372036854775808 to 9223372036854775807"), greatest),
 ]
 
 

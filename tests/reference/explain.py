@@ -241,6 +241,12 @@ def between(what: str, kept: bytes, rest: bytes, blanked: bytes) -> bool | None:
         "a type or its like, in a `shared`": last in TYPES and head(blanked) == b"shared",
         "a type or its like, in a `def`": last in TYPES and head(blanked) == b"def",
         "`Long`, in a `def`": word == b"Long" and head(blanked) == b"def",
+        "`Rail`, `String`, `Array`, in a `def`": word in (b"Rail", b"String", b"Array") and head(blanked) == b"def",
+        "`range`, behind an `in`": word == b"range" and last == b"in",
+        "`:`, behind a `)`, in a `def`": rest.startswith(b":") and kept.endswith(b")") and head(blanked) == b"def",
+        "a listed word, in a `def`": last != b""
+        and before_word(kept).endswith((b"(", b","))
+        and head(blanked) == b"def",
         "`return`, at a `;`": last == b"return" and rest.startswith(b";"),
         "`def`, `val`, `var`, at a word of the language": last in (b"def", b"val", b"var") and word in RESERVED,
         "a `-`, in an `atomic`": rest.startswith(b"-")
@@ -293,6 +299,7 @@ def stands_by_name(what: str, text: bytes, at: int) -> bool | None:
         "a line's end": b"\n" in before[len(kept) :] and (last != b"" or kept.endswith(b")")),
         "a number": LAST_WORD.search(before)[0][:1].isdigit() and (WORD.match(rest)[0] != b"" or rest.startswith(b".")),
         "nothing": kept == b"",
+        "a 0": rest.startswith(b"0"),
     }
     if near := re.fullmatch(r"a name near `(\w+)`", what):
         return last != b"" and last not in RESERVED and declarations.is_near(last.decode(), near[1])

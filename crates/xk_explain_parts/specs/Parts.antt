@@ -96,6 +96,11 @@ is_comparison rest =
 abbrev pub is_typed : List ℕ → Bool
 is_typed before = ends_with nat_eq (before_word before) (codes ":")
 
+-- a name stands at the end, as a parameter's without a type
+abbrev pub is_listed : List ℕ → Bool
+is_listed before =
+    is_word (last_word before) && (ends_with nat_eq (before_word before) (codes "(") || ends_with nat_eq (before_word before) (codes ","))
+
 -- `Clock`, or what is written for it
 abbrev pub is_clock_word : List ℕ → Bool
 is_clock_word word = bytes_eq word (codes "Clock") || bytes_eq word (codes "clock")

@@ -6,7 +6,7 @@ ghost use Rattle.xk_explain_parts.specs.Parts.{before_word, behind_first, behind
 ghost use Rattle.xk_explain_parts.specs.Parts.{has_line_feed, has_paren, head_text, is_alone, is_barrier, is_before_def, is_begun};
 ghost use Rattle.xk_explain_parts.specs.Parts.{is_binder, is_binding, is_clock_word, is_comparison, is_declared, is_equality, is_foreign};
 ghost use Rattle.xk_explain_parts.specs.Parts.{is_method_head, is_number, is_number_head, is_number_type, is_outside, is_pair, is_reserved};
-ghost use Rattle.xk_explain_parts.specs.Parts.{is_second, is_statement, is_type, is_typed, is_word, wants_name, wants_value};
+ghost use Rattle.xk_explain_parts.specs.Parts.{is_listed, is_second, is_statement, is_type, is_typed, is_word, wants_name, wants_value};
 
 use xk_explain_words::{
     begins, ends, first_word, from_sign, is_digit, is_spelled, is_word_byte, last_word, to_sign,
@@ -208,6 +208,14 @@ pub fn is_typed(before: &[u8]) -> bool
     ensures { result ≡ is_typed before.now }
 {
     ends(before_word(before), b":")
+}
+
+/// Whether a name stands at the end, as a parameter's without a type.
+pub fn is_listed(before: &[u8]) -> bool
+    ensures { result ≡ is_listed before.now }
+{
+    let kept = before_word(before);
+    is_word(last_word(before)) && (ends(kept, b"(") || ends(kept, b","))
 }
 
 /// Whether a statement, or a part of one, may end so.

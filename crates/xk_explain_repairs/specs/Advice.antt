@@ -16,7 +16,7 @@ is_usual _ = false
 abbrev pub sign_text : Advice → List ℕ → List ℕ
 sign_text advice.CloseComment other = codes "close the comment by `*/`"
 sign_text advice.NoRemainder other = codes "there is no remainder: go through the halves by a loop, with `val even = 2 * half;`"
-sign_text advice.NoDivision other = codes "there is no division: compare products, or look for the quotient by a loop"
+sign_text advice.NoDivision other = codes "there is no division: count up, as `var q = 0; for (k in 1..100) if (k * b <= a) q = k;`"
 sign_text advice.NoPower other = codes "there is no power: multiply, as `n * n`"
 sign_text advice.NoArrays other = codes "there are no arrays: write a shared number for each cell, as `a0`, `a1`"
 sign_text advice.NoTexts other = codes "there are no texts: print a number that tells who and when, as `10 * phase + who`"
@@ -41,7 +41,7 @@ foreign_text advice.NothingBack other = codes "a method gives nothing back: writ
 foreign_text advice.LoopGoesOn other = codes "a loop goes on to its end: put an `if` around the rest of a turn"
 foreign_text advice.Declaration other = codes "write `val n = 5;`, or `var` where it changes; a parameter is `n: Long`"
 foreign_text advice.NoObjects other = codes "there are no objects: a clock is `val c = Clock.make();`, an activity `async work();`, and an array a shared number for each cell"
-foreign_text advice.Loop other = codes "write a `for`: how often something is done, at most, has to be known beforehand"
+foreign_text advice.Loop other = codes "write `for (i in 1..9)` for 1 to 9: how often, at most, has to be known beforehand"
 foreign_text _ other = other
 
 -- of what stands before a token
@@ -52,6 +52,7 @@ behind_text advice.OneAddition other = codes "write `atomic s = s + 1;`: one add
 behind_text advice.NegativeAddend other = codes "to take away, add a negative number: `atomic s = s + -1;`"
 behind_text advice.MethodWord other = codes "a method begins with `def`: write `def main() {`"
 behind_text advice.ReservedWord other = codes "this is a word of the language: take another name"
+behind_text advice.FromStart other = codes "an activity is on a clock from its start, by `async clocked (c)`: leave `register` away"
 behind_text advice.LowerBound other = codes "a loop begins with a number: write `for (i in 1..9)`, and in it `if (i >= n)`"
 behind_text advice.LeastAlone other = codes "`Math.min(n, 100)` is the upper bound of a loop alone: take a `var` and an `if`"
 behind_text advice.EndPart other = codes "end what stands before it: a `;` is missing there, or a `)`, or a `{`"
@@ -76,20 +77,25 @@ there_text _ other = other
 
 -- of statements
 abbrev pub statement_text : Advice → List ℕ → List ℕ
-statement_text advice.Waiting other = codes "there is no waiting for a number: advance a clock behind what writes it"
-statement_text advice.NoTime other = codes "there is no waiting for a time: wait for others by `Clock.advanceAll();`"
-statement_text advice.Bounds other = codes "write `for (i in 1..3)`, or up to what isn't known beforehand `for (i in 1..Math.min(n, 100))`"
+statement_text advice.Waiting other =
+    codes "wait for a phase: `clocked finish { clocked async { s = 1; Clock.advanceAll(); } Clock.advanceAll(); val t = s; }`"
+statement_text advice.NoTime other = codes "there is no waiting for a time: put a `finish { .. }` around what comes first"
+statement_text advice.Bounds other = codes "write `for (i in 1..3)` for 1, 2 and 3, or up to a name, as in `for (i in 1..Math.min(n, 100))`"
 statement_text advice.Comparison other = codes "write `if (a == 1)`: two expressions, and one comparison between them"
 statement_text advice.ElseIf other = codes "write `else if (a == 2)`"
 statement_text advice.Cases other = codes "write an `if` for each case: `if (a == 1) { .. } else if (a == 2) { .. }`"
-statement_text advice.Times other = codes "write `for (i in 1..3)`: a loop says how often"
+statement_text advice.Times other = codes "write `for (i in 1..3)` for 1, 2 and 3"
+statement_text advice.Range other = codes "write `for (i in 0..2)` for 0, 1 and 2"
 statement_text advice.Locked other = codes "write `atomic n = n + 1;`: it adds to a shared number in one step"
 statement_text advice.OneName other = codes "write `val n = 2 * m;`: one name, and an expression of `+`, `-` and `*`"
 statement_text advice.MethodHead other = codes "write `def f(n: Long, c: Clock) {`: a method gives nothing back"
+statement_text advice.MethodBrace other = codes "a method gives nothing back: its `{` stands right behind the `)`"
 statement_text _ other = other
 
 -- of names and kinds
 abbrev pub name_text : Advice → List ℕ → List ℕ
+name_text advice.Taken other =
+    codes "write `def main() {`, or for an `--arg` `def main(n: Long) {`"
 name_text advice.MainNumbers other = codes "write `def main(n: Long)`, with a number for each `--arg`"
 name_text advice.Print other = codes "write `Console.OUT.println(1);`, with one number"
 name_text advice.ClockCalls other = codes "write `Clock.advanceAll();`, or `val c = Clock.make();`"
@@ -106,7 +112,7 @@ name_text _ other = other
 -- of what other languages have
 abbrev pub habit_text : Advice → List ℕ → List ℕ
 habit_text advice.Parallel other =
-    codes "there are no pragmas: start activities by `finish for (i in 1..4) async { .. }`, and write a barrier as `Clock.advanceAll();`"
+    codes "write `clocked finish for (i in 1..4) clocked async { .. }`; barriers are `Clock.advanceAll();`"
 habit_text advice.NoAnnotations other = codes "there are no annotations: take it away"
 habit_text advice.Returns other = codes "a method ends at its `}`: take the `return` away, or put an `if` around the rest"
 habit_text advice.EndFirst other = codes "to wait until activities have ended, put a `finish { .. }` around them"
@@ -133,6 +139,7 @@ part_text advice.NoComparison other = codes "a comparison stands in an `if` alon
 part_text advice.FirstValue other = codes "a `val` and a `var` begin with a value: write `var n = 0;`"
 part_text advice.MissingValue other = codes "a number or a name is missing before it"
 part_text advice.PlainWrite other = codes "an `atomic` adds, as `atomic n = n + 5;`; to write a number is one step without it, `n = 5;`"
+part_text advice.NeedlessZero other = codes "write it without the 0, from -9223372036854775808 to 9223372036854775807"
 part_text advice.ClosesNothing other = codes "take this `}` away: no `{` is open"
 part_text _ other = other
 

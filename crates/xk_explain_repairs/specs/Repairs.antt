@@ -13,7 +13,7 @@ use Rattle.xk_explain_words.specs.declared.heads.Head.TheVariants as head
 use Rattle.xk_explain_parts.specs.Parts.{behind_first, ends_part, ends_value, goes_on, has_line_feed, is_alone, is_barrier, is_before_def}
 use Rattle.xk_explain_parts.specs.Parts.{is_binding, is_clock_word, is_comparison, is_declared, is_equality, is_foreign, is_method_head}
 use Rattle.xk_explain_parts.specs.Parts.{is_number, is_number_head, is_outside, is_pair, is_reserved, is_second, is_type, is_typed, is_word}
-use Rattle.xk_explain_parts.specs.Parts.{wants_name, wants_value}
+use Rattle.xk_explain_parts.specs.Parts.{is_listed, wants_name, wants_value}
 use Rattle.xk_explain_words.specs.Words.{begins, first_word, is_digit, is_word_byte, last_word}
 use Rattle.xk_explain_words.specs.Comments.{from_sign, to_sign}
 use Rattle.xk_explain_words.specs.Heads.{head_at, depth_at}
@@ -84,6 +84,11 @@ advice_of_type h word other = if is_type word then advice_of_part h (advice.Decl
 -- a `return` without a value
 abbrev pub advice_of_return : List ℕ → List ℕ → Advice → Advice
 advice_of_return word rest other = if bytes_eq word (codes "return") && begins rest (codes ";") then advice.Returns else other
+
+-- a range of another language stands there, in a `for`
+abbrev pub advice_at_range : List ℕ → List ℕ → Advice → Advice
+advice_at_range before there other =
+    if bytes_eq before (codes "in") && bytes_eq there (codes "range") then advice.Range else other
 
 -- by the word that stands before the fault
 unfoldable pub advice_behind : List ℕ → Advice → Advice
@@ -234,9 +239,10 @@ advice_there h before rest =
 abbrev pub syntax_advice : Head → List ℕ → List ℕ → Advice
 syntax_advice h before rest =
     advice_at_end rest (advice_of_type h (last_word (to_sign before)) (advice_of_return (last_word (to_sign before)) rest
+    (advice_at_range (last_word (to_sign before)) (first_word rest)
     (advice_behind (last_word (to_sign before)) (advice_behind_habit (last_word (to_sign before))
     (advice_of_reserved (last_word (to_sign before)) (first_word rest) (advice_of_near (last_word (to_sign before))
-    (advice_behind_number before rest (advice_there h (to_sign before) rest))))))))
+    (advice_behind_number before rest (advice_there h (to_sign before) rest)))))))))
 
 -- ---- the same where nothing else calls for a repair
 
@@ -263,7 +269,6 @@ advice_at_word word other =
     else if bytes_eq word (codes "advance") || bytes_eq word (codes "advanceAll") then advice.AdvanceAll
     else if bytes_eq word (codes "drop") then advice.DropByName
     else if bytes_eq word (codes "sleep") then advice.NoTime
-    else if bytes_eq word (codes "Rail") || (bytes_eq word (codes "String") || bytes_eq word (codes "Array")) then advice.MainNumbers
     else if bytes_eq word (codes "Clock") then advice.MadeOrTaken
     else other
 
@@ -274,6 +279,17 @@ advice_of_long _ = advice.Declaration
 
 abbrev pub advice_at_long : Head → List ℕ → Advice → Advice
 advice_at_long h word other = if bytes_eq word (codes "Long") then advice_of_long h else other
+
+-- an array or a text stands there: among parameters, or elsewhere
+abbrev pub advice_of_array : Head → Advice → Advice
+advice_of_array head.Def elsewhere = advice.Taken
+advice_of_array _ elsewhere = elsewhere
+
+unfoldable pub advice_at_array : Head → List ℕ → Advice → Advice
+advice_at_array h word other =
+    if bytes_eq word (codes "Rail") || bytes_eq word (codes "Array") then advice_of_array h (advice.NoArrays)
+    else if bytes_eq word (codes "String") then advice_of_array h (advice.NoTexts)
+    else other
 
 -- by the word of other languages that stands there
 unfoldable pub advice_at_call : List ℕ → Advice → Advice
@@ -291,7 +307,7 @@ advice_at_call word other =
 -- by the name of a method of other languages
 unfoldable pub advice_at_method : List ℕ → Advice → Advice
 advice_at_method word other =
-    if bytes_eq word (codes "register") then advice.Clocked
+    if bytes_eq word (codes "register") then advice.FromStart
     else if bytes_eq word (codes "resume") then advice.NamedClock
     else if bytes_eq word (codes "wait") || (bytes_eq word (codes "await") || (bytes_eq word (codes "next") || (bytes_eq word (codes "sync") || bytes_eq word (codes "arriveAndAwaitAdvance")))) then advice.AdvanceAll
     else if bytes_eq word (codes "incrementAndGet") || (bytes_eq word (codes "getAndIncrement") || (bytes_eq word (codes "addAndGet") || bytes_eq word (codes "getAndAdd"))) then advice.Locked
@@ -326,6 +342,17 @@ advice_behind_sign depth (b ∷ bs) rest other =
     else if ends_with nat_eq (b ∷ bs) (codes ":") then advice.Types
     else other
 
+-- among parameters, or behind them
+abbrev pub is_def : Head → Bool
+is_def head.Def = true
+is_def _ = false
+
+unfoldable pub advice_in_def : Head → List ℕ → List ℕ → Advice → Advice
+advice_in_def h before rest other =
+    if is_def h && is_pair before rest (codes ")") (codes ":") then advice.MethodBrace
+    else if is_def h && is_listed before then advice.Parameter
+    else other
+
 -- by the statement
 abbrev pub advice_of_head : Head → Advice → Advice
 advice_of_head head.For other = advice.Bounds
@@ -355,9 +382,10 @@ advice_of_lone before rest other =
 -- by what stands there, with so many `{` open
 abbrev pub further_there : Head → ℕ → List ℕ → List ℕ → Advice
 further_there h depth before rest =
-    advice_of_outside depth rest (advice_at_word (first_word rest) (advice_at_long h (first_word rest) (advice_at_call (first_word rest) (advice_at_method (first_word rest) (advice_of_two before rest
-    (advice_at_colon before rest (advice_of_global before (first_word rest) (advice_behind_sign depth before rest (advice_of_head h
-    (advice_behind_point before rest (advice_of_lone before rest advice.Usual)))))))))))
+    advice_of_outside depth rest (advice_at_word (first_word rest) (advice_at_array h (first_word rest)
+    (advice_at_long h (first_word rest) (advice_at_call (first_word rest) (advice_at_method (first_word rest) (advice_of_two before rest
+    (advice_at_colon before rest (advice_of_global before (first_word rest) (advice_behind_sign depth before rest
+    (advice_in_def h before rest (advice_of_head h (advice_behind_point before rest (advice_of_lone before rest advice.Usual)))))))))))))
 
 abbrev pub further_syntax_advice : Head → ℕ → List ℕ → List ℕ → Advice
 further_syntax_advice h depth before rest = advice_behind_line before (further_there h depth (to_sign before) rest)
@@ -403,6 +431,11 @@ abbrev pub kind_advice : List ℕ → List ℕ → Advice
 kind_advice before rest =
     advice_at_type (first_word rest) (advice_behind_atomic (last_word (to_sign before)) (advice_of_second (to_sign before) advice.Usual))
 
+-- ---- a number is too long, or begins with a 0, F13
+
+abbrev pub number_advice : List ℕ → Advice
+number_advice rest = if begins rest (codes "0") then advice.NeedlessZero else advice.Usual
+
 -- What is advised first on a fault of this rule at an offset.
 abbrev pub advice_at : List ℕ → FrontRule → ℕ → Advice
 advice_at text front.Token at = token_advice at (drop at text)
@@ -410,6 +443,7 @@ advice_at text front.Syntax at = syntax_advice (head_at text at) (take at text) 
 advice_at text front.UnknownName at =
     name_advice (first_word (drop at text)) (name_advice_of_activities (first_word (drop at text)) advice.Usual)
 advice_at text front.WrongKind at = kind_advice (take at text) (drop at text)
+advice_at text front.Literal at = number_advice (drop at text)
 advice_at text r at = advice.Usual
 
 -- What is advised where nothing else calls for a repair.

@@ -18,7 +18,7 @@ front_repair front.NoMain = codes "write `def main() { .. }`: it takes numbers a
 front_repair front.Recursive = codes "say by a `for` how often something is done, or write a method for each level"
 front_repair front.Arity = codes "give one argument for each parameter, in their order"
 front_repair front.SameClockTwice = codes "name each clock once"
-front_repair front.Literal = codes "write it without the 0, from -9223372036854775808 to 9223372036854775807"
+front_repair front.Literal = codes "a number is from -9223372036854775808 to 9223372036854775807"
 front_repair front.Table = codes "move a part into a method of its own"
 front_repair front.NoHiddenClock =
     codes "put a `clocked finish` around it, with no `finish` or `async` without a clock between them; or name a clock: `async clocked (c)`"

@@ -75,6 +75,8 @@ pub enum Advice {
     AsciiNames,
     /// The text's end.
     TextEnds,
+    /// The `{` of a method.
+    MethodBrace,
     /// A method that gives something back.
     NothingBack,
     /// A loop that is left.
@@ -103,6 +105,8 @@ pub enum Advice {
     LeastAlone,
     /// What ends on a line before.
     EndPart,
+    /// A number that begins with a 0.
+    NeedlessZero,
     /// A number that isn't whole.
     WholeNumber,
     /// A short assignment.
@@ -123,6 +127,8 @@ pub enum Advice {
     AdvanceAll,
     /// A clock that is made or taken.
     MadeOrTaken,
+    /// A clock that an activity is on.
+    FromStart,
     /// A clock that is dropped.
     DropByName,
     /// What stands outside of methods.
@@ -139,6 +145,8 @@ pub enum Advice {
     ElseIf,
     /// Cases.
     Cases,
+    /// A range of another language.
+    Range,
     /// How often something is done.
     Times,
     /// A lock.
@@ -147,6 +155,8 @@ pub enum Advice {
     OneName,
     /// The head of a method.
     MethodHead,
+    /// What a method takes.
+    Taken,
     /// What `main` takes.
     MainNumbers,
     /// Printing.
@@ -238,7 +248,7 @@ fn sign_text(advice: Advice, other: &'static str) -> &'static str
         Advice::NoRemainder =>
             "there is no remainder: go through the halves by a loop, with `val even = 2 * half;`",
         Advice::NoDivision =>
-            "there is no division: compare products, or look for the quotient by a loop",
+            "there is no division: count up, as `var q = 0; for (k in 1..100) if (k * b <= a) q = k;`",
         Advice::NoPower => "there is no power: multiply, as `n * n`",
         Advice::NoArrays =>
             "there are no arrays: write a shared number for each cell, as `a0`, `a1`",
@@ -275,7 +285,7 @@ fn foreign_text(advice: Advice, other: &'static str) -> &'static str
         Advice::NoObjects =>
             "there are no objects: a clock is `val c = Clock.make();`, an activity `async work();`, and an array a shared number for each cell",
         Advice::Loop =>
-            "write a `for`: how often something is done, at most, has to be known beforehand",
+            "write `for (i in 1..9)` for 1 to 9: how often, at most, has to be known beforehand",
         _ => other,
     }
 }
@@ -292,6 +302,8 @@ fn behind_text(advice: Advice, other: &'static str) -> &'static str
         Advice::NegativeAddend => "to take away, add a negative number: `atomic s = s + -1;`",
         Advice::MethodWord => "a method begins with `def`: write `def main() {`",
         Advice::ReservedWord => "this is a word of the language: take another name",
+        Advice::FromStart =>
+            "an activity is on a clock from its start, by `async clocked (c)`: leave `register` away",
         Advice::LowerBound =>
             "a loop begins with a number: write `for (i in 1..9)`, and in it `if (i >= n)`",
         Advice::LeastAlone =>
@@ -335,21 +347,23 @@ fn statement_text(advice: Advice, other: &'static str) -> &'static str
 {
     match advice {
         Advice::Waiting =>
-            "there is no waiting for a number: advance a clock behind what writes it",
+            "wait for a phase: `clocked finish { clocked async { s = 1; Clock.advanceAll(); } Clock.advanceAll(); val t = s; }`",
         Advice::NoTime =>
-            "there is no waiting for a time: wait for others by `Clock.advanceAll();`",
+            "there is no waiting for a time: put a `finish { .. }` around what comes first",
         Advice::Bounds =>
-            "write `for (i in 1..3)`, or up to what isn't known beforehand `for (i in 1..Math.min(n, 100))`",
+            "write `for (i in 1..3)` for 1, 2 and 3, or up to a name, as in `for (i in 1..Math.min(n, 100))`",
         Advice::Comparison =>
             "write `if (a == 1)`: two expressions, and one comparison between them",
         Advice::ElseIf => "write `else if (a == 2)`",
         Advice::Cases =>
             "write an `if` for each case: `if (a == 1) { .. } else if (a == 2) { .. }`",
-        Advice::Times => "write `for (i in 1..3)`: a loop says how often",
+        Advice::Times => "write `for (i in 1..3)` for 1, 2 and 3",
+        Advice::Range => "write `for (i in 0..2)` for 0, 1 and 2",
         Advice::Locked => "write `atomic n = n + 1;`: it adds to a shared number in one step",
         Advice::OneName =>
             "write `val n = 2 * m;`: one name, and an expression of `+`, `-` and `*`",
         Advice::MethodHead => "write `def f(n: Long, c: Clock) {`: a method gives nothing back",
+        Advice::MethodBrace => "a method gives nothing back: its `{` stands right behind the `)`",
         _ => other,
     }
 }
@@ -359,6 +373,7 @@ fn name_text(advice: Advice, other: &'static str) -> &'static str
     ensures { result.now ≡ name_text advice other.now }
 {
     match advice {
+        Advice::Taken => "write `def main() {`, or for an `--arg` `def main(n: Long) {`",
         Advice::MainNumbers => "write `def main(n: Long)`, with a number for each `--arg`",
         Advice::Print => "write `Console.OUT.println(1);`, with one number",
         Advice::ClockCalls => "write `Clock.advanceAll();`, or `val c = Clock.make();`",
@@ -383,7 +398,7 @@ fn habit_text(advice: Advice, other: &'static str) -> &'static str
 {
     match advice {
         Advice::Parallel =>
-            "there are no pragmas: start activities by `finish for (i in 1..4) async { .. }`, and write a barrier as `Clock.advanceAll();`",
+            "write `clocked finish for (i in 1..4) clocked async { .. }`; barriers are `Clock.advanceAll();`",
         Advice::NoAnnotations => "there are no annotations: take it away",
         Advice::Returns =>
             "a method ends at its `}`: take the `return` away, or put an `if` around the rest",
@@ -421,6 +436,8 @@ fn part_text(advice: Advice, other: &'static str) -> &'static str
         Advice::MissingValue => "a number or a name is missing before it",
         Advice::PlainWrite =>
             "an `atomic` adds, as `atomic n = n + 5;`; to write a number is one step without it, `n = 5;`",
+        Advice::NeedlessZero =>
+            "write it without the 0, from -9223372036854775808 to 9223372036854775807",
         Advice::ClosesNothing => "take this `}` away: no `{` is open",
         _ => other,
     }

@@ -5,12 +5,12 @@ ghost use Rattle.xk_explain_repairs.specs.Repairs.{advice_at_call, advice_at_col
 ghost use Rattle.xk_explain_repairs.specs.Repairs.{advice_behind_brace, advice_behind_line, advice_behind_point, advice_behind_sign};
 ghost use Rattle.xk_explain_repairs.specs.Repairs.{advice_of_global, advice_of_head, advice_of_lone, advice_of_long, advice_of_member};
 ghost use Rattle.xk_explain_repairs.specs.Repairs.{advice_of_outside, advice_of_pair, advice_of_two, advice_outside, further_syntax_advice};
-ghost use Rattle.xk_explain_repairs.specs.Repairs.{further_there};
+ghost use Rattle.xk_explain_repairs.specs.Repairs.{advice_at_array, advice_in_def, advice_of_array, further_there, is_def};
 
 use crate::advice::Advice;
 use xk_explain_parts::{
     behind_first, ends_part, has_line_feed, is_alone, is_barrier, is_before_def, is_binding,
-    is_method_head, is_number_head, is_outside, is_word,
+    is_listed, is_method_head, is_number_head, is_outside, is_pair, is_word,
 };
 use xk_explain_words::{Head, begins, ends, first_word, is_spelled, last_word, to_sign};
 
@@ -77,11 +77,6 @@ fn advice_at_word(word: &[u8], other: Advice) -> Advice
         Advice::DropByName
     } else if is_spelled(word, b"sleep") {
         Advice::NoTime
-    } else if is_spelled(word, b"Rail")
-        || is_spelled(word, b"String")
-        || is_spelled(word, b"Array")
-    {
-        Advice::MainNumbers
     } else if is_spelled(word, b"Clock") {
         Advice::MadeOrTaken
     } else {
@@ -107,6 +102,30 @@ fn advice_at_long(head: Head, word: &[u8], other: Advice) -> Advice
         return advice_of_long(head);
     }
     other
+}
+
+/// By an array or a text, among parameters or elsewhere.
+fn advice_of_array(head: Head, elsewhere: Advice) -> Advice
+    ensures { result ≡ advice_of_array head elsewhere }
+{
+    match head {
+        Head::Def => Advice::Taken,
+        _ => elsewhere,
+    }
+}
+
+/// The same, if one stands there.
+#[tactic(auto, unfolding(crate::specs::Repairs::advice_at_array))]
+fn advice_at_array(head: Head, word: &[u8], other: Advice) -> Advice
+    ensures { result ≡ advice_at_array head word.now other }
+{
+    if is_spelled(word, b"Rail") || is_spelled(word, b"Array") {
+        advice_of_array(head, Advice::NoArrays)
+    } else if is_spelled(word, b"String") {
+        advice_of_array(head, Advice::NoTexts)
+    } else {
+        other
+    }
 }
 
 /// By the word of other languages that stands there.
@@ -148,7 +167,7 @@ fn advice_at_method(word: &[u8], other: Advice) -> Advice
     ensures { result ≡ advice_at_method word.now other }
 {
     if is_spelled(word, b"register") {
-        Advice::Clocked
+        Advice::FromStart
     } else if is_spelled(word, b"resume") {
         Advice::NamedClock
     } else if is_spelled(word, b"wait")
@@ -247,6 +266,30 @@ fn advice_behind_sign(depth: usize, before: &[u8], rest: &[u8], other: Advice) -
     }
 }
 
+/// Whether the head of a method stands there.
+fn is_def(head: Head) -> bool
+    ensures { result ≡ is_def head }
+{
+    match head {
+        Head::Def => true,
+        _ => false,
+    }
+}
+
+/// By what stands among parameters, or behind them.
+#[tactic(auto, unfolding(crate::specs::Repairs::advice_in_def))]
+fn advice_in_def(head: Head, before: &[u8], rest: &[u8], other: Advice) -> Advice
+    ensures { result ≡ advice_in_def head before.now rest.now other }
+{
+    if is_def(head) && is_pair(before, rest, b")", b":") {
+        Advice::MethodBrace
+    } else if is_def(head) && is_listed(before) {
+        Advice::Parameter
+    } else {
+        other
+    }
+}
+
 /// By the statement.
 fn advice_of_head(head: Head, other: Advice) -> Advice
     ensures { result ≡ advice_of_head head other }
@@ -308,10 +351,12 @@ fn further_there(head: Head, depth: usize, before: &[u8], rest: &[u8]) -> Advice
 {
     let word = first_word(rest);
     let other = advice_behind_point(before, rest, advice_of_lone(before, rest, Advice::Usual));
-    let other = advice_behind_sign(depth, before, rest, advice_of_head(head, other));
+    let other = advice_in_def(head, before, rest, advice_of_head(head, other));
+    let other = advice_behind_sign(depth, before, rest, other);
     let other = advice_at_colon(before, rest, advice_of_global(before, word, other));
     let other = advice_at_method(word, advice_of_two(before, rest, other));
     let other = advice_at_long(head, word, advice_at_call(word, other));
+    let other = advice_at_array(head, word, other);
     advice_of_outside(depth, rest, advice_at_word(word, other))
 }
 

@@ -2,7 +2,7 @@
 
 ghost use Rattle.std.specs.Prelude.{◌≡◌, ◌≤◌, length, IfOk};
 ghost use Rattle.xk_explain_repairs.specs.Repairs.{advice_at, advice_at_type, advice_behind_atomic, advice_of_second, further_advice_at};
-ghost use Rattle.xk_explain_repairs.specs.Repairs.{kind_advice, name_advice, name_advice_of_activities};
+ghost use Rattle.xk_explain_repairs.specs.Repairs.{kind_advice, name_advice, name_advice_of_activities, number_advice};
 
 use crate::advice::Advice;
 use crate::further::further_syntax_advice;
@@ -10,7 +10,7 @@ use crate::syntax::syntax_advice;
 use crate::tokens::token_advice;
 use std::alloc::{AllocError, Global};
 use xk_explain_parts::is_second;
-use xk_explain_words::{depth_at, first_word, head_at, is_spelled, last_word, to_sign};
+use xk_explain_words::{begins, depth_at, first_word, head_at, is_spelled, last_word, to_sign};
 use xk_tree::FrontRule;
 
 /// By a name that isn't visible.
@@ -125,6 +125,16 @@ fn kind_advice(before: &[u8], rest: &[u8]) -> Advice
     advice_at_type(first_word(rest), other)
 }
 
+/// By how a number begins that is none.
+fn number_advice(rest: &[u8]) -> Advice
+    ensures { result ≡ number_advice rest.now }
+{
+    if begins(rest, b"0") {
+        return Advice::NeedlessZero;
+    }
+    Advice::Usual
+}
+
 /// What is advised first on a fault of this rule at an offset of the text, by what stands there. Err where memory was refused.
 pub fn advice_at(
     alloc: Global,
@@ -148,6 +158,7 @@ pub fn advice_at(
             Ok(name_advice(word, name_advice_of_activities(word, Advice::Usual)))
         }
         FrontRule::WrongKind => Ok(kind_advice(before, rest)),
+        FrontRule::Literal => Ok(number_advice(rest)),
         FrontRule::TooDeep
         | FrontRule::TooLong
         | FrontRule::DuplicateName
@@ -156,7 +167,6 @@ pub fn advice_at(
         | FrontRule::Recursive
         | FrontRule::Arity
         | FrontRule::SameClockTwice
-        | FrontRule::Literal
         | FrontRule::Table
         | FrontRule::NoHiddenClock => Ok(Advice::Usual),
     }

@@ -30,8 +30,7 @@ pub fn front_repair(rule: FrontRule) -> &'static str
             "say by a `for` how often something is done, or write a method for each level",
         FrontRule::Arity => "give one argument for each parameter, in their order",
         FrontRule::SameClockTwice => "name each clock once",
-        FrontRule::Literal =>
-            "write it without the 0, from -9223372036854775808 to 9223372036854775807",
+        FrontRule::Literal => "a number is from -9223372036854775808 to 9223372036854775807",
         FrontRule::Table => "move a part into a method of its own",
         FrontRule::NoHiddenClock =>
             "put a `clocked finish` around it, with no `finish` or `async` without a clock between them; or name a clock: `async clocked (c)`",

@@ -6,7 +6,7 @@ ghost use Rattle.xk_explain_repairs.specs.Repairs.{advice_at_missing, advice_at_
 ghost use Rattle.xk_explain_repairs.specs.Repairs.{advice_behind, advice_behind_clock, advice_behind_habit, advice_behind_number};
 ghost use Rattle.xk_explain_repairs.specs.Repairs.{advice_near, advice_of_foreign, advice_of_near, advice_of_part, advice_of_reserved};
 ghost use Rattle.xk_explain_repairs.specs.Repairs.{advice_of_return, advice_of_type, advice_there, compares, is_atomic, is_bound};
-ghost use Rattle.xk_explain_repairs.specs.Repairs.{stands_alone, syntax_advice};
+ghost use Rattle.xk_explain_repairs.specs.Repairs.{advice_at_range, stands_alone, syntax_advice};
 
 use crate::advice::{Advice, Reserved};
 use xk_explain_parts::{
@@ -54,6 +54,16 @@ fn advice_of_return(word: &[u8], rest: &[u8], other: Advice) -> Advice
 {
     if is_spelled(word, b"return") && begins(rest, b";") {
         return Advice::Returns;
+    }
+    other
+}
+
+/// By a range of another language, in a `for`.
+fn advice_at_range(before: &[u8], there: &[u8], other: Advice) -> Advice
+    ensures { result ≡ advice_at_range before.now there.now other }
+{
+    if is_spelled(before, b"in") && is_spelled(there, b"range") {
+        return Advice::Range;
     }
     other
 }
@@ -404,6 +414,7 @@ pub(crate) fn syntax_advice(head: Head, before: &[u8], rest: &[u8]) -> Advice
     let other = advice_behind_number(before, rest, advice_there(head, kept, rest));
     let other = advice_of_reserved(word, first_word(rest), advice_of_near(word, other));
     let other = advice_behind(word, advice_behind_habit(word, other));
+    let other = advice_at_range(word, first_word(rest), other);
     let other = advice_of_type(head, word, advice_of_return(word, rest, other));
     advice_at_end(rest, other)
 }
