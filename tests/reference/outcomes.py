@@ -34,6 +34,10 @@ USUAL_LIMIT = 100_000
 # It keeps apart worlds that are the same here, as by what an activity held that has ended: so many times as many are
 # granted.
 SPARE = 4
+# Before any search it makes a run in each order, and by chance from these seeds: what they print is told whatever the
+# limit is.
+SEEDS = range(1, 17)
+PLAIN = [*modules.Order, *map(modules.ByChance, SEEDS)]
 WHOLE, NOT_WHOLE, REFUTED, NO_LIST = 0, 6, 7, 3
 # What is behind these bytes of a list isn't looked at.
 LONGEST_LIST = 100_000_000
@@ -162,6 +166,16 @@ class Asked(NamedTuple):
         """All that is to be told."""
         return {self.told(numbers) for numbers in walk.outcomes}
 
+    def plain(self, module: Module, arguments: Arguments) -> list[Numbers]:
+        """What is told of the runs before any search, each list once, in their order."""
+        runs = [modules.run(module, way, arguments) for way in PLAIN]
+        return [*dict.fromkeys(self.told(tuple(run.printed)) for run in runs)]
+
+    @property
+    def most(self) -> int:
+        """How many lists are told at most."""
+        return max(self.limit, len(PLAIN))
+
 
 class Answer(NamedTuple):
     """The status, standard output, and the log."""
@@ -242,13 +256,13 @@ def held_faults(walk: Walk | None, asked: Asked, told: set[bytes], given: Answer
             yield "what is told is in the list"
         if outcomes is not None and numbers not in outcomes:
             yield "no run prints what is told"
-        if not 1 <= int(line[1]) <= asked.limit:
+        if not 1 <= int(line[1]) <= asked.most:
             yield "the outcome has a number beyond the limit"
     elif outcomes is not None:
         untold = [numbers for numbers in outcomes if not is_told(told, numbers)]
         if is_whole and untold:
             yield f"not in the list: {sorted(untold)}"
-        if int(last[1]) > min(asked.limit, len(outcomes)) or is_whole and int(last[1]) != len(outcomes):
+        if int(last[1]) > min(asked.most, len(outcomes)) or is_whole and int(last[1]) != len(outcomes):
             yield f"there are {len(outcomes)} outcomes"
         if not is_whole and int(last[1]) < asked.limit and SPARE * walk.entries <= asked.limit:
             yield f"not complete, and there are {walk.entries} worlds"
@@ -283,8 +297,11 @@ def faults(walk: Walk | None, module: Module, arguments: Arguments, asked: Asked
         yield "numbers of a set don't rise"
     if given.status != status_of(asked, len(lists), is_complete):
         yield f"the status is {given.status}"
-    if len(lists) > asked.limit:
+    if len(lists) > asked.most:
         yield "more are told than the limit says"
+    lacking = set() if is_complete else {*asked.plain(module, arguments)} - {*lists}
+    if lacking:
+        yield f"a run before any search prints {sorted(lacking)}"
     if walk:
         yield from against_walk(walk, asked, set(lists), is_complete)
     elif is_complete and not lists:

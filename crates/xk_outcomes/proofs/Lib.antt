@@ -9,5 +9,6 @@ mod ExplorationLemmas
 mod RisingLemmas
 mod ListingLemmas
 mod ListedLemmas
+mod PlainRunLemmas
 mod ExpectedLemmas
 mod TextLemmas

@@ -49,24 +49,23 @@ keeps_same old new e numbers h = subst (λ (l : List Outcome). IsListed l number
 pub listed_push : (old new : List Outcome) (o : Outcome) → new ≡ old ++ o ∷ [] → IsListed new o.numbers.items
 listed_push old new o e = (length old, o, subst (λ (l : List Outcome). slice_get l (length old) ≡ Some o) (sym e) (at_end old o), refl)
 
-of_push : (order : Order) (all : List FoundValue) (j : ℕ) (x : FoundValue) (old new : List Outcome) (o : Outcome) → new ≡ old ++ o ∷ []
-    → slice_get all j ≡ Some x → IsOf order x o → AreOf order all old → AreOf order all new
-of_push order all j x old new o e there is before k p h = by (place old o k p (subst (λ (l : List Outcome). slice_get l k ≡ Some p) e h))
+of_push : (order : Order) (first : List Outcome) (all : List FoundValue) (j : ℕ) (x : FoundValue) (old new : List Outcome) (o : Outcome)
+    → new ≡ old ++ o ∷ []
+    → slice_get all j ≡ Some x → IsOf order x o → AreOf order first all old → AreOf order first all new
+of_push order first all j x old new o e there is before k p h =
+    by (place old o k p (subst (λ (l : List Outcome). slice_get l k ≡ Some p) e h))
   where
     by : (slice_get old k ≡ Some p) ⊎ ((k ≡ length old) × (o ≡ p))
-        → (i : ℕ) × (y : FoundValue) × (slice_get all i ≡ Some y) × IsOf order y p
+        → (slice_get first k ≡ Some p) ⊎ ((i : ℕ) × (y : FoundValue) × (slice_get all i ≡ Some y) × IsOf order y p)
     by (inl a) = before k p a
-    by (inr b) = (j, x, there, subst (λ (q : Outcome). IsOf order x q) b.1 is)
+    by (inr b) = inr (j, x, there, subst (λ (q : Outcome). IsOf order x q) b.1 is)
 
 -- the same where it was listed already
-pub of_either : (order : Order) (all : List FoundValue) (j : ℕ) (x : FoundValue) (old new : List Outcome) (o : Outcome)
+pub of_either : (order : Order) (first : List Outcome) (all : List FoundValue) (j : ℕ) (x : FoundValue) (old new : List Outcome) (o : Outcome)
     → (new ≡ old) ⊎ (new ≡ old ++ o ∷ [])
-    → slice_get all j ≡ Some x → IsOf order x o → AreOf order all old → AreOf order all new
-of_either order all j x old new o (inl e) there is before = subst (AreOf order all) (sym e) before
-of_either order all j x old new o (inr e) there is before = of_push order all j x old new o e there is before
-
-pub of_none : (order : Order) (all : List FoundValue) (list : List Outcome) → list ≡ [] → AreOf order all list
-of_none order all list none k o h = absurd (none-some o (subst (λ (l : List Outcome). slice_get l k ≡ Some o) none h))
+    → slice_get all j ≡ Some x → IsOf order x o → AreOf order first all old → AreOf order first all new
+of_either order first all j x old new o (inl e) there is before = subst (AreOf order first all) (sym e) before
+of_either order first all j x old new o (inr e) there is before = of_push order first all j x old new o e there is before
 
 pub noted_more : (order : Order) (all : List FoundValue) (place : ℕ) (here : FoundValue) (old new : List Outcome)
     → slice_get all place ≡ Some here → KeepsListed old new
@@ -85,22 +84,26 @@ noted_more order all place here old new there kept listed before j x less at don
 
 -- ---- from what was found to what is listed
 
-pub all_shown : (order : Order) (m : ModuleValue) (args : List ℤ) (all : List FoundValue) (list : List Outcome)
-    → AreFound (opening_core m args) all → AreOf order all list
+pub all_shown : (order : Order) (m : ModuleValue) (args : List ℤ) (old : List Outcome) (all : List FoundValue) (list : List Outcome)
+    → AreShownIn order m args old → AreFound (opening_core m args) all → AreOf order old all list
     → AreShownIn order m args list
-all_shown order m args all list found of k o there =
-    let h = of k o there in
-    let x : FoundValue = h.1 in
-    let f = found h.0 x h.2 in (
-      x.printed,
-      record {
-        last = x.core.world;
-        legal = ap (λ (l : List ℕ). run m l (opening m args)) h.3.log ∙ f.legal;
-        over = h.3.over;
-        prints = ap (λ (l : List ℕ). printed m l (opening m args)) h.3.log ∙ f.prints;
-      },
-      h.3.numbers,
-    )
+all_shown order m args old all list before found of k o there = by (of k o there)
+  where
+    by : (slice_get old k ≡ Some o) ⊎ ((j : ℕ) × (x : FoundValue) × (slice_get all j ≡ Some x) × IsOf order x o)
+        → (numbers : List ℤ) × IsOutcome m args (schedule_of o.log.items) numbers × (o.numbers.items ≡ ordered order numbers)
+    by (inl a) = before k o a
+    by (inr h) =
+        let x : FoundValue = h.1 in
+        let f = found h.0 x h.2 in (
+          x.printed,
+          record {
+            last = x.core.world;
+            legal = ap (λ (l : List ℕ). run m l (opening m args)) h.3.log ∙ f.legal;
+            over = h.3.over;
+            prints = ap (λ (l : List ℕ). printed m l (opening m args)) h.3.log ∙ f.prints;
+          },
+          h.3.numbers,
+        )
 
 pub all_listed : (order : Order) (m : ModuleValue) (args : List ℤ) (all : List FoundValue) (list : List Outcome)
     → AreAllFound (opening_core m args) all

@@ -12,6 +12,7 @@ use Rattle.xk_outcomes.specs.declared.holding.Verdict.{Verdict}
 use Rattle.xk_outcomes.specs.declared.holding.Verdict.TheVariants as verdict
 use Rattle.xk_io.specs.Row.{numbers_text}
 use Rattle.xk_types.specs.Code.{ModuleValue}
+use Rattle.xk_outcomes.specs.PlainRuns.{ArePlainListedAs}
 use Rattle.xk_outcomes.specs.Sets.{AreAllAs, AreDistinctAs, AreShownAs}
 use Rattle.xk_outcomes.specs.Text.{completeness, outcome_line}
 
@@ -143,6 +144,7 @@ pub record AreExpected (m : ModuleValue) (args : List ℤ) (sets : Bool) (limit 
   pub shown : AreShownAs sets m args list
   pub distinct : AreDistinctAs sets list
   pub all : complete ≡ true → AreAllAs sets m args list
+  pub plain : complete ≡ false → ArePlainListedAs sets m args list
   pub far : GoesFar m args sets limit list complete
   pub may_stand : stray_line bytes ≡ None
   pub held : AreHeld (told_by bytes) list complete text found

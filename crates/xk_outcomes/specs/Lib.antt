@@ -9,6 +9,7 @@ pub mod Entries
 pub mod Rising
 pub mod Listing
 pub mod Listed
+pub mod PlainRuns
 pub mod Text
 pub mod Expected
 pub mod Texts

@@ -1,9 +1,10 @@
 -- How far a search for outcomes goes. This project's own.
-use Rattle.std.specs.Prelude.{◌≡◌, ℕ, ℤ, ◌+◌, ◌/◌, ◌<◌, ◌≤◌, ◌⊎◌, min, Bool, false, List, length, Option, unwrap_or}
+use Rattle.std.specs.Prelude.{◌≡◌, ℕ, ℤ, ◌+◌, ◌/◌, ◌<◌, ◌≤◌, ◌⊎◌, min, max, Bool, false, List, length, Option, unwrap_or}
 use Rattle.xk_types.specs.Code.{ModuleValue}
 use Rattle.xk_outcomes.specs.declared.all_outcomes.Limit.{Limit}
 use Rattle.xk_outcomes.specs.declared.listing.Outcome.{Outcome}
 use Rattle.xk_outcomes.specs.Outcomes.{AreApart}
+use Rattle.xk_outcomes.specs.PlainRuns.{plain_runs}
 use Rattle.xk_outcomes.specs.Sets.{AreEndsListedAs}
 
 -- As soon as more worlds are kept, or so many outcomes listed, a search leaves off, where nothing is said of that: fewer where there may be many
@@ -24,9 +25,9 @@ pub record HasKept (m : ModuleValue) (args : List ℤ) (sets : Bool) (limit : �
   pub ends : length list < limit → AreEndsListedAs sets m args schedules list
 
 -- So many worlds were kept. If these outcomes aren't said to be all, those worlds are more than the limit says, or these outcomes are as many. These
--- outcomes are never more than it says.
+-- outcomes are never more than it says, or than there are plain runs.
 pub record GoesFar (m : ModuleValue) (args : List ℤ) (sets : Bool) (limit : Limit) (list : List Outcome) (complete : Bool) : Type 0 where
   pub entries : ℕ
   pub kept : HasKept m args sets limit.outcomes list entries
   pub met : complete ≡ false → (limit.entries < entries) ⊎ (limit.outcomes ≤ length list)
-  pub few : length list ≤ limit.outcomes
+  pub few : length list ≤ max limit.outcomes plain_runs

@@ -1,5 +1,5 @@
 -- What is listed of what was found. This project's own.
-use Rattle.std.specs.Prelude.{◌≡◌, ℕ, ℤ, ◌<◌, true, List, length, Some, slice_get}
+use Rattle.std.specs.Prelude.{◌≡◌, ℕ, ℤ, ◌<◌, ◌⊎◌, true, List, length, Some, slice_get}
 use Rattle.xk_types.specs.Code.{ModuleValue}
 use Rattle.xk_types.specs.Schedule.{all_ended}
 use Rattle.xk_types.specs.Logs.{schedule_of}
@@ -15,9 +15,10 @@ pub record IsOf (order : Order) (x : FoundValue) (o : Outcome) : Type 0 where
   pub numbers : o.numbers.items ≡ ordered order x.printed
   pub log : schedule_of o.log.items ≡ x.schedule
 
--- each that is listed is of one that was found
-abbrev pub AreOf : Order → List FoundValue → List Outcome → Type 0
-AreOf order all list = (k : ℕ) (o : Outcome) → slice_get list k ≡ Some o → (j : ℕ) × (x : FoundValue) × (slice_get all j ≡ Some x) × IsOf order x o
+-- each that is listed was before, at the same place, or is of one that was found
+abbrev pub AreOf : Order → List Outcome → List FoundValue → List Outcome → Type 0
+AreOf order old all list = (k : ℕ) (o : Outcome) → slice_get list k ≡ Some o
+    → (slice_get old k ≡ Some o) ⊎ ((j : ℕ) × (x : FoundValue) × (slice_get all j ≡ Some x) × IsOf order x o)
 
 -- of those before this place, what the ones print in which all have ended is listed
 abbrev pub AreNoted : Order → List FoundValue → ℕ → List Outcome → Type 0

@@ -1,15 +1,17 @@
 //! All that a program can print.
 
-ghost use Rattle.std.specs.Prelude.{◌≡◌, ◌<◌, ◌≤◌, ◌⊎◌, true, false, length, IfOk};
+ghost use Rattle.std.specs.Prelude.{◌≡◌, ◌<◌, ◌≤◌, ◌⊎◌, true, false, length, max, IfOk};
 ghost use Rattle.xk_types.specs.World.{AreArguments};
 ghost use Rattle.xk_outcomes.specs.Limits.{HasKept, limit_of};
 ghost use Rattle.xk_outcomes.specs.Listing.{AreAllIn, AreShownIn, HasKeptIn};
+ghost use Rattle.xk_outcomes.specs.PlainRuns.{ArePlainListedAs, ArePlainListedIn, plain_runs};
 ghost use Rattle.xk_outcomes.specs.Outcomes.{AreAll, AreDistinct, AreShown};
 ghost use Rattle.xk_outcomes.specs.Sets.{AreAllAs, AreDistinctAs, AreSetsAll, AreSetsDistinct, AreSetsShown, AreShownAs};
 
 use crate::listed::Listed;
 use crate::listing::{Outcomes, list_outcomes};
 use crate::order::Order;
+use crate::plain_runs::note_plain;
 use crate::search::explore;
 use std::alloc::{AllocError, Global};
 use xk_bounds::Verified;
@@ -21,7 +23,7 @@ pub struct Limit {
     /// As soon as more worlds are kept: so a search that comes to its end with as many is complete. All that one of them leads to in a
     /// step are kept before the next look.
     pub entries: usize,
-    /// As soon as so many lists of numbers are told: they are never more.
+    /// As soon as so many lists of numbers are told: they are never more, but what the plain runs print is told whatever the limit is.
     pub outcomes: usize,
 }
 
@@ -59,11 +61,14 @@ pub fn outcomes(
     ensures distinct { IfOk result (λ r. AreDistinct r.list.items) }
     ensures all { IfOk result (λ r.
         r.complete ≡ true → AreAll verified.now arguments.now r.list.items) }
+    // What each of the plain runs prints is told: where it is complete, by `all`.
+    ensures plain { IfOk result (λ r. r.complete ≡ false
+        → ArePlainListedAs false verified.now arguments.now r.list.items) }
     // A limit was met where it isn't complete: more are kept, or so many are listed.
     ensures limit { IfOk result (λ r. r.complete ≡ false
         → (limit.entries < r.entries) ⊎ (limit.outcomes ≤ length r.list.items)) }
-    // No more are told than the limit says.
-    ensures most { IfOk result (λ r. length r.list.items ≤ limit.outcomes) }
+    // No more are told than the limit says, or than there are plain runs.
+    ensures most { IfOk result (λ r. length r.list.items ≤ max limit.outcomes plain_runs) }
     // As many are kept, each at rest: no two of them are alike and have printed the same. What was printed by one in which all
     // have ended is listed, unless as many are as the limit says.
     ensures kept { IfOk result
@@ -86,10 +91,12 @@ pub fn outcome_sets(
     ensures distinct { IfOk result (λ r. AreSetsDistinct r.list.items) }
     ensures all { IfOk result (λ r.
         r.complete ≡ true → AreSetsAll verified.now arguments.now r.list.items) }
+    ensures plain { IfOk result (λ r. r.complete ≡ false
+        → ArePlainListedAs true verified.now arguments.now r.list.items) }
     // As for `outcomes`.
     ensures limit { IfOk result (λ r. r.complete ≡ false
         → (limit.entries < r.entries) ⊎ (limit.outcomes ≤ length r.list.items)) }
-    ensures most { IfOk result (λ r. length r.list.items ≤ limit.outcomes) }
+    ensures most { IfOk result (λ r. length r.list.items ≤ max limit.outcomes plain_runs) }
     ensures kept { IfOk result
         (λ r. HasKept verified.now arguments.now true limit.outcomes r.list.items r.entries) }
 {
@@ -111,10 +118,12 @@ pub fn outcomes_as(
     ensures distinct { IfOk result (λ r. AreDistinctAs sets r.list.items) }
     ensures all { IfOk result
         (λ r. r.complete ≡ true → AreAllAs sets verified.now arguments.now r.list.items) }
+    ensures plain { IfOk result (λ r. r.complete ≡ false
+        → ArePlainListedAs sets verified.now arguments.now r.list.items) }
     // As for `outcomes`.
     ensures limit { IfOk result (λ r. r.complete ≡ false
         → (limit.entries < r.entries) ⊎ (limit.outcomes ≤ length r.list.items)) }
-    ensures most { IfOk result (λ r. length r.list.items ≤ limit.outcomes) }
+    ensures most { IfOk result (λ r. length r.list.items ≤ max limit.outcomes plain_runs) }
     ensures kept { IfOk result
         (λ r. HasKept verified.now arguments.now sets limit.outcomes r.list.items r.entries) }
 {
@@ -138,15 +147,18 @@ fn told_in(
     ensures distinct { IfOk result (λ r. AreDistinct r.list.items) }
     ensures all { IfOk result (λ r.
         r.complete ≡ true → AreAllIn order verified.now arguments.now r.list.items) }
+    ensures plain { IfOk result (λ r. r.complete ≡ false
+        → ArePlainListedIn order verified.now arguments.now r.list.items) }
     ensures limit { IfOk result (λ r. r.complete ≡ false
         → (limit.entries < r.entries) ⊎ (limit.outcomes ≤ length r.list.items)) }
-    ensures most { IfOk result (λ r. length r.list.items ≤ limit.outcomes) }
+    ensures most { IfOk result (λ r. length r.list.items ≤ max limit.outcomes plain_runs) }
     ensures kept { IfOk result (λ r.
         HasKeptIn order verified.now arguments.now limit.outcomes r.list.items r.entries) }
 {
+    let mut listed = Listed::new(alloc);
+    note_plain(alloc, order, &mut listed, verified, arguments)?;
     let start = Core::open(alloc, verified, arguments)?;
     let explored = explore(alloc, start, limit.entries)?;
-    let mut listed = Listed::new(alloc);
     let all = list_outcomes(alloc, order, &mut listed, &explored.found, limit.outcomes)?;
     let list = listed.into_outcomes(alloc)?;
     Ok(Outcomes {

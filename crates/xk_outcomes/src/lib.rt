@@ -11,6 +11,7 @@ mod holding;
 mod listed;
 mod listing;
 mod order;
+mod plain_runs;
 mod reading;
 mod search;
 mod text;

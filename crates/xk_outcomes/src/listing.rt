@@ -1,9 +1,10 @@
 //! What was found is listed, each list of numbers once, as it is told in an order.
 
-ghost use Rattle.std.specs.Prelude.{◌≡◌, ℕ, ◌≤◌, ◌<◌, ◌+◌, ◌++◌, ◌∷◌, ◌⊎◌, [], true, false, length, slice_get, IfOk, OnOk, Some, List};
+ghost use Rattle.std.specs.Prelude.{◌≡◌, ℕ, ◌≤◌, ◌<◌, ◌+◌, ◌++◌, ◌∷◌, ◌⊎◌, [], true, false, length, max, slice_get, IfOk, OnOk, Some, List};
 ghost use Rattle.xk_types.specs.Schedule.{all_ended};
 ghost use Rattle.xk_types.specs.Logs.{schedule_of, one_step_of};
 ghost use Rattle.xk_outcomes.specs.Found.{FoundValue};
+ghost use Rattle.xk_outcomes.specs.declared.listing.Outcome.{Outcome as AnOutcome};
 ghost use Rattle.xk_outcomes.specs.Outcomes.{AreDistinct, IsListed};
 ghost use Rattle.xk_outcomes.specs.Listing.{AreNoted, AreOf, IsOf, KeepsListed};
 ghost use Rattle.xk_outcomes.specs.Rising.{ordered};
@@ -66,8 +67,9 @@ fn note(alloc: Global, order: Order, list: &mut Listed, x: &Found<'_>) -> Result
     ensures kept { KeepsListed list.old list.new }
     ensures listed { OnOk result (all_ended x.now.core.world ≡ true
         → IsListed list.new (ordered order x.now.printed)) }
-    ensures of { (all : List FoundValue) (j : ℕ) → slice_get all j ≡ Some x.now
-        → AreOf order all list.old → AreOf order all list.new }
+    ensures of { (old : List AnOutcome) (all : List FoundValue) (j : ℕ)
+        → slice_get all j ≡ Some x.now
+        → AreOf order old all list.old → AreOf order old all list.new }
     ensures one_more { length list.new ≤ length list.old + 1 }
 {
     if x.core.ended() {
@@ -90,16 +92,17 @@ fn note_at(
     ensures distinct { AreDistinct list.old → AreDistinct list.new }
     ensures noted { OnOk result (AreNoted order all.now.all number list.old
         → AreNoted order all.now.all (number + 1) list.new) }
-    ensures of { AreOf order all.now.all list.old
-        → AreOf order all.now.all list.new }
+    ensures kept { KeepsListed list.old list.new }
+    ensures of { (old : List AnOutcome) → AreOf order old all.now.all list.old
+        → AreOf order old all.now.all list.new }
     ensures one_more { length list.new ≤ length list.old + 1 }
 {
     let x = all.get(alloc, number)?;
     note(alloc, order, list, &x)
 }
 
-/// Lists what those print that were found and in which all have ended, each list of numbers once, until as many are listed as the limit
-/// says. Whether all are.
+/// Lists what those print that were found and in which all have ended, each list of numbers once, behind what is listed, until as many are
+/// as the limit says. Whether all are.
 pub fn list_outcomes(
     alloc: Global,
     order: Order,
@@ -107,13 +110,14 @@ pub fn list_outcomes(
     all: &Entries<'_>,
     limit: usize,
 ) -> Result<bool, AllocError>
-    requires { list.old ≡ [] }
-    ensures of { AreOf order all.now.all list.new }
-    ensures distinct { AreDistinct list.new }
+    ensures of { AreOf order list.old all.now.all list.new }
+    ensures kept { KeepsListed list.old list.new }
+    ensures distinct { AreDistinct list.old → AreDistinct list.new }
     ensures noted { IfOk result (λ complete. complete ≡ true
         → AreNoted order all.now.all (length all.now.all) list.new) }
     ensures limit { IfOk result (λ complete. complete ≡ false → limit ≤ length list.new) }
-    ensures most { length list.new ≤ limit }
+    // No more are added than the limit says.
+    ensures most { length list.new ≤ max limit (length list.old) }
 {
     for number in 0..all.len() {
         if list.len() >= limit {

@@ -1,4 +1,5 @@
 use Rattle.xk_outcomes.proofs.ListingLemmas.{sets_kept, sets_shown, sets_distinct, sets_all}
+use Rattle.xk_outcomes.proofs.PlainRunLemmas.{sets_plain}
 use Rattle.xk_outcomes.proofs.all_outcomes.outcome_sets.Goals as goal
 
 pub returns-clause-shown : goal.returns-clause-shown
@@ -10,6 +11,10 @@ returns-clause-distinct c =
 
 pub returns-clause-all : goal.returns-clause-all
 returns-clause-all c done = sets_all c.args.verified.now c.args.arguments.now c.in_ok-found.found.list.items (c.in_ok-found.ensures.all done)
+
+pub returns-clause-plain : goal.returns-clause-plain
+returns-clause-plain c less = sets_plain c.args.verified.now c.args.arguments.now c.in_ok-found.found.list.items
+    (c.in_ok-found.ensures.plain less)
 
 pub returns-clause-kept : goal.returns-clause-kept
 returns-clause-kept c =

@@ -1,5 +1,6 @@
-use Rattle.std.proofs.Common.{◌≡◌, true, IfOk, subst, sym}
+use Rattle.std.proofs.Common.{◌≡◌, false, true, IfOk, subst, sym}
 use Rattle.xk_outcomes.specs.Limits.{HasKept}
+use Rattle.xk_outcomes.specs.PlainRuns.{ArePlainListedAs}
 use Rattle.xk_outcomes.specs.Sets.{AreAllAs}
 use Rattle.xk_outcomes.proofs.all_outcomes.outcomes_as.Goals as goal
 
@@ -26,3 +27,15 @@ returns-clause-kept c =
     let args = c.args.arguments.now in
     let most = c.args.limit.outcomes in
     subst (λ sets. IfOk c.outcomes.result (λ r. HasKept m args sets most r.list.items r.entries)) (sym c.if-sets.false) c.outcomes.ensures.kept
+
+pub returns-then-sets-clause-plain : goal.returns-then-sets-clause-plain
+returns-then-sets-clause-plain c =
+    subst (λ sets. IfOk c.outcome_sets.result (λ r. r.complete ≡ false → ArePlainListedAs sets c.args.verified.now c.args.arguments.now
+    r.list.items))
+    (sym c.if-sets.true) c.outcome_sets.ensures.plain
+
+pub returns-clause-plain : goal.returns-clause-plain
+returns-clause-plain c =
+    subst (λ sets. IfOk c.outcomes.result (λ r. r.complete ≡ false → ArePlainListedAs sets c.args.verified.now c.args.arguments.now
+    r.list.items))
+    (sym c.if-sets.false) c.outcomes.ensures.plain

@@ -1,9 +1,13 @@
-use Rattle.std.proofs.Common.{◌∙◌, ◌<◌, ◌≤◌, List, length, inl, inr, true≢false, sym, subst}
+use Rattle.std.specs.Prelude.{max}
+use Rattle.std.proofs.Common.{◌∙◌, ◌<◌, ◌≤◌, arith, List, length, inl, inr, true≢false, sym, subst}
 use Rattle.xk_core.specs.Core.{CoreValue}
 use Rattle.xk_outcomes.specs.declared.listing.Outcome.{Outcome}
 use Rattle.xk_outcomes.specs.Listing.{AreAllIn, AreShownIn, HasKeptIn}
+use Rattle.xk_outcomes.specs.Outcomes.{AreDistinct}
+use Rattle.xk_outcomes.specs.PlainRuns.{ArePlainListedIn, plain_runs}
 use Rattle.xk_outcomes.specs.Search.{AreFound, AreAllFound}
 use Rattle.xk_outcomes.proofs.ListingLemmas.{all_shown, all_listed, all_kept}
+use Rattle.xk_outcomes.proofs.PlainRunLemmas.{more_of_none, plain_kept}
 use Rattle.xk_outcomes.proofs.all_outcomes.told_in.Goals.{then-explored, else-explored}
 use Rattle.xk_outcomes.proofs.all_outcomes.told_in.Goals as goal
 
@@ -14,7 +18,33 @@ returns-clause-shown c =
     let all = c.in_ok-explored.explored.found.all in
     let found = subst (λ (s : CoreValue). AreFound s all) c.in_ok-start.ensures c.in_ok-explored.ensures.found in
     subst (λ (list : List Outcome). AreShownIn c.args.order m args list) (sym c.in_ok-list.ensures)
-    (all_shown c.args.order m args all c.list_outcomes.new.list found c.list_outcomes.ensures.of)
+    (all_shown c.args.order m args c.note_plain.new.list all c.list_outcomes.new.list
+    (more_of_none c.args.order m args plain_runs c.new-listed.result c.note_plain.new.list c.new-listed.ensures
+    c.note_plain.ensures.more).1 found c.list_outcomes.ensures.of)
+
+pub returns-clause-distinct : goal.returns-clause-distinct
+returns-clause-distinct c =
+    subst AreDistinct (sym c.in_ok-list.ensures)
+    (c.list_outcomes.ensures.distinct
+    (more_of_none c.args.order c.args.verified.now c.args.arguments.now plain_runs c.new-listed.result c.note_plain.new.list
+    c.new-listed.ensures c.note_plain.ensures.more).0)
+
+pub returns-clause-most : goal.returns-clause-most
+returns-clause-most c =
+    let most = c.list_outcomes.ensures.most in
+    let few =
+    (more_of_none c.args.order c.args.verified.now c.args.arguments.now plain_runs c.new-listed.result c.note_plain.new.list
+    c.new-listed.ensures c.note_plain.ensures.more).2 in
+    subst (λ (list : List Outcome). length list ≤ max c.args.limit.outcomes plain_runs) (sym c.in_ok-list.ensures)
+    (omega (arith, most, few))
+
+pub returns-clause-plain : goal.returns-clause-plain
+returns-clause-plain c less =
+    let m = c.args.verified.now in
+    let args = c.args.arguments.now in
+    subst (ArePlainListedIn c.args.order m args) (sym c.in_ok-list.ensures)
+    (plain_kept c.args.order m args c.note_plain.new.list c.list_outcomes.new.list c.list_outcomes.ensures.kept
+    c.in_ok-note_plain.ensures.plain)
 
 pub returns-clause-all : goal.returns-clause-all
 returns-clause-all c done =

@@ -1,20 +1,20 @@
-use Rattle.std.proofs.Common.{◌≤◌, length, arith, List, subst, sym}
-use Rattle.xk_outcomes.specs.declared.listing.Outcome.{Outcome}
-use Rattle.xk_outcomes.proofs.ListingLemmas.{distinct_none, of_none}
+use Rattle.std.proofs.Common.{inl, arith}
 use Rattle.xk_outcomes.proofs.listing.list_outcomes.Goals as goal
 
 pub loop-number-init : goal.loop-number-init
 loop-number-init c = record {
-  of = of_none c.args.order c.args.all.now.all c.args.list.now c.requires;
-  distinct = distinct_none c.args.list.now c.requires;
+  of = λ k o there. inl there;
+  kept = λ numbers listed. listed;
+  distinct = λ distinct. distinct;
   noted = λ j x less. absurd (omega (arith, less));
-  few = subst (λ (l : List Outcome). length l ≤ c.args.limit) (sym c.requires) (omega arith);
+  few = omega arith;
 }
 
 pub loop-number-preserved : goal.loop-number-preserved
 loop-number-preserved c = record {
-  of = c.note_at.ensures.of c.loop-number.invariant.of;
-  distinct = c.note_at.ensures.distinct c.loop-number.invariant.distinct;
+  of = c.note_at.ensures.of c.args.list.now c.loop-number.invariant.of;
+  kept = λ numbers listed. c.note_at.ensures.kept numbers (c.loop-number.invariant.kept numbers listed);
+  distinct = λ distinct. c.note_at.ensures.distinct (c.loop-number.invariant.distinct distinct);
   noted = c.in_ok-note_at.ensures.noted c.loop-number.invariant.noted;
   few = omega (arith, c.note_at.ensures.one_more);
 }
