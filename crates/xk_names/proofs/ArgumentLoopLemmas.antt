@@ -1,11 +1,11 @@
 -- Loops over arguments.
-use Rattle.std.proofs.Common.{◌≡◌, ℕ, zero, suc, ◌+◌, ◌<◌, ◌≤◌, List, [], ◌∷◌, ◌++◌, map, drop, length, min, get_or, Option, refl, sym, ap, ◌∙◌, arith, drop-cons, add-one}
+use Rattle.std.proofs.Common.{◌≡◌, ℕ, zero, suc, ◌+◌, ◌<◌, ◌≤◌, List, [], ◌∷◌, ◌++◌, map, drop, length, min, get_or, refl, sym, ap, ◌∙◌, arith, drop-cons, add-one}
 use Rattle.std.specs.List.{flat_map}
 use Rattle.xk_tree.specs.declared.tree.Param.{Param}
 use Rattle.xk_tree.specs.declared.tree.Expr.{Expr}
-use Rattle.xk_tree.specs.declared.fault.FrontFault.{FrontFault}
 use Rattle.xk_tree.specs.Tree.{ParamValue, param_value, expression, expressions}
 use Rattle.xk_names.specs.declared.arguments.Argument.{Argument}
+use Rattle.xk_names.specs.declared.least_fault.Search.{Search}
 use Rattle.xk_names.specs.Scope.{Scope}
 use Rattle.xk_names.specs.Uses.{Use, given, argument_uses}
 use Rattle.xk_names.specs.StatementParts.{arguments}
@@ -28,7 +28,7 @@ given_end (p ∷ ps) (e ∷ es) (suc n) h = given_end ps es n (omega arith)
 abbrev used : List Argument → List Use
 used list = flat_map (λ a. argument_uses a.0 a.1) (arguments list)
 
-pub uses_turn : (sc : Scope) (list : List Argument) (i : ℕ) (a : Argument) (w v : Option FrontFault) → i < length list → a ≡ get_or list i a
+pub uses_turn : (sc : Scope) (list : List Argument) (i : ℕ) (a : Argument) (w v : Search) → i < length list → a ≡ get_or list i a
     → v ≡ least w (flat_map (use_faults sc) (argument_uses a.takes (expression a.value.now)))
     → least v (flat_map (use_faults sc) (used (drop (i + 1) list))) ≡ least w (flat_map (use_faults sc) (used (drop i list)))
 uses_turn sc list i a w v h is done =

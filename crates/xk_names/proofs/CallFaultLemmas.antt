@@ -1,5 +1,5 @@
 -- The faults of a call, as they are found one after another.
-use Rattle.std.proofs.Common.{◌≡◌, ℕ, suc, nat_eq, Bool, true, false, List, [], ◌∷◌, ◌++◌, map, length, Option, Some, refl, sym, ap, ◌∙◌}
+use Rattle.std.proofs.Common.{◌≡◌, ℕ, suc, nat_eq, Bool, true, false, List, [], ◌∷◌, ◌++◌, map, length, Some, refl, sym, ap, ◌∙◌}
 use Rattle.std.specs.Prelude.{not}
 use Rattle.std.specs.List.{flat_map}
 use Rattle.std.proofs.lemmas.List.{length-map}
@@ -8,6 +8,7 @@ use Rattle.xk_tree.specs.declared.fault.FrontFault.{FrontFault}
 use Rattle.xk_tree.specs.declared.tree.Param.{Param}
 use Rattle.xk_tree.specs.declared.tree.Expr.{Expr}
 use Rattle.xk_tree.specs.Tree.{Word, param_value, expressions}
+use Rattle.xk_names.specs.declared.least_fault.Search.{Search}
 use Rattle.xk_names.specs.Scope.{Scope}
 use Rattle.xk_names.specs.Uses.{Given, given, argument_uses, argument_misfits, argument_clocks}
 use Rattle.xk_names.specs.Faults.{fault}
@@ -27,7 +28,7 @@ count_told m n at = go (nat_eq m n)
     go true = refl
     go false = refl
 
-pub call_found : (sc : Scope) (g : Word) (ps : List Param) (es : List Expr) (list : Given) (w w1 w2 w3 w4 : Option FrontFault)
+pub call_found : (sc : Scope) (g : Word) (ps : List Param) (es : List Expr) (list : Given) (w w1 w2 w3 w4 : Search)
     → list ≡ given (map param_value ps) (expressions es)
     → w1 ≡ least w (flat_map (use_faults sc) (flat_map (λ a. argument_uses a.0 a.1) list))
     → w2 ≡ least w1 (map (fault rule.WrongKind) (flat_map (λ a. argument_misfits a.0 a.1) list))

@@ -1,5 +1,6 @@
 -- All faults of names of a tree in a list, and which of them is reported. The rules are this project's own.
-use Rattle.std.specs.Prelude.{ℕ, nat_eq, nat_lt, Bool, ◌||◌, ◌&&◌, List, [], ◌∷◌, ◌++◌, length, map, Option, Some, None, is_some, if◌then◌else◌}
+use Rattle.std.specs.Prelude.{ℕ, nat_eq, nat_lt, Bool, true, ◌||◌, ◌&&◌, List, [], ◌∷◌, ◌++◌, length, map, Option, Some, None, is_some}
+use Rattle.std.specs.Prelude.{if◌then◌else◌}
 use Rattle.std.specs.List.{flat_map}
 use Rattle.xk_tree.specs.declared.fault.FrontRule.{FrontRule}
 use Rattle.xk_tree.specs.declared.fault.FrontRule.TheVariants as rule
@@ -7,6 +8,7 @@ use Rattle.xk_tree.specs.declared.fault.FrontFault.{FrontFault}
 use Rattle.xk_tree.specs.Fault.{front_number}
 use Rattle.xk_tree.specs.Tree.{Word, Expression, Statement, Statements, Done, More, Block, If, IfElse, For, Async, Finish, ParamValue, MethodValue, TreeValue}
 use Rattle.xk_names.specs.declared.binding.Known.{Known}
+use Rattle.xk_names.specs.declared.least_fault.Search.{Search}
 use Rattle.xk_names.specs.declared.binding.Want.TheVariants as want
 use Rattle.xk_names.specs.Scope.{Table, find, has, Declaration, Scope, sees, fits}
 use Rattle.xk_names.specs.Uses.{Use, use_as, Signatures, uses, declares, misfits, clocks_given, clocks_listed, calls}
@@ -139,11 +141,32 @@ name_faults t =
 abbrev pub is_reported_before : FrontFault → FrontFault → Bool
 is_reported_before f g = nat_lt f.at g.at || (nat_eq f.at g.at && nat_lt (front_number f.rule) (front_number g.rule))
 
--- the one at the lesser offset, of two at one offset the one of the smaller number
-abbrev pub lesser : Option FrontFault → FrontFault → Option FrontFault
-lesser None f = Some f
-lesser (Some g) f = if is_reported_before f g then Some f else Some g
+-- behind the floor of a search, where it has one
+abbrev pub is_past : Option FrontFault → FrontFault → Bool
+is_past None f = true
+is_past (Some floor) f = is_reported_before floor f
 
-abbrev pub least : Option FrontFault → List FrontFault → Option FrontFault
+-- less than the one that was found, where one was
+abbrev pub is_lesser : FrontFault → Option FrontFault → Bool
+is_lesser f None = true
+is_lesser f (Some g) = is_reported_before f g
+
+-- A search keeps the one at the least offset, of two at one offset the one of the smaller number, among those behind its floor.
+abbrev pub lesser : Search → FrontFault → Search
+lesser w f = if is_past w.floor f && is_lesser f w.found then record { floor = w.floor; found = Some f } else w
+
+-- a search that has found nothing yet
+abbrev pub search_past : Option FrontFault → Search
+search_past floor = record { floor = floor; found = None }
+
+abbrev pub least : Search → List FrontFault → Search
 least w [] = w
 least w (f ∷ fs) = least (lesser w f) fs
+
+-- the least of a tree's faults of names behind a floor, or of all
+abbrev pub least_past : Option FrontFault → TreeValue → Option FrontFault
+least_past floor t = (least (search_past floor) (name_faults t)).found
+
+-- the next one behind this one
+abbrev pub next_name_fault : TreeValue → FrontFault → Option FrontFault
+next_name_fault t f = least_past (Some f) t

@@ -124,6 +124,15 @@ HasFault t f = HasNameFault t f ⊎ ((HasMain t → ⊥) × (f ≡ no_main))
 abbrev pub IsNoLater : FrontFault → FrontFault → Type 0
 IsNoLater f g = (f.at < g.at) ⊎ ((f.at ≡ g.at) × (front_number f.rule ≤ front_number g.rule))
 
+-- the first stands earlier, or at the same offset with the lesser number
+abbrev pub IsEarlier : FrontFault → FrontFault → Type 0
+IsEarlier f g = (f.at < g.at) ⊎ ((f.at ≡ g.at) × (front_number f.rule < front_number g.rule))
+
+-- what comes behind this fault, among those of names: the first of the tree's that stand later, or none where none does
+abbrev pub IsNext : TreeValue → FrontFault → Option FrontFault → Type 0
+IsNext t f None = (g : FrontFault) → HasNameFault t g → IsEarlier f g → ⊥
+IsNext t f (Some n) = HasNameFault t n × IsEarlier f n × ((g : FrontFault) → HasNameFault t g → IsEarlier f g → IsNoLater n g)
+
 -- The fault is the one of the tree that is reported: the first of F5, F6, F7, F8, F11, F12 and F15, and where there is none of them F9.
 pub record IsReported (t : TreeValue) (f : FrontFault) : Type 0 where
   pub there : HasFault t f

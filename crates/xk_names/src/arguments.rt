@@ -11,12 +11,12 @@ ghost use Rattle.xk_names.specs.StatementParts.{arguments, call_all};
 
 use crate::binding::Want;
 use crate::exprs::{check_numbers, check_use, start_of};
-use crate::least_fault::{note, note_if};
+use crate::least_fault::{Search, note, note_if};
 use crate::methods::Methods;
 use crate::scope::Scope;
 use crate::table::Texts;
 use std::alloc::{AllocError, Global};
-use xk_tree::{Expr, FrontFault, FrontRule, Name, Param};
+use xk_tree::{Expr, FrontRule, Name, Param};
 use xk_types::ParamKind;
 
 /// An argument, and the kind of its parameter.
@@ -51,12 +51,7 @@ pub fn arguments<'a, 't>(
 }
 
 /// Each name that an argument uses must be visible and of the kind that its place wants.
-fn check_argument<'t>(
-    worst: &mut Option<FrontFault>,
-    scope: &Scope<'t>,
-    takes: ParamKind,
-    value: &Expr<'t>,
-)
+fn check_argument<'t>(worst: &mut Search, scope: &Scope<'t>, takes: ParamKind, value: &Expr<'t>)
     ensures { worst.new ≡ least worst.old
         (flat_map (use_faults scope.now) (argument_uses takes (expression value.now))) }
 {
@@ -70,7 +65,7 @@ fn check_argument<'t>(
 }
 
 /// Where the parameter is a clock, the argument must be a bare name.
-fn check_misfit(worst: &mut Option<FrontFault>, takes: ParamKind, value: &Expr<'_>)
+fn check_misfit(worst: &mut Search, takes: ParamKind, value: &Expr<'_>)
     ensures { worst.new ≡ least worst.old
         (map (fault FrontRule.WrongKind) (argument_misfits takes (expression value.now))) }
 {
@@ -85,7 +80,7 @@ fn check_misfit(worst: &mut Option<FrontFault>, takes: ParamKind, value: &Expr<'
 
 /// A clock must not be listed twice: it must not be among `clocks`, to which it is added.
 fn check_again<'t>(
-    worst: &mut Option<FrontFault>,
+    worst: &mut Search,
     clocks: &mut Texts<'t>,
     c: Name<'t>,
 ) -> Result<(), AllocError>
@@ -100,7 +95,7 @@ fn check_again<'t>(
 
 /// Applies `check_again` to the clock that an argument gives, if it gives one.
 fn check_clock<'t>(
-    worst: &mut Option<FrontFault>,
+    worst: &mut Search,
     clocks: &mut Texts<'t>,
     takes: ParamKind,
     value: &Expr<'t>,
@@ -120,7 +115,7 @@ fn check_clock<'t>(
 }
 
 /// Applies `check_argument` to each argument.
-fn check_uses<'t>(worst: &mut Option<FrontFault>, scope: &Scope<'t>, given: &[Argument<'_, 't>])
+fn check_uses<'t>(worst: &mut Search, scope: &Scope<'t>, given: &[Argument<'_, 't>])
     ensures { worst.new ≡ least worst.old
         (flat_map (use_faults scope.now)
         (flat_map (λ a. argument_uses a.0 a.1) (arguments given.now))) }
@@ -131,7 +126,7 @@ fn check_uses<'t>(worst: &mut Option<FrontFault>, scope: &Scope<'t>, given: &[Ar
 }
 
 /// Applies `check_misfit` to each argument.
-fn check_misfits(worst: &mut Option<FrontFault>, given: &[Argument<'_, '_>])
+fn check_misfits(worst: &mut Search, given: &[Argument<'_, '_>])
     ensures { worst.new ≡ least worst.old
         (map (fault FrontRule.WrongKind)
         (flat_map (λ a. argument_misfits a.0 a.1) (arguments given.now))) }
@@ -143,7 +138,7 @@ fn check_misfits(worst: &mut Option<FrontFault>, given: &[Argument<'_, '_>])
 
 /// The clocks that the arguments give must differ from each other and from those in `clocks`, to which they are added.
 fn check_clocks<'t>(
-    worst: &mut Option<FrontFault>,
+    worst: &mut Search,
     clocks: &mut Texts<'t>,
     given: &[Argument<'_, 't>],
 ) -> Result<(), AllocError>
@@ -160,7 +155,7 @@ fn check_clocks<'t>(
 
 /// The clocks of a list must differ from each other and from those in `clocks`, to which they are added.
 pub fn check_list<'t>(
-    worst: &mut Option<FrontFault>,
+    worst: &mut Search,
     clocks: &mut Texts<'t>,
     names: &[Name<'t>],
 ) -> Result<(), AllocError>
@@ -175,7 +170,7 @@ pub fn check_list<'t>(
 }
 
 /// The names of a list must be visible clocks.
-pub fn check_listed<'t>(worst: &mut Option<FrontFault>, scope: &Scope<'t>, names: &[Name<'t>])
+pub fn check_listed<'t>(worst: &mut Search, scope: &Scope<'t>, names: &[Name<'t>])
     ensures { worst.new ≡ least worst.old
         (flat_map (use_faults scope.now) (map (use_as Want.Clock) (words names.now))) }
 {
@@ -188,7 +183,7 @@ pub fn check_listed<'t>(worst: &mut Option<FrontFault>, scope: &Scope<'t>, names
 /// that no clock is given twice.
 fn check_arguments<'t>(
     alloc: Global,
-    worst: &mut Option<FrontFault>,
+    worst: &mut Search,
     scope: &Scope<'t>,
     g: Name<'t>,
     params: &[Param<'t>],
@@ -209,7 +204,7 @@ fn check_arguments<'t>(
 /// A call: a method of that name must exist, and the arguments must fit its parameters.
 pub fn check_call<'t>(
     alloc: Global,
-    worst: &mut Option<FrontFault>,
+    worst: &mut Search,
     scope: &Scope<'t>,
     methods: &Methods<'_, 't>,
     g: Name<'t>,

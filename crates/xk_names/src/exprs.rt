@@ -7,12 +7,12 @@ ghost use Rattle.xk_names.specs.Uses.{numbers, start_of, use_as, values};
 ghost use Rattle.xk_names.specs.FaultList.{least, use_faults};
 
 use crate::binding::Want;
-use crate::least_fault::{note, note_if};
+use crate::least_fault::{Search, note, note_if};
 use crate::scope::Scope;
-use xk_tree::{Expr, FrontFault, FrontRule, Name};
+use xk_tree::{Expr, FrontRule, Name};
 
 /// A name that is used must be visible, fit what its place wants, and be seen from inside the `async` bodies round it.
-pub fn check_use<'t>(worst: &mut Option<FrontFault>, scope: &Scope<'t>, name: Name<'t>, want: Want)
+pub fn check_use<'t>(worst: &mut Search, scope: &Scope<'t>, name: Name<'t>, want: Want)
     ensures { worst.new ≡ least worst.old (use_faults scope.now (use_as want (word name.entry))) }
 {
     match scope.find(name.text) {
@@ -35,7 +35,7 @@ pub fn check_use<'t>(worst: &mut Option<FrontFault>, scope: &Scope<'t>, name: Na
 }
 
 /// Each name in an expression must be a number of the activity's own.
-pub fn check_numbers<'t>(worst: &mut Option<FrontFault>, scope: &Scope<'t>, e: &Expr<'t>)
+pub fn check_numbers<'t>(worst: &mut Search, scope: &Scope<'t>, e: &Expr<'t>)
     ensures { worst.new ≡ least worst.old
         (flat_map (use_faults scope.now) (numbers (expression e.now))) }
 {
@@ -52,7 +52,7 @@ pub fn check_numbers<'t>(worst: &mut Option<FrontFault>, scope: &Scope<'t>, e: &
 }
 
 /// The same, but where the whole expression is one name, it may be a shared number, too.
-pub fn check_values<'t>(worst: &mut Option<FrontFault>, scope: &Scope<'t>, e: &Expr<'t>)
+pub fn check_values<'t>(worst: &mut Search, scope: &Scope<'t>, e: &Expr<'t>)
     ensures { worst.new ≡ least worst.old
         (flat_map (use_faults scope.now) (values (expression e.now))) }
 {

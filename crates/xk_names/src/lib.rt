@@ -17,5 +17,5 @@ mod table;
 pub use binding::{Known, NameKind, Want};
 pub use capture::captures;
 pub use methods::Methods;
-pub use program::{check_names, methods_of};
+pub use program::{check_names, methods_of, next_fault};
 pub use table::Table;

@@ -5,13 +5,15 @@ ghost use Rattle.xk_tree.specs.Tree.{method_value, param_value, shared_value, wo
 ghost use Rattle.xk_tree.specs.Program.{tree_value};
 ghost use Rattle.std.specs.List.{flat_map, list_any};
 ghost use Rattle.xk_names.specs.Scope.{declared, find};
-ghost use Rattle.xk_names.specs.Faults.{HasFault, IsReported, MayBegin, param_declaration, param_kind, shared_declaration, wants_clock};
+ghost use Rattle.xk_names.specs.Faults.{HasFault, IsNext, IsReported, MayBegin, param_declaration, param_kind, shared_declaration};
+ghost use Rattle.xk_names.specs.Faults.{wants_clock};
 ghost use Rattle.xk_names.specs.WellScoped.{IsScoped};
 ghost use Rattle.xk_names.specs.Uses.{signatures};
-ghost use Rattle.xk_names.specs.FaultList.{again, declared_again, least, method_faults, methods_again, name_faults, put_methods, with_declared};
+ghost use Rattle.xk_names.specs.FaultList.{again, declared_again, least, least_past, method_faults, methods_again};
+ghost use Rattle.xk_names.specs.FaultList.{next_name_fault, put_methods, with_declared};
 
 use crate::binding::NameKind;
-use crate::least_fault::note_if;
+use crate::least_fault::{Search, note_if};
 use crate::methods::Methods;
 use crate::scope::Scope;
 use crate::statement_rules::check_new;
@@ -22,7 +24,7 @@ use xk_types::ParamKind;
 
 /// Declares a name that every statement of a method's body sees: a shared number or a parameter. It must be new.
 fn declare_outside<'t>(
-    worst: &mut Option<FrontFault>,
+    worst: &mut Search,
     scope: &mut Scope<'t>,
     name: Name<'t>,
     kind: NameKind,
@@ -39,7 +41,7 @@ fn declare_outside<'t>(
 
 /// Declares the shared numbers, each of which must be new.
 fn declare_shared<'t>(
-    worst: &mut Option<FrontFault>,
+    worst: &mut Search,
     scope: &mut Scope<'t>,
     shared: &[Shared<'t>],
 ) -> Result<(), AllocError>
@@ -67,7 +69,7 @@ fn kind_of(takes: ParamKind) -> NameKind
 
 /// Declares a method's parameters, each of which must be new.
 fn declare_params<'t>(
-    worst: &mut Option<FrontFault>,
+    worst: &mut Search,
     scope: &mut Scope<'t>,
     params: &[Param<'t>],
 ) -> Result<(), AllocError>
@@ -85,7 +87,7 @@ fn declare_params<'t>(
 
 /// Adds the methods by their names, of which none may be there already.
 fn put_methods<'a, 't>(
-    worst: &mut Option<FrontFault>,
+    worst: &mut Search,
     found: &mut Methods<'a, 't>,
     methods: &'a [Method<'t>],
 ) -> Result<(), AllocError>
@@ -109,7 +111,10 @@ pub fn methods_of<'a, 't>(alloc: Global, tree: &'a Tree<'t>) -> Result<Methods<'
     ensures scoped { IsScoped (tree_value tree.now)
         → IfOk result (λ ms. ms ≡ signatures (tree_value tree.now).methods) }
 {
-    let mut worst = None;
+    let mut worst = Search {
+        floor: None,
+        found: None,
+    };
     let mut methods = Methods::new(alloc);
     put_methods(&mut worst, &mut methods, tree.methods.as_slice())?;
     Ok(methods)
@@ -118,7 +123,7 @@ pub fn methods_of<'a, 't>(alloc: Global, tree: &'a Tree<'t>) -> Result<Methods<'
 /// Checks a method's parameters and body. The scope is behind it what it was before.
 fn check_method<'t>(
     alloc: Global,
-    worst: &mut Option<FrontFault>,
+    worst: &mut Search,
     scope: &mut Scope<'t>,
     methods: &Methods<'_, 't>,
     method: &Method<'t>,
@@ -138,7 +143,7 @@ fn check_method<'t>(
 /// Checks the parameters and bodies of all methods, each in the scope of the shared numbers.
 fn check_methods<'t>(
     alloc: Global,
-    worst: &mut Option<FrontFault>,
+    worst: &mut Search,
     scope: &mut Scope<'t>,
     methods: &Methods<'_, 't>,
     all: &[Method<'t>],
@@ -154,36 +159,42 @@ fn check_methods<'t>(
     Ok(())
 }
 
-/// The least fault of names, a missing `main` aside; and whether there is a method `main` none of whose parameters takes a clock.
-fn least_fault(alloc: Global, tree: &Tree<'_>) -> Result<(Option<FrontFault>, bool), AllocError>
-    ensures worst { IfOk result (λ r. r.0 ≡ least None (name_faults (tree_value tree.now))) }
+/// The least fault of names behind the floor, or of all, a missing `main` aside; and whether there is a method `main` none of whose
+/// parameters takes a clock.
+fn least_fault(
+    alloc: Global,
+    floor: Option<FrontFault>,
+    tree: &Tree<'_>,
+) -> Result<(Option<FrontFault>, bool), AllocError>
+    ensures worst { IfOk result (λ r. r.0 ≡ least_past floor (tree_value tree.now)) }
     ensures main { IfOk result (λ r. IsTrue r.1 ↔
         (MayBegin (find (put_methods [] (tree_value tree.now).methods) (codes "main")))) }
 {
     let mut scope = Scope::new(alloc);
     let mut methods = Methods::new(alloc);
-    least_within(alloc, &mut scope, &mut methods, tree)
+    least_within(alloc, floor, &mut scope, &mut methods, tree)
 }
 
 /// The same, where nothing is visible yet and there are no methods.
 fn least_within<'a, 't>(
     alloc: Global,
+    floor: Option<FrontFault>,
     scope: &mut Scope<'t>,
     methods: &mut Methods<'a, 't>,
     tree: &'a Tree<'t>,
 ) -> Result<(Option<FrontFault>, bool), AllocError>
     requires scope { scope.old ≡ record { names = []; bodies = [] } }
     requires methods { methods.old ≡ [] }
-    ensures worst { IfOk result (λ r. r.0 ≡ least None (name_faults (tree_value tree.now))) }
+    ensures worst { IfOk result (λ r. r.0 ≡ least_past floor (tree_value tree.now)) }
     ensures main { IfOk result (λ r. IsTrue r.1 ↔
         (MayBegin (find (put_methods [] (tree_value tree.now).methods) (codes "main")))) }
 {
-    let mut worst = None;
+    let mut worst = Search { floor, found: None };
     declare_shared(&mut worst, scope, tree.shared.as_slice())?;
     put_methods(&mut worst, methods, tree.methods.as_slice())?;
     check_methods(alloc, &mut worst, scope, methods, tree.methods.as_slice())?;
     let has_main = has_main(methods);
-    Ok((worst, has_main))
+    Ok((worst.found, has_main))
 }
 
 /// Whether a parameter takes a clock.
@@ -225,7 +236,7 @@ pub fn check_names(alloc: Global, tree: &Tree<'_>) -> Result<(), FrontError>
     ensures fault { (f : FrontFault) → result ≡ Err (FrontError.Fault f)
         → IsReported (tree_value tree.now) f }
 {
-    let (worst, has_main) = least_fault(alloc, tree)?;
+    let (worst, has_main) = least_fault(alloc, None, tree)?;
     match worst {
         Some(fault) => Err(FrontError::Fault(fault)),
         None => {
@@ -239,4 +250,18 @@ pub fn check_names(alloc: Global, tree: &Tree<'_>) -> Result<(), FrontError>
             }
         }
     }
+}
+
+/// The next fault of names in a tree, behind this one: of those that stand later, or at the same offset with a greater number, the one
+/// that `check_names` would tell. `None` where there is none. F9 isn't among them. The only error is want of memory.
+pub fn next_fault(
+    alloc: Global,
+    tree: &Tree<'_>,
+    fault: FrontFault,
+) -> Result<Option<FrontFault>, AllocError>
+    ensures listed { IfOk result (λ next. next ≡ next_name_fault (tree_value tree.now) fault) }
+    ensures next { IfOk result (IsNext (tree_value tree.now) fault) }
+{
+    let (next, _has_main) = least_fault(alloc, Some(fault), tree)?;
+    Ok(next)
 }

@@ -1,29 +1,27 @@
 //! What a statement does with names, apart from the statements that it holds.
 
-ghost use Rattle.std.specs.Prelude.{◌≡◌, map, is_some, option_map, ◌++◌, OnOk};
+ghost use Rattle.std.specs.Prelude.{◌≡◌, ◌∷◌, map, is_some, option_map, ◌++◌, OnOk};
 ghost use Rattle.std.specs.List.{flat_map};
 ghost use Rattle.xk_tree.specs.Tree.{bound, clock_list, expression, source, statement, word};
 ghost use Rattle.xk_names.specs.Faults.{fault};
 ghost use Rattle.xk_names.specs.Scope.{find};
-ghost use Rattle.xk_names.specs.Uses.{assigned_uses, clocks_listed, is_var, make_misfits, numbers, source_uses, type_misfits};
+ghost use Rattle.xk_names.specs.Uses.{assigned_uses, clocks_listed, is_var, make_misfits, numbers, source_uses, type_misfits, use_as};
 ghost use Rattle.xk_names.specs.StatementParts.{atomic_faults, declaration_faults, loop_faults};
 ghost use Rattle.xk_names.specs.FaultList.{least, list_faults, own, use_faults, when};
 
 use crate::arguments::{check_call, check_list, check_listed};
 use crate::binding::{Known, NameKind, Want};
 use crate::exprs::{check_numbers, check_use, check_values};
-use crate::least_fault::{note, note_if};
+use crate::least_fault::{Search, note, note_if};
 use crate::methods::Methods;
 use crate::scope::Scope;
 use crate::table::Texts;
 use std::alloc::{AllocError, Global};
-use xk_tree::{
-    Binding, Bound, ClockList, Expr, FrontFault, FrontRule, Name, Right, Stmt, TypeName,
-};
+use xk_tree::{Binding, Bound, ClockList, Expr, FrontRule, Name, Right, Stmt, TypeName};
 use xk_types::ParamKind;
 
 /// A name that is declared must not be visible already.
-pub fn check_new<'t>(worst: &mut Option<FrontFault>, scope: &Scope<'t>, name: Name<'t>)
+pub fn check_new<'t>(worst: &mut Search, scope: &Scope<'t>, name: Name<'t>)
     ensures { worst.new ≡ least worst.old
         (when (is_some (find scope.now.names name.entry.text.now))
         FrontRule.DuplicateName name.entry.at) }
@@ -33,7 +31,7 @@ pub fn check_new<'t>(worst: &mut Option<FrontFault>, scope: &Scope<'t>, name: Na
 }
 
 /// The names that the right side of a declaration uses, of which one alone may be a shared number.
-fn check_right<'t>(worst: &mut Option<FrontFault>, scope: &Scope<'t>, r: &Right<'t>)
+fn check_right<'t>(worst: &mut Search, scope: &Scope<'t>, r: &Right<'t>)
     ensures { worst.new ≡ least worst.old
         (flat_map (use_faults scope.now) (source_uses (source r.now))) }
 {
@@ -44,7 +42,7 @@ fn check_right<'t>(worst: &mut Option<FrontFault>, scope: &Scope<'t>, r: &Right<
 }
 
 /// The type of a declaration, where it has one, must fit its right side: `Clock` for a clock that is made, a number's type for all else.
-fn check_type(worst: &mut Option<FrontFault>, ty: Option<TypeName>, r: &Right<'_>)
+fn check_type(worst: &mut Search, ty: Option<TypeName>, r: &Right<'_>)
     ensures { worst.new ≡ least worst.old
         (map (fault FrontRule.WrongKind) (type_misfits ty (source r.now))) }
 {
@@ -60,7 +58,7 @@ fn check_type(worst: &mut Option<FrontFault>, ty: Option<TypeName>, r: &Right<'_
 }
 
 /// A clock can be made for a `val`, not for a `var`.
-fn check_make(worst: &mut Option<FrontFault>, b: Binding, r: &Right<'_>)
+fn check_make(worst: &mut Search, b: Binding, r: &Right<'_>)
     ensures { worst.new ≡ least worst.old
         (map (fault FrontRule.WrongKind) (make_misfits b (source r.now))) }
 {
@@ -85,12 +83,7 @@ fn is_var(known: Option<Known>) -> bool
 }
 
 /// The names in what is assigned to a name. A `var` can be assigned a shared number that stands alone.
-fn check_assigned<'t>(
-    worst: &mut Option<FrontFault>,
-    scope: &Scope<'t>,
-    name: Name<'t>,
-    e: &Expr<'t>,
-)
+fn check_assigned<'t>(worst: &mut Search, scope: &Scope<'t>, name: Name<'t>, e: &Expr<'t>)
     ensures { worst.new ≡ least worst.old (flat_map (use_faults scope.now)
         (assigned_uses (find scope.now.names name.entry.text.now) (expression e.now))) }
 {
@@ -101,8 +94,18 @@ fn check_assigned<'t>(
     }
 }
 
+/// `x = e;`: the name must be that of a `var` or of a shared number.
+fn check_assignment<'t>(worst: &mut Search, scope: &Scope<'t>, x: Name<'t>, e: &Expr<'t>)
+    ensures { worst.new ≡ least worst.old (flat_map (use_faults scope.now)
+        (use_as Want.Assigned (word x.entry)
+        ∷ assigned_uses (find scope.now.names x.entry.text.now) (expression e.now))) }
+{
+    check_use(worst, scope, x, Want::Assigned);
+    check_assigned(worst, scope, x, e);
+}
+
 /// The names in the two sides of a comparison.
-fn check_sides<'t>(worst: &mut Option<FrontFault>, scope: &Scope<'t>, l: &Expr<'t>, r: &Expr<'t>)
+fn check_sides<'t>(worst: &mut Search, scope: &Scope<'t>, l: &Expr<'t>, r: &Expr<'t>)
     ensures { worst.new ≡ least worst.old
         (flat_map (use_faults scope.now)
         (numbers (expression l.now) ++ numbers (expression r.now))) }
@@ -112,13 +115,7 @@ fn check_sides<'t>(worst: &mut Option<FrontFault>, scope: &Scope<'t>, l: &Expr<'
 }
 
 /// `atomic x = y + e;`: both names must be shared numbers, and the same one.
-fn check_atomic<'t>(
-    worst: &mut Option<FrontFault>,
-    scope: &Scope<'t>,
-    x: Name<'t>,
-    y: Name<'t>,
-    e: &Expr<'t>,
-)
+fn check_atomic<'t>(worst: &mut Search, scope: &Scope<'t>, x: Name<'t>, y: Name<'t>, e: &Expr<'t>)
     ensures { worst.new ≡ least worst.old
         (atomic_faults scope.now (word x.entry) (word y.entry) (expression e.now)) }
 {
@@ -129,12 +126,7 @@ fn check_atomic<'t>(
 }
 
 /// The range of a loop: the names that it declares must be new and differ, and its bound may use only numbers.
-fn check_range<'t>(
-    worst: &mut Option<FrontFault>,
-    scope: &Scope<'t>,
-    x: Name<'t>,
-    limit: &Bound<'t>,
-)
+fn check_range<'t>(worst: &mut Search, scope: &Scope<'t>, x: Name<'t>, limit: &Bound<'t>)
     ensures { worst.new ≡ least worst.old
         (loop_faults scope.now (word x.entry) (bound limit.now)) }
 {
@@ -151,7 +143,7 @@ fn check_range<'t>(
 
 /// `val x: T = r;` or `var x: T = r;`
 fn check_declaration<'t>(
-    worst: &mut Option<FrontFault>,
+    worst: &mut Search,
     scope: &Scope<'t>,
     b: Binding,
     x: Name<'t>,
@@ -170,7 +162,7 @@ fn check_declaration<'t>(
 /// The clocks that an `async` is given: each must be a visible clock, and none may be listed twice.
 fn check_given<'t>(
     alloc: Global,
-    worst: &mut Option<FrontFault>,
+    worst: &mut Search,
     scope: &Scope<'t>,
     clocks: &Option<ClockList<'t>>,
 ) -> Result<(), AllocError>
@@ -190,7 +182,7 @@ fn check_given<'t>(
 #[tactic(auto, unfolding(crate::specs::FaultList::own))]
 pub fn check_own<'t>(
     alloc: Global,
-    worst: &mut Option<FrontFault>,
+    worst: &mut Search,
     scope: &Scope<'t>,
     methods: &Methods<'_, 't>,
     s: &Stmt<'t>,
@@ -204,8 +196,7 @@ pub fn check_own<'t>(
             Ok(())
         }
         Stmt::Assign(x, e) => {
-            check_use(worst, scope, *x, Want::Assigned);
-            check_assigned(worst, scope, *x, e);
+            check_assignment(worst, scope, *x, e);
             Ok(())
         }
         Stmt::Atomic(x, y, _, e) => {

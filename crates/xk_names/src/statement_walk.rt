@@ -9,12 +9,13 @@ ghost use Rattle.xk_names.specs.FaultList.{among, faults, least, put_texts, with
 
 use crate::arguments::clocks_of;
 use crate::binding::NameKind;
+use crate::least_fault::Search;
 use crate::methods::Methods;
 use crate::scope::Scope;
 use crate::statement_rules::check_own;
 use crate::table::Texts;
 use std::alloc::{AllocError, Global};
-use xk_tree::{Binding, Bound, ClockList, FrontFault, Name, Right, Stmt};
+use xk_tree::{Binding, Bound, ClockList, Name, Right, Stmt};
 
 /// What the name of a declaration stands for.
 fn kind_of(b: Binding, r: &Right<'_>) -> NameKind
@@ -56,7 +57,7 @@ fn declare_limit<'t>(scope: &mut Scope<'t>, limit: &Bound<'t>) -> Result<(), All
 #[cycle(statements)]
 fn check<'t>(
     alloc: Global,
-    worst: &mut Option<FrontFault>,
+    worst: &mut Search,
     scope: &mut Scope<'t>,
     methods: &Methods<'_, 't>,
     s: &Stmt<'t>,
@@ -96,7 +97,7 @@ fn check<'t>(
 #[cycle(statements)]
 pub fn check_block<'t>(
     alloc: Global,
-    worst: &mut Option<FrontFault>,
+    worst: &mut Search,
     scope: &mut Scope<'t>,
     methods: &Methods<'_, 't>,
     ss: &[Stmt<'t>],
@@ -117,7 +118,7 @@ pub fn check_block<'t>(
 #[cycle(statements)]
 fn check_held<'t>(
     alloc: Global,
-    worst: &mut Option<FrontFault>,
+    worst: &mut Search,
     scope: &mut Scope<'t>,
     methods: &Methods<'_, 't>,
     s: &Stmt<'t>,
@@ -136,7 +137,7 @@ fn check_held<'t>(
 #[cycle(statements)]
 fn check_loop<'t>(
     alloc: Global,
-    worst: &mut Option<FrontFault>,
+    worst: &mut Search,
     scope: &mut Scope<'t>,
     methods: &Methods<'_, 't>,
     x: Name<'t>,
@@ -161,7 +162,7 @@ fn check_loop<'t>(
 #[cycle(statements)]
 fn check_body<'t>(
     alloc: Global,
-    worst: &mut Option<FrontFault>,
+    worst: &mut Search,
     scope: &mut Scope<'t>,
     methods: &Methods<'_, 't>,
     clocks: Texts<'t>,
