@@ -1,17 +1,19 @@
 #!/usr/bin/env python3
-"""Runs `rt ci`, but keeps what an earlier run of it proved of the same sources.
+"""Runs `rt ci`, but keeps what earlier runs of it proved of the same sources.
 
-    tests/prover/kept_ci.py EARLIER LOG
+    tests/prover/kept_ci.py EARLIER LOG [EARLIER LOG ..] [--leave 'NAME ..']
 
 EARLIER is another checkout in which `rt ci` ran, with its `out/` folders, and LOG what that run printed; it may itself
-have been such a run. The checkout of this script is proved by the kit's own functions. Kept are the proof and the tests
-of each crate whose files, and those of all below, are the same as there, and that was proved there; and its edits,
-where these are the same too and each was refused. All else is done from nothing, and so are the runs of programs. The
-first lines say what is kept, the last one is that of `rt ci`.
+have been such a run, and may have been stopped. The checkout of this script is proved by the kit's own functions. Kept
+are the proof and the tests of each crate whose files, and those of all below, are the same as there, and that was
+proved there; and its edits, where these are the same too and each was refused. Of several runs the first that has a
+crate counts. All else is done from nothing, and so are the runs of programs. The first lines say what is kept, the last
+one is that of `rt ci`. With `--leave` these crates count as not proved, and nothing above them is tried: so several
+runs can share what there is to do.
 
 It is for kits whose `rt ci` keeps nothing (13b), and no verdict: that is `rt ci` alone. It trusts EARLIER and LOG, and
 rests on names in `rt` that another kit may not have. EARLIER has to be on the same disk: libraries are taken over by
-hard links, as a whole, since one fits only those that it was built over.
+hard links, as a whole, and a crate of a run only where those below are the very files that it was built over.
 """
 
 from __future__ import annotations
@@ -70,21 +72,24 @@ def edits_in(top: pathlib.Path, name: str) -> dict[str, str]:
 class Earlier:
     """What an earlier run did."""
 
-    def __init__(self, top: pathlib.Path, log: str) -> None:
+    def __init__(self, rtlib: ModuleType, top: pathlib.Path, log: str) -> None:
         self.top = top
+        self.crates = crates_in(rtlib, top)
         self.proofs = set(re.findall(r"^rt: (\w+) proved$", log, re.MULTILINE))
         self.tests = set(re.findall(r"^rt: (\w+): its tests are proved$", log, re.MULTILINE))
         self.edits = set(re.findall(r"^rt: must-fail (\w+/\S+): refused", log, re.MULTILINE))
 
-    def proved(self, mine: dict[str, Any], theirs: dict[str, Any]) -> set[str]:
-        """The crates that are the same and were proved with their tests, and so were all below."""
-        kept: set[str] = set()
-        for name, crate in sorted(mine.items(), key=lambda row: len(row[1].below())):
-            is_same = name in theirs and theirs[name].stamp() == crate.stamp() and name in self.proofs
-            has_tests = not crate.has_tests() or name in self.tests
-            if is_same and has_tests and all(below.name in kept for below in crate.below()):
-                kept.add(name)
-        return kept
+    def has(self, crate: Any) -> bool:
+        """Whether the crate is the same there, and was proved with its tests."""
+        name = crate.name
+        is_same = name in self.crates and self.crates[name].stamp() == crate.stamp() and name in self.proofs
+        return is_same and (not crate.has_tests() or name in self.tests)
+
+    def library(self, name: str) -> set[tuple[str, int]]:
+        """The files of a crate's library: where they are in it, and which they are on the disk."""
+        top = self.top / "crates" / name / "out/rlib"
+        files = (path for path in top.rglob("*") if path.is_file())
+        return {(str(path.relative_to(top)), path.stat().st_ino) for path in files if path.name != "stamp"}
 
     def refused(self, name: str) -> bool:
         """Whether the crate's edits are the same, and each was refused."""
@@ -99,24 +104,40 @@ class Earlier:
             subprocess.run(["cp", "-al", str(part), str(out)], check=True)
 
 
-def keep(rt: ModuleType, earlier: Earlier, kept: set[str]) -> None:
-    """Has `rt` leave out what is kept."""
+def runs_that_have(mine: dict[str, Any], runs: list[Earlier]) -> dict[str, Earlier]:
+    """For each crate that is kept, the first run that has it, built over the libraries that are kept of those below."""
+    kept: dict[str, Earlier] = {}
+    for name, crate in sorted(mine.items(), key=lambda row: len(row[1].below())):
+        below = [it.name for it in crate.below()]
+        if not all(it in kept for it in below):
+            continue
+        for run in runs:
+            if run.has(crate) and all(run.library(it) == kept[it].library(it) for it in below):
+                kept[name] = run
+                break
+    return kept
+
+
+def keep(rt: ModuleType, runs: list[Earlier], kept: dict[str, Earlier], left: set[str]) -> None:
+    """Has `rt` leave out what is kept, and what is to be left."""
     crates_of, prove, try_edits = rt.crates_of, rt.Crate.ci, rt.must_fail_all
 
     def crates(root: str, aside: str) -> Any:
         found = crates_of(root, aside)
-        for name in kept:
-            earlier.take(name)
+        for name, run in kept.items():
+            run.take(name)
         return found
 
     def ci(crate: Any, flags: list[str], tests: bool) -> int:
+        if crate.name in left:
+            return 1
         if crate.name not in kept:
             return prove(crate, flags, tests)
         print(f"kept: {crate.name}{', its tests' if tests else ''}", flush=True)
         return 0
 
     def must_fail_all(crate: Any, edits: list[str], flags: list[str]) -> list[tuple[bool, str]]:
-        if crate.name not in kept or not earlier.refused(crate.name):
+        if crate.name not in kept or not any(run.refused(crate.name) for run in runs):
             return try_edits(crate, edits, flags)
         names = [os.path.basename(edit) for edit in edits]
         return [(True, f"must-fail {crate.name}/{name}: refused in the run that is kept") for name in names]
@@ -125,19 +146,24 @@ def keep(rt: ModuleType, earlier: Earlier, kept: set[str]) -> None:
 
 
 def main() -> int:
-    parser = argparse.ArgumentParser(description="Runs rt ci, and keeps what an earlier run proved.")
-    parser.add_argument("earlier", type=pathlib.Path)
-    parser.add_argument("log", type=pathlib.Path)
+    parser = argparse.ArgumentParser(description="Runs rt ci, and keeps what earlier runs proved.")
+    parser.add_argument("runs", nargs="+", type=pathlib.Path, metavar="EARLIER LOG")
+    parser.add_argument("--leave", default="", help="crates that aren't tried, in one word")
     given = parser.parse_args()
+    if len(given.runs) % 2:
+        parser.error("each EARLIER has a LOG")
     sys.dont_write_bytecode = True
-    earlier = Earlier(given.earlier.resolve(), given.log.read_text("utf-8", "replace"))
+    pairs = [(top.resolve(), log.resolve()) for top, log in zip(given.runs[::2], given.runs[1::2])]
     rt, rtlib = kit()
     rt.Crate.allowed = rt.handles_of(str(TOP))
-    theirs, mine = crates_in(rtlib, earlier.top), crates_in(rtlib, TOP)
-    kept = earlier.proved(mine, theirs)
-    print("proved anew:", " ".join(name for name in mine if name not in kept) or "no crate")
-    print("edits kept of:", " ".join(sorted(name for name in kept if edits_in(TOP, name) and earlier.refused(name))))
-    keep(rt, earlier, kept)
+    runs = [Earlier(rtlib, top, log.read_text("utf-8", "replace")) for top, log in pairs]
+    mine = crates_in(rtlib, TOP)
+    left = set(given.leave.split())
+    kept = {name: run for name, run in runs_that_have(mine, runs).items() if name not in left}
+    print("proved anew:", " ".join(name for name in mine if name not in kept and name not in left) or "no crate")
+    refused = sorted(name for name in kept if edits_in(TOP, name) and any(run.refused(name) for run in runs))
+    print("edits kept of:", " ".join(refused))
+    keep(rt, runs, kept, left)
     return rt.ci()
 
 
