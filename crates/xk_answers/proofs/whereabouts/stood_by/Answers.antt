@@ -13,5 +13,5 @@ returns-clause-done g c = λ form file bytes given.
     ∙ ap (λ es. where_told bytes v args c.args.at es shared origins) c.entries.ensures in
     some_each _ _ (g.L.Source.remaining c.args.log_in.now)
     (λ logged text.
-        (c.requires.accepted, (c.requires.taken, (c.in_ok-log.log, text, (shared, (given.1 refl).1, (origins, (given.1 refl).0, told))))))
+    (c.requires.accepted, (c.requires.taken, (c.in_ok-log.log, text, (shared, (given.1 refl).1, (origins, (given.1 refl).0, told))))))
     c.in_ok-log.ensures.of_some
