@@ -11,4 +11,5 @@ mod ListingLemmas
 mod ListedLemmas
 mod PlainRunLemmas
 mod ExpectedLemmas
+mod HoldingLemmas
 mod TextLemmas

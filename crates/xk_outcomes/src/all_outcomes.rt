@@ -23,7 +23,8 @@ pub struct Limit {
     /// As soon as more worlds are kept: so a search that comes to its end with as many is complete. All that one of them leads to in a
     /// step are kept before the next look.
     pub entries: usize,
-    /// As soon as so many lists of numbers are told: they are never more.
+    /// As soon as so many lists of numbers are told, and one is found that isn't. They are never more, but what the plain runs print is told
+    /// whatever the limit is.
     pub outcomes: usize,
 }
 
@@ -32,6 +33,9 @@ const USUAL_LIMIT: u64 = 40_000;
 
 /// How many steps are tried then at most, as far as can be said before: one of each activity from each world.
 const USUAL_TRIES: u64 = 4_000_000;
+
+/// How many worlds are kept, and outcomes told, at most in a first look.
+const EARLY_LIMIT: usize = 1_000;
 
 impl Limit {
     /// The limit that was given, for both; or else the usual one of a module with so many activities at most.
@@ -43,6 +47,16 @@ impl Limit {
         Limit {
             entries: most,
             outcomes: most,
+        }
+    }
+
+    /// The limit of a first look: this one, or a small one where that is less.
+    pub(crate) fn early(self) -> Limit
+        ensures { result.outcomes ≤ self.outcomes }
+    {
+        Limit {
+            entries: self.entries.min(EARLY_LIMIT),
+            outcomes: self.outcomes.min(EARLY_LIMIT),
         }
     }
 }
