@@ -192,6 +192,16 @@ class Asker:
         }
         if err or not is_right.get(said, False):
             yield f"races of the run in the order {order}, which prints {numbers}: {(status, out, err)}"
+        if order == "first" and (said == THIS_ORDER or self.sets and said == THESE_NUMBERS):
+            yield from self.alone()
+
+    def alone(self) -> Iterator[str]:
+        """What is wrong with the answer of a program of which one run speaks for all, with the least limit."""
+        file, sets = self.program.folder / "text", ["--sets"] if self.sets else []
+        status, out, err = self.program.call("outcomes", *self.case.text.words(), *sets, "--limit", 1, file)
+        self.counts["answers by one run"] += 1
+        if status != outcomes.WHOLE or not out.endswith("outcomes 1 complete\n") or err:
+            yield f"one run speaks for all: {(status, out, err)}"
 
     def lists(self, rng: random.Random) -> Iterator[str]:
         """What is wrong with answers where outcomes are held against what the program told, and against what it

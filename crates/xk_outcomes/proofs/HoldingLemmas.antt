@@ -60,6 +60,7 @@ decided m args sets early limit bytes text found sure less h = record {
   shown = h.shown;
   distinct = h.distinct;
   all = h.all;
+  lone = h.lone;
   plain = h.plain;
   far = λ stands.
       let whole = whole_unless (told_by bytes) h.list h.complete text found sure stands h.held in

@@ -12,6 +12,7 @@ use Rattle.xk_outcomes.specs.declared.holding.Verdict.{Verdict}
 use Rattle.xk_outcomes.specs.declared.holding.Verdict.TheVariants as verdict
 use Rattle.xk_io.specs.Row.{numbers_text}
 use Rattle.xk_types.specs.Code.{ModuleValue}
+use Rattle.xk_outcomes.specs.LoneOutcomes.{IsOneOfManyAs}
 use Rattle.xk_outcomes.specs.PlainRuns.{ArePlainListedAs}
 use Rattle.xk_outcomes.specs.Sets.{AreAllAs, AreDistinctAs, AreShownAs}
 use Rattle.xk_outcomes.specs.Text.{completeness, outcome_line}
@@ -150,6 +151,7 @@ pub record AreExpected (m : ModuleValue) (args : List ℤ) (sets : Bool) (limit 
   pub shown : AreShownAs sets m args list
   pub distinct : AreDistinctAs sets list
   pub all : complete ≡ true → AreAllAs sets m args list
+  pub lone : complete ≡ false → IsOneOfManyAs sets m args
   pub plain : complete ≡ false → ArePlainListedAs sets m args list
   pub far : is_refuted found ≡ false → GoesFar m args sets limit list complete
   pub may_stand : stray_line bytes ≡ None

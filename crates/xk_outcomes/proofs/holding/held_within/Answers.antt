@@ -12,6 +12,7 @@ returns c bytes stands told =
       shown = c.in_ok-found.ensures.shown;
       distinct = c.in_ok-found.ensures.distinct;
       all = c.in_ok-found.ensures.all;
+      lone = c.in_ok-found.ensures.lone;
       plain = c.in_ok-found.ensures.plain;
       far = λ refuted. record { entries = found.entries; kept = c.in_ok-found.ensures.kept; met = c.in_ok-found.ensures.limit; few = c.in_ok-found.ensures.most };
       may_stand = stands;
