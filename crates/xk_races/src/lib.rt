@@ -14,4 +14,4 @@ mod text;
 
 pub use deeds::{Deed, Part, push_deeds};
 pub use knowledge::Scopes;
-pub use report::{RaceReport, module_races, source_races};
+pub use report::{RaceReport, Reach, module_races, reach_of, source_races};
