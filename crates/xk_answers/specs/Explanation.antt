@@ -16,7 +16,7 @@ use Rattle.xk_explain.specs.Notes.{NoteValue, note_lines, plain_lines}
 use Rattle.xk_explain.specs.SourceExplanations.{source_explanation}
 use Rattle.xk_explain_json.specs.Objects.{json_line, text_of}
 use Rattle.xk_explain_json.specs.Explanations.{accepted_value, front_value, module_value, refusal_value, source_value}
-use Rattle.xk_explain_names.specs.Notes.{front_notes}
+use Rattle.xk_explain_faults.specs.Faults.{faults_explanation, faults_value}
 use Rattle.xk_explain_expected.specs.Notes.{expected_notes}
 use Rattle.xk_explain_bounds.specs.Notes.{accepted_notes, module_notes, refusal_notes}
 use Rattle.xk_hints.specs.Words.{HintValue, hints}
@@ -59,14 +59,15 @@ abbrev pub front_said : Bool → List ℕ → List ℕ → FrontFault → List N
 front_said false file text f notes = front_explanation file text f notes
 front_said true file text f notes = json_line (front_value file text f notes)
 
--- what its tree declares by the name that stands there, if the text spells one, and else what could stand there
-abbrev pub notes_of : List ℕ → FrontFault → Option TreeValue → List NoteValue
-notes_of text f (Some tree) = front_notes tree text f
-notes_of text f None = expected_notes text f
+-- of a text that spells this tree, with the faults of names behind it
+abbrev pub faults_said : Bool → List ℕ → List ℕ → TreeValue → FrontFault → List ℕ
+faults_said false file text tree f = faults_explanation file text tree f
+faults_said true file text tree f = json_line (faults_value file text tree f)
 
--- with these notes
+-- with what its tree declares by the name that stands there, if the text spells one, and else with what could stand there
 abbrev pub fault_said : Bool → List ℕ → List ℕ → FrontFault → Option TreeValue → List ℕ
-fault_said json file text f tree = front_said json file text f (notes_of text f tree)
+fault_said json file text f (Some tree) = faults_said json file text tree f
+fault_said json file text f None = front_said json file text f (expected_notes text f)
 
 -- by numbers
 abbrev pub plain_said : Bool → List ℕ → Refusal → List NoteValue → List ℕ
