@@ -1,6 +1,6 @@
 //! The faults of names behind the first.
 
-ghost use Rattle.std.specs.Prelude.{◌≡◌, ◌++◌, map, IfOk, OnOk};
+ghost use Rattle.std.specs.Prelude.{◌≡◌, ◌++◌, map, take, IfOk, OnOk};
 ghost use Rattle.xk_tree.specs.Program.{tree_value};
 ghost use Rattle.xk_explain_faults.specs.Faults.{found, further_faults, has_more, shown_further};
 
@@ -58,6 +58,13 @@ pub(crate) fn found(
     Ok(Finding { fault, notes })
 }
 
+/// Those of these faults that are shown.
+fn first_of(faults: &[FrontFault]) -> &[FrontFault]
+    ensures { result.now ≡ take 9 faults.now }
+{
+    &faults[..faults.len().min(MOST)]
+}
+
 /// These faults, with the notes on each.
 fn all_found(
     alloc: Global,
@@ -89,7 +96,7 @@ pub(crate) fn behind_of(
 {
     let mut faults = Vec::new(alloc);
     push_further(alloc, tree, &mut faults, fault, MOST + 1)?;
-    let shown = all_found(alloc, tree, text, &faults[..faults.len().min(MOST)])?;
+    let shown = all_found(alloc, tree, text, first_of(&faults))?;
     Ok(Behind {
         shown,
         more: MOST < faults.len(),

@@ -1,5 +1,5 @@
 //! All that is said of a source text whose names are at fault: of the first fault, and of those behind it.
-#![tactic(auto, using(crate::proofs::FurtherLemmas::further_zero, crate::proofs::FurtherLemmas::further_none, crate::proofs::FurtherLemmas::further_some))]
+#![tactic(auto)]
 
 mod explanation;
 mod further;
