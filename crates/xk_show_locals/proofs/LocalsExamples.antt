@@ -1,5 +1,5 @@
 -- Small frames: what is told of them.
-use Rattle.std.proofs.Common.{◌≡◌, pos, neg, List, [], ◌∷◌, ℕ, Some, refl}
+use Rattle.std.proofs.Common.{◌≡◌, pos, List, [], ◌∷◌, ℕ, Some, refl}
 use Rattle.std.specs.Prelude.{codes}
 use Rattle.std.specs.Fmt.{digits}
 use Rattle.xk_types.specs.declared.instr.Instr.{Instr}

@@ -94,6 +94,10 @@ unit_word (Some name) = cut_name name
 unfoldable pub front : ℕ → Option (List ℕ) → List ℕ
 front a name = codes "act " ++ (decimal a ++ (codes " in " ++ unit_word name))
 
+-- how many slots a unit's frames have
+abbrev pub slots_in : ModuleValue → ℕ → ℕ
+slots_in m unit = option_map_or (λ u. u.slots) (slice_get m.units unit) 0
+
 -- no line where nothing is told
 abbrev pub line_by : List ℕ → List ℕ → List ℕ
 line_by before told = if nat_eq (length told) 0 then [] else before ++ (told ++ codes "\n")

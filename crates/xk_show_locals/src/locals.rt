@@ -3,7 +3,7 @@
 ghost use Rattle.std.specs.Prelude.{◌≡◌, ◌<◌, ◌++◌, length, map, option_map, Some, IfOk, OnOk};
 ghost use Rattle.xk_activity.specs.Activities.{act_at};
 ghost use Rattle.xk_activity.specs.Local.{code_of};
-ghost use Rattle.xk_show_locals.specs.Locals.{frame_words, front, line_in, locals_line, slot_words, unit_word};
+ghost use Rattle.xk_show_locals.specs.Locals.{frame_words, front, line_in, locals_line, slot_words, slots_in, unit_word};
 
 use crate::slots::{push_held, push_name, push_text};
 use std::alloc::{AllocError, Global};
@@ -63,19 +63,25 @@ fn code_of(verified: &Verified, unit: u16) -> &[Instr]
     }
 }
 
+/// How many slots a unit's frames have.
+fn slots_in(verified: &Verified, unit: u16) -> u16
+    ensures { result ≡ slots_in verified.now unit }
+{
+    match verified.module().units().get(unit as usize) {
+        Some(unit) => unit.slots,
+        None => 0,
+    }
+}
+
 /// How many slots the present frame of an activity has.
-#[tactic(auto, using(crate::proofs::FrameLemmas::slot_count, crate::proofs::FrameLemmas::unit_there))]
+#[tactic(auto, using(crate::proofs::FrameLemmas::slot_count))]
 fn slot_count(core: &Core<'_>, act: Act) -> u16
     requires { act < length core.now.world.activities }
     ensures { result ≡ length (act_at core.now.world.activities act).frame.slots }
 {
     // Every core is where a legal schedule of an accepted module leads.
     let _there = core.activities();
-    let unit = core.frames(act).unit();
-    match core.module().module().units().get(unit as usize) {
-        Some(unit) => unit.slots,
-        None => 0,
-    }
+    slots_in(core.module(), core.frames(act).unit())
 }
 
 /// Adds a method's name, or `async`.
