@@ -13,7 +13,7 @@ use Rattle.xk_origins.specs.UnitOrigins.{UnitOrigins}
 use Rattle.xk_show_events.specs.Events.{no_text, places_of}
 use Rattle.xk_show_locals.specs.Locals.{bound_words, front, number_words}
 use Rattle.xk_show_where.specs.Where.{act_line, are_steps_legal, clock_line, clock_words, held_words, listed, named_where_text}
-use Rattle.xk_show_where.specs.Where.{place_of, registration, steps_line, stop_line, where_text}
+use Rattle.xk_show_where.specs.Where.{place_of, registration, steps_line, stop_line, value_line, where_text}
 
 abbrev entry : (a n : ℕ) → 0 < n → Entry
 entry a n some = record { act = a; steps = n; at_least_one = some }
@@ -84,17 +84,17 @@ of_main = record {
 
 by_names : named_where_text (places_of [] (of_main ∷ [])) (codes "total" ∷ []) counting [] (entry 0 3 (lit< tt) ∷ [])
     ≡ codes "steps 3\nact 0 unit 0 place 3 can step\nact 0 in main, t = 5, i = 1, i up to 3\ntotal = 5\n"
-unfolding act_line bound_words clock_line digits front number_words place_of steps_line
+unfolding act_line bound_words clock_line digits front number_words place_of steps_line value_line
 by_names = refl
 
 -- behind the addition, t is what was read
 added : named_where_text (places_of [] (of_main ∷ [])) (codes "total" ∷ []) counting [] (entry 0 4 (lit< tt) ∷ [])
     ≡ codes "steps 4\nact 0 unit 0 place 4 can step\nact 0 in main, t = 5, i = 1, i up to 3\ntotal = 6\n"
-unfolding act_line bound_words clock_line digits front number_words place_of steps_line
+unfolding act_line bound_words clock_line digits front number_words place_of steps_line value_line
 added = refl
 
 -- one that has ended has no numbers, and where no name is known the shared number has its number
 over : named_where_text (places_of [] (of_main ∷ [])) [] counting [] (entry 0 10 (lit< tt) ∷ [])
     ≡ codes "steps 10\nact 0 has ended\nshared 0 is 11\n"
-unfolding act_line bound_words clock_line digits front number_words place_of steps_line
+unfolding act_line bound_words clock_line digits front number_words place_of steps_line value_line
 over = refl

@@ -134,14 +134,23 @@ shared_line_of s (Some n) = codes "shared " ++ (decimal s ++ (codes " is " ++ (s
 abbrev pub shared_line : List ℤ → ℕ → List ℕ
 shared_line cells s = shared_line_of s (slice_get cells s)
 
+-- `total = 5`
+unfoldable pub value_line : List ℕ → ℤ → List ℕ
+value_line name n = cut_name name ++ (codes " = " ++ (signed_decimal n ++ codes "\n"))
+
 -- of a shared number whose name is known, if it is
 abbrev pub named_line_of : Option (List ℕ) → ℕ → ℤ → List ℕ
 named_line_of None s n = shared_line_of s (Some n)
-named_line_of (Some name) s n = cut_name name ++ (codes " = " ++ (signed_decimal n ++ codes "\n"))
+named_line_of (Some name) s n = value_line name n
 
--- `total = 5`, where shared numbers have these names
+-- if there is such a number
+abbrev pub named_line_if : Option (List ℕ) → ℕ → Option ℤ → List ℕ
+named_line_if name s None = []
+named_line_if name s (Some n) = named_line_of name s n
+
+-- where shared numbers have these names
 abbrev pub named_line : List (List ℕ) → List ℤ → ℕ → List ℕ
-named_line shared cells s = option_map_or (λ n. named_line_of (slice_get shared s) s n) (slice_get cells s) []
+named_line shared cells s = named_line_if (slice_get shared s) s (slice_get cells s)
 
 -- the line of an activity of a source text, and that of its own numbers
 abbrev pub told_act : PlacesValue → ModuleValue → World → ℕ → List ℕ

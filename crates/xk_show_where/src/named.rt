@@ -4,7 +4,7 @@ ghost use Rattle.std.specs.Prelude.{◌≡◌, ◌++◌, length, map, option_map
 ghost use Rattle.xk_types.specs.World.{AreArguments};
 ghost use Rattle.xk_show_events.specs.Events.{places_of};
 ghost use Rattle.xk_show_events.specs.Worlds.{each_below};
-ghost use Rattle.xk_show_where.specs.Where.{are_steps_legal, named_line, named_line_of, named_standings_text, named_where_text};
+ghost use Rattle.xk_show_where.specs.Where.{are_steps_legal, named_line, named_line_if, named_line_of, named_standings_text, named_where_text, value_line};
 
 use crate::acts::push_all_told;
 use crate::progress::{Stop, take_steps};
@@ -20,6 +20,15 @@ use xk_show_events::Places;
 use xk_show_locals::push_name;
 use xk_types::Entry;
 
+/// Adds the line of a shared number by its name.
+#[tactic(auto, unfolding(crate::specs::Where::value_line))]
+fn push_value(alloc: Global, out: &mut Vec<u8>, name: &[u8], value: i64) -> Result<(), AllocError>
+    ensures { OnOk result (out.new.items ≡ out.old.items ++ value_line name.now value) }
+{
+    push_name(out, name)?;
+    push_text(out, format!(in alloc; " = {value}\n")?.as_str())
+}
+
 /// Adds the line of a shared number, by its name if that is known.
 fn push_named(
     alloc: Global,
@@ -33,10 +42,24 @@ fn push_named(
 {
     match name {
         None => push_shared_number(alloc, out, number, value),
-        Some(name) => {
-            push_name(out, name)?;
-            push_text(out, format!(in alloc; " = {value}\n")?.as_str())
-        }
+        Some(name) => push_value(alloc, out, name, value),
+    }
+}
+
+/// The same, if there is such a number.
+fn push_named_if(
+    alloc: Global,
+    out: &mut Vec<u8>,
+    name: Option<&[u8]>,
+    cells: &[i64],
+    number: usize,
+) -> Result<(), AllocError>
+    ensures { OnOk result (out.new.items ≡ out.old.items ++ named_line_if
+        (option_map (λ x. x.now) name.entry) number (slice_get cells.now number)) }
+{
+    match cells.get(number) {
+        None => Ok(()),
+        Some(value) => push_named(alloc, out, name, number, *value),
     }
 }
 
@@ -62,10 +85,7 @@ fn push_named_shared(
     ensures { OnOk result (out.new.items ≡ out.old.items
         ++ named_line (map (λ x. x.now) shared.now) cells.now number) }
 {
-    match cells.get(number) {
-        None => Ok(()),
-        Some(value) => push_named(alloc, out, shared_name(shared, number), number, *value),
-    }
+    push_named_if(alloc, out, shared_name(shared, number), cells, number)
 }
 
 /// Adds the lines of all shared numbers.
