@@ -30,7 +30,7 @@ use Rattle.xk_show_picture.specs.Picture.{is_drawn, named_picture_text, picture_
 use Rattle.xk_show_page.specs.Page.{named_page_text, page_text}
 use Rattle.xk_races.specs.Races.{is_race_free}
 use Rattle.xk_races.specs.Text.{races_text}
-use Rattle.xk_show_where.specs.Where.{are_steps_legal, where_text}
+use Rattle.xk_show_where.specs.Where.{are_steps_legal, named_where_text, where_text}
 use Rattle.xk_answers.specs.Beginnings.{first_steps, steps_in}
 use Rattle.xk_types.specs.declared.world.Entry.{Entry}
 use Rattle.xk_cli.specs.declared.job.Form.{Form}
@@ -178,15 +178,19 @@ page_told text window m log last shared origins = (page_of text shared window m 
 abbrev pub races_told : List ℕ → ModuleValue → List ℤ → List Entry → Option (List UnitOrigins) → Tale
 races_told text m args log origins = (races_text (places_in text origins) m args log, is_race_free m args log)
 
--- how things stand behind the steps of a log, as far as they can be taken
-abbrev pub stand_told : List ℕ → ModuleValue → List ℤ → List Entry → Option (List UnitOrigins) → Tale
-stand_told text m args log origins = (where_text (places_in text origins) m args log, are_steps_legal m args log)
+-- how things stand behind the steps of a log, as far as they can be taken; of a source text by names, where its shared numbers have these
+abbrev pub standings_of : List ℕ → List (List ℕ) → ModuleValue → List ℤ → List Entry → Option (List UnitOrigins) → List ℕ
+standings_of text shared m args log None = where_text no_text m args log
+standings_of text shared m args log (Some origins) = named_where_text (places_in text (Some origins)) shared m args log
+
+abbrev pub stand_told : List ℕ → ModuleValue → List ℤ → List Entry → List (List ℕ) → Option (List UnitOrigins) → Tale
+stand_told text m args log shared origins = (standings_of text shared m args log origins, are_steps_legal m args log)
 
 -- a log that ends before step n: a line says so, and the answer isn't whole
 abbrev pub told_to : ℕ → List Entry → Tale → Tale
 told_to n log told = if nat_lt (steps_in log) n then (told.0 ++ log_end_line (steps_in log), false) else told
 
 -- the same behind all steps of the log, or behind the first n of them
-abbrev pub where_told : List ℕ → ModuleValue → List ℤ → Option ℕ → List Entry → Option (List UnitOrigins) → Tale
-where_told text m args None log origins = stand_told text m args log origins
-where_told text m args (Some n) log origins = told_to n log (stand_told text m args (first_steps n log) origins)
+abbrev pub where_told : List ℕ → ModuleValue → List ℤ → Option ℕ → List Entry → List (List ℕ) → Option (List UnitOrigins) → Tale
+where_told text m args None log shared origins = stand_told text m args log shared origins
+where_told text m args (Some n) log shared origins = told_to n log (stand_told text m args (first_steps n log) shared origins)
