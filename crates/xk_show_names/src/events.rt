@@ -208,6 +208,7 @@ fn lines_of(
 /// 9 act 1 at 7:9 read total 2 (step 3)`. What was read, written or added to is told by the shared number's name, which
 /// is given, with what it was then; what was read, also with the step that wrote or added to it last, or `(opening)`; and
 /// clocks by the names that they were made under. Err where memory was refused.
+#[tactic(auto, using(crate::proofs::BirthLemmas::births_seen))]
 pub fn named_events(
     alloc: Global,
     text: &[u8],
@@ -220,7 +221,8 @@ pub fn named_events(
         ended.now.module.now ended.now.core.world.arguments ended.now.log.items) }
 {
     let places = Places::of_source(alloc, text, origins)?;
-    let names = Names::of_run(alloc, text, origins, shared, ended)?;
     let steps = seen_accounts(alloc, ended)?;
+    let program = ended.module.module();
+    let names = Names::by_steps(alloc, &places, origins, shared, program, &steps)?;
     lines_of(alloc, &places, &names, &steps)
 }

@@ -1,1 +1,2 @@
+pub mod MomentLemmas
 mod PageExamples
