@@ -1,6 +1,5 @@
 -- Clocks that steps made, by lists of steps.
-use Rattle.std.proofs.Common.{◌≡◌, ◌∙◌, ℕ, ℤ, Bool, true, false, not, ◌&&◌, List, [], ◌∷◌, ◌++◌, flat_map, refl, sym, ap}
-use Rattle.std.specs.Prelude.{nat_le, if◌then◌else◌}
+use Rattle.std.proofs.Common.{◌≡◌, ◌∙◌, ℕ, ℤ, List, [], ◌∷◌, ◌++◌, flat_map, refl, sym, ap}
 use Rattle.std.proofs.lemmas.Grind.{flat_map-append}
 use Rattle.xk_types.specs.declared.world.Entry.{Entry}
 use Rattle.xk_types.specs.declared.world.Event.{Event}
@@ -8,12 +7,13 @@ use Rattle.xk_types.specs.declared.world.Event.TheVariants as event
 use Rattle.xk_types.specs.Code.{ModuleValue}
 use Rattle.xk_types.specs.World.{World, opening}
 use Rattle.xk_types.specs.Step.{Outcome, Blocked, Wrong, Stepped, step}
-use Rattle.xk_types.specs.Schedule.{is_local}
 use Rattle.xk_types.specs.Logs.{schedule_of}
-use Rattle.xk_show_events.specs.Steps.{Teller, run_step, told, told_on, told_of_run}
+use Rattle.xk_show_events.specs.Steps.{Teller, run_step, told, told_on}
 use Rattle.xk_show_names.specs.declared.accounts.Account.{Account}
-use Rattle.xk_show_names.specs.Accounts.{account, recounted_by, seen_accounts, tell_seen_accounts}
-use Rattle.xk_show_names.specs.ClockNames.{birth, birth_by, births, births_among}
+use Rattle.xk_show_names.specs.Accounts.{recounted_by, seen_accounts, tell_seen_accounts}
+use Rattle.xk_show_names.specs.ClockNames.{NamesValue, birth_by, births, births_among, names_by, names_in_run}
+use Rattle.xk_show_names.specs.Events.{lines_of, named_events_text}
+use Rattle.xk_show_events.specs.Events.{PlacesValue}
 
 -- ---- one list of another
 
@@ -58,3 +58,17 @@ pub births_seen : (m : ModuleValue) (args : List ℤ) (log : List Entry) → bir
 births_seen m args log =
     sym (told_of_told (λ (a : Account). birth_by m a.step a.step.event) (tell_seen_accounts m)
     (recounted_by m (λ v a. birth_by m a.step a.step.event)) m (seen_birth m) (schedule_of log) (opening m args))
+
+-- and so are the names
+pub names_seen : (p : PlacesValue) (shared : List (List ℕ)) (m : ModuleValue) (args : List ℤ) (log : List Entry) (steps : List Account)
+    → steps ≡ seen_accounts m args log → names_by p shared (births_among m steps) ≡ names_in_run p shared m args log
+names_seen p shared m args log steps seen =
+    ap (λ l. names_by p shared (births_among m l)) seen ∙ ap (names_by p shared) (births_seen m args log)
+
+-- and the lines that are told of its steps by them
+pub lines_seen : (p q : PlacesValue) (shared : List (List ℕ)) (m : ModuleValue) (args : List ℤ) (log : List Entry) (names : NamesValue) (steps : List Account)
+    → q ≡ p → steps ≡ seen_accounts m args log → names ≡ names_in_run q shared m args log → lines_of q names steps ≡ named_events_text p shared m args log
+lines_seen p q shared m args log names steps is seen named =
+    ap (λ n. lines_of q n steps) named
+    ∙ ap (λ l. lines_of q (names_in_run q shared m args log) l) seen
+    ∙ ap (λ r. named_events_text r shared m args log) is
