@@ -9,14 +9,16 @@ use Rattle.xk_types.specs.Code.{ModuleValue}
 use Rattle.xk_types.specs.World.{World, opening}
 use Rattle.xk_types.specs.Schedule.{is_local}
 use Rattle.xk_types.specs.Logs.{schedule_of}
+use Rattle.xk_show_events.specs.Events.{PlacesValue}
 use Rattle.xk_show_events.specs.Steps.{run_step}
 use Rattle.xk_show_names.specs.declared.accounts.Account.{Account}
 use Rattle.xk_show_names.specs.Accounts.{account, recounted_by}
-use Rattle.xk_show_names.specs.ClockNames.{birth_by, birth_until, births_among, births_until}
+use Rattle.xk_show_names.specs.ClockNames.{birth_by, birth_until, births_among, births_until, NamesValue, names_by, names_until}
 use Rattle.xk_show_names.proofs.BirthLemmas.{told_of_told}
+use Rattle.xk_show_lanes.specs.declared.grid.Grid.{Grid}
 use Rattle.xk_show_lanes.specs.declared.window.Window.{Window}
 use Rattle.xk_show_lanes.specs.Lanes.{is_asked}
-use Rattle.xk_show_lanes.specs.NamedLanes.{account_if_asked, account_if_kept, accounts_asked, accounts_kept, is_kept, makes}
+use Rattle.xk_show_lanes.specs.NamedLanes.{account_if_asked, account_if_kept, accounts_asked, accounts_kept, is_kept, makes, grid_by_names, lanes_by_names, named_lanes_in, named_lanes_text}
 use Rattle.xk_show_lanes.proofs.LaneLemmas.{asked_accounts, tell_asked_accounts}
 
 -- no step behind the last one is kept
@@ -70,16 +72,23 @@ births_kept window m log last =
     sym (told_of_told (λ (a : Account). birth_by m a.step a.step.event) (recounted_by m (λ v a. account_if_kept window a))
     (recounted_by m (λ v a. birth_until window.last m a)) m (birth_kept m window) (schedule_of log) (opening m last.arguments))
 
+-- and so are the names
+pub names_kept : (p : PlacesValue) (shared : List (List ℕ)) (window : Window) (m : ModuleValue) (log : List Entry) (last : World) (steps : List Account)
+    → steps ≡ accounts_kept window m log last → names_by p shared (births_among m steps) ≡ names_until p shared window.last m last.arguments log
+names_kept p shared window m log last steps kept =
+    ap (λ l. names_by p shared (births_among m l)) kept ∙ ap (names_by p shared) (births_kept window m log last)
+
 -- ---- steps that are asked for
 
 -- a filter tells an element or nothing
 filtered : {X : Type 0} (p : X → Bool) (xs : List X) → filter p xs ≡ flat_map (λ x. if p x then x ∷ [] else []) xs
 filtered p [] = refl
-filtered p (x ∷ xs) = of (p x)
+filtered p (x ∷ xs) = of (p x) (filtered p xs)
   where
-    of : (b : Bool) → (if b then x ∷ filter p xs else filter p xs) ≡ (if b then x ∷ [] else []) ++ flat_map (λ y. if p y then y ∷ [] else []) xs
-    of true = ap (λ l. x ∷ l) (filtered p xs)
-    of false = filtered p xs
+    of : (b : Bool) → filter p xs ≡ flat_map (λ y. if p y then y ∷ [] else []) xs
+        → (if b then x ∷ filter p xs else filter p xs) ≡ (if b then x ∷ [] else []) ++ flat_map (λ y. if p y then y ∷ [] else []) xs
+    of true rest = ap (λ l. x ∷ l) rest
+    of false rest = rest
 
 -- a step that is asked for is kept
 asked_kept : (m : ModuleValue) (window : Window) (a : ℕ) (w v : World) (e : Event)
@@ -118,3 +127,15 @@ kept_asked window m log last =
     (recounted_by m (λ v a. account_if_kept window a)) (tell_asked_accounts window m) m (asked_kept m window)
     (schedule_of log) (opening m last.arguments))
     ∙ asked_accounts window m log last
+
+-- ---- lanes
+
+-- in the columns of these names
+pub lanes_named : (p q : PlacesValue) (shared : List (List ℕ)) (window : Window) (m : ModuleValue) (log : List Entry) (last : World) (n : NamesValue) (g : Grid) (text : List ℕ)
+    → q ≡ p → n ≡ names_until q shared window.last m last.arguments log → g ≡ grid_by_names q n window m log last
+    → text ≡ named_lanes_in g q n m log last → text ≡ named_lanes_text p shared window m log last
+lanes_named p q shared window m log last n g text same named columned is =
+    is
+    ∙ ap (λ h. named_lanes_in h q n m log last) columned
+    ∙ ap (λ k. lanes_by_names q k window m log last) named
+    ∙ ap (λ r. named_lanes_text r shared window m log last) same

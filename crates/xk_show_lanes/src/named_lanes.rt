@@ -138,6 +138,27 @@ fn leave_asked(steps: &mut Vec<Account>, window: Window)
     steps.retain(|account| window.asks(account.step.number));
 }
 
+/// What shared numbers and clocks are called, by the steps that were kept for it.
+fn kept_names<'t>(
+    alloc: Global,
+    places: &Places<'_>,
+    origins: &[UnitOrigins<'_>],
+    shared: &'t [&'t [u8]],
+    ended: &Ended<'_>,
+    window: Window,
+    kept: &[Account],
+) -> Result<Names<'t>, AllocError>
+    requires origins { places.now.origins ≡ origins.now }
+    requires kept { kept.now ≡ accounts_kept window ended.now.module.now
+        ended.now.log.items ended.now.core.world }
+    ensures { IfOk result (λ n. n ≡ names_until places.now
+        (map (λ x. x.now) shared.now) window.last ended.now.module.now
+        ended.now.core.world.arguments ended.now.log.items) }
+{
+    let program = ended.module.module();
+    Names::by_steps(alloc, places, origins, shared, program, kept)
+}
+
 /// What clocks and shared numbers are called, and how wide columns are.
 #[derive(Drop)]
 pub struct Columns<'t> {
@@ -165,8 +186,7 @@ pub fn named_columns<'t>(
     ensures grid { IfOk result (λ c. c.grid ≡ grid_by_names places.now c.names window
         ended.now.module.now ended.now.log.items ended.now.core.world) }
 {
-    let program = ended.module.module();
-    let names = Names::by_steps(alloc, places, origins, shared, program, &kept)?;
+    let names = kept_names(alloc, places, origins, shared, ended, window, &kept)?;
     let mut steps = kept;
     leave_asked(&mut steps, window);
     let grid = named_grid(
