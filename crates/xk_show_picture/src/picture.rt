@@ -176,9 +176,9 @@ fn plan_in<'t>(
     ended: &Ended<'_>,
 ) -> Result<Plan<'t>, AllocError>
     ensures sheet { IfOk result (λ p. p.sheet ≡ sheet_of grid
-        (signs_of names (length ended.now.core.world.clocks))
+        (signs_of names.entry (length ended.now.core.world.clocks))
         (length ended.now.core.world.clocks)) }
-    ensures names { IfOk result (λ p. p.names ≡ names) }
+    ensures names { IfOk result (λ p. p.names ≡ names.entry) }
     ensures rows { IfOk result (λ p. p.rows.items ≡ rows.items) }
     ensures activities { IfOk result (λ p.
         p.activities ≡ length ended.now.core.world.activities) }
@@ -203,6 +203,7 @@ fn line_for(alloc: Global, rows: &[u64], ended: &Ended<'_>) -> Result<Vec<u8>, A
 }
 
 /// How the picture of these steps of a source text's module is drawn, if it is.
+#[tactic(auto, using(crate::proofs::PlanLemmas::sheet_named))]
 fn named_plan<'t>(
     alloc: Global,
     places: &Places<'_>,
@@ -258,7 +259,7 @@ pub fn plan_for<'t>(
 ) -> Result<Planned<'t>, AllocError>
     requires { places.now.origins ≡ origins.now }
     ensures { IfOk result (IsPlanned places.now
-        (names_for places.now (option_map (λ l. map (λ x. x.now) l.now) shared) window
+        (names_for places.now (option_map (λ l. map (λ x. x.now) l.now) shared.entry) window
         ended.now.module.now ended.now.log.items ended.now.core.world)
         window ended.now.module.now ended.now.log.items ended.now.core.world) }
 {
@@ -297,7 +298,7 @@ fn picture(
 ) -> Result<Drawing, AllocError>
     requires { places.now.origins ≡ origins.now }
     ensures text { IfOk result (λ d. d.text.items ≡ picture_text places.now
-        (names_for places.now (option_map (λ l. map (λ x. x.now) l.now) shared) window
+        (names_for places.now (option_map (λ l. map (λ x. x.now) l.now) shared.entry) window
         ended.now.module.now ended.now.log.items ended.now.core.world)
         window ended.now.module.now ended.now.log.items ended.now.core.world) }
     ensures whole { IfOk result (λ d. d.whole ≡ is_drawn window
