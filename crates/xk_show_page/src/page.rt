@@ -103,21 +103,21 @@ fn page_of(
 /// The page of these steps of a run, or what is told in its place.
 fn page(
     alloc: Global,
-    source: Source<'_>,
+    source: &Source<'_>,
     places: &Places<'_>,
     ended: &Ended<'_>,
     window: Window,
 ) -> Result<Drawing, AllocError>
-    requires { places.now.origins ≡ source.origins.now }
+    requires { places.now.origins ≡ source.now.origins.now }
     ensures text { IfOk result (λ d. d.text.items ≡ page_by
         (is_drawn window ended.now.module.now ended.now.log.items ended.now.core.world)
-        source.text.now
+        source.now.text.now
         (picture_text places.now (names_for places.now
-        (option_map (λ l. map (λ x. x.now) l.now) source.shared) window
+        (option_map (λ l. map (λ x. x.now) l.now) source.now.shared) window
         ended.now.module.now ended.now.log.items ended.now.core.world) window
         ended.now.module.now ended.now.log.items ended.now.core.world)
         (moments window places.now (names_for places.now
-        (option_map (λ l. map (λ x. x.now) l.now) source.shared) window
+        (option_map (λ l. map (λ x. x.now) l.now) source.now.shared) window
         ended.now.module.now ended.now.log.items ended.now.core.world)
         ended.now.module.now ended.now.log.items ended.now.core.world)) }
     ensures whole { IfOk result (λ d. d.whole ≡ is_drawn window
@@ -163,7 +163,7 @@ pub fn source_page(
         origins,
         shared: Some(shared),
     };
-    page(alloc, source, &places, ended, window)
+    page(alloc, &source, &places, ended, window)
 }
 
 /// The same of a module without a text, with the unit and place of each step, and with the numbers of what it was about.
@@ -180,5 +180,5 @@ pub fn module_page(alloc: Global, ended: &Ended<'_>, window: Window) -> Result<D
         origins: &[],
         shared: None,
     };
-    page(alloc, source, &places, ended, window)
+    page(alloc, &source, &places, ended, window)
 }
