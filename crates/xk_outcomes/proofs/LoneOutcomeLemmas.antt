@@ -1,6 +1,6 @@
 -- A run that speaks for all shows the one outcome.
 use Rattle.std.proofs.Common.{◌≡◌, ◌∙◌, ℕ, ℤ, zero, suc, ◌&&◌, Bool, true, false, List, [], ◌∷◌, Option, None, Some, refl, sym, ap, subst, true≢false}
-use Rattle.std.specs.Prelude.{count_by, is_none, slice_get}
+use Rattle.std.specs.Prelude.{count_by, is_none, slice_get, IfNone}
 use Rattle.std.specs.Ordering.{int_eq}
 use Rattle.std.proofs.lemmas.Option.{none-some, same_Some}
 use Rattle.xk_types.specs.declared.world.Entry.{Entry}
@@ -94,6 +94,11 @@ pub of_these : (order : Order) (k m : ModuleValue) (xs args : List ℤ) (log : L
     → b ≡ speaks_for_all order k xs log → b ≡ speaks_for_all order m args log
 of_these order k m xs args log b same given is =
     is ∙ ap (λ n. speaks_for_all order n xs log) same ∙ ap (λ ys. speaks_for_all order m ys log) given
+
+-- what is said where there is none
+pub none_weaker : {A P Q : Type 0} (o : Option A) → (P → Q) → IfNone o P → IfNone o Q
+none_weaker None f h = f h
+none_weaker (Some x) f h = h
 
 -- ---- an answer with that outcome alone, for which no world is kept
 

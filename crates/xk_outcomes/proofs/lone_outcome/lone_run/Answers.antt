@@ -13,8 +13,8 @@ returns-then-not-speaks-clause-many c =
       ended.core.world.steps,
       first_run m args _ ended.log.items ended.printed.items ended.core.world.steps c.in_ok-ended.ensures.run,
       sym (of_these c.args.order _ m _ args ended.log.items c.in_ok-speaks.speaks c.in_ok-ended.ensures.same_module
-      c.in_ok-ended.ensures.same_arguments c.in_ok-speaks.ensures)
-      ∙ c.if-not-speaks.true,
+          c.in_ok-ended.ensures.same_arguments c.in_ok-speaks.ensures)
+          ∙ c.if-not-speaks.true,
     )
 
 pub returns-clause-lone : goal.returns-clause-lone
@@ -22,7 +22,7 @@ returns-clause-lone c =
     let ended = c.in_ok-ended.ended in
     let m = c.args.verified.now in
     let args = c.args.arguments.now in
-    lone m args c.module.ensures.limits c.module.ensures.accepted c.requires c.args.order _ _
+    lone m args c.module-accepted.ensures.limits c.module-accepted.ensures.accepted c.requires c.args.order _ _
     (record {
       printed = ended.printed.items;
       steps = ended.core.world.steps;
