@@ -1,14 +1,12 @@
 -- What a first look decides.
-use Rattle.std.proofs.Common.{◌≡◌, ◌∙◌, ◌<◌, ◌≤◌, ◌⊎◌, inl, inr, ℕ, ℤ, Bool, true, false, List, length, refl, sym, ap, arith, true≢false}
-use Rattle.std.specs.Prelude.{max}
+use Rattle.std.proofs.Common.{◌≡◌, ◌∙◌, ◌≤◌, inl, inr, ℕ, ℤ, Bool, true, false, List, refl, sym, ap, arith, true≢false}
 use Rattle.xk_types.specs.Code.{ModuleValue}
 use Rattle.xk_outcomes.specs.declared.all_outcomes.Limit.{Limit}
 use Rattle.xk_outcomes.specs.declared.holding.Verdict.{Verdict}
 use Rattle.xk_outcomes.specs.declared.holding.Verdict.TheVariants as verdict
 use Rattle.xk_outcomes.specs.declared.listing.Outcome.{Outcome}
-use Rattle.xk_outcomes.specs.Expected.{AreExpected, AreHeld, TellsAll, TellsUntold, is_refuted, told_by, verdict_of}
-use Rattle.xk_outcomes.specs.Limits.{GoesFar, HasKept}
-use Rattle.xk_outcomes.specs.PlainRuns.{plain_runs}
+use Rattle.xk_outcomes.specs.Expected.{AreExpected, AreHeld, is_refuted, told_by, verdict_of}
+use Rattle.xk_outcomes.specs.Limits.{GoesFar}
 use Rattle.xk_outcomes.specs.Sets.{AreAllAs, AreEndsListedAs}
 
 abbrev pub is_undecided : Verdict → Bool
@@ -19,8 +17,8 @@ is_undecided verdict.Refuted = false
 -- where all are listed, what any schedules print is
 ends_of_all : (sets : Bool) (m : ModuleValue) (args : List ℤ) (schedules : List (List ℕ)) (list : List Outcome) → AreAllAs sets m args list
     → AreEndsListedAs sets m args schedules list
-ends_of_all false m args schedules list all k p numbers there o = all p numbers o
-ends_of_all true m args schedules list all k p numbers there o = all p numbers o
+ends_of_all false m args schedules list all = λ k p numbers there o. all p numbers o
+ends_of_all true m args schedules list all = λ k p numbers there o. all p numbers o
 
 -- what is complete up to a limit is so up to a greater one
 far_of_all : (m : ModuleValue) (args : List ℤ) (sets : Bool) (early limit : Limit) (list : List Outcome) (complete : Bool) → complete ≡ true

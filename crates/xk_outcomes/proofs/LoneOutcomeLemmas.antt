@@ -7,7 +7,6 @@ use Rattle.xk_types.specs.declared.world.Entry.{Entry}
 use Rattle.xk_types.specs.Acceptance.{IsAccepted}
 use Rattle.xk_types.specs.Code.{IsWithinLimits, ModuleValue}
 use Rattle.xk_types.specs.World.{AreArguments, opening}
-use Rattle.xk_types.specs.Schedule.{printed}
 use Rattle.xk_types.specs.Logs.{schedule_of}
 use Rattle.xk_law_traces.specs.OneRun.{IsWholeRun}
 use Rattle.xk_law_races.proofs.SpeaksForAllLaw.{every, prints_every}

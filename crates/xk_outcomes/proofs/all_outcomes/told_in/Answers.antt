@@ -1,10 +1,9 @@
-use Rattle.std.specs.Prelude.{max, IfNone, IfSome}
-use Rattle.std.proofs.Common.{◌∙◌, ◌≤◌, arith, List, length, sym, subst, true≢false, ap}
+use Rattle.std.specs.Prelude.{IfNone, IfSome}
+use Rattle.std.proofs.Common.{◌∙◌, arith, List, length, sym, subst, true≢false, ap}
 use Rattle.xk_outcomes.specs.declared.listing.Outcome.{Outcome}
 use Rattle.xk_outcomes.specs.Listing.{AreAllIn, AreShownIn, HasKeptIn}
 use Rattle.xk_outcomes.specs.LoneOutcomes.{IsLone, IsOneOfMany}
 use Rattle.xk_outcomes.specs.Outcomes.{AreDistinct}
-use Rattle.xk_outcomes.specs.PlainRuns.{plain_runs}
 use Rattle.xk_outcomes.proofs.LoneOutcomeLemmas.{alone_distinct, none_kept}
 use Rattle.xk_outcomes.proofs.all_outcomes.told_in.Goals as goal
 
