@@ -145,7 +145,8 @@ class Asker:
             return
         self.counts["logs played again"] += 1
         answer = self.program.answer(self.case.text, log, "replay")
-        if answer[0] != 0 or asked.told(tuple(map(int, answer[1].rpartition("ended")[0].split()))) != lists[pick - 1]:
+        printed = answer[1].rpartition("ended")[0].split()
+        if answer[0] != 0 or asked.told(tuple(map(int, printed))) != lists[pick - 1]:
             yield f"its log is played again: {answer}"
 
     def held(self, lines: list[str], limit: int | None, all_lines: frozenset[str] = frozenset()) -> Iterator[str]:
