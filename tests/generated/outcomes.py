@@ -150,8 +150,8 @@ class Asker:
             yield f"its log is played again: {answer}"
 
     def held(self, lines: list[str], limit: int | None, all_lines: frozenset[str] = frozenset()) -> Iterator[str]:
-        """What is wrong with an answer where outcomes are held against a list of these lines; the line of an outcome that
-        isn't in it is one of all lines, if these are known."""
+        """What is wrong with an answer where outcomes are held against a list of these lines; the line of an outcome
+        that isn't in it is one of all lines, if these are known."""
         file, listed = self.program.folder / "text", self.program.folder / "list"
         file.write_bytes(self.case.text.data)
         listed.write_text("".join(lines))
