@@ -21,7 +21,8 @@ ends_of_all false m args schedules list all = λ k p numbers there o. all p numb
 ends_of_all true m args schedules list all = λ k p numbers there o. all p numbers o
 
 -- what is complete up to a limit is so up to a greater one
-far_of_all : (m : ModuleValue) (args : List ℤ) (sets : Bool) (early limit : Limit) (list : List Outcome) (complete : Bool) → complete ≡ true
+far_of_all : (m : ModuleValue) (args : List ℤ) (sets : Bool) (early limit : Limit) (list : List Outcome) (complete : Bool)
+    → complete ≡ true
     → AreAllAs sets m args list → early.outcomes ≤ limit.outcomes → GoesFar m args sets early list complete
     → GoesFar m args sets limit list complete
 far_of_all m args sets early limit list complete whole all less h = record {

@@ -42,7 +42,8 @@ module _ (m : ModuleValue) (args : List ℤ) (limits : IsWithinLimits m) (ok : I
   whole s numbers x = record { legal = x.legal; ended = x.over }
 
   -- what the run of the outcome's log prints, told in this order, is what every run prints, told in it
-  one_told : (order : Order) (Has : List ℕ → Type 0) (o : Outcome) (h : IsOutcomeOf order Has m args o) → speaks_for_all order m args o.log.items ≡ true
+  one_told : (order : Order) (Has : List ℕ → Type 0) (o : Outcome) (h : IsOutcomeOf order Has m args o)
+      → speaks_for_all order m args o.log.items ≡ true
       → (s : List ℕ) (numbers : List ℤ) → IsOutcome m args s numbers → ordered order h.printed ≡ ordered order numbers
   one_told order.Printed Has o h speaks s numbers x =
       let log = o.log.items in
@@ -60,7 +61,8 @@ module _ (m : ModuleValue) (args : List ℤ) (limits : IsWithinLimits m) (ok : I
       (λ n. sym (same_rising h.printed n) ∙ ap (count_by (int_eq n)) (sym mine.prints) ∙ come.numbers n ∙ ap (count_by (int_eq n)) x.prints
       ∙ same_rising numbers n)
 
-  pub lone : (order : Order) (Has : List ℕ → Type 0) (o : Outcome) → IsOutcomeOf order Has m args o → speaks_for_all order m args o.log.items ≡ true
+  pub lone : (order : Order) (Has : List ℕ → Type 0) (o : Outcome) → IsOutcomeOf order Has m args o
+      → speaks_for_all order m args o.log.items ≡ true
       → IsLone order m args o
   lone order Has o h speaks = record {
     shown = alone;

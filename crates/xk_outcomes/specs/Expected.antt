@@ -143,8 +143,8 @@ is_refuted verdict.Complete = false
 is_refuted verdict.Undecided = false
 
 -- What a module can print that is given these arguments, as lists of numbers or without their order, is held against the list in these bytes: the text
--- tells the first outcome that isn't in it, which refutes it, or whether they are all. They are looked for up to this limit, but where the list is
--- refuted: the first outcome that isn't in it ends the search.
+-- tells the first outcome that isn't in it, which refutes it, or whether they are all. They are looked for up to this limit, but where the list
+-- is refuted: the first outcome that isn't in it ends the search.
 pub record AreExpected (m : ModuleValue) (args : List ℤ) (sets : Bool) (limit : Limit) (bytes text : List ℕ) (found : Verdict) : Type 0 where
   pub list : List Outcome
   pub complete : Bool

@@ -25,8 +25,8 @@ pub struct Limit {
     /// As soon as more worlds are kept: so a search that comes to its end with as many is complete. All that one of them leads to in a
     /// step are kept before the next look.
     pub entries: usize,
-    /// As soon as so many lists of numbers are told, and one is found that isn't. They are never more, but what the plain runs print is told
-    /// whatever the limit is.
+    /// As soon as so many lists of numbers are told, and one is found that isn't. They are never more, but what the plain runs print
+    /// is told whatever the limit is.
     pub outcomes: usize,
 }
 

@@ -66,8 +66,8 @@ impl Listed {
         self.logs.contains_key(&new.numbers)
     }
 
-    /// Lists it, if its numbers aren't listed yet and fewer are than the limit says. Whether its numbers are listed then. Err where memory was
-    /// refused: nothing more is listed then.
+    /// Lists it, if its numbers aren't listed yet and fewer are than the limit says. Whether its numbers are listed then. Err where memory
+    /// was refused: nothing more is listed then.
     pub fn put_within(&mut self, new: Outcome, limit: usize) -> Result<bool, AllocError>
         ensures distinct { AreDistinct self.old → AreDistinct self.new }
         ensures kept { KeepsListed self.old self.new }

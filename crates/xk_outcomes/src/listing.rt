@@ -112,8 +112,8 @@ fn note_at(
     note(alloc, order, list, &x, limit)
 }
 
-/// Lists what those print that were found and in which all have ended, each list of numbers once, behind what is listed, until one isn't listed
-/// and as many are as the limit says. Whether all are.
+/// Lists what those print that were found and in which all have ended, each list of numbers once, behind what is listed, until one
+/// isn't listed and as many are as the limit says. Whether all are.
 pub fn list_outcomes(
     alloc: Global,
     order: Order,

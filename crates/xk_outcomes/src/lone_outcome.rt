@@ -35,8 +35,8 @@ fn speaks_for_all(alloc: Global, order: Order, ended: &Ended<'_>) -> Result<bool
     }
 }
 
-/// The one outcome, where the run in the order `first` speaks for all. None where it doesn't: it has a race, or its prints are in no one order
-/// and their order counts. Err where memory was refused.
+/// The one outcome, where the run in the order `first` speaks for all. None where it doesn't: it has a race, or its prints are in no
+/// one order and their order counts. Err where memory was refused.
 fn lone_run(
     alloc: Global,
     order: Order,

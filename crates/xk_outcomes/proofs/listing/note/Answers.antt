@@ -23,7 +23,8 @@ returns-in_ok-new-clause-kept c = c.put_within.ensures.kept
 
 pub returns-in_ok-new-clause-listed : goal.returns-in_ok-new-clause-listed
 returns-in_ok-new-clause-listed c =
-    IfOk-weaker c.put_within.result _ _ (λ noted listed is done. subst (IsListed c.put_within.new.self) c.in_ok-new.ensures.numbers (listed is))
+    IfOk-weaker c.put_within.result _ _
+    (λ noted listed is done. subst (IsListed c.put_within.new.self) c.in_ok-new.ensures.numbers (listed is))
     c.put_within.ensures.listed
 
 pub returns-in_ok-new-clause-of : goal.returns-in_ok-new-clause-of
