@@ -24,6 +24,7 @@ use Rattle.xk_log.specs.Verdicts.{IsTruncated, IsWrongAt, Says, Whole}
 use Rattle.xk_replay.specs.Chart.{chart_text}
 use Rattle.xk_outcomes.specs.Sets.{AreAllAs, AreDistinctAs, AreShownAs}
 use Rattle.xk_outcomes.specs.declared.listing.Outcome.{Outcome}
+use Rattle.xk_outcomes.specs.LoneOutcomes.{IsOneOfManyAs}
 use Rattle.xk_outcomes.specs.PlainRuns.{ArePlainListedAs}
 use Rattle.xk_outcomes.specs.Text.{outcomes_text}
 use Rattle.xk_outcomes.specs.declared.all_outcomes.Limit.{Limit}
@@ -100,6 +101,7 @@ pub record AreOutcomes (m : ModuleValue) (args : List ℤ) (sets : Bool) (limit 
   pub shown : AreShownAs sets m args list
   pub distinct : AreDistinctAs sets list
   pub all : complete ≡ true → AreAllAs sets m args list
+  pub lone : complete ≡ false → IsOneOfManyAs sets m args
   pub plain : complete ≡ false → ArePlainListedAs sets m args list
   pub far : GoesFar m args sets limit list complete
   pub text_is : text ≡ outcomes_text list complete
