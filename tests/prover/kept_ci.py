@@ -75,8 +75,8 @@ class Earlier:
     def __init__(self, rtlib: ModuleType, top: pathlib.Path, log: str) -> None:
         self.top = top
         self.crates = crates_in(rtlib, top)
-        self.proofs = set(re.findall(r"^rt: (\w+) proved$", log, re.MULTILINE))
-        self.tests = set(re.findall(r"^rt: (\w+): its tests are proved$", log, re.MULTILINE))
+        self.proofs = set(re.findall(r"rt: (\w+) proved$", log, re.MULTILINE))
+        self.tests = set(re.findall(r"rt: (\w+): its tests are proved$", log, re.MULTILINE))
         self.edits = set(re.findall(r"^rt: must-fail (\w+/\S+): refused", log, re.MULTILINE))
 
     def has(self, crate: Any) -> bool:
