@@ -57,15 +57,20 @@ function relatedOf(document, said) {
   });
 }
 
-// The diagnostics for an answer: none or one. A fault without a place is at the beginning.
-function diagnosticsOf(document, said) {
-  if (said.accepted) return [];
+// The diagnostic for a fault. One without a place is at the beginning.
+function diagnosticOf(document, said) {
   const range = rangeOf(document, said);
   const fault = new vscode.Diagnostic(range, messageOf(said), vscode.DiagnosticSeverity.Error);
   fault.source = "x10clock";
   fault.code = said.rule;
   fault.relatedInformation = relatedOf(document, said);
-  return [fault];
+  return fault;
+}
+
+// The diagnostics for an answer: none, or that of the fault and of those that are told behind it.
+function diagnosticsOf(document, said) {
+  if (said.accepted) return [];
+  return [said, ...(said.further || [])].map(fault => diagnosticOf(document, fault));
 }
 
 exports.activate = context => {

@@ -145,11 +145,13 @@ class Asker:
             return
         self.counts["logs played again"] += 1
         answer = self.program.answer(self.case.text, log, "replay")
-        if answer[0] != 0 or asked.told(tuple(map(int, answer[1].rpartition("ended")[0].split()))) != lists[pick - 1]:
+        printed = answer[1].rpartition("ended")[0].split()
+        if answer[0] != 0 or asked.told(tuple(map(int, printed))) != lists[pick - 1]:
             yield f"its log is played again: {answer}"
 
-    def held(self, lines: list[str], limit: int | None) -> Iterator[str]:
-        """What is wrong with an answer where outcomes are held against a list of these lines."""
+    def held(self, lines: list[str], limit: int | None, all_lines: frozenset[str] = frozenset()) -> Iterator[str]:
+        """What is wrong with an answer where outcomes are held against a list of these lines; the line of an outcome
+        that isn't in it is one of all lines, if these are known."""
         file, listed = self.program.folder / "text", self.program.folder / "list"
         file.write_bytes(self.case.text.data)
         listed.write_text("".join(lines))
@@ -169,6 +171,8 @@ class Asker:
             wrong = [*outcomes.held_faults(self.case.walk, asked, told, Answer(status, out))] + (
                 [f"on standard error: {err}"] if err else []
             )
+            if all_lines and status == outcomes.REFUTED and out not in all_lines:
+                wrong.append("the outcome has another number than without a list")
         yield from (
             f"outcomes {' '.join(map(str, options))} of {lines}: {what}: {(status, out, err)}" for what in wrong
         )
@@ -189,6 +193,16 @@ class Asker:
         }
         if err or not is_right.get(said, False):
             yield f"races of the run in the order {order}, which prints {numbers}: {(status, out, err)}"
+        if order == "first" and (said == THIS_ORDER or self.sets and said == THESE_NUMBERS):
+            yield from self.alone()
+
+    def alone(self) -> Iterator[str]:
+        """What is wrong with the answer of a program of which one run speaks for all, with the least limit."""
+        file, sets = self.program.folder / "text", ["--sets"] if self.sets else []
+        status, out, err = self.program.call("outcomes", *self.case.text.words(), *sets, "--limit", 1, file)
+        self.counts["answers by one run"] += 1
+        if status != outcomes.WHOLE or not out.endswith("outcomes 1 complete\n") or err:
+            yield f"one run speaks for all: {(status, out, err)}"
 
     def lists(self, rng: random.Random) -> Iterator[str]:
         """What is wrong with answers where outcomes are held against what the program told, and against what it
@@ -197,11 +211,13 @@ class Asker:
         file.write_bytes(self.case.text.data)
         _, out, _ = self.program.call("outcomes", *self.case.text.words(), *(["--sets"] if self.sets else []), file)
         lines = out.splitlines(keepends=True)
+        all_lines = frozenset(lines)
         rng.shuffle(lines)
         yield from self.held(lines, None)
         yield from self.held(lines, rng.choice([1, 2, 3, 10]))
         missing, place = rng.randrange(len(lines)), rng.randrange(len(lines) + 1)
-        yield from self.held(lines[:missing] + lines[missing + 1 :], None)
+        yield from self.held(lines[:missing] + lines[missing + 1 :], None, all_lines)
+        yield from self.held([], None, all_lines)
         other = rng.choice(
             [
                 "outcome 1 prints 987654321\n",

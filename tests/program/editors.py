@@ -145,6 +145,7 @@ def faults(rules: Rules, words: set[str], signs: set[str]) -> list[str]:
 PROGRAMS = {
     "a name.x10": b"def main() {\n    val n = 1\n    Console.OUT.println(n);\n}\n",
     "signs.x10": "def main() {\n\t/* \u00fc\U0001f600 */ nobody = 1; // \U0001f600\n}\n".encode(),
+    "names.x10": b"def main() {\n    x = 1;\n    val n = x + y;\n    c.drop();\n}\n",
     "ends.x10": b"def main() {\n",
     "no-feed.x10": b"def main() {\n    val n = 1;",
     "no-main.x10": b"def min() {\n}\n",
@@ -216,10 +217,13 @@ def where(it: dict[str, Any]) -> str:
     return f"{it['line']}:{it['column']}: " if "line" in it else ""
 
 
+def faults(said: dict[str, Any]) -> list[dict[str, Any]]:
+    """What is said of the first fault, and of those behind it."""
+    return [] if said["accepted"] else [said, *said.get("further", [])]
+
+
 def in_neovim(text: str, said: dict[str, Any]) -> list[Any]:
-    """What neovim has to show: the extent in bytes, and the message."""
-    if said["accepted"]:
-        return []
+    """What neovim has to show of a fault: the extent in bytes, and the message."""
     lines = text.removeprefix("\ufeff").removesuffix("\n").split("\n")
     walk = said.get("walk", [])
     which = f"the last {STOPS} of {len(walk)} stops of a way" if len(walk) > STOPS else "a way"
@@ -229,13 +233,11 @@ def in_neovim(text: str, said: dict[str, Any]) -> list[Any]:
     told += [f"  {where(stop)}{kinds()[stop['kind']]}" for stop in walk[-STOPS:]]
     told += [f"usual repair: {said['repair']}"]
     begin, end = extent(lines, said)
-    return [[begin.bytes(lines), end.bytes(lines), "\n".join(told)]]
+    return [begin.bytes(lines), end.bytes(lines), "\n".join(told)]
 
 
 def in_code(text: str, said: dict[str, Any]) -> list[Any]:
-    """What VS Code has to show: the extent in UTF-16, rule and message, and the other places."""
-    if said["accepted"]:
-        return []
+    """What VS Code has to show of a fault: the extent in UTF-16, rule and message, and the other places."""
     lines = text.split("\n")
     span = lambda it: [place.units(lines) for place in extent(lines, it)]
     is_elsewhere = lambda note: "line" in note and where(note) != where(said)
@@ -245,7 +247,7 @@ def in_code(text: str, said: dict[str, Any]) -> list[Any]:
     stops = said.get("walk", [])[-STOPS:]
     related = [[span(stop), f"on a way to it, held before: {kinds()[stop['kind']]}"] for stop in stops]
     related += [[span(note), note["text"]] for note in said["notes"] if is_elsewhere(note)]
-    return [[span(said), said["rule"], "\n".join(told), related]]
+    return [span(said), said["rule"], "\n".join(told), related]
 
 
 # Reads the names, opens each, makes it, and writes what there is.
@@ -415,11 +417,15 @@ def refused(room: Room) -> list[str]:
     return [name for name, said in room.said.items() if not said["accepted"]]
 
 
-def entry(room: Room, name: str, kind: str) -> list[Any]:
-    """The entry for the first line of `explain`: file, line and column, kind, and what is behind them."""
-    said, line = room.said[name], room.lines[name][0]
-    before = f"{name}:{said['line']}:{said['column']}: " if "line" in said else f"{name}: "
-    return [name, said.get("line", 0), said.get("column", 0), kind, line.removeprefix(before)]
+def entries(room: Room, name: str, kind: str) -> list[Any]:
+    """The entries for the first lines of what `explain` says of each fault: file, line and column, kind, and what is
+    behind them."""
+    heads = [line for line in room.lines[name] if line.startswith(name)]
+    found = []
+    for said, line in zip(faults(room.said[name]), heads, strict=True):
+        before = f"{name}:{said['line']}:{said['column']}: " if "line" in said else f"{name}: "
+        found.append([name, said.get("line", 0), said.get("column", 0), kind, line.removeprefix(before)])
+    return found
 
 
 def quickfix(room: Room, editor: str) -> list[str]:
@@ -427,8 +433,8 @@ def quickfix(room: Room, editor: str) -> list[str]:
     quiet = ["-es"] if editor == "vim" else ["--headless"]
     words = [editor, *quiet, "-N", "-n", "-i", "NONE", "-u", "NONE"]
     got = room.drive(VIM_DRIVER, "vim", *words, "--cmd", f"set rtp^={TOP / 'editors/vim'}", "-S")
-    entries = {name: [entry(room, name, "E")] for name in refused(room)}
-    wanted = [["x10clock", "// %s", 4, entries.get(name, [])] for name in room.texts]
+    made = {name: entries(room, name, "E") for name in refused(room)}
+    wanted = [["x10clock", "// %s", 4, made.get(name, [])] for name in room.texts]
     return otherwise(f"{editor} :make", room.texts, got, wanted)
 
 
@@ -436,7 +442,7 @@ def neovim(room: Room) -> list[str]:
     """The diagnostics of the script for neovim."""
     words = ["nvim", "--headless", "-n", "-i", "NONE", "-u", "NONE", "--cmd", f"set rtp^={TOP / 'editors/vim'}"]
     [(before, mended)] = room.drive(NEOVIM_DRIVER, "lua", *words, "--cmd", "filetype plugin on", "-S")
-    wanted = [in_neovim(room.text(name), said) for name, said in room.said.items()]
+    wanted = [[in_neovim(room.text(name), one) for one in faults(said)] for name, said in room.said.items()]
     wrong = otherwise("neovim", room.texts, before, wanted)
     return wrong + otherwise("neovim, mended", room.texts, mended, [[] for _ in wanted])
 
@@ -444,7 +450,7 @@ def neovim(room: Room) -> list[str]:
 def code(room: Room) -> list[str]:
     """The diagnostics of the extension for VS Code."""
     [(before, mended, left)] = room.drive(CODE_DRIVER, "js", "node")
-    wanted = [in_code(room.text(name), said) for name, said in room.said.items()]
+    wanted = [[in_code(room.text(name), one) for one in faults(said)] for name, said in room.said.items()]
     wrong = otherwise("vscode", room.texts, before, wanted)
     wrong += otherwise("vscode, mended", room.texts, mended, [[] for _ in wanted])
     return wrong + [f"vscode: diagnostics of {left} closed texts"] * bool(left)
@@ -454,8 +460,8 @@ def matchers(room: Room) -> list[str]:
     """The problem matchers of the extension."""
     lines = [line for name in room.texts for line in room.lines[name]]
     [got] = room.drive(MATCHER, "js", "node", LINES=json.dumps(lines))
-    wanted = [entry(room, name, "" if "line" in room.said[name] else "file") for name in refused(room)]
-    return otherwise("problem matchers", refused(room), got, wanted)
+    wanted = [it for name in refused(room) for it in entries(room, name, "" if "line" in room.said[name] else "file")]
+    return otherwise("problem matchers", (it[0] for it in wanted), got, wanted)
 
 
 def words_of_kinds() -> list[str]:

@@ -9,7 +9,7 @@ from functools import cache
 from tests.harness import TOP
 from tests.reference import declarations, expected, hints, origins, sums
 from tests.reference.names import cut
-from tests.reference.source import tokens_of
+from tests.reference.source import RULES, faults_of, tokens_of
 from tests.reference.sums import Note
 
 PAGE = TOP / "docs/EXPLAIN.md"
@@ -26,6 +26,9 @@ PLACE = re.compile(
 BOUND = re.compile(r"(?P<title>(?P<rule>V\d+) \w+) over (?P<limit>\d+)")
 # So many signs are shown on either side of a place, at most, and of a line of a walk.
 WINDOW, TOLD = 80, 60
+# So many faults of names are shown at once.
+SHOWN_AT_ONCE = 10
+MORE = f"\n   = there are more faults of names: these are the first {SHOWN_AT_ONCE}\n"
 WAYS = "   = ways go round loops and into both branches, whatever the numbers are\n"
 WORD = re.compile(rb"[0-9A-Za-z_]*")
 WORDS = re.compile(rb"[0-9A-Za-z_]+")
@@ -370,6 +373,21 @@ def front(file: str, text: bytes, found: re.Match[str], notes: str) -> str:
     return head + notes + repair_line(repair_at(rule, text, at))
 
 
+def further(text: bytes, said: str) -> tuple[list[str], bool]:
+    """The lines of the faults of names behind that of a line, as far as they are shown, and whether there are more."""
+    found = FRONT.fullmatch(said)
+    first = int(found["at"]), int(found["rule"][1:])
+    behind = [f"F{rule} {RULES[rule]} at {at}" for at, rule in faults_of(text) if (at, rule) > first]
+    return behind[: SHOWN_AT_ONCE - 1], len(behind) >= SHOWN_AT_ONCE
+
+
+def fronts(file: str, text: bytes, said: str) -> str:
+    """What is said of a fault, and of those of names behind it."""
+    behind, more = further(text, said)
+    notes = {line: note_lines(text, notes_on(text, line, False)) for line in (said, *behind)}
+    return "\n".join(front(file, text, FRONT.fullmatch(line), notes[line]) for line in notes) + (MORE if more else "")
+
+
 def walk(slot: str, kinds: list[str], places: list[str]) -> str:
     lines = [f"     at {place}  {kind}: {tables()[1][kind]}\n" for place, kind in zip(places, kinds, strict=True)]
     return f"   = a way to it, and what slot {slot} holds before each instruction:\n{''.join(lines)}{WAYS}"
@@ -425,9 +443,9 @@ def explained(name: str, text: bytes, line: str, kinds: list[str], is_module: bo
     """What is said where standard error gets this line; the kinds are those of the walk."""
     file = shown_name(name)
     said = line.removeprefix("x10clock: ").removesuffix("\n")
+    if FRONT.fullmatch(said):
+        return fronts(file, text, said)
     notes = note_lines(text, notes_on(text, said, is_module))
-    if found := FRONT.fullmatch(said):
-        return front(file, text, found, notes)
     if (found := PLACE.fullmatch(said)) and not is_module:
         return in_source(file, text, found, kinds, notes)
     if found := PLACE.fullmatch(said):

@@ -15,6 +15,7 @@ from tests.reference.explain import (
     TEXT,
     WITHOUT_PLACE,
     WORD,
+    further,
     notes_on,
     notes_on_accepted,
     place_title,
@@ -65,6 +66,11 @@ def front(file: str, text: bytes, found: re.Match[str]) -> Members:
     )
 
 
+def one_front(file: str, text: bytes, said: str) -> Members:
+    """What is said of one fault, with its notes."""
+    return front(file, text, FRONT.fullmatch(said)) | notes_of(text, notes_on(text, said, False))
+
+
 def by_place(file: str, text: bytes | None, found: re.Match[str], kinds: list[str]) -> Members:
     """What is said of a place that the verifier refuses; of that of a source text with its lines and names."""
     number, at = map(int, re.findall(r"\d+", found["place"]))
@@ -87,11 +93,13 @@ def by_place(file: str, text: bytes | None, found: re.Match[str], kinds: list[st
 def explained(file: str, text: bytes, line: str, kinds: list[str], is_module: bool) -> str:
     """What is said where standard error gets this line; the kinds are those of the walk."""
     said = line.removeprefix("x10clock: ").removesuffix("\n")
+    if FRONT.fullmatch(said):
+        behind, more = further(text, said)
+        others = {"further": [one_front(file, text, line) for line in behind], "more": more} if behind else {}
+        return line_of(one_front(file, text, said) | others)
     source, notes = None if is_module else text, notes_on(text, said, is_module)
     if found := TEXT.fullmatch(said):
         return line_of(refused(file, found["title"]))
-    if found := FRONT.fullmatch(said):
-        return line_of(front(file, text, found) | notes_of(text, notes))
     if found := PLACE.fullmatch(said):
         return line_of(by_place(file, source, found, kinds) | notes_of(source, notes))
     if found := BOUND.fullmatch(said):

@@ -79,7 +79,7 @@ class Walk:
     """All schedules of a program that is accepted and given these numbers; raises TooMany."""
 
     def __init__(self, module: Module, arguments: Arguments = (), worlds: int = MOST_WORLDS) -> None:
-        self.module, self.worlds = module, worlds
+        self.module, self.arguments, self.worlds = module, arguments, worlds
         self.start = modules.opening(module, arguments)
         self.edges: dict[World, list[Edge]] = {}
         # What can be printed from a world on until all have ended; a world stands behind those that its steps lead to.
@@ -204,11 +204,16 @@ def log_of(walk: Walk, asked: Asked, told: Numbers) -> Log:
     return walk.log_of(next(numbers for numbers in sorted(walk.outcomes) if asked.told(numbers) == told))
 
 
+def listed(walk: Walk, asked: Asked) -> tuple[list[Numbers], bool]:
+    """What is told, those of the plain runs first and the others in their order as lists, and whether that is all."""
+    outcomes, plain = asked.outcomes(walk), asked.plain(walk.module, walk.arguments)
+    others = sorted(outcomes.difference(plain))[: max(0, asked.limit - len(plain))]
+    return [*plain, *others], len(plain) + len(others) == len(outcomes)
+
+
 def answer(walk: Walk, asked: Asked) -> Answer:
-    """An answer that may be given: the outcomes in their order as lists."""
-    outcomes = asked.outcomes(walk)
-    lists = sorted(outcomes)[: asked.limit]
-    is_complete = len(lists) == len(outcomes)
+    """An answer that may be given."""
+    lists, is_complete = listed(walk, asked)
     has_log = asked.pick is not None and asked.pick <= len(lists)
     log = logs.text_of(log_of(walk, asked, lists[asked.pick - 1])) if has_log else b""
     return Answer(status_of(asked, len(lists), is_complete), text_of(lists, is_complete), log)
@@ -269,14 +274,10 @@ def held_faults(walk: Walk | None, asked: Asked, told: set[bytes], given: Answer
 
 
 def held(walk: Walk, asked: Asked, told: set[bytes]) -> Answer:
-    """What may be said of outcomes that are held against a list: the first in their order as lists that isn't in it,
-    and else the last line."""
-    outcomes = asked.outcomes(walk)
-    lists = sorted(outcomes)[: asked.limit]
+    """What may be said of outcomes that are held against a list: the first that isn't in it, and else the last line."""
+    lists, is_complete = listed(walk, asked)
     untold = next((number for number, numbers in enumerate(lists) if not is_told(told, numbers)), None)
-    lines, is_complete = text_of(lists, len(lists) == len(outcomes)).splitlines(keepends=True), len(lists) == len(
-        outcomes
-    )
+    lines = text_of(lists, is_complete).splitlines(keepends=True)
     return (
         Answer(REFUTED, lines[untold])
         if untold is not None

@@ -117,7 +117,8 @@ class Sheet:
         self.labels = self.bands_left + BAND * len(self.bands) + 8
         behind = BEHIND
         if naming:
-            behind = BEHIND_NAME + min(MOST_NAME, max(map(len, naming.clocks), default=0))
+            made = sum(taken.step.event == "Made" for taken in played.taken if taken.number < window.stop)
+            behind = BEHIND_NAME + min(MOST_NAME, max(map(len, naming.clocks[:made]), default=0))
         self.width = max(NARROWEST, self.labels + (SIGN * behind if self.bands else 0) + 8)
         self.height = TOP + ROW * self.rows + 16
 

@@ -661,7 +661,7 @@ class Names:
         self.units: dict[str, UnitForm] = {}
         self.calls: dict[str, list[Name]] = {}
 
-    def check(self) -> None:
+    def look(self) -> None:
         for method in self.tree.methods:
             if method.name.text in self.methods:
                 self.fault(6, method.name)
@@ -671,6 +671,9 @@ class Names:
                 self.declare(shared.name, Declared(Meaning.SHARED, cell=cell))
             for method in self.tree.methods:
                 self.method(method)
+
+    def check(self) -> None:
+        self.look()
         if self.faults:
             offset, rule = min(self.faults)
             raise Fault(rule, offset)
@@ -719,24 +722,28 @@ class Names:
         declared = self.meanings[name.at] = self.visible[name.text]
         return declared
 
-    def clock(self, unit: UnitForm, name: Name) -> None:
-        """A name where a clock is wanted that the unit sees."""
+    def use(self, unit: UnitForm, name: Name, *wanted: Meaning) -> Declared | None:
+        """A name where one of these is wanted that the unit sees."""
         declared = self.found(name)
         if declared is None:
-            return
-        if declared.means is not Meaning.CLOCK:
+            return None
+        if declared.means not in wanted:
             self.fault(7, name)
-        elif declared.unit is not unit and declared not in unit.params:
+        is_given = declared.means is Meaning.CLOCK and declared in unit.params
+        if declared.means in (Meaning.VAR, Meaning.CLOCK) and declared.unit is not unit and not is_given:
             self.fault(8, name)
+        return declared
+
+    def clock(self, unit: UnitForm, name: Name) -> None:
+        self.use(unit, name, Meaning.CLOCK)
 
     def distinct(self, names: list[Name]) -> None:
         """No clock comes twice."""
         before = set()
         for name in names:
-            declared = self.visible.get(name.text)
-            if declared and declared in before:
+            if name.text in before:
                 self.fault(12, name)
-            before.add(declared)
+            before.add(name.text)
 
     def number(self, unit: UnitForm, expr: Expr) -> None:
         """An expression: its names are numbers that the unit sees, none of them shared."""
@@ -752,14 +759,8 @@ class Names:
                 self.number(unit, right)
 
     def number_name(self, unit: UnitForm, name: Name) -> None:
-        declared = self.found(name)
-        if declared is None:
-            return
-        if declared.means in (Meaning.CLOCK, Meaning.SHARED):
-            self.fault(7, name)
-        elif declared.unit is not unit:
-            if declared.means is Meaning.VAR:
-                self.fault(8, name)
+        declared = self.use(unit, name, Meaning.VAR, Meaning.FIXED)
+        if declared and declared.means in (Meaning.VAR, Meaning.FIXED) and declared.unit is not unit:
             inner: UnitForm | None = unit
             while inner and inner is not declared.unit:
                 if declared not in inner.taken:
@@ -795,20 +796,14 @@ class Names:
             case Declaration():
                 self.declaration(unit, stmt)
             case Assignment(name, right):
-                declared = self.found(name)
-                if declared and declared.means in (Meaning.CLOCK, Meaning.FIXED):
-                    self.fault(7, name)
+                declared = self.use(unit, name, Meaning.VAR, Meaning.SHARED)
                 if declared and declared.means is Meaning.VAR:
-                    if declared.unit is not unit:
-                        self.fault(8, name)
                     self.value(unit, right)
                 else:
                     self.number(unit, right)
             case Addition(name, again, term):
-                declared = self.found(name)
-                if declared and declared.means is not Meaning.SHARED:
-                    self.fault(7, name)
-                self.found(again)
+                self.use(unit, name, Meaning.SHARED)
+                self.use(unit, again, Meaning.SHARED)
                 if again.text != name.text:
                     self.fault(7, again)
                 self.number(unit, term)
@@ -879,7 +874,6 @@ class Names:
             return
         if len(stmt.arguments) != len(method.params):
             self.fault(11, stmt.name)
-            return
         clocks = []
         for argument, param in zip(stmt.arguments, method.params):
             if param.type == "Long":
@@ -891,6 +885,16 @@ class Names:
                 self.fault(7, argument)
                 self.number(unit, argument)
         self.distinct(clocks)
+
+
+def faults_of(data: bytes) -> list[tuple[int, int]]:
+    """All faults of names that a text has, each by its offset and its rule, in the order in which they are told."""
+    try:
+        names = Names(parse(data))
+    except Fault:
+        return []
+    names.look()
+    return sorted(set(names.faults))
 
 
 # Recursion.

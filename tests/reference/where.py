@@ -3,12 +3,14 @@ taken."""
 
 from __future__ import annotations
 
+from collections.abc import Callable
 from dataclasses import dataclass
 
-from tests.reference import logs, modules
+from tests.reference import logs, modules, naming, origins
 from tests.reference.events import Program
 from tests.reference.logs import Answer, Entry, Fault, Log, Played
-from tests.reference.modules import Accepted, Arguments, Refused, Standing, Status
+from tests.reference.modules import Accepted, Arguments, ClockName, Frame, Refused, Standing, Status, Value
+from tests.reference.source import Parser
 
 # So many activities are named in a row.
 NAMED = 8
@@ -81,16 +83,67 @@ class Place:
         standings = "".join(self.registration(who, clock, is_waiting=doing == "waits for clocks") for clock in clocks)
         return f"act {who} {place} {doing}{awaited}{standings}\n"
 
-    def text(self) -> str:
+    def limited(self, frame: Frame, slot: int) -> tuple[int, int] | None:
+        """Of the loop that goes no further up than the number in a slot: the slot that it counts in, and the number of
+        the text that it goes no further up than."""
+        for instr in self.played.module.units[frame.unit].code:
+            if instr.name == "forto" and instr.operands[2] == slot:
+                return instr.operands[0], instr.operands[3]
+        return None
+
+    def held(self, frame: Frame, names: dict[int, str], slot: int, value: Value) -> str:
+        """What a slot holds, by its name; a number without a name is told where it bounds a loop."""
+        if value is None:
+            return ""
+        if isinstance(value, ClockName):
+            return f", {naming.cut(names[slot])} is clock {value.number}" if slot in names else ""
+        if slot in names:
+            return f", {naming.cut(names[slot])} = {value}"
+        limited = self.limited(frame, slot)
+        return f", {naming.cut(names[limited[0]])} up to {min(value, limited[1])}" if limited else ""
+
+    def own(self, who: int) -> str:
+        """What an activity's own numbers are in the frame that it stands in, and its clocks, if the text is known."""
+        activity = self.played.world.activities[who]
+        if self.program.is_module or activity.status is Status.ENDED:
+            return ""
+        frame = activity.frames[-1]
+        unit = origins.origins(self.program.data)[frame.unit]
+        held = "".join(self.held(frame, unit.slots, slot, value) for slot, value in enumerate(frame.slots))
+        return f"act {who} in {naming.cut(unit.name or 'async')}{held}\n" if held else ""
+
+    def told(self, who: int) -> str:
+        return self.line(who) + self.own(who)
+
+    def numbered(self) -> list[str]:
+        """The shared numbers by their numbers."""
+        return [f"shared {cell} is {number}\n" for cell, number in enumerate(self.played.world.shared)]
+
+    def named(self) -> list[str]:
+        """The shared numbers, of a source text by their names."""
+        if self.program.is_module:
+            return self.numbered()
+        names = [naming.cut(shared.name.text) for shared in Parser(self.program.data).program().shared]
+        return [f"{name} = {number}\n" for name, number in zip(names, self.played.world.shared)]
+
+    def standings(self, act: Callable[[int], str], shared: list[str]) -> str:
         world, phases = self.played.world, self.played.phases
-        lines = [f"steps {self.played.steps}\n", *map(self.line, self.everybody)]
+        lines = [f"steps {self.played.steps}\n", *map(act, self.everybody)]
         lines += [f"clock {clock} phase {phases.get(clock, 0)}\n" for clock in range(len(world.clocks))]
-        lines += [f"shared {cell} is {number}\n" for cell, number in enumerate(world.shared)]
+        lines += shared
         if self.stop:
             entry = self.stop.entry
             why = f"act {entry.activity} {self.doing(entry.activity)}"
             lines.append(f"entry {self.stop.number} step {self.stop.step} of {entry.steps}: {why}\n")
         return "".join(lines)
+
+    def text(self) -> str:
+        """What `where` prints."""
+        return self.standings(self.told, self.named())
+
+    def moment(self) -> str:
+        """The same as a page has it: without names and own numbers."""
+        return self.standings(self.line, self.numbered())
 
 
 def listed(acts: list[int]) -> str:

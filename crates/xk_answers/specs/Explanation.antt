@@ -16,7 +16,7 @@ use Rattle.xk_explain.specs.Notes.{NoteValue, note_lines, plain_lines}
 use Rattle.xk_explain.specs.SourceExplanations.{source_explanation}
 use Rattle.xk_explain_json.specs.Objects.{json_line, text_of}
 use Rattle.xk_explain_json.specs.Explanations.{accepted_value, front_value, module_value, refusal_value, source_value}
-use Rattle.xk_explain_names.specs.Notes.{front_notes}
+use Rattle.xk_explain_faults.specs.Faults.{faults_explanation, faults_value}
 use Rattle.xk_explain_expected.specs.Notes.{expected_notes}
 use Rattle.xk_explain_bounds.specs.Notes.{accepted_notes, module_notes, refusal_notes}
 use Rattle.xk_hints.specs.Words.{HintValue, hints}
@@ -30,7 +30,7 @@ use Rattle.xk_show_picture.specs.Picture.{is_drawn, named_picture_text, picture_
 use Rattle.xk_show_page.specs.Page.{named_page_text, page_text}
 use Rattle.xk_races.specs.Races.{is_race_free}
 use Rattle.xk_races.specs.Text.{races_text}
-use Rattle.xk_show_where.specs.Where.{are_steps_legal, where_text}
+use Rattle.xk_show_where.specs.Where.{are_steps_legal, named_where_text, where_text}
 use Rattle.xk_answers.specs.Beginnings.{first_steps, steps_in}
 use Rattle.xk_types.specs.declared.world.Entry.{Entry}
 use Rattle.xk_cli.specs.declared.job.Form.{Form}
@@ -59,14 +59,15 @@ abbrev pub front_said : Bool → List ℕ → List ℕ → FrontFault → List N
 front_said false file text f notes = front_explanation file text f notes
 front_said true file text f notes = json_line (front_value file text f notes)
 
--- what its tree declares by the name that stands there, if the text spells one, and else what could stand there
-abbrev pub notes_of : List ℕ → FrontFault → Option TreeValue → List NoteValue
-notes_of text f (Some tree) = front_notes tree text f
-notes_of text f None = expected_notes text f
+-- of a text that spells this tree, with the faults of names behind it
+abbrev pub faults_said : Bool → List ℕ → List ℕ → TreeValue → FrontFault → List ℕ
+faults_said false file text tree f = faults_explanation file text tree f
+faults_said true file text tree f = json_line (faults_value file text tree f)
 
--- with these notes
+-- with what its tree declares by the name that stands there, if the text spells one, and else with what could stand there
 abbrev pub fault_said : Bool → List ℕ → List ℕ → FrontFault → Option TreeValue → List ℕ
-fault_said json file text f tree = front_said json file text f (notes_of text f tree)
+fault_said json file text f (Some tree) = faults_said json file text tree f
+fault_said json file text f None = front_said json file text f (expected_notes text f)
 
 -- by numbers
 abbrev pub plain_said : Bool → List ℕ → Refusal → List NoteValue → List ℕ
@@ -177,15 +178,19 @@ page_told text window m log last shared origins = (page_of text shared window m 
 abbrev pub races_told : List ℕ → ModuleValue → List ℤ → List Entry → Option (List UnitOrigins) → Tale
 races_told text m args log origins = (races_text (places_in text origins) m args log, is_race_free m args log)
 
--- how things stand behind the steps of a log, as far as they can be taken
-abbrev pub stand_told : List ℕ → ModuleValue → List ℤ → List Entry → Option (List UnitOrigins) → Tale
-stand_told text m args log origins = (where_text (places_in text origins) m args log, are_steps_legal m args log)
+-- how things stand behind the steps of a log, as far as they can be taken; of a source text by names, where its shared numbers have these
+abbrev pub standings_of : List ℕ → List (List ℕ) → ModuleValue → List ℤ → List Entry → Option (List UnitOrigins) → List ℕ
+standings_of text shared m args log None = where_text no_text m args log
+standings_of text shared m args log (Some origins) = named_where_text (places_in text (Some origins)) shared m args log
+
+abbrev pub stand_told : List ℕ → ModuleValue → List ℤ → List Entry → List (List ℕ) → Option (List UnitOrigins) → Tale
+stand_told text m args log shared origins = (standings_of text shared m args log origins, are_steps_legal m args log)
 
 -- a log that ends before step n: a line says so, and the answer isn't whole
 abbrev pub told_to : ℕ → List Entry → Tale → Tale
 told_to n log told = if nat_lt (steps_in log) n then (told.0 ++ log_end_line (steps_in log), false) else told
 
 -- the same behind all steps of the log, or behind the first n of them
-abbrev pub where_told : List ℕ → ModuleValue → List ℤ → Option ℕ → List Entry → Option (List UnitOrigins) → Tale
-where_told text m args None log origins = stand_told text m args log origins
-where_told text m args (Some n) log origins = told_to n log (stand_told text m args (first_steps n log) origins)
+abbrev pub where_told : List ℕ → ModuleValue → List ℤ → Option ℕ → List Entry → List (List ℕ) → Option (List UnitOrigins) → Tale
+where_told text m args None log shared origins = stand_told text m args log shared origins
+where_told text m args (Some n) log shared origins = told_to n log (stand_told text m args (first_steps n log) shared origins)

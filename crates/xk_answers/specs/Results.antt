@@ -24,6 +24,7 @@ use Rattle.xk_log.specs.Verdicts.{IsTruncated, IsWrongAt, Says, Whole}
 use Rattle.xk_replay.specs.Chart.{chart_text}
 use Rattle.xk_outcomes.specs.Sets.{AreAllAs, AreDistinctAs, AreShownAs}
 use Rattle.xk_outcomes.specs.declared.listing.Outcome.{Outcome}
+use Rattle.xk_outcomes.specs.LoneOutcomes.{IsOneOfManyAs}
 use Rattle.xk_outcomes.specs.PlainRuns.{ArePlainListedAs}
 use Rattle.xk_outcomes.specs.Text.{outcomes_text}
 use Rattle.xk_outcomes.specs.declared.all_outcomes.Limit.{Limit}
@@ -100,6 +101,7 @@ pub record AreOutcomes (m : ModuleValue) (args : List ℤ) (sets : Bool) (limit 
   pub shown : AreShownAs sets m args list
   pub distinct : AreDistinctAs sets list
   pub all : complete ≡ true → AreAllAs sets m args list
+  pub lone : complete ≡ false → IsOneOfManyAs sets m args
   pub plain : complete ≡ false → ArePlainListedAs sets m args list
   pub far : GoesFar m args sets limit list complete
   pub text_is : text ≡ outcomes_text list complete
@@ -165,10 +167,11 @@ picture_told (picture.Image window) bytes shared m args es last origins = image_
 picture_told (picture.Page window) bytes shared m args es last origins = page_told bytes window m es last shared origins
 picture_told picture.Races bytes shared m args es last origins = races_told bytes m args es origins
 
--- Where things stand behind the steps of a log, or behind so many, is told by the lines of a source text. The log need not be that of a whole run.
+-- Where things stand behind the steps of a log, or behind so many, is told by the lines and names of a source text. The log need not be
+-- that of a whole run.
 abbrev pub IsWhereabouts : Option ℕ → Form → List ℕ → ModuleValue → List ℤ → List ℕ → Tale → Type 0
 IsWhereabouts at kind bytes m args logged told =
-    AreArguments m args × ((es : List Entry) × IsLogText logged es × IsByOrigins kind bytes (where_told bytes m args at es) told)
+    AreArguments m args × ((es : List Entry) × IsLogText logged es × IsByNames kind bytes (where_told bytes m args at es) told)
 
 -- the races of the run in the order `first` are told
 abbrev pub AreFirstRaces : Form → List ℕ → ModuleValue → List ℤ → Tale → Type 0

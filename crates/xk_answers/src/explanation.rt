@@ -19,8 +19,8 @@ use xk_explain::{
 };
 use xk_explain_bounds::{accepted_notes, module_notes, refusal_notes};
 use xk_explain_expected::expected_notes;
+use xk_explain_faults::{explain_faults, faults_json};
 use xk_explain_json::{accepted_json, front_json, module_json, refusal_json, source_json};
-use xk_explain_names::front_notes;
 use xk_hints::Hint;
 use xk_listing::{list_module, list_source};
 use xk_messages::accepted_line;
@@ -106,7 +106,7 @@ pub(crate) fn fault_of_text(
     front_said(alloc, json, file, bytes, fault, &notes)
 }
 
-/// The same of a text that spells this tree: with what it declares by the name that stands there.
+/// The same of a text that spells this tree: with what it declares by the name that stands there, and with the faults of names behind.
 pub(crate) fn fault_of_tree(
     alloc: Global,
     json: bool,
@@ -118,8 +118,10 @@ pub(crate) fn fault_of_tree(
     ensures { IfOk result (λ said. said.items ≡ fault_said json file.now bytes.now fault
         (Some (tree_value tree.now))) }
 {
-    let notes = front_notes(alloc, tree, bytes, fault)?;
-    front_said(alloc, json, file, bytes, fault, &notes)
+    if json {
+        return faults_json(alloc, file, bytes, tree, fault);
+    }
+    explain_faults(alloc, file, bytes, tree, fault)
 }
 
 /// The same with these notes.

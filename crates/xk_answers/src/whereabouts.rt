@@ -1,6 +1,6 @@
 //! How things stand behind a log, or behind so many of its steps. It need not be that of a whole run.
 
-ghost use Rattle.std.specs.Prelude.{◌≡◌, ◌≢◌, ℕ, List, true, IfOk, IfErr, OnOk};
+ghost use Rattle.std.specs.Prelude.{◌≡◌, ◌≢◌, ℕ, List, map, true, Some, IfOk, IfErr, OnOk};
 ghost use Rattle.xk_log.specs.SomeBytes.{OfSome};
 ghost use Rattle.xk_types.specs.Acceptance.{IsAccepted};
 ghost use Rattle.xk_types.specs.World.{AreArguments};
@@ -19,8 +19,9 @@ use std::alloc::{AllocError, Global};
 use xk_bounds::Verified;
 use xk_log::read_log;
 use xk_messages::log_end_line;
+use xk_origins::UnitOrigins;
 use xk_program::{Fault, Program, Provenance, runnable};
-use xk_show_where::{module_where, source_where};
+use xk_show_where::{module_where, named_where};
 use xk_types::{Entry, Source};
 
 /// How things stand behind the steps of the log, or behind so many, as far as they can be taken, of the program with these arguments, if it is
@@ -85,7 +86,8 @@ fn whereabouts(
 ) -> Result<Tale, AllocError>
     requires { AreArguments verified.now arguments.now }
     ensures { IfOk result (λ tale. (tale.text.items, tale.whole)
-        ≡ where_told from.now.text.now verified.now arguments.now at log.now from.now.origins) }
+        ≡ where_told from.now.text.now verified.now arguments.now at log.now
+        (map (λ x. x.now) from.now.shared.items) from.now.origins) }
 {
     match at {
         Some(step) => {
@@ -122,15 +124,37 @@ fn stand(
 ) -> Result<Tale, AllocError>
     requires { AreArguments verified.now arguments.now }
     ensures { IfOk result (λ tale. (tale.text.items, tale.whole)
-        ≡ stand_told from.now.text.now verified.now arguments.now log.now from.now.origins) }
+        ≡ stand_told from.now.text.now verified.now arguments.now log.now
+        (map (λ x. x.now) from.now.shared.items) from.now.origins) }
 {
-    let found = match &from.origins {
-        Some(origins) => {
-            let units = origins.units();
-            source_where(alloc, from.text, units, verified, arguments, log)?
+    match &from.origins {
+        Some(origins) => stand_by_names(alloc, from, origins.units(), verified, arguments, log),
+        None => {
+            let found = module_where(alloc, verified, arguments, log)?;
+            Ok(Tale {
+                text: found.text,
+                whole: found.whole,
+            })
         }
-        None => module_where(alloc, verified, arguments, log)?,
-    };
+    }
+}
+
+/// The same of a source text whose units have these origins.
+fn stand_by_names(
+    alloc: Global,
+    from: &Provenance<'_>,
+    units: &[UnitOrigins<'_>],
+    verified: &Verified,
+    arguments: &[i64],
+    log: &[Entry],
+) -> Result<Tale, AllocError>
+    requires { AreArguments verified.now arguments.now }
+    ensures { IfOk result (λ tale. (tale.text.items, tale.whole)
+        ≡ stand_told from.now.text.now verified.now arguments.now log.now
+        (map (λ x. x.now) from.now.shared.items) (Some units.now)) }
+{
+    let shared = &from.shared;
+    let found = named_where(alloc, from.text, units, shared, verified, arguments, log)?;
     Ok(Tale {
         text: found.text,
         whole: found.whole,

@@ -38,6 +38,10 @@ put_depth n k d (member l e ms) p q = by (put_depth n k d ms p (omega (arith, q)
 pub put_plain : (n : ℕ) (k : List ℕ) (d : Data) (ms : Members) → IsPlain n d → ArePlain n ms → ArePlain n (put k d ms)
 put_plain n k d ms p q = record { no_float = put_no_float k d ms p.no_float q.no_float; nest = put_depth n k d ms p.nests q.nest }
 
+-- what nests less deep
+pub plain_deeper : (n m : ℕ) (d : Data) → n ≤ m → IsPlain n d → IsPlain m d
+plain_deeper n m d l p = record { no_float = p.no_float; nests = omega (arith, l, p.nests) }
+
 pub object_plain : (n : ℕ) (ms : Members) → ArePlain n ms → IsPlain (suc n) (object ms)
 object_plain n ms p = record { no_float = p.no_float; nests = omega (arith, p.nest) }
 
@@ -56,7 +60,7 @@ array_plain {A = A} n value each xs = record { no_float = none xs; nests = omega
 -- ---- an object that gained a member, or was left as it was
 
 pub put_in_plain : {A E : Type 0} (r : Result A E) (k : List ℕ) (d : Data) (old new : List (String Global × Value)) →
-    OnOk r (members_view new ≡ put k d (members_view old)) → OnErr r (new ≡ old) → IsPlain 2 d → ArePlain 2 (members_view old)
-    → ArePlain 2 (members_view new)
-put_in_plain (Ok x) k d old new ok err p q = subst (λ ms. ArePlain 2 ms) (sym ok) (put_plain 2 k d (members_view old) p q)
-put_in_plain (Err x) k d old new ok err p q = subst (λ ms. ArePlain 2 (members_view ms)) (sym err) q
+    OnOk r (members_view new ≡ put k d (members_view old)) → OnErr r (new ≡ old) → IsPlain 4 d → ArePlain 4 (members_view old)
+    → ArePlain 4 (members_view new)
+put_in_plain (Ok x) k d old new ok err p q = subst (λ ms. ArePlain 4 ms) (sym ok) (put_plain 4 k d (members_view old) p q)
+put_in_plain (Err x) k d old new ok err p q = subst (λ ms. ArePlain 4 (members_view ms)) (sym err) q

@@ -1,5 +1,5 @@
 -- What `explain --json` says of a program: one JSON object. Its members come in groups, of which refusals of one sort share some. This project's own.
-use Rattle.std.specs.Prelude.{ℕ, min, Bool, true, false, List, [], ◌∷◌, ◌++◌, length, Option, Some, None, slice_get, codes, decimal}
+use Rattle.std.specs.Prelude.{ℕ, min, nat_eq, Bool, true, false, List, [], ◌∷◌, ◌++◌, length, Option, Some, None, slice_get, codes, decimal}
 use Rattle.std.specs.Prelude.{if◌then◌else◌}
 use Rattle.std.specs.Option.{option_map_or}
 use Rattle.serde_json.specs.Data.{Data, null, boolean, string}
@@ -98,10 +98,29 @@ notes_alone notes = (codes "notes", array_of note_alone notes) ∷ []
 abbrev pub front_place : List ℕ → FrontFault → Group
 front_place text f = if has_place f.rule then place_members text (shown_at text f) else []
 
+abbrev pub front_groups : List ℕ → List ℕ → FrontFault → List NoteValue → List Group
+front_groups file text f notes = notes_in text notes ∷ refused_by_front file f ∷ front_repair_member text f notes ∷ front_place text f ∷ []
+
 -- all that is said of a fault of a source text
 abbrev pub front_value : List ℕ → List ℕ → FrontFault → List NoteValue → Data
-front_value file text f notes =
-    object_of (notes_in text notes ∷ refused_by_front file f ∷ front_repair_member text f notes ∷ front_place text f ∷ [])
+front_value file text f notes = object_of (front_groups file text f notes)
+
+-- a fault, and the notes on it
+abbrev pub FindingValue : Type 0
+FindingValue = FrontFault × List NoteValue
+
+abbrev pub finding_value : List ℕ → List ℕ → FindingValue → Data
+finding_value file text x = front_value file text x.0 x.1
+
+-- faults behind the first, if there are such, and whether there are more behind them
+abbrev pub further_members : List ℕ → List ℕ → List FindingValue → Bool → Group
+further_members file text further more =
+    if nat_eq (length further) 0 then [] else
+    (codes "further", array_of (finding_value file text) further) ∷ (codes "more", boolean more) ∷ []
+
+-- all that is said of a fault of a source text, and of faults behind it
+abbrev pub fronts_value : List ℕ → List ℕ → FrontFault → List NoteValue → List FindingValue → Bool → Data
+fronts_value file text f notes further more = object_of (further_members file text further more ∷ front_groups file text f notes)
 
 -- ---- module texts
 

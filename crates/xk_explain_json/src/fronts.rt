@@ -1,12 +1,16 @@
 //! What is said of bytes that give no program.
 
 ghost use Rattle.std.specs.Prelude.{◌≡◌, IfOk, OnOk};
-ghost use Rattle.xk_explain_json.specs.Explanations.{front_place, front_value, module_value};
-ghost use Rattle.xk_explain_json.specs.Objects.{json_line, Gains, IsReadBack};
+ghost use Rattle.serde_json.specs.View.{view};
+ghost use Rattle.xk_explain_json.specs.Explanations.{finding_value, front_groups, front_place, front_value, fronts_value};
+ghost use Rattle.xk_explain_json.specs.Explanations.{further_members, module_value};
+ghost use Rattle.xk_explain_json.specs.Objects.{array_of, json_line, Gains, GainsAll, IsReadBack};
 
+use crate::finding::Finding;
 use crate::members::{put_front_repair, put_place, put_refused_by_front, put_refused_by_module};
 use crate::notes::put_notes_in;
 use crate::object::Object;
+use serde_json::Value;
 use std::alloc::{AllocError, Global};
 use xk_explain::{ModuleRule, Note, SourceText, has_place, shown_at};
 use xk_tree::FrontFault;
@@ -29,11 +33,106 @@ pub fn front_json(
 {
     let source = SourceText::new(alloc, text)?;
     let mut object = Object::new(alloc);
-    put_notes_in(alloc, &mut object, &source, notes)?;
-    put_refused_by_front(alloc, &mut object, file, fault)?;
-    put_front_repair(alloc, &mut object, text, fault, notes)?;
-    put_front_place(alloc, &mut object, &source, fault)?;
+    put_front(alloc, &mut object, file, &source, fault, notes)?;
     object.line(alloc)
+}
+
+/// The same, and of faults behind it, if there are such: `"further":[..]`, whose elements are such objects, and `"more":true` where there
+/// are more behind those. Err where memory was refused.
+pub fn fronts_json(
+    alloc: Global,
+    file: &str,
+    text: &[u8],
+    first: &Finding,
+    further: &[Finding],
+    more: bool,
+) -> Result<Vec<u8>, AllocError>
+    ensures text { IfOk result (λ v. v.items ≡ json_line
+        (fronts_value file.now text.now first.now.0 first.now.1 further.now more)) }
+    ensures reads_back { OnOk result (IsReadBack
+        (fronts_value file.now text.now first.now.0 first.now.1 further.now more)) }
+{
+    let source = SourceText::new(alloc, text)?;
+    let mut object = Object::new(alloc);
+    put_further(alloc, &mut object, file, &source, further, more)?;
+    put_front(alloc, &mut object, file, &source, first.fault, &first.notes)?;
+    object.line(alloc)
+}
+
+/// Adds all that is said of a fault, with these notes.
+fn put_front(
+    alloc: Global,
+    object: &mut Object,
+    file: &str,
+    source: &SourceText<'_>,
+    fault: FrontFault,
+    notes: &[Note],
+) -> Result<(), AllocError>
+    ensures { OnOk result
+        (GainsAll (front_groups file.now source.now fault notes.now) object.old object.new) }
+{
+    put_notes_in(alloc, object, source, notes)?;
+    put_refused_by_front(alloc, object, file, fault)?;
+    put_front_repair(alloc, object, source.bytes(), fault, notes)?;
+    put_front_place(alloc, object, source, fault)
+}
+
+/// All that is said of a fault, as a value.
+fn finding_value(
+    alloc: Global,
+    file: &str,
+    source: &SourceText<'_>,
+    finding: &Finding,
+) -> Result<Value, AllocError>
+    ensures { IfOk result (λ v. view v ≡ finding_value file.now source.now finding.now) }
+{
+    let mut object = Object::new(alloc);
+    put_front(
+        alloc,
+        &mut object,
+        file,
+        source,
+        finding.fault,
+        &finding.notes,
+    )?;
+    Ok(object.into_value())
+}
+
+/// The list of these faults.
+fn list_of(
+    alloc: Global,
+    file: &str,
+    source: &SourceText<'_>,
+    findings: &[Finding],
+) -> Result<Value, AllocError>
+    ensures { IfOk result
+        (λ v. view v ≡ array_of (finding_value file.now source.now) findings.now) }
+{
+    let mut values = Vec::new(alloc);
+    for finding in findings {
+        values.push(finding_value(alloc, file, source, finding)?)?;
+    }
+    Ok(Value::from(values))
+}
+
+/// Adds faults behind the first, if there are such, and whether there are more behind them.
+fn put_further(
+    alloc: Global,
+    object: &mut Object,
+    file: &str,
+    source: &SourceText<'_>,
+    further: &[Finding],
+    more: bool,
+) -> Result<(), AllocError>
+    ensures { OnOk result
+        (Gains (further_members file.now source.now further.now more) object.old object.new) }
+{
+    if further.len() == 0 {
+        return Ok(());
+    }
+    let list = list_of(alloc, file, source, further)?;
+    object.put(alloc, "further", list)?;
+    object.put(alloc, "more", Value::from(more))
 }
 
 /// Adds where a fault is shown, if it has a place.

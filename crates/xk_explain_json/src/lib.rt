@@ -2,6 +2,7 @@
 #![tactic(auto)]
 
 mod acceptance;
+mod finding;
 mod fronts;
 mod members;
 mod names;
@@ -12,6 +13,7 @@ mod source_refusals;
 mod walks;
 
 pub use acceptance::accepted_json;
-pub use fronts::{front_json, module_json};
+pub use finding::Finding;
+pub use fronts::{front_json, fronts_json, module_json};
 pub use refusals::refusal_json;
 pub use source_refusals::source_json;

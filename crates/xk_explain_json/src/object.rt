@@ -10,7 +10,7 @@ use std::alloc::{AllocError, Global};
 #[derive(Drop)]
 pub(crate) struct Object {
     members: Map<String, Value>,
-    ghost plain: { ArePlain 2 (members_view members.entries) },
+    ghost plain: { ArePlain 4 (members_view members.entries) },
 }
 
 impl Object {
@@ -31,7 +31,7 @@ impl Object {
 
     /// Adds a member.
     pub(crate) fn put(&mut self, alloc: Global, key: &str, value: Value) -> Result<(), AllocError>
-        requires { IsPlain 2 (view value) }
+        requires { IsPlain 4 (view value) }
         ensures { OnOk result
             (members_of self.new ≡ put key.now (view value) (members_of self.old)) }
     {

@@ -10,5 +10,7 @@ mod RisingLemmas
 mod ListingLemmas
 mod ListedLemmas
 mod PlainRunLemmas
+mod LoneOutcomeLemmas
 mod ExpectedLemmas
+mod HoldingLemmas
 mod TextLemmas

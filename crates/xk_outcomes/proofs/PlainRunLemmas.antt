@@ -24,7 +24,7 @@ use Rattle.xk_outcomes.proofs.SearchLemmas.{place}
 -- ---- one run
 
 -- its log shows what it prints
-run_shown : (order : Order) (Has : List ℕ → Type 0) (m : ModuleValue) (args : List ℤ) (o : Outcome) (h : IsOutcomeOf order Has m args o)
+pub run_shown : (order : Order) (Has : List ℕ → Type 0) (m : ModuleValue) (args : List ℤ) (o : Outcome) (h : IsOutcomeOf order Has m args o)
     → IsOutcome m args (schedule_of o.log.items) h.printed
 run_shown order Has m args o h =
     let r = h.run in

@@ -12,6 +12,7 @@ use Rattle.xk_outcomes.specs.declared.holding.Verdict.{Verdict}
 use Rattle.xk_outcomes.specs.declared.holding.Verdict.TheVariants as verdict
 use Rattle.xk_io.specs.Row.{numbers_text}
 use Rattle.xk_types.specs.Code.{ModuleValue}
+use Rattle.xk_outcomes.specs.LoneOutcomes.{IsOneOfManyAs}
 use Rattle.xk_outcomes.specs.PlainRuns.{ArePlainListedAs}
 use Rattle.xk_outcomes.specs.Sets.{AreAllAs, AreDistinctAs, AreShownAs}
 use Rattle.xk_outcomes.specs.Text.{completeness, outcome_line}
@@ -136,15 +137,22 @@ TellsAll told list complete text found = AreTold told list (length list) × (tex
 abbrev pub AreHeld : List (List ℕ) → List Outcome → Bool → List ℕ → Verdict → Type 0
 AreHeld told list complete text found = TellsUntold told list text found ⊎ TellsAll told list complete text found
 
+abbrev pub is_refuted : Verdict → Bool
+is_refuted verdict.Refuted = true
+is_refuted verdict.Complete = false
+is_refuted verdict.Undecided = false
+
 -- What a module can print that is given these arguments, as lists of numbers or without their order, is held against the list in these bytes: the text
--- tells the first outcome that isn't in it, which refutes it, or whether they are all. They are looked for up to this limit.
+-- tells the first outcome that isn't in it, which refutes it, or whether they are all. They are looked for up to this limit, but where the list
+-- is refuted: the first outcome that isn't in it ends the search.
 pub record AreExpected (m : ModuleValue) (args : List ℤ) (sets : Bool) (limit : Limit) (bytes text : List ℕ) (found : Verdict) : Type 0 where
   pub list : List Outcome
   pub complete : Bool
   pub shown : AreShownAs sets m args list
   pub distinct : AreDistinctAs sets list
   pub all : complete ≡ true → AreAllAs sets m args list
+  pub lone : complete ≡ false → IsOneOfManyAs sets m args
   pub plain : complete ≡ false → ArePlainListedAs sets m args list
-  pub far : GoesFar m args sets limit list complete
+  pub far : is_refuted found ≡ false → GoesFar m args sets limit list complete
   pub may_stand : stray_line bytes ≡ None
   pub held : AreHeld (told_by bytes) list complete text found

@@ -10,6 +10,7 @@ pub mod Rising
 pub mod Listing
 pub mod Listed
 pub mod PlainRuns
+pub mod LoneOutcomes
 pub mod Text
 pub mod Expected
 pub mod Texts

@@ -1,15 +1,17 @@
 //! All that a program can print.
 
-ghost use Rattle.std.specs.Prelude.{◌≡◌, ◌<◌, ◌≤◌, ◌⊎◌, true, false, length, max, IfOk};
+ghost use Rattle.std.specs.Prelude.{◌≡◌, ◌<◌, ◌≤◌, ◌⊎◌, ◌∷◌, [], true, false, length, max, IfOk};
 ghost use Rattle.xk_types.specs.World.{AreArguments};
 ghost use Rattle.xk_outcomes.specs.Limits.{HasKept, limit_of};
 ghost use Rattle.xk_outcomes.specs.Listing.{AreAllIn, AreShownIn, HasKeptIn};
+ghost use Rattle.xk_outcomes.specs.LoneOutcomes.{IsOneOfMany, IsOneOfManyAs};
 ghost use Rattle.xk_outcomes.specs.PlainRuns.{ArePlainListedAs, ArePlainListedIn, plain_runs};
 ghost use Rattle.xk_outcomes.specs.Outcomes.{AreAll, AreDistinct, AreShown};
 ghost use Rattle.xk_outcomes.specs.Sets.{AreAllAs, AreDistinctAs, AreSetsAll, AreSetsDistinct, AreSetsShown, AreShownAs};
 
 use crate::listed::Listed;
-use crate::listing::{Outcomes, list_outcomes};
+use crate::listing::{Outcome, Outcomes, list_outcomes};
+use crate::lone_outcome::lone_outcome;
 use crate::order::Order;
 use crate::plain_runs::note_plain;
 use crate::search::explore;
@@ -23,7 +25,8 @@ pub struct Limit {
     /// As soon as more worlds are kept: so a search that comes to its end with as many is complete. All that one of them leads to in a
     /// step are kept before the next look.
     pub entries: usize,
-    /// As soon as so many lists of numbers are told: they are never more, but what the plain runs print is told whatever the limit is.
+    /// As soon as so many lists of numbers are told, and one is found that isn't. They are never more, but what the plain runs print
+    /// is told whatever the limit is.
     pub outcomes: usize,
 }
 
@@ -32,6 +35,9 @@ const USUAL_LIMIT: u64 = 40_000;
 
 /// How many steps are tried then at most, as far as can be said before: one of each activity from each world.
 const USUAL_TRIES: u64 = 4_000_000;
+
+/// How many worlds are kept, and outcomes told, at most in a first look.
+const EARLY_LIMIT: usize = 1_000;
 
 impl Limit {
     /// The limit that was given, for both; or else the usual one of a module with so many activities at most.
@@ -43,6 +49,16 @@ impl Limit {
         Limit {
             entries: most,
             outcomes: most,
+        }
+    }
+
+    /// The limit of a first look: this one, or a small one where that is less.
+    pub(crate) fn early(self) -> Limit
+        ensures { result.outcomes ≤ self.outcomes }
+    {
+        Limit {
+            entries: self.entries.min(EARLY_LIMIT),
+            outcomes: self.outcomes.min(EARLY_LIMIT),
         }
     }
 }
@@ -61,6 +77,9 @@ pub fn outcomes(
     ensures distinct { IfOk result (λ r. AreDistinct r.list.items) }
     ensures all { IfOk result (λ r.
         r.complete ≡ true → AreAll verified.now arguments.now r.list.items) }
+    // Where it isn't complete, the run in the order `first` doesn't speak for all, unless runs are too long to look.
+    ensures lone { IfOk result (λ r. r.complete ≡ false
+        → IsOneOfManyAs false verified.now arguments.now) }
     // What each of the plain runs prints is told: where it is complete, by `all`.
     ensures plain { IfOk result (λ r. r.complete ≡ false
         → ArePlainListedAs false verified.now arguments.now r.list.items) }
@@ -91,6 +110,8 @@ pub fn outcome_sets(
     ensures distinct { IfOk result (λ r. AreSetsDistinct r.list.items) }
     ensures all { IfOk result (λ r.
         r.complete ≡ true → AreSetsAll verified.now arguments.now r.list.items) }
+    ensures lone { IfOk result (λ r. r.complete ≡ false
+        → IsOneOfManyAs true verified.now arguments.now) }
     ensures plain { IfOk result (λ r. r.complete ≡ false
         → ArePlainListedAs true verified.now arguments.now r.list.items) }
     // As for `outcomes`.
@@ -118,6 +139,8 @@ pub fn outcomes_as(
     ensures distinct { IfOk result (λ r. AreDistinctAs sets r.list.items) }
     ensures all { IfOk result
         (λ r. r.complete ≡ true → AreAllAs sets verified.now arguments.now r.list.items) }
+    ensures lone { IfOk result (λ r. r.complete ≡ false
+        → IsOneOfManyAs sets verified.now arguments.now) }
     ensures plain { IfOk result (λ r. r.complete ≡ false
         → ArePlainListedAs sets verified.now arguments.now r.list.items) }
     // As for `outcomes`.
@@ -135,6 +158,56 @@ pub fn outcomes_as(
 
 /// What is printed, told in this order: lists that are the same in it are one.
 fn told_in(
+    alloc: Global,
+    order: Order,
+    verified: &Verified,
+    arguments: &[i64],
+    limit: Limit,
+) -> Result<Outcomes, AllocError>
+    requires { AreArguments verified.now arguments.now }
+    ensures shown { IfOk result
+        (λ r. AreShownIn order verified.now arguments.now r.list.items) }
+    ensures distinct { IfOk result (λ r. AreDistinct r.list.items) }
+    ensures all { IfOk result (λ r.
+        r.complete ≡ true → AreAllIn order verified.now arguments.now r.list.items) }
+    ensures plain { IfOk result (λ r. r.complete ≡ false
+        → ArePlainListedIn order verified.now arguments.now r.list.items) }
+    ensures lone { IfOk result (λ r. r.complete ≡ false
+        → IsOneOfMany order verified.now arguments.now) }
+    ensures limit { IfOk result (λ r. r.complete ≡ false
+        → (limit.entries < r.entries) ⊎ (limit.outcomes ≤ length r.list.items)) }
+    ensures most { IfOk result (λ r. length r.list.items ≤ max limit.outcomes plain_runs) }
+    ensures kept { IfOk result (λ r.
+        HasKeptIn order verified.now arguments.now limit.outcomes r.list.items r.entries) }
+{
+    match lone_outcome(alloc, order, verified, arguments)? {
+        Some(lone) => {
+            let found = alone(alloc, lone)?;
+            Ok(found)
+        }
+        None => {
+            let found = searched_in(alloc, order, verified, arguments, limit)?;
+            Ok(found)
+        }
+    }
+}
+
+/// The one outcome is all.
+fn alone(alloc: Global, lone: Outcome) -> Result<Outcomes, AllocError>
+    ensures list { IfOk result (λ r. r.list.items ≡ lone ∷ []) }
+    ensures complete { IfOk result (λ r. r.complete ≡ true) }
+    ensures entries { IfOk result (λ r. r.entries ≡ 0) }
+{
+    let list = Vec::from_array(alloc, [lone])?;
+    Ok(Outcomes {
+        list,
+        complete: true,
+        entries: 0,
+    })
+}
+
+/// The same by the plain runs and a search.
+fn searched_in(
     alloc: Global,
     order: Order,
     verified: &Verified,

@@ -127,8 +127,33 @@ pub fn expected_outcomes(
     }
 }
 
-/// The same with what the list tells.
+/// The same with what the list tells. An outcome that isn't in it is mostly found early, so that one looks up to a small limit first.
 fn held_by(
+    alloc: Global,
+    sets: bool,
+    verified: &Verified,
+    arguments: &[i64],
+    limit: Limit,
+    expected: &Expected<'_>,
+) -> Result<Held, AllocError>
+    requires { AreArguments verified.now arguments.now }
+    ensures { (bytes : List ℕ) → stray_line bytes ≡ None → expected.now ≡ told_by bytes
+        → IfOk result (λ r.
+        AreExpected verified.now arguments.now sets limit bytes r.text.items r.verdict) }
+{
+    let first = held_within(alloc, sets, verified, arguments, limit.early(), expected)?;
+    match first.verdict {
+        Verdict::Complete => Ok(first),
+        Verdict::Refuted => Ok(first),
+        Verdict::Undecided => {
+            let held = held_within(alloc, sets, verified, arguments, limit, expected)?;
+            Ok(held)
+        }
+    }
+}
+
+/// The same of the outcomes that are found up to the limit.
+fn held_within(
     alloc: Global,
     sets: bool,
     verified: &Verified,

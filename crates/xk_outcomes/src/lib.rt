@@ -10,6 +10,7 @@ mod found;
 mod holding;
 mod listed;
 mod listing;
+mod lone_outcome;
 mod order;
 mod plain_runs;
 mod reading;

@@ -1,6 +1,6 @@
 //! What is listed so far: lists of numbers, each with the log of a run that prints it.
 
-ghost use Rattle.std.specs.Prelude.{◌≡◌, ◌≤◌, ◌+◌, ◌++◌, ◌∷◌, ◌⊎◌, [], length, IfOk, OnOk};
+ghost use Rattle.std.specs.Prelude.{◌≡◌, ◌≤◌, ◌+◌, ◌++◌, ◌∷◌, ◌⊎◌, [], true, false, length, max, IfOk, OnOk};
 ghost use Rattle.xk_outcomes.specs.Outcomes.{AreDistinct, IsListed};
 ghost use Rattle.xk_outcomes.specs.Listing.{KeepsListed};
 
@@ -57,6 +57,34 @@ impl Listed {
         }
         self.logs.insert(numbers, log)?;
         Ok(())
+    }
+
+    /// Whether its numbers are listed.
+    fn lists(&self, new: &Outcome) -> bool
+        ensures { result ≡ true → IsListed self.now new.now.numbers.items }
+    {
+        self.logs.contains_key(&new.numbers)
+    }
+
+    /// Lists it, if its numbers aren't listed yet and fewer are than the limit says. Whether its numbers are listed then. Err where memory
+    /// was refused: nothing more is listed then.
+    pub fn put_within(&mut self, new: Outcome, limit: usize) -> Result<bool, AllocError>
+        ensures distinct { AreDistinct self.old → AreDistinct self.new }
+        ensures kept { KeepsListed self.old self.new }
+        ensures listed { IfOk result
+            (λ there. there ≡ true → IsListed self.new new.numbers.items) }
+        ensures full { IfOk result (λ there. there ≡ false → limit ≤ length self.new) }
+        ensures each { (self.new ≡ self.old) ⊎ (self.new ≡ self.old ++ new ∷ []) }
+        ensures most { length self.new ≤ max limit (length self.old) }
+    {
+        if self.lists(&new) {
+            return Ok(true);
+        }
+        if self.len() >= limit {
+            return Ok(false);
+        }
+        self.put(new)?;
+        Ok(true)
     }
 
     /// What is listed. Err where memory was refused.

@@ -1,6 +1,6 @@
 //! What was found is listed, each list of numbers once, as it is told in an order.
 
-ghost use Rattle.std.specs.Prelude.{◌≡◌, ℕ, ◌≤◌, ◌<◌, ◌+◌, ◌++◌, ◌∷◌, ◌⊎◌, [], true, false, length, max, slice_get, IfOk, OnOk, Some, List};
+ghost use Rattle.std.specs.Prelude.{◌≡◌, ℕ, ◌≤◌, ◌<◌, ◌+◌, ◌++◌, ◌∷◌, ◌⊎◌, [], true, false, length, max, slice_get, IfOk, Some, List};
 ghost use Rattle.xk_types.specs.Schedule.{all_ended};
 ghost use Rattle.xk_types.specs.Logs.{schedule_of, one_step_of};
 ghost use Rattle.xk_outcomes.specs.Found.{FoundValue};
@@ -61,48 +61,59 @@ fn outcome_of(alloc: Global, order: Order, x: &Found<'_>) -> Result<Outcome, All
     Ok(Outcome { numbers, log })
 }
 
-/// Lists what one that was found printed, if all have ended in it.
-fn note(alloc: Global, order: Order, list: &mut Listed, x: &Found<'_>) -> Result<(), AllocError>
+/// Lists what one that was found printed, if all have ended in it and it is listed already or fewer are than the limit says. Whether it is
+/// listed then, or isn't to be.
+fn note(
+    alloc: Global,
+    order: Order,
+    list: &mut Listed,
+    x: &Found<'_>,
+    limit: usize,
+) -> Result<bool, AllocError>
     ensures distinct { AreDistinct list.old → AreDistinct list.new }
     ensures kept { KeepsListed list.old list.new }
-    ensures listed { OnOk result (all_ended x.now.core.world ≡ true
+    ensures listed { IfOk result (λ noted. noted ≡ true → all_ended x.now.core.world ≡ true
         → IsListed list.new (ordered order x.now.printed)) }
+    ensures full { IfOk result (λ noted. noted ≡ false → limit ≤ length list.new) }
     ensures of { (old : List AnOutcome) (all : List FoundValue) (j : ℕ)
         → slice_get all j ≡ Some x.now
         → AreOf order old all list.old → AreOf order old all list.new }
-    ensures one_more { length list.new ≤ length list.old + 1 }
+    ensures most { length list.new ≤ max limit (length list.old) }
 {
     if x.core.ended() {
         let new = outcome_of(alloc, order, x)?;
-        list.put(new)
+        list.put_within(new, limit)
     } else {
-        Ok(())
+        Ok(true)
     }
 }
 
-/// Lists what the one of a number printed, if all have ended in it.
+/// Lists what the one of a number printed, as `note` does.
 fn note_at(
     alloc: Global,
     order: Order,
     list: &mut Listed,
     all: &Entries<'_>,
     number: usize,
-) -> Result<(), AllocError>
+    limit: usize,
+) -> Result<bool, AllocError>
     requires { number < length all.now.all }
     ensures distinct { AreDistinct list.old → AreDistinct list.new }
-    ensures noted { OnOk result (AreNoted order all.now.all number list.old
+    ensures noted { IfOk result (λ noted. noted ≡ true
+        → AreNoted order all.now.all number list.old
         → AreNoted order all.now.all (number + 1) list.new) }
+    ensures full { IfOk result (λ noted. noted ≡ false → limit ≤ length list.new) }
     ensures kept { KeepsListed list.old list.new }
     ensures of { (old : List AnOutcome) → AreOf order old all.now.all list.old
         → AreOf order old all.now.all list.new }
-    ensures one_more { length list.new ≤ length list.old + 1 }
+    ensures most { length list.new ≤ max limit (length list.old) }
 {
     let x = all.get(alloc, number)?;
-    note(alloc, order, list, &x)
+    note(alloc, order, list, &x, limit)
 }
 
-/// Lists what those print that were found and in which all have ended, each list of numbers once, behind what is listed, until as many are
-/// as the limit says. Whether all are.
+/// Lists what those print that were found and in which all have ended, each list of numbers once, behind what is listed, until one
+/// isn't listed and as many are as the limit says. Whether all are.
 pub fn list_outcomes(
     alloc: Global,
     order: Order,
@@ -120,10 +131,10 @@ pub fn list_outcomes(
     ensures most { length list.new ≤ max limit (length list.old) }
 {
     for number in 0..all.len() {
-        if list.len() >= limit {
+        let noted = note_at(alloc, order, list, all, number, limit)?;
+        if !noted {
             return Ok(false);
         }
-        note_at(alloc, order, list, all, number)?;
     }
     Ok(true)
 }

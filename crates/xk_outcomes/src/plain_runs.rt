@@ -1,6 +1,6 @@
 //! The runs that are made before any search: in three orders, and by chance.
 
-ghost use Rattle.std.specs.Prelude.{◌≤◌, ℕ, IfOk, OnOk};
+ghost use Rattle.std.specs.Prelude.{◌≡◌, ◌≤◌, ℕ, IfOk, OnOk};
 ghost use Rattle.xk_types.specs.World.{AreArguments, opening};
 ghost use Rattle.xk_scheduler.specs.Choosers.{Follows};
 ghost use Rattle.xk_scheduler.specs.WholeRuns.{IsLogThat, IsRunBy, IsRunThat};
@@ -20,14 +20,16 @@ use xk_scheduler::{Chooser, Ended, First, Last, Round, drive};
 const SEEDS: u64 = 16;
 
 /// The run in which each step is taken by the activity that the chooser names.
-fn ended_by<'m, C: Chooser>(
+pub(crate) fn ended_by<'m, C: Chooser>(
     alloc: Global,
     verified: &'m Verified,
     arguments: &[i64],
     chooser: &mut C,
 ) -> Result<Ended<'m>, AllocError>
     requires { AreArguments verified.now arguments.now }
-    ensures { IfOk result (λ e. IsRunThat
+    ensures same_module { IfOk result (λ e. e.module.now ≡ verified.now) }
+    ensures same_arguments { IfOk result (λ e. e.core.world.arguments ≡ arguments.now) }
+    ensures run { IfOk result (λ e. IsRunThat
         (IsLogThat (Follows C.answer C.after verified.now chooser.old
         (opening verified.now arguments.now)) e.log.items)
         verified.now arguments.now e.printed.items e.core.world.steps) }

@@ -12,4 +12,4 @@ mod rows;
 mod sights;
 mod text;
 
-pub use report::{RaceReport, module_races, source_races};
+pub use report::{RaceReport, Reach, module_races, reach_of, source_races};

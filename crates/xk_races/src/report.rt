@@ -1,8 +1,8 @@
 //! The whole report.
 
-ghost use Rattle.std.specs.Prelude.{◌≡◌, IfOk};
+ghost use Rattle.std.specs.Prelude.{◌≡◌, is_none, IfOk};
 ghost use Rattle.xk_show_events.specs.Events.{no_text, places_of};
-ghost use Rattle.xk_races.specs.Races.{is_race_free};
+ghost use Rattle.xk_races.specs.Races.{gap_in, is_race_free, sights_of_run};
 ghost use Rattle.xk_races.specs.Text.{races_text};
 
 use crate::deeds::deeds_of_run;
@@ -21,6 +21,31 @@ pub struct RaceReport {
     pub text: Vec<u8>,
     /// Whether the run has no race.
     pub free: bool,
+}
+
+/// What the races and prints of a run say of all runs.
+#[derive(Clone, Copy, Debug)]
+pub struct Reach {
+    /// It has no race: every run to its end prints these numbers.
+    pub free: bool,
+    /// Its prints are in one order: where it has no race, every run prints them in that order.
+    pub in_order: bool,
+}
+
+/// What a run says of all runs, without the lines. Err where memory was refused.
+pub fn reach_of(alloc: Global, ended: &Ended<'_>) -> Result<Reach, AllocError>
+    ensures free { IfOk result (λ r. r.free ≡ is_race_free
+        ended.now.module.now ended.now.core.world.arguments ended.now.log.items) }
+    ensures in_order { IfOk result (λ r. r.in_order ≡ is_none (gap_in (sights_of_run
+        ended.now.module.now ended.now.core.world.arguments ended.now.log.items))) }
+{
+    let deeds = deeds_of_run(alloc, ended)?;
+    let sights = sights_of(alloc, &deeds)?;
+    let races = races_in(alloc, &sights)?;
+    Ok(Reach {
+        free: races.is_empty(),
+        in_order: gap_in(&sights).is_none(),
+    })
 }
 
 /// The report on a run.

@@ -102,7 +102,8 @@ telling_once (Where at) kind file bytes m args logged a b given h k =
     let here = h.1.1 in
     let there = k.1.1 in
     let same = text_once logged there.0 here.0 there.1 here.1 in
-    by_origins_once kind bytes m (where_told bytes m args at here.0) a b given here.2 (subst (λ es. IsByOrigins kind bytes (where_told bytes m args at es) b) same there.2)
+    by_names_once kind bytes m (where_told bytes m args at here.0) a b given here.2
+    (subst (λ es. IsByNames kind bytes (where_told bytes m args at es) b) same there.2)
 telling_once Races kind file bytes m args logged a b given h k =
     let here = h.1 in
     let there = k.1 in

@@ -76,7 +76,7 @@ asked_told window m log last = asked_from window m (schedule_of log) (opening m 
 kept_account : (p : Account → Bool) (a : Account) (b : Bool) → (if p a && not b then a ∷ [] else []) ≡ filter p (if b then [] else a ∷ [])
 kept_account p a b = grind arith
 
-abbrev tell_asked_accounts : Window → ModuleValue → Teller Account
+abbrev pub tell_asked_accounts : Window → ModuleValue → Teller Account
 tell_asked_accounts window m = recounted_by m (λ v a. account_if_asked window a)
 
 accounts_from : (window : Window) (m : ModuleValue) (list : List ℕ) (w : World)

@@ -1,2 +1,3 @@
 pub mod LaneLemmas
+pub mod KeptLemmas
 mod LaneExamples

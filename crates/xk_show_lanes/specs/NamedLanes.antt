@@ -1,7 +1,9 @@
 -- The lanes of a run of a source text's module, with the names of what its steps were about, and with values. This project's own.
-use Rattle.std.specs.Prelude.{ℕ, ◌+◌, ◌-◌, nat_eq, nat_lt, not, ◌&&◌, List, [], ◌∷◌, ◌++◌, length, map, min, max, filter, flat_map, codes}
+use Rattle.std.specs.Prelude.{ℕ, ◌+◌, ◌-◌, nat_eq, nat_le, nat_lt, Bool, true, false, not, ◌&&◌, ◌||◌, List, [], ◌∷◌, ◌++◌, length, map, min, max, filter, flat_map, codes}
 use Rattle.std.specs.Prelude.{decimal, if◌then◌else◌}
 use Rattle.xk_types.specs.declared.world.Entry.{Entry}
+use Rattle.xk_types.specs.declared.world.Event.{Event}
+use Rattle.xk_types.specs.declared.world.Event.TheVariants as event
 use Rattle.xk_types.specs.Code.{ModuleValue}
 use Rattle.xk_types.specs.World.{World}
 use Rattle.xk_types.specs.Schedule.{is_local}
@@ -9,7 +11,7 @@ use Rattle.xk_core.specs.Core.{advanced_now}
 use Rattle.xk_show_names.specs.declared.accounts.Account.{Account}
 use Rattle.xk_show_events.specs.declared.steps.RunStep.{RunStep}
 use Rattle.xk_show_names.specs.Accounts.{recounted_by, seen_accounts}
-use Rattle.xk_show_names.specs.ClockNames.{NamesValue, names_in_run}
+use Rattle.xk_show_names.specs.ClockNames.{NamesValue, names_until}
 use Rattle.xk_show_events.specs.Events.{PlacesValue}
 use Rattle.xk_show_names.specs.Events.{account_words, clock_word}
 use Rattle.xk_show_events.specs.Steps.{told_of_run}
@@ -28,6 +30,24 @@ accounts_asked w m log last = filter (λ a. is_asked w a.step.number) (seen_acco
 -- the step, if it is one of them
 abbrev pub account_if_asked : Window → Account → List Account
 account_if_asked w a = if is_asked w a.step.number && not (is_local a.step.event) then a ∷ [] else []
+
+-- ---- the steps that a walk keeps
+
+-- it made a clock
+abbrev pub makes : Event → Bool
+makes event.Made = true
+makes _ = false
+
+-- the step of this number is one of those that are drawn, or made a clock before them
+abbrev pub is_kept : Window → ℕ → Event → Bool
+is_kept w n e = nat_le n w.last && (not (is_local e) && (nat_le w.first n || makes e))
+
+abbrev pub account_if_kept : Window → Account → List Account
+account_if_kept w a = if is_kept w a.step.number a.step.event then a ∷ [] else []
+
+-- those of a run: by them clocks have their names, and columns their widths
+abbrev pub accounts_kept : Window → ModuleValue → List Entry → World → List Account
+accounts_kept w m log last = told_of_run (recounted_by m (λ v a. account_if_kept w a)) m last.arguments log
 
 -- ---- columns
 
@@ -90,6 +110,6 @@ abbrev pub lanes_by_names : PlacesValue → NamesValue → Window → ModuleValu
 lanes_by_names p n w m log last = named_lanes_in (grid_by_names p n w m log last) p n m log last
 
 -- The lanes of these steps of the run that a log stands for, which ends in this world, where shared numbers have these names, and clocks
--- those that they were made under.
+-- those that they were made under. No row or bar is about a clock that is made behind the last of these steps.
 abbrev pub named_lanes_text : PlacesValue → List (List ℕ) → Window → ModuleValue → List Entry → World → List ℕ
-named_lanes_text p shared w m log last = lanes_by_names p (names_in_run p shared m last.arguments log) w m log last
+named_lanes_text p shared w m log last = lanes_by_names p (names_until p shared w.last m last.arguments log) w m log last

@@ -12,6 +12,6 @@ mod window;
 pub use bars::{any_behind, any_below, bar_label, is_on};
 pub use grid::{Grid, grid_of, spot};
 pub use lanes::{AskedSteps, Drawing, module_lanes, source_lanes};
-pub use named_lanes::{grid_by_names, lanes_with_names, named_label};
+pub use named_lanes::{Columns, KeptAccounts, lanes_with_names, named_columns, named_label};
 pub use rows::title;
 pub use window::Window;

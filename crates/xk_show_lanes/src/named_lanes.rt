@@ -1,13 +1,14 @@
 //! Lanes of a source text's module, with names and values.
 
-ghost use Rattle.std.specs.Prelude.{◌≡◌, ◌<◌, ◌^◌, ◌++◌, length, map, flat_map, IfOk, OnOk, string_bytes};
+ghost use Rattle.std.specs.Prelude.{◌≡◌, ◌<◌, ◌^◌, ◌++◌, length, map, filter, flat_map, IfOk, OnOk, string_bytes};
 ghost use Rattle.xk_core.specs.Core.{advanced_now};
 ghost use Rattle.xk_show_events.specs.Events.{places_of};
+ghost use Rattle.xk_show_names.specs.ClockNames.{names_until};
 ghost use Rattle.xk_show_names.specs.Events.{account_words};
 ghost use Rattle.xk_show_lanes.specs.Fields.{longest};
-ghost use Rattle.xk_show_lanes.specs.Lanes.{are_lanes_whole, spot};
-ghost use Rattle.xk_show_lanes.specs.NamedLanes.{account_if_asked, accounts_asked, named_bar, named_grid, named_label, named_row};
-ghost use Rattle.xk_show_lanes.specs.NamedLanes.{grid_by_names, lanes_by_names, named_lanes_in, named_lanes_of_step, named_lanes_text, named_row_and_bars, named_row_if_seen};
+ghost use Rattle.xk_show_lanes.specs.Lanes.{are_lanes_whole, is_asked, spot};
+ghost use Rattle.xk_show_lanes.specs.NamedLanes.{account_if_kept, accounts_kept, grid_by_names, is_kept, makes, named_bar, named_grid, named_label, named_row};
+ghost use Rattle.xk_show_lanes.specs.NamedLanes.{named_lanes_in, named_lanes_of_step, named_lanes_text, named_row_and_bars, named_row_if_seen};
 
 use crate::bars::push_bar_lanes;
 use crate::fields::{push_line, push_text, push_times};
@@ -21,7 +22,7 @@ use xk_origins::UnitOrigins;
 use xk_scheduler::Ended;
 use xk_show_events::{Places, advanced, is_seen};
 use xk_show_names::{Account, Names, Recount, account_words, clock_word, recount_run};
-use xk_types::ClockId;
+use xk_types::{ClockId, Event};
 
 /// How long the longest place is at which one of these steps was taken.
 fn longest_spot(alloc: Global, places: &Places<'_>, steps: &[Account]) -> Result<usize, AllocError>
@@ -73,14 +74,28 @@ fn named_grid(
     })
 }
 
-/// Tells of the steps that are asked for, and that others can see.
-#[derive(Drop)]
-struct AskedAccounts {
-    window: Window,
+/// Whether a step made a clock.
+fn makes(event: Event) -> bool
+    ensures { result ≡ makes event }
+{
+    matches!(event, Event::Made)
 }
 
-impl Recount<Account> for AskedAccounts {
-    ghost recount = { λ asked m v a. account_if_asked asked.window a };
+/// Whether a step is asked for, and others can see it, or it made a clock before those that are asked for.
+fn is_kept(window: Window, number: u64, event: Event) -> bool
+    ensures { result ≡ is_kept window number event }
+{
+    number <= window.last && (is_seen(event) && (window.first <= number || makes(event)))
+}
+
+/// Tells of the steps by which clocks have their names, and columns their widths.
+#[derive(Drop)]
+pub struct KeptAccounts {
+    pub window: Window,
+}
+
+impl Recount<Account> for KeptAccounts {
+    ghost recount = { λ kept m v a. account_if_kept kept.window a };
 
     fn push(
         &self,
@@ -89,52 +104,100 @@ impl Recount<Account> for AskedAccounts {
         _core: &Core<'_>,
         account: &Account,
     ) -> Result<(), AllocError> {
-        if self.window.asks(account.step.number) && is_seen(account.step.event) {
+        if is_kept(self.window, account.step.number, account.step.event) {
             out.push(*account)?;
         }
         Ok(())
     }
 
-    #[tactic(auto, using(crate::proofs::LaneLemmas::none_asked))]
+    #[tactic(auto, using(crate::proofs::KeptLemmas::none_kept))]
     fn is_silent_after(&self, steps: u64) -> bool {
         self.window.last <= steps
     }
 }
 
-/// The steps of a run that are asked for, and that others can see. The log is played again for it.
-fn accounts_asked(
+/// The steps of a run by which clocks have their names, and columns their widths. The log is played again for it.
+fn accounts_kept(
     alloc: Global,
     ended: &Ended<'_>,
     window: Window,
 ) -> Result<Vec<Account>, AllocError>
-    ensures { IfOk result (λ v. v.items ≡ accounts_asked window ended.now.module.now
+    ensures { IfOk result (λ v. v.items ≡ accounts_kept window ended.now.module.now
         ended.now.log.items ended.now.core.world) }
 {
     let mut steps = Vec::new(alloc);
-    recount_run(&AskedAccounts { window }, alloc, &mut steps, ended)?;
+    recount_run(&KeptAccounts { window }, alloc, &mut steps, ended)?;
     Ok(steps)
 }
 
-/// The columns for these steps of a run, with these names. The log is played again for it. Err where memory was refused.
-pub fn grid_by_names(
+/// Leaves those of these steps that are asked for.
+fn leave_asked(steps: &mut Vec<Account>, window: Window)
+    ensures { steps.new.items
+        ≡ filter (λ a. is_asked window a.step.number) steps.old.items }
+{
+    steps.retain(|account| window.asks(account.step.number));
+}
+
+/// What shared numbers and clocks are called, by the steps that were kept for it.
+fn kept_names<'t>(
     alloc: Global,
     places: &Places<'_>,
-    names: &Names<'_>,
+    origins: &[UnitOrigins<'_>],
+    shared: &'t [&'t [u8]],
     ended: &Ended<'_>,
     window: Window,
-) -> Result<Grid, AllocError>
-    ensures { IfOk result (λ g. g ≡ grid_by_names places.now names.now window
+    kept: &[Account],
+) -> Result<Names<'t>, AllocError>
+    requires origins { places.now.origins ≡ origins.now }
+    requires kept { kept.now ≡ accounts_kept window ended.now.module.now
+        ended.now.log.items ended.now.core.world }
+    ensures { IfOk result (λ n. n ≡ names_until places.now
+        (map (λ x. x.now) shared.now) window.last ended.now.module.now
+        ended.now.core.world.arguments ended.now.log.items) }
+{
+    let program = ended.module.module();
+    Names::by_steps(alloc, places, origins, shared, program, kept)
+}
+
+/// What clocks and shared numbers are called, and how wide columns are.
+#[derive(Drop)]
+pub struct Columns<'t> {
+    pub names: Names<'t>,
+    pub grid: Grid,
+}
+
+/// The names and columns for these steps of a run of a source text's module, whose shared numbers have these names, by
+/// the steps that were kept for it. Err where memory was refused.
+pub fn named_columns<'t>(
+    alloc: Global,
+    places: &Places<'_>,
+    origins: &[UnitOrigins<'_>],
+    shared: &'t [&'t [u8]],
+    ended: &Ended<'_>,
+    window: Window,
+    kept: Vec<Account>,
+) -> Result<Columns<'t>, AllocError>
+    requires origins { places.now.origins ≡ origins.now }
+    requires kept { kept.items ≡ accounts_kept window ended.now.module.now
+        ended.now.log.items ended.now.core.world }
+    ensures names { IfOk result (λ c. c.names ≡ names_until places.now
+        (map (λ x. x.now) shared.now) window.last ended.now.module.now
+        ended.now.core.world.arguments ended.now.log.items) }
+    ensures grid { IfOk result (λ c. c.grid ≡ grid_by_names places.now c.names window
         ended.now.module.now ended.now.log.items ended.now.core.world) }
 {
-    let steps = accounts_asked(alloc, ended, window)?;
-    named_grid(
+    let names = kept_names(alloc, places, origins, shared, ended, window, &kept)?;
+    let mut steps = kept;
+    leave_asked(&mut steps, window);
+    let grid = named_grid(
         alloc,
         places,
-        names,
+        &names,
         window,
         &steps,
         ended.core.activities(),
-    )
+    )?;
+    Ok(Columns { names, grid })
 }
 
 /// Tells of the steps that are asked for, by their rows and bars.
@@ -321,24 +384,6 @@ fn named_lanes_in(
     Ok(out)
 }
 
-/// The lanes of these steps of a run, with these names.
-fn lanes_by_names(
-    alloc: Global,
-    places: &Places<'_>,
-    names: &Names<'_>,
-    ended: &Ended<'_>,
-    window: Window,
-) -> Result<Drawing, AllocError>
-    ensures text { IfOk result (λ d. d.text.items ≡ lanes_by_names places.now names.now window
-        ended.now.module.now ended.now.log.items ended.now.core.world) }
-    ensures whole { IfOk result (λ d. d.whole ≡ are_lanes_whole ended.now.core.world) }
-{
-    let grid = grid_by_names(alloc, places, names, ended, window)?;
-    let text = named_lanes_in(alloc, grid, places, names, ended)?;
-    let whole = ended.core.activities() <= DRAWN;
-    Ok(Drawing { text, whole })
-}
-
 /// The lanes of these steps of a run of a source text's module, as `source_lanes` has them, but with names and values:
 /// what was read, written or added to is told by the shared number's name, which is given, with what it was then; and
 /// clocks by the names that they were made under. It is whole where each activity has a lane. Err where memory was
@@ -357,6 +402,9 @@ pub fn lanes_with_names(
     ensures whole { IfOk result (λ d. d.whole ≡ are_lanes_whole ended.now.core.world) }
 {
     let places = Places::of_source(alloc, text, origins)?;
-    let names = Names::of_run(alloc, text, origins, shared, ended)?;
-    lanes_by_names(alloc, &places, &names, ended, window)
+    let kept = accounts_kept(alloc, ended, window)?;
+    let columns = named_columns(alloc, &places, origins, shared, ended, window, kept)?;
+    let text = named_lanes_in(alloc, columns.grid, &places, &columns.names, ended)?;
+    let whole = ended.core.activities() <= DRAWN;
+    Ok(Drawing { text, whole })
 }

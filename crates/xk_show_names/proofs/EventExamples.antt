@@ -10,7 +10,7 @@ use Rattle.xk_types.specs.Code.{ModuleValue}
 use Rattle.xk_types.proofs.Examples.Notation.{main_with, module_with}
 use Rattle.xk_origins.specs.UnitOrigins.{UnitOrigins}
 use Rattle.xk_show_events.specs.Events.{event_words, no_text}
-use Rattle.xk_show_names.specs.ClockNames.{clock_names, each_numbered}
+use Rattle.xk_show_names.specs.ClockNames.{births, births_until, clock_names, each_numbered}
 use Rattle.xk_show_names.specs.Methods.{prefix_at}
 use Rattle.xk_show_names.specs.Events.{account_line, change_words, named_events_text, shared_word, step_words, value_words}
 
@@ -36,9 +36,14 @@ abbrev clocked : ModuleValue
 clocked = module_with (main_with 2 (instr.Make 0 ∷ instr.Make 1 ∷ instr.Ret ∷ []) ∷ [])
 
 -- two that were made where no name is known
-clocks_alone : clock_names no_text clocked [] (entry 0 3 (lit< tt) ∷ []) ≡ codes "clock of 0.0" ∷ codes "clock of 0.1" ∷ []
+clocks_alone : clock_names no_text (births clocked [] (entry 0 3 (lit< tt) ∷ [])) ≡ codes "clock of 0.0" ∷ codes "clock of 0.1" ∷ []
 unfolding digits
 clocks_alone = refl
+
+-- and the first of them, where the second is made behind the last step
+first_alone : clock_names no_text (births_until 1 clocked [] (entry 0 3 (lit< tt) ∷ [])) ≡ codes "clock of 0.0" ∷ []
+unfolding digits
+first_alone = refl
 
 -- three of one name, and another one
 numbers : each_numbered ((99 ∷ []) ∷ (99 ∷ []) ∷ (100 ∷ []) ∷ (99 ∷ []) ∷ []) ≡ codes "c" ∷ codes "c#2" ∷ codes "d" ∷ codes "c#3" ∷ []

@@ -1,4 +1,5 @@
 pub mod SubjectLemmas
+pub mod BirthLemmas
 pub mod WriterLemmas
 pub mod ClockNameLemmas
 mod EventExamples

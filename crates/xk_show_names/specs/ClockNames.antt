@@ -1,5 +1,5 @@
 -- What the shared numbers and clocks of a run are called: clocks by the names that they were made under. This project's own.
-use Rattle.std.specs.Prelude.{ℕ, ◌+◌, nat_eq, ℤ, Bool, not, List, [], ◌∷◌, ◌++◌, length, map, take, count_by, Option, Some, None}
+use Rattle.std.specs.Prelude.{ℕ, ◌+◌, nat_eq, nat_le, ℤ, Bool, not, List, [], ◌∷◌, ◌++◌, length, map, flat_map, take, count_by, Option, Some, None}
 use Rattle.std.specs.Prelude.{slice_get, slice_index_or, codes, decimal, if◌then◌else◌}
 use Rattle.std.specs.List.{list_any}
 use Rattle.std.specs.Cmp.Lexicographic.{pointwise}
@@ -11,6 +11,7 @@ use Rattle.xk_types.specs.declared.world.Event.TheVariants as event
 use Rattle.xk_types.specs.Code.{ModuleValue}
 use Rattle.xk_lines.specs.declared.lines.Position.{Position}
 use Rattle.xk_origins.specs.UnitOrigins.{slots_at}
+use Rattle.xk_show_names.specs.declared.accounts.Account.{Account}
 use Rattle.xk_show_names.specs.declared.clock_names.Birth.{Birth}
 use Rattle.xk_show_events.specs.declared.steps.RunStep.{RunStep}
 use Rattle.xk_show_names.specs.Accounts.{instr_in, recounted_by}
@@ -38,6 +39,17 @@ birth_by m s _ = []
 -- where the clocks of a run were made, in the order of their numbers
 abbrev pub births : ModuleValue → List ℤ → List Entry → List Birth
 births m args log = told_of_run (recounted_by m (λ v a. birth_by m a.step a.step.event)) m args log
+
+-- of those that are made up to the step of this number
+abbrev pub birth_until : ℕ → ModuleValue → Account → List Birth
+birth_until last m a = if nat_le a.step.number last then birth_by m a.step a.step.event else []
+
+abbrev pub births_until : ℕ → ModuleValue → List ℤ → List Entry → List Birth
+births_until last m args log = told_of_run (recounted_by m (λ v a. birth_until last m a)) m args log
+
+-- where these steps made clocks
+abbrev pub births_among : ModuleValue → List Account → List Birth
+births_among m steps = flat_map (λ a. birth_by m a.step a.step.event) steps
 
 -- ---- names
 
@@ -79,15 +91,23 @@ numbered names k = slice_index_or names k [] ++ among (count_by (is_text (slice_
 abbrev pub each_numbered : List (List ℕ) → List (List ℕ)
 each_numbered names = each_below (λ k. numbered names k ∷ []) (length names)
 
--- the names of the clocks of the run that a log stands for
-abbrev pub clock_names : PlacesValue → ModuleValue → List ℤ → List Entry → List (List ℕ)
-clock_names p m args log = each_numbered (map (name_of p) (births m args log))
+-- the names of clocks that were made so
+abbrev pub clock_names : PlacesValue → List Birth → List (List ℕ)
+clock_names p births = each_numbered (map (name_of p) births)
 
 -- what the shared numbers and clocks of a run are called, as far as it is known
 pub record NamesValue : Type 0 where
   pub shared : List (List ℕ)
   pub clocks : List (List ℕ)
 
--- where the shared numbers have these names, and clocks those that they were made under in the run that a log stands for
+-- where the shared numbers have these names, and clocks, which were made so, those that they were made under
+abbrev pub names_by : PlacesValue → List (List ℕ) → List Birth → NamesValue
+names_by p shared births = record { shared = shared; clocks = clock_names p births }
+
+-- of all clocks of the run that a log stands for
 abbrev pub names_in_run : PlacesValue → List (List ℕ) → ModuleValue → List ℤ → List Entry → NamesValue
-names_in_run p shared m args log = record { shared = shared; clocks = clock_names p m args log }
+names_in_run p shared m args log = names_by p shared (births m args log)
+
+-- of those that were made up to the step of this number: no later step tells what they are called
+abbrev pub names_until : PlacesValue → List (List ℕ) → ℕ → ModuleValue → List ℤ → List Entry → NamesValue
+names_until p shared last m args log = names_by p shared (births_until last m args log)

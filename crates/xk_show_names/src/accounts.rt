@@ -125,7 +125,7 @@ fn value_of(core: &Core<'_>, subject: Subject) -> Option<i64>
 
 /// Takes a step of an activity that can take one, and says what it was about. Only the start of an activity wants memory;
 /// where that is refused the core is as before.
-fn take_account(core: &mut Core<'_>, act: Act) -> Result<Account, AllocError>
+pub(crate) fn take_account(core: &mut Core<'_>, act: Act) -> Result<Account, AllocError>
     requires { is_enabled core.old.module_run core.old.world act ≡ true }
     ensures stepped { IfOk result (λ a. StepsTo core.old act core.new a.step.event) }
     ensures told { IfOk result (λ a. a ≡ account

@@ -1,10 +1,10 @@
 //! What the shared numbers and clocks of a run are called: clocks by the names that they were made under.
 
-ghost use Rattle.std.specs.Prelude.{◌≡◌, ◌++◌, map, option_map, slice_get, IfOk, OnOk, string_bytes};
+ghost use Rattle.std.specs.Prelude.{◌≡◌, ◌++◌, length, map, option_map, slice_get, IfOk, OnOk, string_bytes};
 ghost use Rattle.xk_origins.specs.UnitOrigins.{slots_at};
 ghost use Rattle.xk_show_events.specs.Events.{places_of};
-ghost use Rattle.xk_show_names.specs.ClockNames.{birth, birth_by, births, made_in};
-ghost use Rattle.xk_show_names.specs.ClockNames.{clock_names, is_name, name_of, names_in_run, unnamed, unnamed_by};
+ghost use Rattle.xk_show_names.specs.ClockNames.{birth, birth_by, births, births_among, made_in};
+ghost use Rattle.xk_show_names.specs.ClockNames.{clock_names, is_name, name_of, names_by, names_in_run, unnamed, unnamed_by};
 ghost use Rattle.xk_show_names.specs.Letters.{cut_name};
 ghost use Rattle.xk_show_names.specs.Methods.{prefix_at};
 
@@ -101,6 +101,21 @@ fn births(alloc: Global, ended: &Ended<'_>) -> Result<Vec<Birth>, AllocError>
 {
     let mut list = Vec::new(alloc);
     recount_run(&BirthTeller, alloc, &mut list, ended)?;
+    Ok(list)
+}
+
+/// Where these steps made clocks.
+fn births_among(
+    alloc: Global,
+    program: &Module,
+    steps: &[Account],
+) -> Result<Vec<Birth>, AllocError>
+    ensures { IfOk result (λ v. v.items ≡ births_among program.now steps.now) }
+{
+    let mut list = Vec::new(alloc);
+    for account in steps {
+        push_birth(&mut list, program, &account.step, account.step.event)?;
+    }
     Ok(list)
 }
 
@@ -206,19 +221,17 @@ fn names_of(
     Ok(names)
 }
 
-/// The names of the clocks of a run.
+/// The names of clocks that were made so, each with its number among those that are the same.
 fn clock_names(
     alloc: Global,
     places: &Places<'_>,
     origins: &[UnitOrigins<'_>],
-    ended: &Ended<'_>,
+    births: &[Birth],
 ) -> Result<Vec<Vec<u8>>, AllocError>
     requires { places.now.origins ≡ origins.now }
-    ensures { IfOk result (λ v. map (λ x. x.items) v.items ≡ clock_names places.now
-        ended.now.module.now ended.now.core.world.arguments ended.now.log.items) }
+    ensures { IfOk result (λ v. map (λ x. x.items) v.items ≡ clock_names places.now births.now) }
 {
-    let births = births(alloc, ended)?;
-    let names = names_of(alloc, places, origins, &births)?;
+    let names = names_of(alloc, places, origins, births)?;
     each_numbered(alloc, &names)
 }
 
@@ -258,8 +271,33 @@ impl<'t> Names<'t> {
             ended.now.module.now ended.now.core.world.arguments ended.now.log.items) }
     {
         let places = Places::of_source(alloc, text, origins)?;
-        let clocks = clock_names(alloc, &places, origins, ended)?;
+        let clocks = clock_names(alloc, &places, origins, &births(alloc, ended)?)?;
         Ok(Names { shared, clocks })
+    }
+
+    /// The same, where these steps made the clocks. Err where memory was refused.
+    pub fn by_steps(
+        alloc: Global,
+        places: &Places<'_>,
+        origins: &[UnitOrigins<'_>],
+        shared: &'t [&'t [u8]],
+        program: &Module,
+        steps: &[Account],
+    ) -> Result<Names<'t>, AllocError>
+        requires { places.now.origins ≡ origins.now }
+        ensures { IfOk result (λ n. n ≡ names_by places.now (map (λ x. x.now) shared.now)
+            (births_among program.now steps.now)) }
+    {
+        let births = births_among(alloc, program, steps)?;
+        let clocks = clock_names(alloc, places, origins, &births)?;
+        Ok(Names { shared, clocks })
+    }
+
+    /// How many clocks have a name.
+    pub fn clocks(&self) -> usize
+        ensures { result ≡ length self.now.clocks }
+    {
+        self.clocks.len()
     }
 
     /// The name of a shared number, if it is known.

@@ -2,6 +2,8 @@
 
 ghost use Rattle.std.specs.Prelude.{◌≡◌, ◌++◌, codes, map, IfOk, OnOk, string_bytes};
 ghost use Rattle.xk_show_events.specs.Events.{places_of};
+ghost use Rattle.xk_show_names.specs.Accounts.{seen_accounts};
+ghost use Rattle.xk_show_names.specs.ClockNames.{names_in_run};
 ghost use Rattle.xk_show_names.specs.Events.{account_words, change_words, clock_word, number_word, shared_word, subject_word, value_words};
 ghost use Rattle.xk_show_names.specs.Events.{account_line, lines_of, named_events_text, source_by, step_words, writer_words};
 
@@ -204,6 +206,25 @@ fn lines_of(
     Ok(text)
 }
 
+/// What the shared numbers and clocks of a run are called, by those of its steps that other activities can see.
+fn seen_names<'t>(
+    alloc: Global,
+    places: &Places<'_>,
+    origins: &[UnitOrigins<'_>],
+    shared: &'t [&'t [u8]],
+    ended: &Ended<'_>,
+    steps: &[Account],
+) -> Result<Names<'t>, AllocError>
+    requires origins { places.now.origins ≡ origins.now }
+    requires steps { steps.now ≡ seen_accounts
+        ended.now.module.now ended.now.core.world.arguments ended.now.log.items }
+    ensures { IfOk result (λ n. n ≡ names_in_run places.now (map (λ x. x.now) shared.now)
+        ended.now.module.now ended.now.core.world.arguments ended.now.log.items) }
+{
+    let program = ended.module.module();
+    Names::by_steps(alloc, places, origins, shared, program, steps)
+}
+
 /// The steps of a run of a source text's module that other activities can see, a line each, with names and values: `step
 /// 9 act 1 at 7:9 read total 2 (step 3)`. What was read, written or added to is told by the shared number's name, which
 /// is given, with what it was then; what was read, also with the step that wrote or added to it last, or `(opening)`; and
@@ -220,7 +241,7 @@ pub fn named_events(
         ended.now.module.now ended.now.core.world.arguments ended.now.log.items) }
 {
     let places = Places::of_source(alloc, text, origins)?;
-    let names = Names::of_run(alloc, text, origins, shared, ended)?;
     let steps = seen_accounts(alloc, ended)?;
+    let names = seen_names(alloc, &places, origins, shared, ended, &steps)?;
     lines_of(alloc, &places, &names, &steps)
 }

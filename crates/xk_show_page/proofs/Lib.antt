@@ -1,1 +1,3 @@
+pub mod PlanLemmas
+pub mod MomentLemmas
 mod PageExamples

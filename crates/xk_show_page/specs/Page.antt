@@ -13,11 +13,11 @@ use Rattle.xk_show_events.specs.Steps.{told_of_run}
 use Rattle.xk_show_events.specs.Events.{PlacesValue, event_line}
 use Rattle.xk_show_names.specs.declared.accounts.Account.{Account}
 use Rattle.xk_show_names.specs.Accounts.{recounted_by}
-use Rattle.xk_show_names.specs.ClockNames.{NamesValue, names_in_run}
+use Rattle.xk_show_names.specs.ClockNames.{NamesValue}
 use Rattle.xk_show_names.specs.Events.{account_words, step_words}
 use Rattle.xk_show_lanes.specs.declared.window.Window.{Window}
 use Rattle.xk_show_lanes.specs.Lanes.{is_asked}
-use Rattle.xk_show_picture.specs.Picture.{is_drawn, picture_text}
+use Rattle.xk_show_picture.specs.Picture.{is_drawn, names_for, picture_text}
 use Rattle.xk_show_where.specs.Where.{standings_text}
 use Rattle.xk_show_page.specs.declared.furniture.TheConstants.{COLOURS, PLACES, MARKS, CONTROLS, LISTS, READER, SHOWER, MOVER}
 
@@ -132,4 +132,4 @@ page_text p n window m log last =
 
 -- the same where shared numbers have these names, and clocks those that they were made under
 abbrev pub named_page_text : PlacesValue → List (List ℕ) → Window → ModuleValue → List Entry → World → List ℕ
-named_page_text p shared w m log last = page_text p (Some (names_in_run p shared m last.arguments log)) w m log last
+named_page_text p shared w m log last = page_text p (names_for p (Some shared) w m log last) w m log last

@@ -169,6 +169,11 @@ impl Recount<u8> for MomentTeller<'_, '_> {
             step.event,
         )
     }
+
+    #[tactic(auto, using(crate::proofs::MomentLemmas::none_told))]
+    fn is_silent_after(&self, steps: u64) -> bool {
+        self.window.last <= steps
+    }
 }
 
 /// Adds how things stand before the first step of a run.

@@ -1,8 +1,8 @@
 //! The whole page.
 
-ghost use Rattle.std.specs.Prelude.{◌≡◌, ◌++◌, length, map, None, IfOk, OnOk};
+ghost use Rattle.std.specs.Prelude.{◌≡◌, ◌++◌, length, map, option_map, None, IfOk, OnOk};
 ghost use Rattle.xk_show_events.specs.Events.{no_text, places_of};
-ghost use Rattle.xk_show_picture.specs.Picture.{is_drawn, picture_in, picture_text};
+ghost use Rattle.xk_show_picture.specs.Picture.{is_drawn, names_for, picture_in, picture_text};
 ghost use Rattle.xk_show_page.specs.Page.{behind_picture, behind_source, escaped, moments, named_page_text, page_by, page_head, page_of, page_tail, page_text};
 
 use crate::moments::{MomentTeller, push_opening};
@@ -10,10 +10,19 @@ use crate::texts::{push_escaped, push_head, push_lists, push_moments_begin, push
 use std::alloc::{AllocError, Global};
 use xk_origins::UnitOrigins;
 use xk_scheduler::Ended;
-use xk_show_events::Places;
+use xk_show_events::{Both, Places};
 use xk_show_lanes::{Drawing, Window};
-use xk_show_names::{Names, recount_run};
+use xk_show_names::recount_run_by_both;
 use xk_show_picture::{PictureTeller, Planned, plan_for};
+
+/// A source text, where its units' instructions come from, and what its shared numbers are called. A module alone has none
+/// of it.
+#[derive(Clone, Copy)]
+struct Source<'t> {
+    text: &'t [u8],
+    origins: &'t [UnitOrigins<'t>],
+    shared: Option<&'t [&'t [u8]]>,
+}
 
 /// Adds all that stands before the picture.
 fn push_front(out: &mut Vec<u8>, text: &[u8]) -> Result<(), AllocError>
@@ -35,38 +44,28 @@ fn push_rest(out: &mut Vec<u8>, moments: &[u8]) -> Result<(), AllocError>
     push_tail(out)
 }
 
-/// Adds the picture of a run.
+/// Adds the picture of a run, and its moments to a list of their own. The log is played again for both, once.
 fn push_picture(
     alloc: Global,
     out: &mut Vec<u8>,
-    teller: &PictureTeller<'_, '_>,
+    told: &mut Vec<u8>,
+    both: &Both<'_, PictureTeller<'_, '_>, MomentTeller<'_, '_>>,
     ended: &Ended<'_>,
 ) -> Result<(), AllocError>
-    requires { teller.now.plan.now.activities ≡ length ended.now.core.world.activities }
-    ensures { OnOk result (out.new.items ≡ out.old.items ++ picture_in
-        teller.now.plan.now.sheet teller.now.plan.now.rows.items
-        teller.now.places.now teller.now.names.now
+    requires { both.now.first.now.plan.now.activities
+        ≡ length ended.now.core.world.activities }
+    ensures picture { OnOk result (out.new.items ≡ out.old.items ++ picture_in
+        both.now.first.now.plan.now.sheet both.now.first.now.plan.now.rows.items
+        both.now.first.now.places.now both.now.first.now.names.now
+        ended.now.module.now ended.now.log.items ended.now.core.world) }
+    ensures moments { OnOk result (told.new.items ≡ told.old.items ++ moments
+        both.now.second.now.window both.now.second.now.places.now both.now.second.now.names.now
         ended.now.module.now ended.now.log.items ended.now.core.world) }
 {
-    teller.plan.push_front(alloc, out)?;
-    recount_run(teller, alloc, out, ended)?;
-    teller.plan.push_end(out)
-}
-
-/// The moments of a run.
-fn moments(
-    alloc: Global,
-    teller: &MomentTeller<'_, '_>,
-    ended: &Ended<'_>,
-) -> Result<Vec<u8>, AllocError>
-    ensures { IfOk result (λ v. v.items ≡ moments
-        teller.now.window teller.now.places.now teller.now.names.now
-        ended.now.module.now ended.now.log.items ended.now.core.world) }
-{
-    let mut moments = Vec::new(alloc);
-    push_opening(alloc, &mut moments, teller.places, ended)?;
-    recount_run(teller, alloc, &mut moments, ended)?;
-    Ok(moments)
+    both.first.plan.push_front(alloc, out)?;
+    push_opening(alloc, told, both.second.places, ended)?;
+    recount_run_by_both(both, alloc, out, told, ended)?;
+    both.first.plan.push_end(out)
 }
 
 /// The page of a run, by its source text, the picture and the moments.
@@ -85,15 +84,18 @@ fn page_of(
         (moments window picture.now.places.now picture.now.names.now
         ended.now.module.now ended.now.log.items ended.now.core.world)) }
 {
-    let teller = MomentTeller {
-        window,
-        places: picture.places,
-        names: picture.names,
+    let both = Both {
+        first: picture,
+        second: &MomentTeller {
+            window,
+            places: picture.places,
+            names: picture.names,
+        },
     };
-    let moments = moments(alloc, &teller, ended)?;
     let mut out = Vec::new(alloc);
+    let mut moments = Vec::new(alloc);
     push_front(&mut out, text)?;
-    push_picture(alloc, &mut out, picture, ended)?;
+    push_picture(alloc, &mut out, &mut moments, &both, ended)?;
     push_rest(&mut out, &moments)?;
     Ok(out)
 }
@@ -101,30 +103,34 @@ fn page_of(
 /// The page of these steps of a run, or what is told in its place.
 fn page(
     alloc: Global,
-    text: &[u8],
+    source: &Source<'_>,
     places: &Places<'_>,
-    names: &Option<Names<'_>>,
     ended: &Ended<'_>,
     window: Window,
 ) -> Result<Drawing, AllocError>
+    requires { places.now.origins ≡ source.now.origins.now }
     ensures text { IfOk result (λ d. d.text.items ≡ page_by
         (is_drawn window ended.now.module.now ended.now.log.items ended.now.core.world)
-        text.now
-        (picture_text places.now names.now window
+        source.now.text.now
+        (picture_text places.now (names_for places.now
+        (option_map (λ l. map (λ x. x.now) l.now) source.now.shared) window
+        ended.now.module.now ended.now.log.items ended.now.core.world) window
         ended.now.module.now ended.now.log.items ended.now.core.world)
-        (moments window places.now names.now
+        (moments window places.now (names_for places.now
+        (option_map (λ l. map (λ x. x.now) l.now) source.now.shared) window
+        ended.now.module.now ended.now.log.items ended.now.core.world)
         ended.now.module.now ended.now.log.items ended.now.core.world)) }
     ensures whole { IfOk result (λ d. d.whole ≡ is_drawn window
         ended.now.module.now ended.now.log.items ended.now.core.world) }
 {
-    match plan_for(alloc, places, names, ended, window)? {
+    match plan_for(alloc, places, source.origins, source.shared, ended, window)? {
         Planned::Drawn(plan) => {
             let picture = PictureTeller {
                 plan: &plan,
                 places,
-                names,
+                names: &plan.names,
             };
-            let text = page_of(alloc, text, &picture, ended, window)?;
+            let text = page_of(alloc, source.text, &picture, ended, window)?;
             Ok(Drawing { text, whole: true })
         }
         Planned::TooLarge(text) => Ok(Drawing { text, whole: false }),
@@ -152,8 +158,12 @@ pub fn source_page(
         ended.now.module.now ended.now.log.items ended.now.core.world) }
 {
     let places = Places::of_source(alloc, text, origins)?;
-    let names = Some(Names::of_run(alloc, text, origins, shared, ended)?);
-    page(alloc, text, &places, &names, ended, window)
+    let source = Source {
+        text,
+        origins,
+        shared: Some(shared),
+    };
+    page(alloc, &source, &places, ended, window)
 }
 
 /// The same of a module without a text, with the unit and place of each step, and with the numbers of what it was about.
@@ -165,5 +175,10 @@ pub fn module_page(alloc: Global, ended: &Ended<'_>, window: Window) -> Result<D
         ended.now.module.now ended.now.log.items ended.now.core.world) }
 {
     let places = Places::of_module(alloc)?;
-    page(alloc, b"", &places, &None, ended, window)
+    let source = Source {
+        text: b"",
+        origins: &[],
+        shared: None,
+    };
+    page(alloc, &source, &places, ended, window)
 }

@@ -1,1 +1,2 @@
+pub mod PlanLemmas
 mod PictureExamples

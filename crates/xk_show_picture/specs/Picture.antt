@@ -15,7 +15,7 @@ use Rattle.xk_show_events.specs.Events.{PlacesValue, event_words}
 use Rattle.xk_show_events.specs.Worlds.{each_below, phase_of}
 use Rattle.xk_show_names.specs.declared.accounts.Account.{Account}
 use Rattle.xk_show_names.specs.Accounts.{recounted_by}
-use Rattle.xk_show_names.specs.ClockNames.{NamesValue, names_in_run}
+use Rattle.xk_show_names.specs.ClockNames.{NamesValue, names_until}
 use Rattle.xk_show_names.specs.Events.{account_words, clock_word}
 use Rattle.xk_show_lanes.specs.declared.grid.Grid.{Grid}
 use Rattle.xk_show_lanes.specs.declared.window.Window.{Window}
@@ -71,10 +71,10 @@ label_of (Some n) v a c = named_label n v a c
 abbrev pub widest_name : NamesValue → ℕ → ℕ
 widest_name n k = longest (each_below (λ c. clock_word n c ∷ []) k)
 
--- for how many signs there is room behind a bar: 22 for phase and activity, and the names of so many clocks
+-- for how many signs there is room behind a bar of so many clocks: 22 for phase and activity, and the names of those that have one
 abbrev pub signs_of : Option NamesValue → ℕ → ℕ
 signs_of None k = 32
-signs_of (Some n) k = 22 + min 100 (widest_name n k)
+signs_of (Some n) k = 22 + min 100 (widest_name n (min (length n.clocks) k))
 
 -- ---- what stands in each row
 
@@ -220,9 +220,14 @@ picture_by drawn p n w rows m log last =
 abbrev pub picture_text : PlacesValue → Option NamesValue → Window → ModuleValue → List Entry → World → List ℕ
 picture_text p n w m log last = picture_by (is_drawn w m log last) p n w (rows_of w m last.arguments log) m log last
 
+-- the names for a picture, if those of the shared numbers are known: clocks have those that they were made under, up to the last of these steps
+abbrev pub names_for : PlacesValue → Option (List (List ℕ)) → Window → ModuleValue → List Entry → World → Option NamesValue
+names_for p None w m log last = None
+names_for p (Some shared) w m log last = Some (names_until p shared w.last m last.arguments log)
+
 -- the same where shared numbers have these names, and clocks those that they were made under
 abbrev pub named_picture_text : PlacesValue → List (List ℕ) → Window → ModuleValue → List Entry → World → List ℕ
-named_picture_text p shared w m log last = picture_text p (Some (names_in_run p shared m last.arguments log)) w m log last
+named_picture_text p shared w m log last = picture_text p (names_for p (Some shared) w m log last) w m log last
 
 -- ---- its plan
 
@@ -231,6 +236,6 @@ abbrev pub IsPlanned : PlacesValue → Option NamesValue → Window → ModuleVa
 IsPlanned p n w m log last (planned.Drawn plan) =
     (is_drawn w m log last ≡ true)
     × ((plan.sheet ≡ sheet_for p n w m log last)
-    × ((plan.rows.items ≡ rows_of w m last.arguments log) × (plan.activities ≡ length last.activities)))
+    × ((plan.names ≡ n) × ((plan.rows.items ≡ rows_of w m last.arguments log) × (plan.activities ≡ length last.activities))))
 IsPlanned p n w m log last (planned.TooLarge text) =
     (is_drawn w m log last ≡ false) × (text.items ≡ too_large (length (rows_of w m last.arguments log)) (length last.activities))

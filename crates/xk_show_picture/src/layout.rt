@@ -3,13 +3,15 @@
 ghost use Rattle.std.specs.Prelude.{◌≡◌, ◌∷◌, ◌++◌, length, replicate, IfOk, OnOk};
 ghost use Rattle.xk_core.specs.Core.{advanced_now};
 ghost use Rattle.xk_show_lanes.specs.Lanes.{steps_asked};
+ghost use Rattle.xk_show_lanes.specs.NamedLanes.{accounts_kept};
 ghost use Rattle.xk_show_picture.specs.Picture.{bar_row, is_shown, row_of, rows_of, rows_told};
 
 use std::alloc::{AllocError, Global};
 use xk_core::Core;
 use xk_scheduler::Ended;
 use xk_show_events::{Both, Describe, RunStep, advanced, describe_run_by_both, is_seen};
-use xk_show_lanes::{AskedSteps, Window};
+use xk_show_lanes::{AskedSteps, KeptAccounts, Window};
+use xk_show_names::{Account, Recount, recount_run_by_both};
 use xk_types::Event;
 
 /// Whether the step that led to the core, and was seen to do this, is shown.
@@ -38,6 +40,24 @@ fn push_number(list: &mut Vec<u64>, number: u64, clocks: &[u32]) -> Result<(), A
     push_times(list, number, clocks.len())
 }
 
+/// Adds the numbers of the rows of the step that led to the core, and was seen to do this, if it is shown.
+fn push_rows(
+    alloc: Global,
+    list: &mut Vec<u64>,
+    core: &Core<'_>,
+    window: Window,
+    event: Event,
+) -> Result<(), AllocError>
+    ensures { OnOk result (list.new.items
+        ≡ list.old.items ++ rows_told window core.now.world event) }
+{
+    if !is_shown(core, window, event) {
+        return Ok(());
+    }
+    let clocks = advanced(alloc, core)?;
+    push_number(list, core.steps_done(), &clocks)
+}
+
 /// Tells of the steps that are shown, by the numbers of their rows.
 #[derive(Drop)]
 struct RowTeller {
@@ -54,11 +74,7 @@ impl Describe<u64> for RowTeller {
         core: &Core<'_>,
         step: &RunStep,
     ) -> Result<(), AllocError> {
-        if !is_shown(core, self.window, step.event) {
-            return Ok(());
-        }
-        let clocks = advanced(alloc, core)?;
-        push_number(out, core.steps_done(), &clocks)
+        push_rows(alloc, out, core, self.window, step.event)
     }
 
     #[tactic(auto, using(xk_show_lanes::proofs::LaneLemmas::none_asked))]
@@ -67,14 +83,33 @@ impl Describe<u64> for RowTeller {
     }
 }
 
-/// What a picture is laid out by: the numbers of its rows, and the steps whose words its columns hold.
+impl Recount<u64> for RowTeller {
+    ghost recount = { λ teller m v a. rows_told teller.window v a.step.event };
+
+    fn push(
+        &self,
+        alloc: Global,
+        out: &mut Vec<u64>,
+        core: &Core<'_>,
+        account: &Account,
+    ) -> Result<(), AllocError> {
+        push_rows(alloc, out, core, self.window, account.step.event)
+    }
+
+    #[tactic(auto, using(xk_show_lanes::proofs::LaneLemmas::none_asked))]
+    fn is_silent_after(&self, steps: u64) -> bool {
+        self.window.last <= steps
+    }
+}
+
+/// What the picture of a module is laid out by: the numbers of its rows, and the steps whose words its columns hold.
 #[derive(Drop)]
 pub(crate) struct Layout {
     pub rows: Vec<u64>,
     pub steps: Vec<RunStep>,
 }
 
-/// The layout of a run's picture. The log is played again for it.
+/// The layout of the picture of a module's run. The log is played again for it.
 pub(crate) fn layout_of(
     alloc: Global,
     ended: &Ended<'_>,
@@ -93,6 +128,35 @@ pub(crate) fn layout_of(
     };
     describe_run_by_both(&both, alloc, &mut rows, &mut steps, ended)?;
     Ok(Layout { rows, steps })
+}
+
+/// What the picture of a source text's module is laid out by: the numbers of its rows, and the steps that were kept for
+/// names and columns.
+#[derive(Drop)]
+pub(crate) struct NamedLayout {
+    pub rows: Vec<u64>,
+    pub kept: Vec<Account>,
+}
+
+/// The layout of the picture of its run. The log is played again for it.
+pub(crate) fn named_layout_of(
+    alloc: Global,
+    ended: &Ended<'_>,
+    window: Window,
+) -> Result<NamedLayout, AllocError>
+    ensures rows { IfOk result (λ l. l.rows.items ≡ rows_of window ended.now.module.now
+        ended.now.core.world.arguments ended.now.log.items) }
+    ensures kept { IfOk result (λ l. l.kept.items ≡ accounts_kept window ended.now.module.now
+        ended.now.log.items ended.now.core.world) }
+{
+    let mut rows = Vec::new(alloc);
+    let mut kept = Vec::new(alloc);
+    let both = Both {
+        first: &RowTeller { window },
+        second: &KeptAccounts { window },
+    };
+    recount_run_by_both(&both, alloc, &mut rows, &mut kept, ended)?;
+    Ok(NamedLayout { rows, kept })
 }
 
 /// In which row a step is drawn.

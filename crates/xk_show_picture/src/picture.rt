@@ -1,15 +1,16 @@
 //! The whole picture.
 
-ghost use Rattle.std.specs.Prelude.{◌≡◌, ◌++◌, length, map, None, IfOk, OnOk};
+ghost use Rattle.std.specs.Prelude.{◌≡◌, ◌++◌, length, map, option_map, None, Some, IfOk, OnOk};
 ghost use Rattle.xk_show_events.specs.Events.{no_text, places_of};
 ghost use Rattle.xk_show_events.specs.Worlds.{each_below};
-ghost use Rattle.xk_show_lanes.specs.Lanes.{steps_asked};
-ghost use Rattle.xk_show_picture.specs.Picture.{IsPlanned, columns, drawn_step, fits, furniture, head, high, is_drawn, lane_head};
-ghost use Rattle.xk_show_picture.specs.Picture.{named_picture_text, picture_end, picture_in, picture_text, rows_of_step, sheet_for};
+ghost use Rattle.xk_show_picture.specs.Sheet.{sheet_of};
+ghost use Rattle.xk_show_picture.specs.Picture.{IsPlanned, drawn_step, fits, furniture, head, high, is_drawn, lane_head, names_for};
+ghost use Rattle.xk_show_picture.specs.Picture.{named_picture_text, picture_end, picture_in, picture_text, rows_of_step, signs_of};
+ghost use Rattle.xk_show_picture.specs.Shapes.{too_large};
 
 use crate::bars::push_bars;
 use crate::furniture::{legend, shapes, style};
-use crate::layout::{is_shown, layout_of};
+use crate::layout::{is_shown, layout_of, named_layout_of};
 use crate::lines::put;
 use crate::rows::push_row;
 use crate::shapes::{described, lane_title, svg_head, too_large, top};
@@ -19,8 +20,8 @@ use std::alloc::{AllocError, Global};
 use xk_core::Core;
 use xk_origins::UnitOrigins;
 use xk_scheduler::Ended;
-use xk_show_events::{Places, RunStep};
-use xk_show_lanes::{Drawing, Grid, Window, grid_by_names, grid_of, title};
+use xk_show_events::Places;
+use xk_show_lanes::{Drawing, Grid, Window, grid_of, named_columns, title};
 use xk_show_names::{Account, Names, Recount, recount_run};
 
 /// The most rows that are drawn.
@@ -49,7 +50,7 @@ fn push_row_and_bars(
 /// Tells of the steps that are shown, by their rows; by names where there are any.
 #[derive(Drop)]
 pub struct PictureTeller<'a, 't> {
-    pub plan: &'a Plan,
+    pub plan: &'a Plan<'t>,
     pub places: &'a Places<'t>,
     pub names: &'a Option<Names<'t>>,
 }
@@ -125,15 +126,17 @@ fn push_head(
     push_titles(alloc, out, sheet)
 }
 
-/// How the picture of a run is drawn: where its columns stand, the numbers of its rows, and how many activities there were.
+/// How the picture of a run is drawn: where its columns stand, by which names things are told, if by any, the numbers of
+/// its rows, and how many activities there were.
 #[derive(Drop)]
-pub struct Plan {
+pub struct Plan<'t> {
     pub sheet: Sheet,
+    pub names: Option<Names<'t>>,
     pub rows: Vec<u64>,
     pub activities: u32,
 }
 
-impl Plan {
+impl Plan<'_> {
     /// Adds what stands before the first step. Err where memory was refused.
     pub fn push_front(&self, alloc: Global, out: &mut Vec<u8>) -> Result<(), AllocError>
         ensures { OnOk result (out.new.items ≡ out.old.items
@@ -152,8 +155,8 @@ impl Plan {
 
 /// The plan of a picture, or the line that is told in its place.
 #[derive(Drop)]
-pub enum Planned {
-    Drawn(Plan),
+pub enum Planned<'t> {
+    Drawn(Plan<'t>),
     TooLarge(Vec<u8>),
 }
 
@@ -164,68 +167,106 @@ fn fits(rows: &[u64], activities: u32) -> bool
     rows.len() <= ROWS && activities <= LANES
 }
 
-/// The columns of lanes.
-fn columns(
+/// The plan of a picture in these columns, by these names, if there are any, and with these rows.
+fn plan_in<'t>(
+    alloc: Global,
+    grid: Grid,
+    names: Option<Names<'t>>,
+    rows: Vec<u64>,
+    ended: &Ended<'_>,
+) -> Result<Plan<'t>, AllocError>
+    ensures sheet { IfOk result (λ p. p.sheet ≡ sheet_of grid
+        (signs_of names.entry (length ended.now.core.world.clocks))
+        (length ended.now.core.world.clocks)) }
+    ensures names { IfOk result (λ p. p.names ≡ names.entry) }
+    ensures rows { IfOk result (λ p. p.rows.items ≡ rows.items) }
+    ensures activities { IfOk result (λ p.
+        p.activities ≡ length ended.now.core.world.activities) }
+{
+    let clocks = ended.core.clocks();
+    let signs = signs_of(alloc, &names, clocks)?;
+    Ok(Plan {
+        sheet: sheet_of(grid, signs, clocks),
+        names,
+        rows,
+        activities: ended.core.activities(),
+    })
+}
+
+/// The line that is told in the place of a picture with these rows.
+fn line_for(alloc: Global, rows: &[u64], ended: &Ended<'_>) -> Result<Vec<u8>, AllocError>
+    ensures { IfOk result (λ v. v.items
+        ≡ too_large (length rows.now) (length ended.now.core.world.activities)) }
+{
+    let told = too_large(alloc, rows.len(), ended.core.activities())?;
+    Ok(told.into_bytes())
+}
+
+/// How the picture of these steps of a source text's module is drawn, if it is.
+#[tactic(auto, using(crate::proofs::PlanLemmas::sheet_named))]
+fn named_plan<'t>(
     alloc: Global,
     places: &Places<'_>,
-    names: &Option<Names<'_>>,
+    origins: &[UnitOrigins<'_>],
+    shared: &'t [&'t [u8]],
     ended: &Ended<'_>,
     window: Window,
-    steps: &[RunStep],
-) -> Result<Grid, AllocError>
-    requires { steps.now ≡ steps_asked window ended.now.module.now
-        ended.now.log.items ended.now.core.world }
-    ensures { IfOk result (λ g. g ≡ columns places.now names.now window ended.now.module.now
-        ended.now.log.items ended.now.core.world) }
+) -> Result<Planned<'t>, AllocError>
+    requires { places.now.origins ≡ origins.now }
+    ensures { IfOk result (IsPlanned places.now
+        (names_for places.now (Some (map (λ x. x.now) shared.now)) window
+        ended.now.module.now ended.now.log.items ended.now.core.world)
+        window ended.now.module.now ended.now.log.items ended.now.core.world) }
 {
-    match names {
-        Some(names) => grid_by_names(alloc, places, names, ended, window),
-        None => grid_of(alloc, places, window, steps, ended.core.activities()),
+    let layout = named_layout_of(alloc, ended, window)?;
+    if !fits(&layout.rows, ended.core.activities()) {
+        return Ok(Planned::TooLarge(line_for(alloc, &layout.rows, ended)?));
     }
+    let columns = named_columns(alloc, places, origins, shared, ended, window, layout.kept)?;
+    let plan = plan_in(alloc, columns.grid, Some(columns.names), layout.rows, ended)?;
+    Ok(Planned::Drawn(plan))
 }
 
-/// Where the columns stand.
-fn sheet_for(
+/// How the picture of these steps of a module is drawn, if it is.
+fn module_plan<'t>(
     alloc: Global,
     places: &Places<'_>,
-    names: &Option<Names<'_>>,
     ended: &Ended<'_>,
     window: Window,
-    steps: &[RunStep],
-) -> Result<Sheet, AllocError>
-    requires { steps.now ≡ steps_asked window ended.now.module.now
-        ended.now.log.items ended.now.core.world }
-    ensures { IfOk result (λ s. s ≡ sheet_for places.now names.now window
+) -> Result<Planned<'t>, AllocError>
+    ensures { IfOk result (IsPlanned places.now None window
         ended.now.module.now ended.now.log.items ended.now.core.world) }
-{
-    let grid = columns(alloc, places, names, ended, window, steps)?;
-    let signs = signs_of(alloc, names, ended.core.clocks())?;
-    Ok(sheet_of(grid, signs, ended.core.clocks()))
-}
-
-/// How the picture of these steps of a run is drawn, if it is. Err where memory was refused.
-pub fn plan_for(
-    alloc: Global,
-    places: &Places<'_>,
-    names: &Option<Names<'_>>,
-    ended: &Ended<'_>,
-    window: Window,
-) -> Result<Planned, AllocError>
-    ensures { IfOk result (IsPlanned places.now names.now window ended.now.module.now
-        ended.now.log.items ended.now.core.world) }
 {
     let layout = layout_of(alloc, ended, window)?;
     let activities = ended.core.activities();
     if !fits(&layout.rows, activities) {
-        let told = too_large(alloc, layout.rows.len(), activities)?;
-        return Ok(Planned::TooLarge(told.into_bytes()));
+        return Ok(Planned::TooLarge(line_for(alloc, &layout.rows, ended)?));
     }
-    let sheet = sheet_for(alloc, places, names, ended, window, &layout.steps)?;
-    Ok(Planned::Drawn(Plan {
-        sheet,
-        rows: layout.rows,
-        activities,
-    }))
+    let grid = grid_of(alloc, places, window, &layout.steps, activities)?;
+    let plan = plan_in(alloc, grid, None, layout.rows, ended)?;
+    Ok(Planned::Drawn(plan))
+}
+
+/// How the picture of these steps of a run is drawn, if it is: with names, where those of the shared numbers are known.
+/// Err where memory was refused.
+pub fn plan_for<'t>(
+    alloc: Global,
+    places: &Places<'_>,
+    origins: &[UnitOrigins<'_>],
+    shared: Option<&'t [&'t [u8]]>,
+    ended: &Ended<'_>,
+    window: Window,
+) -> Result<Planned<'t>, AllocError>
+    requires { places.now.origins ≡ origins.now }
+    ensures { IfOk result (IsPlanned places.now
+        (names_for places.now (option_map (λ l. map (λ x. x.now) l.now) shared.entry) window
+        ended.now.module.now ended.now.log.items ended.now.core.world)
+        window ended.now.module.now ended.now.log.items ended.now.core.world) }
+{
+    match shared {
+        Some(known) => named_plan(alloc, places, origins, known, ended, window),
+        None => module_plan(alloc, places, ended, window),
+    }
 }
 
 /// The picture of a run.
@@ -250,21 +291,25 @@ fn picture_in(
 fn picture(
     alloc: Global,
     places: &Places<'_>,
-    names: &Option<Names<'_>>,
+    origins: &[UnitOrigins<'_>],
+    shared: Option<&[&[u8]]>,
     ended: &Ended<'_>,
     window: Window,
 ) -> Result<Drawing, AllocError>
-    ensures text { IfOk result (λ d. d.text.items ≡ picture_text places.now names.now window
-        ended.now.module.now ended.now.log.items ended.now.core.world) }
+    requires { places.now.origins ≡ origins.now }
+    ensures text { IfOk result (λ d. d.text.items ≡ picture_text places.now
+        (names_for places.now (option_map (λ l. map (λ x. x.now) l.now) shared.entry) window
+        ended.now.module.now ended.now.log.items ended.now.core.world)
+        window ended.now.module.now ended.now.log.items ended.now.core.world) }
     ensures whole { IfOk result (λ d. d.whole ≡ is_drawn window
         ended.now.module.now ended.now.log.items ended.now.core.world) }
 {
-    match plan_for(alloc, places, names, ended, window)? {
+    match plan_for(alloc, places, origins, shared, ended, window)? {
         Planned::Drawn(plan) => {
             let teller = PictureTeller {
                 plan: &plan,
                 places,
-                names,
+                names: &plan.names,
             };
             let text = picture_in(alloc, &teller, ended)?;
             Ok(Drawing { text, whole: true })
@@ -293,8 +338,7 @@ pub fn source_picture(
         ended.now.module.now ended.now.log.items ended.now.core.world) }
 {
     let places = Places::of_source(alloc, text, origins)?;
-    let names = Some(Names::of_run(alloc, text, origins, shared, ended)?);
-    picture(alloc, &places, &names, ended, window)
+    picture(alloc, &places, origins, Some(shared), ended, window)
 }
 
 /// The same of a module without a text, with the unit and place of each step, and with the numbers of what it was about.
@@ -310,5 +354,5 @@ pub fn module_picture(
         ended.now.module.now ended.now.log.items ended.now.core.world) }
 {
     let places = Places::of_module(alloc)?;
-    picture(alloc, &places, &None, ended, window)
+    picture(alloc, &places, &[], None, ended, window)
 }

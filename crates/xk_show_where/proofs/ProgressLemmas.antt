@@ -16,7 +16,7 @@ use Rattle.xk_scheduler.proofs.RunSequenceLemmas.{run_then}
 use Rattle.xk_show_where.specs.declared.progress.Stop.{Stop}
 use Rattle.xk_show_events.specs.Worlds.{last_world}
 use Rattle.xk_show_where.specs.Progress.{IsTold, course_of, is_through, step_behind}
-use Rattle.xk_show_where.specs.Where.{standings_text, where_text}
+use Rattle.xk_show_where.specs.Where.{named_standings_text, named_where_text, standings_text, where_text}
 use Rattle.xk_show_events.specs.Events.{PlacesValue}
 
 -- ---- runs
@@ -130,3 +130,9 @@ told_whole m args log i w out at =
 pub told_text : (p : PlacesValue) (m : ModuleValue) (args : List ℤ) (log : List Entry) (w : World) (s : Option Stop) → IsTold m args log w s
     → standings_text p m w s ≡ where_text p m args log
 told_text p m args log w s t = ap (standings_text p m w) t.stop ∙ ap (λ v. standings_text p m v (step_behind 0 v.steps log)) t.world
+
+-- and so is the text by names
+pub named_told_text : (p : PlacesValue) (shared : List (List ℕ)) (m : ModuleValue) (args : List ℤ) (log : List Entry) (w : World)
+    (s : Option Stop) → IsTold m args log w s → named_standings_text p shared m w s ≡ named_where_text p shared m args log
+named_told_text p shared m args log w s t =
+    ap (named_standings_text p shared m w) t.stop ∙ ap (λ v. named_standings_text p shared m v (step_behind 0 v.steps log)) t.world

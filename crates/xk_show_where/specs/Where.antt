@@ -14,6 +14,8 @@ use Rattle.xk_activity.specs.Activities.{act_at}
 use Rattle.xk_core.specs.Core.{is_living, is_waiting}
 use Rattle.xk_show_events.specs.Worlds.{each_below, phase_of, those_below}
 use Rattle.xk_show_events.specs.Events.{PlacesValue, origin_of, place_words}
+use Rattle.xk_show_names.specs.Letters.{cut_name}
+use Rattle.xk_show_locals.specs.Locals.{locals_line}
 use Rattle.xk_show_where.specs.declared.condition.Condition.{Condition}
 use Rattle.xk_show_where.specs.declared.condition.Condition.TheVariants as condition
 use Rattle.xk_show_where.specs.declared.progress.Stop.{Stop}
@@ -132,6 +134,28 @@ shared_line_of s (Some n) = codes "shared " ++ (decimal s ++ (codes " is " ++ (s
 abbrev pub shared_line : List ℤ → ℕ → List ℕ
 shared_line cells s = shared_line_of s (slice_get cells s)
 
+-- `total = 5`
+unfoldable pub value_line : List ℕ → ℤ → List ℕ
+value_line name n = cut_name name ++ (codes " = " ++ (signed_decimal n ++ codes "\n"))
+
+-- of a shared number whose name is known, if it is
+abbrev pub named_line_of : Option (List ℕ) → ℕ → ℤ → List ℕ
+named_line_of None s n = shared_line_of s (Some n)
+named_line_of (Some name) s n = value_line name n
+
+-- if there is such a number
+abbrev pub named_line_if : Option (List ℕ) → ℕ → Option ℤ → List ℕ
+named_line_if name s None = []
+named_line_if name s (Some n) = named_line_of name s n
+
+-- where shared numbers have these names
+abbrev pub named_line : List (List ℕ) → List ℤ → ℕ → List ℕ
+named_line shared cells s = named_line_if (slice_get shared s) s (slice_get cells s)
+
+-- the line of an activity of a source text, and that of its own numbers
+abbrev pub told_act : PlacesValue → ModuleValue → World → ℕ → List ℕ
+told_act p m w a = act_line p m w a ++ locals_line p.origins m w a
+
 -- `entry 4 step 9 of 11: act 0 has ended`
 unfoldable pub stop_line : ModuleValue → World → Stop → List ℕ
 stop_line m w s =
@@ -161,3 +185,15 @@ are_steps_legal m args log = is_through (course_of m args log)
 abbrev pub where_text : PlacesValue → ModuleValue → List ℤ → List Entry → List ℕ
 where_text p m args log =
     standings_text p m (reached m args log) (step_behind 0 (reached m args log).steps log)
+
+-- ---- by names
+
+-- the same of a source text, whose shared numbers have these names
+abbrev pub named_standings_text : PlacesValue → List (List ℕ) → ModuleValue → World → Option Stop → List ℕ
+named_standings_text p shared m w stop =
+    (((steps_line w ++ each_below (told_act p m w) (length w.activities)) ++ each_below (clock_line w) (length w.clocks))
+    ++ each_below (named_line shared w.cells) (length w.cells)) ++ stop_text m w stop
+
+abbrev pub named_where_text : PlacesValue → List (List ℕ) → ModuleValue → List ℤ → List Entry → List ℕ
+named_where_text p shared m args log =
+    named_standings_text p shared m (reached m args log) (step_behind 0 (reached m args log).steps log)

@@ -3,7 +3,7 @@
 ghost use Rattle.std.specs.Prelude.{◌≡◌, ◌<◌, ◌++◌, length, OnOk};
 ghost use Rattle.xk_show_events.specs.Worlds.{each_below};
 ghost use Rattle.xk_show_where.specs.Awaited.{AreWaitsOf};
-ghost use Rattle.xk_show_where.specs.Where.{act_line, act_words, clock_words, condition_words, place_of, registration, registration_by, registrations};
+ghost use Rattle.xk_show_where.specs.Where.{act_line, act_words, clock_words, condition_words, place_of, registration, registration_by, registrations, told_act};
 
 use crate::condition::{Condition, condition_of, condition_words};
 use crate::holders::standing_on;
@@ -11,7 +11,9 @@ use crate::texts::push_text;
 use crate::waits::Waits;
 use std::alloc::{AllocError, Global};
 use xk_core::Core;
+use xk_origins::UnitOrigins;
 use xk_show_events::{Places, place_words};
+use xk_show_locals::push_locals;
 use xk_types::{Act, ClockId, Standing};
 
 /// Adds a clock, and where the activity stands on it, if it is registered there.
@@ -210,6 +212,46 @@ pub(crate) fn push_acts(
     let waits = Waits::of(alloc, core)?;
     for act in 0..core.activities() {
         push_act(alloc, out, places, core, &waits, Act(act))?;
+    }
+    Ok(())
+}
+
+/// Adds the line of an activity, and that of its own numbers.
+fn push_told(
+    alloc: Global,
+    out: &mut Vec<u8>,
+    places: &Places<'_>,
+    origins: &[UnitOrigins<'_>],
+    core: &Core<'_>,
+    waits: &Waits,
+    act: Act,
+) -> Result<(), AllocError>
+    requires act { act < length core.now.world.activities }
+    requires waits { AreWaitsOf core.now.world waits.now }
+    requires origins { places.now.origins ≡ origins.now }
+    ensures { OnOk result (out.new.items ≡ out.old.items
+        ++ told_act places.now core.now.module_run core.now.world act) }
+{
+    push_act(alloc, out, places, core, waits, act)?;
+    push_locals(alloc, out, origins, core, act)
+}
+
+/// Adds the lines of all activities, and of their own numbers.
+pub(crate) fn push_all_told(
+    alloc: Global,
+    out: &mut Vec<u8>,
+    places: &Places<'_>,
+    origins: &[UnitOrigins<'_>],
+    core: &Core<'_>,
+) -> Result<(), AllocError>
+    requires { places.now.origins ≡ origins.now }
+    ensures { OnOk result (out.new.items ≡ out.old.items
+        ++ each_below (told_act places.now core.now.module_run core.now.world)
+        (length core.now.world.activities)) }
+{
+    let waits = Waits::of(alloc, core)?;
+    for act in 0..core.activities() {
+        push_told(alloc, out, places, origins, core, &waits, Act(act))?;
     }
     Ok(())
 }

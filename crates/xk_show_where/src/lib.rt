@@ -7,11 +7,13 @@ mod condition;
 mod excerpts;
 mod holders;
 pub mod laws;
+mod named;
 mod progress;
 mod standings;
 mod texts;
 mod waits;
 
 pub use condition::Condition;
+pub use named::{named_standings_text, named_where};
 pub use progress::Stop;
 pub use standings::{Whereabouts, module_where, source_where, standings_text};

@@ -1,10 +1,10 @@
 //! The whole text.
 
-ghost use Rattle.std.specs.Prelude.{◌≡◌, ◌<◌, ◌++◌, length, is_none, IfOk, OnOk};
+ghost use Rattle.std.specs.Prelude.{◌≡◌, ◌<◌, ◌++◌, length, is_none, Some, IfOk, OnOk};
 ghost use Rattle.xk_types.specs.World.{AreArguments};
 ghost use Rattle.xk_show_events.specs.Events.{no_text, places_of};
 ghost use Rattle.xk_show_events.specs.Worlds.{each_below};
-ghost use Rattle.xk_show_where.specs.Where.{are_steps_legal, clock_line, shared_line, standings_text, steps_line, stop_line, stop_text, where_text};
+ghost use Rattle.xk_show_where.specs.Where.{are_steps_legal, clock_line, shared_line, shared_line_of, standings_text, steps_line, stop_line, stop_text, where_text};
 
 use crate::acts::push_acts;
 use crate::condition::{condition_of, condition_words};
@@ -28,7 +28,11 @@ pub struct Whereabouts {
 
 /// Adds how many steps were taken.
 #[tactic(auto, unfolding(crate::specs::Where::steps_line))]
-fn push_steps(alloc: Global, out: &mut Vec<u8>, core: &Core<'_>) -> Result<(), AllocError>
+pub(crate) fn push_steps(
+    alloc: Global,
+    out: &mut Vec<u8>,
+    core: &Core<'_>,
+) -> Result<(), AllocError>
     ensures { OnOk result (out.new.items ≡ out.old.items ++ steps_line core.now.world) }
 {
     let steps = core.steps_done();
@@ -55,7 +59,11 @@ fn push_clock(
 }
 
 /// Adds the lines of all clocks.
-fn push_clocks(alloc: Global, out: &mut Vec<u8>, core: &Core<'_>) -> Result<(), AllocError>
+pub(crate) fn push_clocks(
+    alloc: Global,
+    out: &mut Vec<u8>,
+    core: &Core<'_>,
+) -> Result<(), AllocError>
     ensures { OnOk result (out.new.items ≡ out.old.items
         ++ each_below (clock_line core.now.world) (length core.now.world.clocks)) }
 {
@@ -65,7 +73,22 @@ fn push_clocks(alloc: Global, out: &mut Vec<u8>, core: &Core<'_>) -> Result<(), 
     Ok(())
 }
 
-/// Adds the line of a shared number.
+/// Adds the line of a shared number that is this.
+pub(crate) fn push_shared_number(
+    alloc: Global,
+    out: &mut Vec<u8>,
+    number: usize,
+    value: i64,
+) -> Result<(), AllocError>
+    ensures { OnOk result (out.new.items ≡ out.old.items ++ shared_line_of number (Some value)) }
+{
+    push_text(
+        out,
+        format!(in alloc; "shared {number} is {value}\n")?.as_str(),
+    )
+}
+
+/// Adds the line of a shared number, if there is one.
 fn push_shared(
     alloc: Global,
     out: &mut Vec<u8>,
@@ -76,10 +99,7 @@ fn push_shared(
 {
     match cells.get(number) {
         None => Ok(()),
-        Some(value) => push_text(
-            out,
-            format!(in alloc; "shared {number} is {value}\n")?.as_str(),
-        ),
+        Some(value) => push_shared_number(alloc, out, number, *value),
     }
 }
 
@@ -117,7 +137,7 @@ fn push_stop_line(
 }
 
 /// Adds it, if there is such a step.
-fn push_stop(
+pub(crate) fn push_stop(
     alloc: Global,
     out: &mut Vec<u8>,
     core: &Core<'_>,
@@ -154,7 +174,7 @@ pub fn standings_text(
 }
 
 /// Whether there is no such step.
-fn is_none(stop: Option<Stop>) -> bool
+pub(crate) fn is_none(stop: Option<Stop>) -> bool
     ensures { result ≡ is_none stop }
 {
     match stop {

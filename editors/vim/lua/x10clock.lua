@@ -71,11 +71,8 @@ local function message(said)
   return table.concat(told, "\n")
 end
 
--- The diagnostics for an answer: none or one. A fault without a place is at the beginning.
-local function diagnostics(lines, said)
-  if said.accepted then
-    return {}
-  end
+-- The diagnostic for a fault. One without a place is at the beginning.
+local function diagnostic(lines, said)
   local line, byte = place(lines, said.line or 1, said.column or 1)
   local end_line, end_byte = line, byte
   if said.end_line then
@@ -84,16 +81,26 @@ local function diagnostics(lines, said)
     end_line, end_byte = word_end(lines, line, byte)
   end
   return {
-    {
-      lnum = line,
-      col = byte,
-      end_lnum = end_line,
-      end_col = end_byte,
-      severity = vim.diagnostic.severity.ERROR,
-      source = "x10clock",
-      message = message(said),
-    },
+    lnum = line,
+    col = byte,
+    end_lnum = end_line,
+    end_col = end_byte,
+    severity = vim.diagnostic.severity.ERROR,
+    source = "x10clock",
+    message = message(said),
   }
+end
+
+-- The diagnostics for an answer: none, or that of the fault and of those that are told behind it.
+local function diagnostics(lines, said)
+  if said.accepted then
+    return {}
+  end
+  local told = { diagnostic(lines, said) }
+  for _, fault in ipairs(said.further or {}) do
+    table.insert(told, diagnostic(lines, fault))
+  end
+  return told
 end
 
 -- The text as a list for `chansend`, which puts a line feed between two of its lines.

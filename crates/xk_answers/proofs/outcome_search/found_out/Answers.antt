@@ -20,6 +20,7 @@ returns c =
       shown = c.in_ok-found.ensures.shown;
       distinct = c.in_ok-found.ensures.distinct;
       all = c.in_ok-found.ensures.all;
+      lone = c.in_ok-found.ensures.lone;
       plain = c.in_ok-found.ensures.plain;
       far = record { entries = c.in_ok-found.found.entries; kept = c.in_ok-found.ensures.kept; met = c.in_ok-found.ensures.limit; few = c.in_ok-found.ensures.most };
       text_is = c.in_ok-text.ensures ∙ ap (λ list. outcomes_text list complete) c.deref.ensures.value;

@@ -1,5 +1,6 @@
 use Rattle.std.proofs.Common.{◌≡◌, false, true, IfOk, subst, sym}
 use Rattle.xk_outcomes.specs.Limits.{HasKept}
+use Rattle.xk_outcomes.specs.LoneOutcomes.{IsOneOfManyAs}
 use Rattle.xk_outcomes.specs.PlainRuns.{ArePlainListedAs}
 use Rattle.xk_outcomes.specs.Sets.{AreAllAs}
 use Rattle.xk_outcomes.proofs.all_outcomes.outcomes_as.Goals as goal
@@ -39,3 +40,13 @@ returns-clause-plain c =
     subst (λ sets. IfOk c.outcomes.result (λ r. r.complete ≡ false → ArePlainListedAs sets c.args.verified.now c.args.arguments.now
     r.list.items))
     (sym c.if-sets.false) c.outcomes.ensures.plain
+
+pub returns-then-sets-clause-lone : goal.returns-then-sets-clause-lone
+returns-then-sets-clause-lone c =
+    subst (λ sets. IfOk c.outcome_sets.result (λ r. r.complete ≡ false → IsOneOfManyAs sets c.args.verified.now c.args.arguments.now))
+    (sym c.if-sets.true) c.outcome_sets.ensures.lone
+
+pub returns-clause-lone : goal.returns-clause-lone
+returns-clause-lone c =
+    subst (λ sets. IfOk c.outcomes.result (λ r. r.complete ≡ false → IsOneOfManyAs sets c.args.verified.now c.args.arguments.now))
+    (sym c.if-sets.false) c.outcomes.ensures.lone

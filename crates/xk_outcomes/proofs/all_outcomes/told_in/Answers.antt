@@ -1,80 +1,47 @@
-use Rattle.std.specs.Prelude.{max}
-use Rattle.std.proofs.Common.{◌∙◌, ◌<◌, ◌≤◌, arith, List, length, inl, inr, true≢false, sym, subst}
-use Rattle.xk_core.specs.Core.{CoreValue}
+use Rattle.std.specs.Prelude.{IfNone, IfSome}
+use Rattle.std.proofs.Common.{◌∙◌, arith, List, length, sym, subst, true≢false, ap}
 use Rattle.xk_outcomes.specs.declared.listing.Outcome.{Outcome}
 use Rattle.xk_outcomes.specs.Listing.{AreAllIn, AreShownIn, HasKeptIn}
+use Rattle.xk_outcomes.specs.LoneOutcomes.{IsLone, IsOneOfMany}
 use Rattle.xk_outcomes.specs.Outcomes.{AreDistinct}
-use Rattle.xk_outcomes.specs.PlainRuns.{ArePlainListedIn, plain_runs}
-use Rattle.xk_outcomes.specs.Search.{AreFound, AreAllFound}
-use Rattle.xk_outcomes.proofs.ListingLemmas.{all_shown, all_listed, all_kept}
-use Rattle.xk_outcomes.proofs.PlainRunLemmas.{more_of_none, plain_kept}
-use Rattle.xk_outcomes.proofs.all_outcomes.told_in.Goals.{then-explored, else-explored}
+use Rattle.xk_outcomes.proofs.LoneOutcomeLemmas.{alone_distinct, none_kept}
 use Rattle.xk_outcomes.proofs.all_outcomes.told_in.Goals as goal
 
-pub returns-clause-shown : goal.returns-clause-shown
-returns-clause-shown c =
+pub returns-in_ok-found-in-Some-clause-shown : goal.returns-in_ok-found-in-Some-clause-shown
+returns-in_ok-found-in-Some-clause-shown c =
+    subst (AreShownIn c.args.order c.args.verified.now c.args.arguments.now) (sym c.in_ok-found-in-Some.ensures.list)
+    (subst (λ o. IfSome o (IsLone c.args.order c.args.verified.now c.args.arguments.now)) c.in-Some.is c.in_ok-lone.ensures.lone).shown
+
+pub returns-in_ok-found-in-Some-clause-all : goal.returns-in_ok-found-in-Some-clause-all
+returns-in_ok-found-in-Some-clause-all c done =
+    subst (AreAllIn c.args.order c.args.verified.now c.args.arguments.now) (sym c.in_ok-found-in-Some.ensures.list)
+    (subst (λ o. IfSome o (IsLone c.args.order c.args.verified.now c.args.arguments.now)) c.in-Some.is c.in_ok-lone.ensures.lone).all
+
+pub returns-in_ok-found-in-Some-clause-distinct : goal.returns-in_ok-found-in-Some-clause-distinct
+returns-in_ok-found-in-Some-clause-distinct c = subst AreDistinct (sym c.in_ok-found-in-Some.ensures.list) (alone_distinct c.in-Some.lone)
+
+pub returns-in_ok-found-in-Some-clause-plain : goal.returns-in_ok-found-in-Some-clause-plain
+returns-in_ok-found-in-Some-clause-plain c less = absurd (true≢false (sym c.in_ok-found-in-Some.ensures.complete ∙ less))
+
+pub returns-in_ok-found-in-Some-clause-lone : goal.returns-in_ok-found-in-Some-clause-lone
+returns-in_ok-found-in-Some-clause-lone c less = absurd (true≢false (sym c.in_ok-found-in-Some.ensures.complete ∙ less))
+
+pub returns-in_ok-found-in-Some-clause-limit : goal.returns-in_ok-found-in-Some-clause-limit
+returns-in_ok-found-in-Some-clause-limit c less = absurd (true≢false (sym c.in_ok-found-in-Some.ensures.complete ∙ less))
+
+pub returns-in_ok-found-in-Some-clause-most : goal.returns-in_ok-found-in-Some-clause-most
+returns-in_ok-found-in-Some-clause-most c =
+    let one = ap (λ (l : List Outcome). length l) c.in_ok-found-in-Some.ensures.list in
+    omega (arith, one)
+
+pub returns-in_ok-found-in-Some-clause-kept : goal.returns-in_ok-found-in-Some-clause-kept
+returns-in_ok-found-in-Some-clause-kept c =
+    let found = c.in_ok-found-in-Some.found in
     let m = c.args.verified.now in
     let args = c.args.arguments.now in
-    let all = c.in_ok-explored.explored.found.all in
-    let found = subst (λ (s : CoreValue). AreFound s all) c.in_ok-start.ensures c.in_ok-explored.ensures.found in
-    subst (λ (list : List Outcome). AreShownIn c.args.order m args list) (sym c.in_ok-list.ensures)
-    (all_shown c.args.order m args c.note_plain.new.list all c.list_outcomes.new.list
-    (more_of_none c.args.order m args plain_runs c.new-listed.result c.note_plain.new.list c.new-listed.ensures
-    c.note_plain.ensures.more).1 found c.list_outcomes.ensures.of)
+    subst (HasKeptIn c.args.order m args c.args.limit.outcomes found.list.items) (sym c.in_ok-found-in-Some.ensures.entries)
+    (none_kept c.args.order m args c.args.limit.outcomes found.list.items)
 
-pub returns-clause-distinct : goal.returns-clause-distinct
-returns-clause-distinct c =
-    subst AreDistinct (sym c.in_ok-list.ensures)
-    (c.list_outcomes.ensures.distinct
-    (more_of_none c.args.order c.args.verified.now c.args.arguments.now plain_runs c.new-listed.result c.note_plain.new.list
-    c.new-listed.ensures c.note_plain.ensures.more).0)
-
-pub returns-clause-most : goal.returns-clause-most
-returns-clause-most c =
-    let most = c.list_outcomes.ensures.most in
-    let few =
-    (more_of_none c.args.order c.args.verified.now c.args.arguments.now plain_runs c.new-listed.result c.note_plain.new.list
-    c.new-listed.ensures c.note_plain.ensures.more).2 in
-    subst (λ (list : List Outcome). length list ≤ max c.args.limit.outcomes plain_runs) (sym c.in_ok-list.ensures)
-    (omega (arith, most, few))
-
-pub returns-clause-plain : goal.returns-clause-plain
-returns-clause-plain c less =
-    let m = c.args.verified.now in
-    let args = c.args.arguments.now in
-    subst (ArePlainListedIn c.args.order m args) (sym c.in_ok-list.ensures)
-    (plain_kept c.args.order m args c.note_plain.new.list c.list_outcomes.new.list c.list_outcomes.ensures.kept
-    c.in_ok-note_plain.ensures.plain)
-
-pub returns-clause-all : goal.returns-clause-all
-returns-clause-all c done =
-    let m = c.args.verified.now in
-    let args = c.args.arguments.now in
-    let all = c.in_ok-explored.explored.found.all in
-    elim c.if-explored.branch [
-      | then-explored w ↦ subst (λ (list : List Outcome). AreAllIn c.args.order m args list) (sym c.in_ok-list.ensures)
-          (all_listed c.args.order m args all c.list_outcomes.new.list
-          (subst (λ (s : CoreValue). AreAllFound s all) c.in_ok-start.ensures (c.in_ok-explored.ensures.all w.if-explored.true))
-          (c.in_ok-all.ensures.noted (sym w.result-is ∙ done)))
-      | else-explored w ↦ absurd (true≢false (sym done ∙ w.result-is ∙ w.if-explored.false))
-    ]
-
-pub returns-clause-limit : goal.returns-clause-limit
-returns-clause-limit c less =
-    elim c.if-explored.branch [
-      | then-explored w ↦ inr (subst (λ (list : List Outcome). c.args.limit.outcomes ≤ length list) (sym c.in_ok-list.ensures)
-          (c.in_ok-all.ensures.limit (sym w.result-is ∙ less)))
-      | else-explored w ↦ inl (subst (λ n. c.args.limit.entries < n) (sym c.len.ensures.count) (c.in_ok-explored.ensures.limit w.if-explored.false))
-    ]
-
-pub returns-clause-kept : goal.returns-clause-kept
-returns-clause-kept c =
-    let m = c.args.verified.now in
-    let args = c.args.arguments.now in
-    let most = c.args.limit.outcomes in
-    let all = c.in_ok-explored.explored.found.all in
-    let found = subst (λ (s : CoreValue). AreFound s all) c.in_ok-start.ensures c.in_ok-explored.ensures.found in
-    let kept = all_kept c.args.order m args most all c.list_outcomes.new.list c.in_ok-all.all found
-    c.in_ok-explored.ensures.rest c.in_ok-explored.ensures.different c.in_ok-all.ensures.noted c.in_ok-all.ensures.limit in
-    subst (HasKeptIn c.args.order m args most c.in_ok-list.list.items) (sym c.len.ensures.count)
-    (subst (λ (list : List Outcome). HasKeptIn c.args.order m args most list (length all)) (sym c.in_ok-list.ensures) kept)
+pub returns-in_ok-found-in-None-clause-lone : goal.returns-in_ok-found-in-None-clause-lone
+returns-in_ok-found-in-None-clause-lone c less =
+    subst (λ o. IfNone o (IsOneOfMany c.args.order c.args.verified.now c.args.arguments.now)) c.in-None.is c.in_ok-lone.ensures.many

@@ -1,20 +1,15 @@
-use Rattle.std.proofs.Common.{subst}
-use Rattle.xk_outcomes.specs.Expected.{AreHeld}
+use Rattle.std.proofs.Common.{ap}
+use Rattle.xk_outcomes.proofs.HoldingLemmas.{decided, is_undecided}
 use Rattle.xk_outcomes.proofs.holding.held_by.Goals as goal
 
-pub returns : goal.returns
-returns c bytes stands told =
-    let found = c.in_ok-found.found in
-    let said = c.in_ok-held.held in
-    record {
-      list = found.list.items;
-      complete = found.complete;
-      shown = c.in_ok-found.ensures.shown;
-      distinct = c.in_ok-found.ensures.distinct;
-      all = c.in_ok-found.ensures.all;
-      plain = c.in_ok-found.ensures.plain;
-      far = record { entries = found.entries; kept = c.in_ok-found.ensures.kept; met = c.in_ok-found.ensures.limit; few = c.in_ok-found.ensures.most };
-      may_stand = stands;
-      held = subst (λ texts. AreHeld texts found.list.items found.complete said.text.items said.verdict) told
-          (subst (λ list. AreHeld c.args.expected.now list found.complete said.text.items said.verdict) c.deref.ensures.value c.in_ok-held.ensures);
-    }
+pub returns-in-Complete : goal.returns-in-Complete
+returns-in-Complete c bytes stands told =
+    decided c.args.verified.now c.args.arguments.now c.args.sets c.early.result c.args.limit bytes _ _
+    (ap is_undecided c.in-Complete.is) c.early.ensures
+    (c.in_ok-first.ensures bytes stands told)
+
+pub returns-in-Refuted : goal.returns-in-Refuted
+returns-in-Refuted c bytes stands told =
+    decided c.args.verified.now c.args.arguments.now c.args.sets c.early.result c.args.limit bytes _ _
+    (ap is_undecided c.in-Refuted.is) c.early.ensures
+    (c.in_ok-first.ensures bytes stands told)

@@ -15,6 +15,6 @@ loop-number-preserved c = record {
   of = c.note_at.ensures.of c.args.list.now c.loop-number.invariant.of;
   kept = λ numbers listed. c.note_at.ensures.kept numbers (c.loop-number.invariant.kept numbers listed);
   distinct = λ distinct. c.note_at.ensures.distinct (c.loop-number.invariant.distinct distinct);
-  noted = c.in_ok-note_at.ensures.noted c.loop-number.invariant.noted;
-  few = omega (arith, c.note_at.ensures.one_more);
+  noted = c.in_ok-noted.ensures.noted c.if-not-noted.false c.loop-number.invariant.noted;
+  few = omega (arith, c.note_at.ensures.most, c.loop-number.invariant.few);
 }

@@ -1,5 +1,5 @@
 use Rattle.std.proofs.Common.{◌∙◌, ap, sym, subst, true≢false}
-use Rattle.std.proofs.lemmas.Result.{on_ok_weaker}
+use Rattle.std.proofs.lemmas.Result.{IfOk-weaker}
 use Rattle.xk_types.specs.Schedule.{all_ended}
 use Rattle.xk_outcomes.specs.Found.{FoundValue}
 use Rattle.xk_outcomes.specs.Outcomes.{IsListed}
@@ -16,18 +16,20 @@ pub returns-in_err-new-clause-of : goal.returns-in_err-new-clause-of
 returns-in_err-new-clause-of c old all j there before = before
 
 pub returns-in_ok-new-clause-distinct : goal.returns-in_ok-new-clause-distinct
-returns-in_ok-new-clause-distinct c = c.put.ensures.distinct
+returns-in_ok-new-clause-distinct c = c.put_within.ensures.distinct
 
 pub returns-in_ok-new-clause-kept : goal.returns-in_ok-new-clause-kept
-returns-in_ok-new-clause-kept c = c.put.ensures.kept
+returns-in_ok-new-clause-kept c = c.put_within.ensures.kept
 
 pub returns-in_ok-new-clause-listed : goal.returns-in_ok-new-clause-listed
 returns-in_ok-new-clause-listed c =
-    on_ok_weaker c.put.result (λ h done. subst (IsListed c.put.new.self) c.in_ok-new.ensures.numbers h) c.put.ensures.listed
+    IfOk-weaker c.put_within.result _ _
+    (λ noted listed is done. subst (IsListed c.put_within.new.self) c.in_ok-new.ensures.numbers (listed is))
+    c.put_within.ensures.listed
 
 pub returns-in_ok-new-clause-of : goal.returns-in_ok-new-clause-of
 returns-in_ok-new-clause-of c old all j there before =
-    of_either c.args.order old all j c.args.x.now c.args.list.now c.put.new.self c.in_ok-new.new c.put.ensures.each there
+    of_either c.args.order old all j c.args.x.now c.args.list.now c.put_within.new.self c.in_ok-new.new c.put_within.ensures.each there
     c.in_ok-new.ensures before
 
 pub returns-else-ended-clause-distinct : goal.returns-else-ended-clause-distinct
@@ -37,7 +39,7 @@ pub returns-else-ended-clause-kept : goal.returns-else-ended-clause-kept
 returns-else-ended-clause-kept c numbers h = h
 
 pub returns-else-ended-clause-listed : goal.returns-else-ended-clause-listed
-returns-else-ended-clause-listed c done =
+returns-else-ended-clause-listed c noted done =
     absurd (true≢false (sym done ∙ (ap (λ (x : FoundValue). all_ended x.core.world) (sym c.x.view_is) ∙ (sym c.ended.ensures ∙ c.if-ended.false))))
 
 pub returns-else-ended-clause-of : goal.returns-else-ended-clause-of

@@ -1,11 +1,12 @@
-use Rattle.std.proofs.lemmas.Result.{on_ok_weaker}
+use Rattle.std.proofs.lemmas.Result.{IfOk-weaker}
 use Rattle.xk_outcomes.proofs.ListingLemmas.{noted_more}
 use Rattle.xk_outcomes.proofs.listing.note_at.Goals as goal
 
 pub returns-clause-noted : goal.returns-clause-noted
 returns-clause-noted c =
-    on_ok_weaker c.note.result (λ listed before.
-    noted_more c.args.order c.args.all.now.all c.args.number c.in_ok-x.x c.args.list.now c.note.new.list c.in_ok-x.ensures c.note.ensures.kept listed before)
+    IfOk-weaker c.note.result _ _ (λ noted listed is before.
+    noted_more c.args.order c.args.all.now.all c.args.number c.in_ok-x.x c.args.list.now c.note.new.list c.in_ok-x.ensures
+    c.note.ensures.kept (listed is) before)
     c.note.ensures.listed
 
 pub returns-clause-of : goal.returns-clause-of

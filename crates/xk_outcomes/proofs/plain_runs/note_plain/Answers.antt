@@ -1,8 +1,8 @@
-use Rattle.std.proofs.Common.{◌+◌, ◌-◌, ◌≤◌, arith, length, subst}
+use Rattle.std.proofs.Common.{◌-◌, arith, length, subst}
 use Rattle.std.proofs.lemmas.Result.{on_ok_weaker}
 use Rattle.xk_scheduler.specs.Choosers.{turn_after, turn_of}
 use Rattle.xk_scheduler.specs.WholeRuns.{IsRunBy}
-use Rattle.xk_outcomes.specs.PlainRuns.{IsListedIn, ListsMore, OfPrinted, plain_runs, plain_seeds}
+use Rattle.xk_outcomes.specs.PlainRuns.{IsListedIn, OfPrinted, plain_runs, plain_seeds}
 use Rattle.xk_outcomes.proofs.PlainRunLemmas.{more_then, more_weaker, of_kept, without_state}
 use Rattle.xk_outcomes.proofs.plain_runs.note_plain.Goals as goal
 

@@ -1,5 +1,5 @@
 use Rattle.std.proofs.lemmas.Result.{on_ok_weaker}
-use Rattle.std.proofs.Common.{◌+◌, ◌≤◌, arith}
+use Rattle.std.proofs.Common.{arith}
 use Rattle.xk_outcomes.proofs.PlainRunLemmas.{more_none, more_then, of_outcome, shown_either}
 use Rattle.xk_outcomes.proofs.plain_runs.note_run.Goals as goal
 

@@ -8,6 +8,6 @@ returns g c =
     record {
       printed = ended.printed.items;
       steps = ended.core.world.steps;
-      run = c.in_ok-ended.ensures;
+      run = c.in_ok-ended.ensures.run;
       told = c.in_ok-numbers.ensures ∙ ap (ordered c.args.order) c.deref.ensures.value;
     }

@@ -1,0 +1,9 @@
+//! An activity's own numbers and clocks, in the frame that it stands in, by the names of its source text.
+#![tactic(auto)]
+
+mod bounds;
+mod locals;
+mod slots;
+
+pub use locals::push_locals;
+pub use slots::push_name;

@@ -1,0 +1,108 @@
+//! One walk over the log of a run, for two who tell of its steps by what they were about.
+
+ghost use Rattle.std.specs.Prelude.{◌≡◌, true, ◌++◌, replicate, IfOk, OnOk};
+ghost use Rattle.xk_types.specs.Code.{ModuleValue};
+ghost use Rattle.xk_types.specs.Schedule.{Through, is_enabled, run};
+ghost use Rattle.xk_core.specs.Core.{StepsTo};
+ghost use Rattle.xk_show_events.specs.Steps.{IsLegalFrom, IsSilentAfter, told, told_of_run};
+ghost use Rattle.xk_show_names.specs.Accounts.{recounted_by};
+
+use crate::accounts::{Recount, take_account};
+use std::alloc::{AllocError, Global};
+use xk_core::Core;
+use xk_scheduler::Ended;
+use xk_show_events::Both;
+use xk_types::{Act, Entry, Event};
+
+/// Takes a step of an activity that can take one, and adds what each of the two tells of it.
+fn push_step_by_both<X, Y, A: Recount<X>, B: Recount<Y>>(
+    both: &Both<'_, A, B>,
+    alloc: Global,
+    firsts: &mut Vec<X>,
+    seconds: &mut Vec<Y>,
+    core: &mut Core<'_>,
+    act: Act,
+) -> Result<Event, AllocError>
+    requires { is_enabled core.old.module_run core.old.world act ≡ true }
+    ensures stepped { IfOk result (StepsTo core.old act core.new) }
+    ensures first { IfOk result (λ e. firsts.new.items ≡ firsts.old.items
+        ++ recounted_by core.old.module_run
+        (A.recount both.now.first.now core.old.module_run)
+        act core.old.world core.new.world e) }
+    ensures second { IfOk result (λ e. seconds.new.items ≡ seconds.old.items
+        ++ recounted_by core.old.module_run
+        (B.recount both.now.second.now core.old.module_run)
+        act core.old.world core.new.world e) }
+    ensures same_module { core.new.module_run ≡ core.old.module_run }
+{
+    let account = take_account(core, act)?;
+    both.first.push(alloc, firsts, core, &account)?;
+    both.second.push(alloc, seconds, core, &account)?;
+    Ok(account.step.event)
+}
+
+/// Takes the steps of an entry, and adds what each of the two tells of them.
+fn push_entry_by_both<X, Y, A: Recount<X>, B: Recount<Y>>(
+    both: &Both<'_, A, B>,
+    alloc: Global,
+    firsts: &mut Vec<X>,
+    seconds: &mut Vec<Y>,
+    core: &mut Core<'_>,
+    entry: Entry,
+) -> Result<(), AllocError>
+    requires { IsLegalFrom core.old (replicate entry.steps entry.act) }
+    ensures first { OnOk result (firsts.new.items ≡ firsts.old.items
+        ++ told (recounted_by core.old.module_run
+        (A.recount both.now.first.now core.old.module_run))
+        core.old.module_run (replicate entry.steps entry.act) core.old.world) }
+    ensures second { OnOk result (seconds.new.items ≡ seconds.old.items
+        ++ told (recounted_by core.old.module_run
+        (B.recount both.now.second.now core.old.module_run))
+        core.old.module_run (replicate entry.steps entry.act) core.old.world) }
+    ensures led { OnOk result (run core.old.module_run (replicate entry.steps entry.act)
+        core.old.world ≡ Through core.new.world) }
+    ensures same_module { core.new.module_run ≡ core.old.module_run }
+{
+    for _done in 0..entry.steps {
+        push_step_by_both(both, alloc, firsts, seconds, core, Act(entry.act))?;
+    }
+    Ok(())
+}
+
+/// Whether neither tells anything of the steps behind the first so many of a run.
+fn are_silent_after<X, Y, A: Recount<X>, B: Recount<Y>>(both: &Both<'_, A, B>, steps: u64) -> bool
+    ensures first { result ≡ true → (m : ModuleValue)
+        → IsSilentAfter (recounted_by m (A.recount both.now.first.now m)) steps }
+    ensures second { result ≡ true → (m : ModuleValue)
+        → IsSilentAfter (recounted_by m (B.recount both.now.second.now m)) steps }
+{
+    both.first.is_silent_after(steps) && both.second.is_silent_after(steps)
+}
+
+/// Adds what each of the two tells of the steps of a run, in their order, to a list of its own. The log is played again
+/// for it, once. Err where memory was refused.
+pub fn recount_run_by_both<X, Y, A: Recount<X>, B: Recount<Y>>(
+    both: &Both<'_, A, B>,
+    alloc: Global,
+    firsts: &mut Vec<X>,
+    seconds: &mut Vec<Y>,
+    ended: &Ended<'_>,
+) -> Result<(), AllocError>
+    ensures first { OnOk result (firsts.new.items ≡ firsts.old.items
+        ++ told_of_run (recounted_by ended.now.module.now
+        (A.recount both.now.first.now ended.now.module.now))
+        ended.now.module.now ended.now.core.world.arguments ended.now.log.items) }
+    ensures second { OnOk result (seconds.new.items ≡ seconds.old.items
+        ++ told_of_run (recounted_by ended.now.module.now
+        (B.recount both.now.second.now ended.now.module.now))
+        ended.now.module.now ended.now.core.world.arguments ended.now.log.items) }
+{
+    let mut core = Core::open(alloc, ended.module, ended.core.arguments())?;
+    for entry in &ended.log {
+        if are_silent_after(both, core.steps_done()) {
+            return Ok(());
+        }
+        push_entry_by_both(both, alloc, firsts, seconds, &mut core, *entry)?;
+    }
+    Ok(())
+}
