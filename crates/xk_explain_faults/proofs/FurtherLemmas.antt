@@ -39,7 +39,8 @@ pub added_zero : (n : ℕ) (t : TreeValue) (f : FrontFault) (fs : List FrontFaul
 added_zero n t f fs e = added_none fs (further_faults n t f) (ap (λ k. further_faults k t f) e ∙ further_zero t f)
 
 -- where there is none
-pub added_last : (n : ℕ) (t : TreeValue) (f : FrontFault) (fs : List FrontFault) → None ≡ next_name_fault t f → fs ≡ fs ++ further_faults n t f
+pub added_last : (n : ℕ) (t : TreeValue) (f : FrontFault) (fs : List FrontFault) → None ≡ next_name_fault t f
+    → fs ≡ fs ++ further_faults n t f
 added_last n t f fs e = added_none fs (further_faults n t f) (further_none n t f e)
 
 -- one, and those behind that

@@ -1,7 +1,9 @@
 -- A run that speaks for all shows the one outcome.
-use Rattle.std.proofs.Common.{◌≡◌, ◌∙◌, ℕ, ℤ, zero, suc, ◌&&◌, Bool, true, false, List, [], ◌∷◌, Option, None, Some, refl, sym, ap, subst, true≢false}
+use Rattle.std.proofs.Common.{◌≡◌, ◌∙◌, ℕ, ℤ, zero, suc, ◌&&◌, Bool, true, false, List, [], ◌∷◌, Option, None, Some, refl, sym, ap, subst}
+use Rattle.std.proofs.Common.{true≢false}
 use Rattle.std.specs.Prelude.{count_by, is_none, slice_get, IfNone}
 use Rattle.std.specs.Ordering.{int_eq}
+use Rattle.std.proofs.lemmas.Bool.{and_parts}
 use Rattle.std.proofs.lemmas.Option.{none-some, same_Some}
 use Rattle.xk_types.specs.declared.world.Entry.{Entry}
 use Rattle.xk_types.specs.Acceptance.{IsAccepted}
@@ -25,14 +27,6 @@ use Rattle.xk_outcomes.specs.Rising.{ordered, rising}
 use Rattle.xk_outcomes.proofs.PlainRunLemmas.{run_shown}
 use Rattle.xk_outcomes.proofs.RisingLemmas.{is_rising, one_rising, same_rising}
 
-both_left : (x y : Bool) → (x && y) ≡ true → x ≡ true
-both_left true y h = refl
-both_left false y h = h
-
-both_right : (x y : Bool) → (x && y) ≡ true → y ≡ true
-both_right true y h = h
-both_right false y h = absurd (true≢false (sym h))
-
 none_of : {A : Type 0} (o : Option A) → is_none o ≡ true → o ≡ None
 none_of None h = refl
 none_of (Some x) h = absurd (true≢false (sym h))
@@ -48,8 +42,8 @@ module _ (m : ModuleValue) (args : List ℤ) (limits : IsWithinLimits m) (ok : I
   one_told order.Printed Has o h speaks s numbers x =
       let log = o.log.items in
       let mine = run_shown order.Printed Has m args o h in
-      let free = both_left (is_race_free m args log) _ speaks in
-      let none = none_of (gap_in (sights_of_run m args log)) (both_right (is_race_free m args log) _ speaks) in
+      let free = (and_parts (is_race_free m args log) _ speaks).0 in
+      let none = none_of (gap_in (sights_of_run m args log)) (and_parts (is_race_free m args log) _ speaks).1 in
       sym mine.prints
       ∙ prints_every m args limits ok taken log mine.last (whole (schedule_of log) h.printed mine) free none s x.last (whole s numbers x)
       ∙ x.prints
@@ -72,7 +66,8 @@ module _ (m : ModuleValue) (args : List ℤ) (limits : IsWithinLimits m) (ok : I
       alone : (k : ℕ) (p : Outcome) → slice_get (o ∷ []) k ≡ Some p
           → (numbers : List ℤ) × IsOutcome m args (schedule_of p.log.items) numbers × (p.numbers.items ≡ ordered order numbers)
       alone zero p there =
-          subst (λ (q : Outcome). (numbers : List ℤ) × IsOutcome m args (schedule_of q.log.items) numbers × (q.numbers.items ≡ ordered order numbers))
+          subst (λ (q : Outcome). (numbers : List ℤ) × IsOutcome m args (schedule_of q.log.items) numbers
+            × (q.numbers.items ≡ ordered order numbers))
           (same_Some o p there) (h.printed, run_shown order Has m args o h, h.told)
       alone (suc k) p there = absurd (none-some p there)
 

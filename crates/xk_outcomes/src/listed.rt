@@ -59,13 +59,6 @@ impl Listed {
         Ok(())
     }
 
-    /// Whether its numbers are listed.
-    fn lists(&self, new: &Outcome) -> bool
-        ensures { result ≡ true → IsListed self.now new.now.numbers.items }
-    {
-        self.logs.contains_key(&new.numbers)
-    }
-
     /// Lists it, if its numbers aren't listed yet and fewer are than the limit says. Whether its numbers are listed then. Err where memory
     /// was refused: nothing more is listed then.
     pub fn put_within(&mut self, new: Outcome, limit: usize) -> Result<bool, AllocError>
@@ -77,7 +70,7 @@ impl Listed {
         ensures each { (self.new ≡ self.old) ⊎ (self.new ≡ self.old ++ new ∷ []) }
         ensures most { length self.new ≤ max limit (length self.old) }
     {
-        if self.lists(&new) {
+        if self.logs.contains_key(&new.numbers) {
             return Ok(true);
         }
         if self.len() >= limit {

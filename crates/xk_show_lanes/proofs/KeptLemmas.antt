@@ -18,7 +18,8 @@ use Rattle.xk_show_names.proofs.BirthLemmas.{told_of_told}
 use Rattle.xk_show_lanes.specs.declared.grid.Grid.{Grid}
 use Rattle.xk_show_lanes.specs.declared.window.Window.{Window}
 use Rattle.xk_show_lanes.specs.Lanes.{is_asked}
-use Rattle.xk_show_lanes.specs.NamedLanes.{account_if_asked, account_if_kept, accounts_asked, accounts_kept, is_kept, makes, grid_by_names, lanes_by_names, named_lanes_in, named_lanes_text}
+use Rattle.xk_show_lanes.specs.NamedLanes.{account_if_asked, account_if_kept, accounts_asked, accounts_kept, is_kept, makes, grid_by_names}
+use Rattle.xk_show_lanes.specs.NamedLanes.{lanes_by_names, named_lanes_in, named_lanes_text}
 use Rattle.xk_show_lanes.proofs.LaneLemmas.{asked_accounts, tell_asked_accounts}
 
 -- no step behind the last one is kept
@@ -66,15 +67,17 @@ birth_kept m window a w v e = of (nat_le v.steps window.last) (nat_le window.fir
     of true false event.Ended = refl
 
 -- the clocks that are made up to the last step are those that kept steps made
-pub births_kept : (window : Window) (m : ModuleValue) (log : List Entry) (last : World)
+births_kept : (window : Window) (m : ModuleValue) (log : List Entry) (last : World)
     → births_among m (accounts_kept window m log last) ≡ births_until window.last m last.arguments log
 births_kept window m log last =
     sym (told_of_told (λ (a : Account). birth_by m a.step a.step.event) (recounted_by m (λ v a. account_if_kept window a))
     (recounted_by m (λ v a. birth_until window.last m a)) m (birth_kept m window) (schedule_of log) (opening m last.arguments))
 
 -- and so are the names
-pub names_kept : (p : PlacesValue) (shared : List (List ℕ)) (window : Window) (m : ModuleValue) (log : List Entry) (last : World) (steps : List Account)
-    → steps ≡ accounts_kept window m log last → names_by p shared (births_among m steps) ≡ names_until p shared window.last m last.arguments log
+pub names_kept : (p : PlacesValue) (shared : List (List ℕ)) (window : Window) (m : ModuleValue) (log : List Entry) (last : World)
+    (steps : List Account)
+    → steps ≡ accounts_kept window m log last
+    → names_by p shared (births_among m steps) ≡ names_until p shared window.last m last.arguments log
 names_kept p shared window m log last steps kept =
     ap (λ l. names_by p shared (births_among m l)) kept ∙ ap (names_by p shared) (births_kept window m log last)
 
@@ -131,7 +134,8 @@ kept_asked window m log last =
 -- ---- lanes
 
 -- in the columns of these names
-pub lanes_named : (p q : PlacesValue) (shared : List (List ℕ)) (window : Window) (m : ModuleValue) (log : List Entry) (last : World) (n : NamesValue) (g : Grid) (text : List ℕ)
+pub lanes_named : (p q : PlacesValue) (shared : List (List ℕ)) (window : Window) (m : ModuleValue) (log : List Entry) (last : World)
+    (n : NamesValue) (g : Grid) (text : List ℕ)
     → q ≡ p → n ≡ names_until q shared window.last m last.arguments log → g ≡ grid_by_names q n window m log last
     → text ≡ named_lanes_in g q n m log last → text ≡ named_lanes_text p shared window m log last
 lanes_named p q shared window m log last n g text same named columned is =

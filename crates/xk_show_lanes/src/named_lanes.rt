@@ -7,8 +7,10 @@ ghost use Rattle.xk_show_names.specs.ClockNames.{names_until};
 ghost use Rattle.xk_show_names.specs.Events.{account_words};
 ghost use Rattle.xk_show_lanes.specs.Fields.{longest};
 ghost use Rattle.xk_show_lanes.specs.Lanes.{are_lanes_whole, is_asked, spot};
-ghost use Rattle.xk_show_lanes.specs.NamedLanes.{account_if_kept, accounts_kept, grid_by_names, is_kept, makes, named_bar, named_grid, named_label, named_row};
-ghost use Rattle.xk_show_lanes.specs.NamedLanes.{named_lanes_in, named_lanes_of_step, named_lanes_text, named_row_and_bars, named_row_if_seen};
+ghost use Rattle.xk_show_lanes.specs.NamedLanes.{account_if_kept, accounts_kept, grid_by_names, is_kept, makes, named_bar, named_grid};
+ghost use Rattle.xk_show_lanes.specs.NamedLanes.{named_label, named_row};
+ghost use Rattle.xk_show_lanes.specs.NamedLanes.{named_lanes_in, named_lanes_of_step, named_lanes_text, named_row_and_bars};
+ghost use Rattle.xk_show_lanes.specs.NamedLanes.{named_row_if_seen};
 
 use crate::bars::push_bar_lanes;
 use crate::fields::{push_line, push_text, push_times};

@@ -3,7 +3,8 @@
 ghost use Rattle.std.specs.Prelude.{◌≡◌, ◌<◌, ◌++◌, map, min, length, take, slice_get, Some, OnOk};
 ghost use Rattle.xk_show_names.specs.ClockNames.{is_name};
 ghost use Rattle.xk_show_names.specs.Letters.{cut_name};
-ghost use Rattle.xk_show_locals.specs.Locals.{any_number, bound_words, clock_words, held_words, name_at, named_clock, number_words, unnamed_words};
+ghost use Rattle.xk_show_locals.specs.Locals.{any_number, bound_words, clock_words, held_words, name_at, named_clock, number_words};
+ghost use Rattle.xk_show_locals.specs.Locals.{unnamed_words};
 
 use crate::bounds::{Bound, bound_in, lesser};
 use std::alloc::{AllocError, Global};

@@ -54,7 +54,7 @@ seen_birth m a w v event.Passed = refl
 seen_birth m a w v event.Ended = refl
 
 -- the clocks of a run are those that its steps made which others see
-pub births_seen : (m : ModuleValue) (args : List ℤ) (log : List Entry) → births_among m (seen_accounts m args log) ≡ births m args log
+births_seen : (m : ModuleValue) (args : List ℤ) (log : List Entry) → births_among m (seen_accounts m args log) ≡ births m args log
 births_seen m args log =
     sym (told_of_told (λ (a : Account). birth_by m a.step a.step.event) (tell_seen_accounts m)
     (recounted_by m (λ v a. birth_by m a.step a.step.event)) m (seen_birth m) (schedule_of log) (opening m args))
@@ -66,8 +66,10 @@ names_seen p shared m args log steps seen =
     ap (λ l. names_by p shared (births_among m l)) seen ∙ ap (names_by p shared) (births_seen m args log)
 
 -- and the lines that are told of its steps by them
-pub lines_seen : (p q : PlacesValue) (shared : List (List ℕ)) (m : ModuleValue) (args : List ℤ) (log : List Entry) (names : NamesValue) (steps : List Account)
-    → q ≡ p → steps ≡ seen_accounts m args log → names ≡ names_in_run q shared m args log → lines_of q names steps ≡ named_events_text p shared m args log
+pub lines_seen : (p q : PlacesValue) (shared : List (List ℕ)) (m : ModuleValue) (args : List ℤ) (log : List Entry)
+    (names : NamesValue) (steps : List Account)
+    → q ≡ p → steps ≡ seen_accounts m args log → names ≡ names_in_run q shared m args log
+    → lines_of q names steps ≡ named_events_text p shared m args log
 lines_seen p q shared m args log names steps is seen named =
     ap (λ n. lines_of q n steps) named
     ∙ ap (λ l. lines_of q (names_in_run q shared m args log) l) seen

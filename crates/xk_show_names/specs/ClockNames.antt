@@ -1,5 +1,6 @@
 -- What the shared numbers and clocks of a run are called: clocks by the names that they were made under. This project's own.
-use Rattle.std.specs.Prelude.{ℕ, ◌+◌, nat_eq, nat_le, ℤ, Bool, not, List, [], ◌∷◌, ◌++◌, length, map, flat_map, take, count_by, Option, Some, None}
+use Rattle.std.specs.Prelude.{ℕ, ◌+◌, nat_eq, nat_le, ℤ, Bool, not, List, [], ◌∷◌, ◌++◌, length, map, flat_map, take, count_by, Option}
+use Rattle.std.specs.Prelude.{Some, None}
 use Rattle.std.specs.Prelude.{slice_get, slice_index_or, codes, decimal, if◌then◌else◌}
 use Rattle.std.specs.List.{list_any}
 use Rattle.std.specs.Cmp.Lexicographic.{pointwise}

@@ -1,6 +1,6 @@
 //! What the shared numbers and clocks of a run are called: clocks by the names that they were made under.
 
-ghost use Rattle.std.specs.Prelude.{◌≡◌, ◌++◌, length, map, option_map, slice_get, IfOk, OnOk, string_bytes};
+ghost use Rattle.std.specs.Prelude.{◌≡◌, ◌++◌, length, map, min, option_map, slice_get, IfOk, OnOk, string_bytes};
 ghost use Rattle.xk_origins.specs.UnitOrigins.{slots_at};
 ghost use Rattle.xk_show_events.specs.Events.{places_of};
 ghost use Rattle.xk_show_names.specs.ClockNames.{birth, birth_by, births, births_among, made_in};
@@ -293,11 +293,11 @@ impl<'t> Names<'t> {
         Ok(Names { shared, clocks })
     }
 
-    /// How many clocks have a name.
-    pub fn clocks(&self) -> usize
-        ensures { result ≡ length self.now.clocks }
+    /// How many of so many clocks have a name.
+    pub fn named_clocks(&self, clocks: u32) -> u32
+        ensures { result ≡ min (length self.now.clocks) clocks }
     {
-        self.clocks.len()
+        self.clocks.len().min(clocks as usize) as u32
     }
 
     /// The name of a shared number, if it is known.

@@ -1,3 +1,2 @@
-pub mod PlanLemmas
 pub mod MomentLemmas
 mod PageExamples

@@ -1,5 +1,5 @@
 -- Where the columns of a picture stand, with names.
-use Rattle.std.proofs.Common.{◌≡◌, ◌∙◌, ℕ, List, length, Option, Some, true, sym, ap}
+use Rattle.std.proofs.Common.{◌≡◌, ◌∙◌, ℕ, List, length, Some, ap}
 use Rattle.xk_types.specs.declared.world.Entry.{Entry}
 use Rattle.xk_types.specs.Code.{ModuleValue}
 use Rattle.xk_types.specs.World.{World}
@@ -10,24 +10,14 @@ use Rattle.xk_show_lanes.specs.declared.window.Window.{Window}
 use Rattle.xk_show_lanes.specs.NamedLanes.{grid_by_names}
 use Rattle.xk_show_picture.specs.declared.sheet.Sheet.{Sheet}
 use Rattle.xk_show_picture.specs.Sheet.{sheet_of}
-use Rattle.xk_show_picture.specs.Picture.{is_drawn, picture_by, picture_in, picture_text, rows_of, sheet_for, signs_of}
+use Rattle.xk_show_picture.specs.Picture.{sheet_for, signs_of}
 
 -- in the columns of these names
-pub sheet_named : (p : PlacesValue) (w : Window) (m : ModuleValue) (log : List Entry) (last : World) (n k : NamesValue) (g : Grid) (s : Sheet)
+pub sheet_named : (p : PlacesValue) (w : Window) (m : ModuleValue) (log : List Entry) (last : World)
+    (n k : NamesValue) (g : Grid) (s : Sheet)
     → n ≡ k → g ≡ grid_by_names p n w m log last → s ≡ sheet_of g (signs_of (Some n) (length last.clocks)) (length last.clocks)
     → s ≡ sheet_for p (Some k) w m log last
 sheet_named p w m log last n k g s named columned is =
     is
     ∙ ap (λ h. sheet_of h (signs_of (Some n) (length last.clocks)) (length last.clocks)) columned
     ∙ ap (λ r. sheet_for p (Some r) w m log last) named
-
--- the picture of a plan
-pub picture_planned : (p : PlacesValue) (n k : Option NamesValue) (w : Window) (m : ModuleValue) (log : List Entry) (last : World) (s : Sheet) (rows text : List ℕ)
-    → is_drawn w m log last ≡ true → s ≡ sheet_for p n w m log last → k ≡ n → rows ≡ rows_of w m last.arguments log
-    → text ≡ picture_in s rows p k m log last → text ≡ picture_text p n w m log last
-picture_planned p n k w m log last s rows text drawn columned named listed is =
-    is
-    ∙ ap (λ h. picture_in h rows p k m log last) columned
-    ∙ ap (λ j. picture_in (sheet_for p n w m log last) rows p j m log last) named
-    ∙ ap (λ l. picture_in (sheet_for p n w m log last) l p n m log last) listed
-    ∙ sym (ap (λ b. picture_by b p n w (rows_of w m last.arguments log) m log last) drawn)

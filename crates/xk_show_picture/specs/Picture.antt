@@ -36,8 +36,11 @@ abbrev pub is_shown : Window → World → Event → Bool
 is_shown window v e = is_asked window v.steps && (not (is_local e) || not (is_quiet v))
 
 -- its number, for its own row, and again for that of each clock that advanced in it
+abbrev pub rows_of_world : World → List ℕ
+rows_of_world v = v.steps ∷ replicate (length (advanced_now v)) v.steps
+
 abbrev pub rows_told : Window → World → Event → List ℕ
-rows_told window v e = if is_shown window v e then v.steps ∷ replicate (length (advanced_now v)) v.steps else []
+rows_told window v e = if is_shown window v e then rows_of_world v else []
 
 -- the rows of a run, from the top: for each the number of its step
 abbrev pub rows_of : Window → ModuleValue → List ℤ → List Entry → List ℕ

@@ -4,7 +4,7 @@ ghost use Rattle.std.specs.Prelude.{◌≡◌, ◌∷◌, ◌++◌, length, repl
 ghost use Rattle.xk_core.specs.Core.{advanced_now};
 ghost use Rattle.xk_show_lanes.specs.Lanes.{steps_asked};
 ghost use Rattle.xk_show_lanes.specs.NamedLanes.{accounts_kept};
-ghost use Rattle.xk_show_picture.specs.Picture.{bar_row, is_shown, row_of, rows_of, rows_told};
+ghost use Rattle.xk_show_picture.specs.Picture.{bar_row, is_shown, row_of, rows_of, rows_of_world, rows_told};
 
 use std::alloc::{AllocError, Global};
 use xk_core::Core;
@@ -40,20 +40,10 @@ fn push_number(list: &mut Vec<u64>, number: u64, clocks: &[u32]) -> Result<(), A
     push_times(list, number, clocks.len())
 }
 
-/// Adds the numbers of the rows of the step that led to the core, and was seen to do this, if it is shown.
-fn push_rows(
-    alloc: Global,
-    list: &mut Vec<u64>,
-    core: &Core<'_>,
-    window: Window,
-    event: Event,
-) -> Result<(), AllocError>
-    ensures { OnOk result (list.new.items
-        ≡ list.old.items ++ rows_told window core.now.world event) }
+/// Adds the numbers of the rows of the step that led to the core.
+fn push_rows(alloc: Global, list: &mut Vec<u64>, core: &Core<'_>) -> Result<(), AllocError>
+    ensures { OnOk result (list.new.items ≡ list.old.items ++ rows_of_world core.now.world) }
 {
-    if !is_shown(core, window, event) {
-        return Ok(());
-    }
     let clocks = advanced(alloc, core)?;
     push_number(list, core.steps_done(), &clocks)
 }
@@ -74,7 +64,10 @@ impl Describe<u64> for RowTeller {
         core: &Core<'_>,
         step: &RunStep,
     ) -> Result<(), AllocError> {
-        push_rows(alloc, out, core, self.window, step.event)
+        if is_shown(core, self.window, step.event) {
+            push_rows(alloc, out, core)?;
+        }
+        Ok(())
     }
 
     #[tactic(auto, using(xk_show_lanes::proofs::LaneLemmas::none_asked))]
@@ -93,7 +86,10 @@ impl Recount<u64> for RowTeller {
         core: &Core<'_>,
         account: &Account,
     ) -> Result<(), AllocError> {
-        push_rows(alloc, out, core, self.window, account.step.event)
+        if is_shown(core, self.window, account.step.event) {
+            push_rows(alloc, out, core)?;
+        }
+        Ok(())
     }
 
     #[tactic(auto, using(xk_show_lanes::proofs::LaneLemmas::none_asked))]

@@ -1,6 +1,6 @@
 //! The words of a picture: of a source text's module with names and values.
 
-ghost use Rattle.std.specs.Prelude.{◌≡◌, ◌<◌, length, max, min, IfOk, string_bytes};
+ghost use Rattle.std.specs.Prelude.{◌≡◌, ◌<◌, length, max, IfOk, string_bytes};
 ghost use Rattle.xk_show_picture.specs.Picture.{label_of, signs_of, widest_name, words_of};
 
 use std::alloc::{AllocError, Global};
@@ -61,13 +61,6 @@ fn widest_name(alloc: Global, names: &Names<'_>, clocks: u32) -> Result<usize, A
     Ok(most)
 }
 
-/// How many of so many clocks have a name.
-fn named(names: &Names<'_>, clocks: u32) -> u32
-    ensures { result ≡ min (length names.now.clocks) clocks }
-{
-    names.clocks().min(clocks as usize) as u32
-}
-
 /// For how many signs there is room behind the bar of one of so many clocks.
 pub(crate) fn signs_of(
     alloc: Global,
@@ -78,7 +71,7 @@ pub(crate) fn signs_of(
 {
     match names {
         Some(names) => {
-            let widest = widest_name(alloc, names, named(names, clocks))?;
+            let widest = widest_name(alloc, names, names.named_clocks(clocks))?;
             Ok(22 + widest.min(100) as u16)
         }
         None => Ok(32),

@@ -3,7 +3,8 @@
 ghost use Rattle.std.specs.Prelude.{◌≡◌, ◌<◌, ◌++◌, length, OnOk};
 ghost use Rattle.xk_show_events.specs.Worlds.{each_below};
 ghost use Rattle.xk_show_where.specs.Awaited.{AreWaitsOf};
-ghost use Rattle.xk_show_where.specs.Where.{act_line, act_words, clock_words, condition_words, place_of, registration, registration_by, registrations, told_act};
+ghost use Rattle.xk_show_where.specs.Where.{act_line, act_words, clock_words, condition_words, place_of, registration, registration_by};
+ghost use Rattle.xk_show_where.specs.Where.{registrations, told_act};
 
 use crate::condition::{Condition, condition_of, condition_words};
 use crate::holders::standing_on;

@@ -4,7 +4,8 @@ ghost use Rattle.std.specs.Prelude.{◌≡◌, ◌++◌, length, map, option_map
 ghost use Rattle.xk_types.specs.World.{AreArguments};
 ghost use Rattle.xk_show_events.specs.Events.{places_of};
 ghost use Rattle.xk_show_events.specs.Worlds.{each_below};
-ghost use Rattle.xk_show_where.specs.Where.{are_steps_legal, named_line, named_line_if, named_line_of, named_standings_text, named_where_text, value_line};
+ghost use Rattle.xk_show_where.specs.Where.{are_steps_legal, named_line, named_line_if, named_line_of, named_standings_text};
+ghost use Rattle.xk_show_where.specs.Where.{named_where_text, value_line};
 
 use crate::acts::push_all_told;
 use crate::progress::{Stop, take_steps};

@@ -4,7 +4,8 @@ ghost use Rattle.std.specs.Prelude.{◌≡◌, ◌<◌, ◌++◌, length, is_non
 ghost use Rattle.xk_types.specs.World.{AreArguments};
 ghost use Rattle.xk_show_events.specs.Events.{no_text, places_of};
 ghost use Rattle.xk_show_events.specs.Worlds.{each_below};
-ghost use Rattle.xk_show_where.specs.Where.{are_steps_legal, clock_line, shared_line, shared_line_of, standings_text, steps_line, stop_line, stop_text, where_text};
+ghost use Rattle.xk_show_where.specs.Where.{are_steps_legal, clock_line, shared_line, shared_line_of, standings_text, steps_line};
+ghost use Rattle.xk_show_where.specs.Where.{stop_line, stop_text, where_text};
 
 use crate::acts::push_acts;
 use crate::condition::{condition_of, condition_words};

@@ -64,7 +64,8 @@ returns-clause-limit c less =
     elim c.if-explored.branch [
       | then-explored w ↦ inr (subst (λ (list : List Outcome). c.args.limit.outcomes ≤ length list) (sym c.in_ok-list.ensures)
           (c.in_ok-all.ensures.limit (sym w.result-is ∙ less)))
-      | else-explored w ↦ inl (subst (λ n. c.args.limit.entries < n) (sym c.len.ensures.count) (c.in_ok-explored.ensures.limit w.if-explored.false))
+      | else-explored w ↦ inl (subst (λ n. c.args.limit.entries < n) (sym c.len.ensures.count)
+          (c.in_ok-explored.ensures.limit w.if-explored.false))
     ]
 
 pub returns-clause-kept : goal.returns-clause-kept

@@ -14,5 +14,6 @@ returns-clause-text c =
     let shared = map {A = Bor (List ℕ)} {B = List ℕ} (λ x. x.now) c.args.shared.now in
     subst
     (λ (q : PlacesValue). IfOk c.page.result (λ d. d.text.items ≡ page_by (is_drawn w m log last) c.args.text.now
-    (picture_text q (names_for q (Some shared) w m log last) w m log last) (moments w q (names_for q (Some shared) w m log last) m log last)))
+    (picture_text q (names_for q (Some shared) w m log last) w m log last)
+    (moments w q (names_for q (Some shared) w m log last) m log last)))
     c.in_ok-places.ensures c.page.ensures.text
