@@ -67,7 +67,7 @@ module _ (m : ModuleValue) (args : List ℤ) (limits : IsWithinLimits m) (ok : I
           → (numbers : List ℤ) × IsOutcome m args (schedule_of p.log.items) numbers × (p.numbers.items ≡ ordered order numbers)
       alone zero p there =
           subst (λ (q : Outcome). (numbers : List ℤ) × IsOutcome m args (schedule_of q.log.items) numbers
-            × (q.numbers.items ≡ ordered order numbers))
+          × (q.numbers.items ≡ ordered order numbers))
           (same_Some o p there) (h.printed, run_shown order Has m args o h, h.told)
       alone (suc k) p there = absurd (none-some p there)
 

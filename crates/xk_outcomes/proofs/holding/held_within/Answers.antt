@@ -15,7 +15,11 @@ returns c bytes stands told =
       lone = c.in_ok-found.ensures.lone;
       plain = c.in_ok-found.ensures.plain;
       far = λ refuted. record {
-        entries = found.entries; kept = c.in_ok-found.ensures.kept; met = c.in_ok-found.ensures.limit; few = c.in_ok-found.ensures.most };
+        entries = found.entries;
+        kept = c.in_ok-found.ensures.kept;
+        met = c.in_ok-found.ensures.limit;
+        few = c.in_ok-found.ensures.most;
+      };
       may_stand = stands;
       held = subst (λ texts. AreHeld texts found.list.items found.complete said.text.items said.verdict) told
           (subst (λ list. AreHeld c.args.expected.now list found.complete said.text.items said.verdict)
