@@ -54,6 +54,7 @@ ASK = (
     "python3 -m tests.generated.asked",
     "python3 -m tests.generated.by_chance",
     "python3 -m tests.generated.split_phases",
+    "python3 -m tests.generated.spans",
     "python3 -m tests.generated.operands",
     "python3 -m tests.program.failing_devices",
     "python3 -m tests.program.hostile",

@@ -396,8 +396,8 @@ class Comparer:
             self.draws(text, judged, outcome)
 
     def draws(self, text: bytes, judged: Accepted, outcome: Outcome) -> None:
-        """`events`, `lanes`, its picture, `page`, `races` and `where` tell of a run by its log, unless it is a large
-        one."""
+        """`events`, `lanes`, its picture, `page`, `races`, `span` and `where` tell of a run by its log, unless it is a
+        large one."""
         way, given = random.Random(text).choice(ways(text, judged))
         log = logs.log_of(judged.module, way, given)
         if len(log) * judged.bounds.activities > MOST_DRAWN:
@@ -413,6 +413,7 @@ class Comparer:
                 ["lanes", "--svg"],
                 ["page"],
                 ["races"],
+                ["span"],
                 ["where"],
                 ["where", f"--at={step}"],
             ):

@@ -282,17 +282,17 @@ def each_log(calls: Calls, folder: str) -> None:
         if charted.status:
             raise Wrong(f"{name}, chart: {charted}")
         for command in (
-            "events", "lanes", "lanes --svg", "page", "where", "where --at 2", "where --at 999999", "races"
+            "events", "lanes", "lanes --svg", "page", "where", "where --at 2", "where --at 999999", "races", "span"
         ):  # fmt: skip
             told = calls.ask(f"{name}, {command}", [*command.split(), *words, "-", str(kept)], text)
-            if told.status not in ((0, 6) if command == "races" else (6,) if "999999" in command else (0,)):
+            if told.status not in ((0, 6) if command in ("races", "span") else (6,) if "999999" in command else (0,)):
                 raise Wrong(f"{name}, {command}: {told}")
             if not told.out:
                 raise Wrong(f"{name}, {command}: {told}")
     text = (ROWS / "in-step.x10").read_bytes()
     for log, line in (("zero-steps", "L1 Grammar line 2"), ("no-end", "L2 Truncated"),
                       ("waits", "L4 NotEnabled entry 3"), ("stops", "L5 NotEnded")):
-        for command in ("replay", "chart", "events", "lanes", "page", "races"):
+        for command in ("replay", "chart", "events", "lanes", "page", "races", "span"):
             err = f"x10clock: {line}\n".encode()
             calls.need(f"{command}, {log}", [command, "-", str(LOGS / f"{log}.log")], text, 3, b"", err)
     for log, status in (("zero-steps", 3), ("no-end", 3), ("waits", 6), ("stops", 0)):

@@ -120,6 +120,7 @@ COMMANDS: dict[str, tuple[set[str], set[str], list[str]]] = {
     "lanes": ({"from", "to", "arg"}, {"module", "svg"}, ["FILE", "LOG"]),
     "page": ({"from", "to", "arg"}, {"module"}, ["FILE", "LOG"]),
     "where": ({"at", "arg"}, {"module"}, ["FILE", "LOG"]),
+    "span": ({"arg"}, {"module"}, ["FILE", "LOG"]),
 }
 
 

@@ -1,6 +1,6 @@
 #!/usr/bin/env python3
-"""The reference for commands on a log: `replay`, `chart`, `events`, `lanes`, `page` and `races` of a whole run, and
-`where` of any.
+"""The reference for commands on a log: `replay`, `chart`, `events`, `lanes`, `page`, `races` and `span` of a whole run,
+and `where` of any.
 
     python3 -m tests.reference.runs events [--module] FILE LOG [--arg=N]..
     python3 -m tests.reference.runs lanes [--module] [--svg] FILE LOG [--arg=N]..
@@ -12,14 +12,14 @@ import pathlib
 import sys
 from functools import partial
 
-from tests.reference import lanes, logs, modules, naming, page, picture, races, source, where
+from tests.reference import lanes, logs, modules, naming, page, picture, races, source, span, where
 from tests.reference.events import Program
 from tests.reference.lanes import WHOLE
 from tests.reference.logs import Answer, Played, Teller
 from tests.reference.modules import Accepted, Arguments, Refused
 
 # The commands on the log of a whole run, and the one on any log.
-OF_RUNS, WHERE = ("replay", "chart", "events", "lanes", "page", "races"), "where"
+OF_RUNS, WHERE = ("replay", "chart", "events", "lanes", "page", "races", "span"), "where"
 COMMANDS = (*OF_RUNS, WHERE)
 
 
@@ -29,12 +29,18 @@ def races_of(program: Program, played: Played) -> tuple[str, bool]:
     return text, not text.startswith("race ")
 
 
+def span_of(program: Program, played: Played) -> tuple[str, bool]:
+    """How long a run had to take, and whether it has no race."""
+    text = span.span(program, played)
+    return text, text.endswith("every schedule has this work\n")
+
+
 def teller(command: str, data: bytes, is_module: bool, window: range = WHOLE, is_picture: bool = False) -> Teller:
     """What a command prints of a run of this program, whose bytes are looked at where there is one."""
     if command in ("lanes", "page"):
         draw = page.drawing if command == "page" else picture.drawing if is_picture else lanes.drawing
         return lambda played: draw(Program(data, is_module), played, window)
-    of_program = {"events": naming.text, "races": races_of}
+    of_program = {"events": naming.text, "races": races_of, "span": span_of}
     if command in of_program:
         return partial(of_program[command], Program(data, is_module))
     return {"replay": Played.output, "chart": Played.chart}[command]

@@ -534,6 +534,7 @@ fn is_left_open(command: &Command<'_>) -> bool
         | Command::Lanes { .. }
         | Command::Page { .. }
         | Command::Where { .. }
+        | Command::Span { .. }
         | Command::Races { .. }
         | Command::Outcomes { .. }
         | Command::Expected { .. } => true,

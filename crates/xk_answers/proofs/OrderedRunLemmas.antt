@@ -23,7 +23,7 @@ use Rattle.xk_answers.specs.declared.picture.Picture.TheVariants as picture
 use Rattle.xk_program.specs.declared.program_loader.Provenance.{Provenance}
 use Rattle.xk_program.specs.Origins.{IsFrom}
 use Rattle.xk_answers.specs.Results.{ComesTo, Draw, IsLogText, IsPicture, IsTelling, Run, picture_told, shows_origins, way_given}
-use Rattle.xk_answers.specs.Explanation.{Tale, events_told, image_told, lanes_told, page_told, races_told}
+use Rattle.xk_answers.specs.Explanation.{Tale, events_told, image_told, lanes_told, page_told, races_told, span_told}
 use Rattle.xk_answers.specs.OrderedRun.{IsFinished, IsFinishedBy, IsReplay, IsWholeRun}
 
 -- ---- choosers without a state
@@ -105,6 +105,8 @@ is_picture (picture.Page window) kind bytes from m args es last told is h =
     (shared, (is.1 refl).1, (from.origins, (is.1 refl).0, h ∙ ap (λ t. page_told t window m es last shared from.origins) is.0))
 is_picture picture.Races kind bytes from m args es last told is h =
     (from.origins, (is.1 refl).0, h ∙ ap (λ t. races_told t m args es from.origins) is.0)
+is_picture picture.Span kind bytes from m args es last told is h =
+    (from.origins, (is.1 refl).0, h ∙ ap (λ t. span_told t m args es from.origins) is.0)
 
 -- the log of such a run is that of a whole run, and its picture is told of it
 pub pictured : (p : Picture) (kind : Form) (file bytes : List ℕ) (n m : ModuleValue) (args : List ℤ) (log : List Entry) (logged : List ℕ) (told : Tale) (c : CoreValue) {numbers : List ℤ}

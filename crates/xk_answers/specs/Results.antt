@@ -35,7 +35,7 @@ use Rattle.xk_replay.specs.Replay.{IsStoppedAt, IsUnfinished}
 use Rattle.xk_answers.specs.OrderedRun.{IsLoggedRun, IsOrderedRun, IsReplay, IsSomeRun, IsWholeRun}
 use Rattle.xk_program.specs.Origins.{IsByNames, IsByOrigins}
 use Rattle.xk_hints.specs.Words.{HintValue}
-use Rattle.xk_answers.specs.Explanation.{HaveHints, IsProgramListed, Tale, acceptance_told, all_told, events_told, image_told, lanes_told, page_told, races_told, where_told}
+use Rattle.xk_answers.specs.Explanation.{HaveHints, IsProgramListed, Tale, acceptance_told, all_told, events_told, image_told, lanes_told, page_told, races_told, span_told, where_told}
 
 -- what is to be done with a module; what is explained is a JSON value or not; a run is in an order, or by workers, and has its log kept or not; some
 -- picture is drawn of one; it is told how things stand behind a log, or behind so many of its steps, which races the run in the order `first` has, or how often so many runs by chance,
@@ -144,7 +144,8 @@ ComesTo (Expected sets limit) m args logged d = IsAccepted m × IsHeldOut m args
 ComesTo _ m args logged _ = ⊥
 
 -- What is told of a run of the module that the bytes give, by their lines where they are a source text: its chart; by their names, too,
--- what others see of its steps, and the same with a lane for each activity, also as an image or as a page; or its races.
+-- what others see of its steps, and the same with a lane for each activity, also as an image or as a page; its races; or how long it had
+-- to take.
 abbrev pub IsPicture : Picture → Form → List ℕ → ModuleValue → List ℤ → List Entry → World → Tale → Type 0
 IsPicture picture.Chart kind bytes m args es last told = told ≡ all_told (chart_text m args es)
 IsPicture picture.Events kind bytes m args es last told = IsByNames kind bytes (events_told bytes m args es) told
@@ -152,6 +153,7 @@ IsPicture (picture.Lanes window) kind bytes m args es last told = IsByNames kind
 IsPicture (picture.Image window) kind bytes m args es last told = IsByNames kind bytes (image_told bytes window m es last) told
 IsPicture (picture.Page window) kind bytes m args es last told = IsByNames kind bytes (page_told bytes window m es last) told
 IsPicture picture.Races kind bytes m args es last told = IsByOrigins kind bytes (races_told bytes m args es) told
+IsPicture picture.Span kind bytes m args es last told = IsByOrigins kind bytes (span_told bytes m args es) told
 
 -- whether it is told by the lines of a source text
 abbrev pub shows_origins : Picture → Bool
@@ -166,6 +168,7 @@ picture_told (picture.Lanes window) bytes shared m args es last origins = lanes_
 picture_told (picture.Image window) bytes shared m args es last origins = image_told bytes window m es last shared origins
 picture_told (picture.Page window) bytes shared m args es last origins = page_told bytes window m es last shared origins
 picture_told picture.Races bytes shared m args es last origins = races_told bytes m args es origins
+picture_told picture.Span bytes shared m args es last origins = span_told bytes m args es origins
 
 -- Where things stand behind the steps of a log, or behind so many, is told by the lines and names of a source text. The log need not be
 -- that of a whole run.

@@ -9,7 +9,7 @@ ghost use Rattle.xk_cli.specs.declared.job.Form.{Form as FormValue};
 ghost use Rattle.xk_answers.specs.Results.{Draw, IsTelling, IsText, lanes_given, picture_told, shows_origins, window_given};
 ghost use Rattle.xk_answers.specs.Refusals.{AgainstModule, AgainstRun};
 ghost use Rattle.xk_program.specs.Origins.{IsFrom};
-ghost use Rattle.xk_answers.specs.Explanation.{events_told, image_told, lanes_told, page_told, races_told};
+ghost use Rattle.xk_answers.specs.Explanation.{events_told, image_told, lanes_told, page_told, races_told, span_told};
 ghost use Rattle.xk_program.specs.Lines.{status_of};
 
 use crate::job_result::Done;
@@ -26,6 +26,7 @@ use xk_show_lanes::{Window, lanes_with_names, module_lanes};
 use xk_show_names::named_events;
 use xk_show_page::{module_page, source_page};
 use xk_show_picture::{module_picture, source_picture};
+use xk_show_span::{module_span, source_span};
 use xk_types::Source;
 
 /// What is told of a run.
@@ -43,6 +44,8 @@ pub enum Picture {
     Page(Window),
     /// Its races.
     Races,
+    /// How long it had to take.
+    Span,
 }
 
 /// What is told, and whether that is a whole answer.
@@ -147,6 +150,7 @@ fn picture_of(
         Picture::Image(window) => image_of(alloc, from, ended, window),
         Picture::Page(window) => page_of(alloc, from, ended, window),
         Picture::Races => races_of(alloc, from, ended),
+        Picture::Span => span_of(alloc, from, ended),
     }
 }
 
@@ -324,6 +328,22 @@ pub(crate) fn races_of(
     let report = match &from.origins {
         Some(origins) => source_races(alloc, from.text, origins.units(), ended)?,
         None => module_races(alloc, ended)?,
+    };
+    Ok(Tale {
+        text: report.text,
+        whole: report.free,
+    })
+}
+
+/// How long a run had to take that came to its end.
+fn span_of(alloc: Global, from: &Provenance<'_>, ended: &Ended<'_>) -> Result<Tale, AllocError>
+    ensures { IfOk result (λ tale. (tale.text.items, tale.whole)
+        ≡ span_told from.now.text.now ended.now.module.now
+        ended.now.core.world.arguments ended.now.log.items from.now.origins) }
+{
+    let report = match &from.origins {
+        Some(origins) => source_span(alloc, from.text, origins.units(), ended)?,
+        None => module_span(alloc, ended)?,
     };
     Ok(Tale {
         text: report.text,

@@ -174,7 +174,8 @@ with_commands a (c ∷ cs) = with_commands (with_subcommand a c.top) cs
 abbrev pub command_line : Names → App
 command_line names = with_commands program
     (check_line ∷ explain_line ∷ compile_line ∷ listing_line ∷ run_line names ∷ outcomes_line ∷ races_line
-    ∷ on_run (codes "replay") ∷ on_run (codes "chart") ∷ on_run (codes "events") ∷ lanes_line ∷ page_line ∷ where_line ∷ [])
+    ∷ on_run (codes "replay") ∷ on_run (codes "chart") ∷ on_run (codes "events") ∷ lanes_line ∷ page_line ∷ where_line
+    ∷ on_run (codes "span") ∷ [])
 
 -- none of the arguments is one of subcommands too
 abbrev pub AreLocal : List Arg → Type 0
@@ -232,6 +233,7 @@ pub data Task : Type 0 where
   Lanes : Text → Option ℕ → Option ℕ → Bool → Task
   Page : Text → Option ℕ → Option ℕ → Task
   Where : Text → Option ℕ → Task
+  Span : Text → Task
   Races : Option Text → Task
   Outcomes : Option ℕ → Option ℕ → Option Text → Bool → Task
   Expected : Text → Option ℕ → Bool → Task
@@ -249,6 +251,7 @@ task_value (command.Events log) = Events log.now
 task_value (command.Lanes log from to svg) = Lanes log.now from to svg
 task_value (command.Page log from to) = Page log.now from to
 task_value (command.Where log at) = Where log.now at
+task_value (command.Span log) = Span log.now
 task_value (command.Races log) = Races (option_map (λ s. s.now) log)
 task_value (command.Outcomes limit pick log sets) = Outcomes limit pick (option_map (λ s. s.now) log) sets
 task_value (command.Expected list limit sets) = Expected list.now limit sets
@@ -404,7 +407,8 @@ command_on name log given =
     else (if bytes_eq name (codes "events") then Some (Events log)
     else (if bytes_eq name (codes "lanes") then Some (lanes_on log given)
     else (if bytes_eq name (codes "page") then Some (page_on log given)
-    else (if bytes_eq name (codes "where") then Some (where_on log given) else None)))))
+    else (if bytes_eq name (codes "where") then Some (where_on log given)
+    else (if bytes_eq name (codes "span") then Some (Span log) else None))))))
 
 -- the command of a name that wants a log
 abbrev pub command_by_log : Text → List Row → Option Task

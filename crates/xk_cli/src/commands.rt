@@ -35,7 +35,8 @@ pub(crate) fn line<'a>(alloc: Global) -> Result<clap::Command<'a>, AllocError>
     let line = add(line, events_line(alloc));
     let line = add(line, lanes_line(alloc));
     let line = add(line, page_line(alloc));
-    add(line, where_line(alloc))
+    let line = add(line, where_line(alloc));
+    add(line, span_line(alloc))
 }
 
 /// The program without its commands, of which one has to be there.
@@ -250,6 +251,16 @@ fn where_line<'a>(alloc: Global) -> Result<clap::Command<'a>, AllocError>
         at_option(alloc),
     ];
     on_file(alloc, "where", about, Vec::from_array(alloc, options)?)
+}
+
+/// The command `span`.
+fn span_line<'a>(alloc: Global) -> Result<clap::Command<'a>, AllocError>
+    ensures shape { IfOk result (λ c. app_of c ≡ on_run (codes "span")) }
+    ensures local { IfOk result HasNoGlobals }
+{
+    let about = "Prints how parallel the run that a log has is, and what takes longest.";
+    let options = [module_flag(alloc), log_place(alloc), arg_option(alloc)];
+    on_file(alloc, "span", about, Vec::from_array(alloc, options)?)
 }
 
 /// A command on FILE with further arguments.

@@ -73,6 +73,11 @@ pub enum Command<'a> {
         /// `--at`: the step after which things are told, where that was given; 0 is before the first.
         at: Option<u64>,
     },
+    /// `span`: print how much of the run of FILE that a log has can go on side by side, and what takes longest.
+    Span {
+        /// The log's path.
+        log: &'a str,
+    },
     /// `races`: print which steps of a run of FILE race with one another.
     Races {
         /// The path of the log of the run that is looked at, where that was given.
@@ -114,7 +119,8 @@ impl<'a> Command<'a> {
             | Command::Events { log }
             | Command::Lanes { log, .. }
             | Command::Page { log, .. }
-            | Command::Where { log, .. } => Some(log),
+            | Command::Where { log, .. }
+            | Command::Span { log } => Some(log),
             Command::Expected { list, .. } => Some(list),
             Command::Races { log } => log,
             Command::Check
@@ -144,6 +150,7 @@ impl<'a> Command<'a> {
             | Command::Lanes { .. }
             | Command::Page { .. }
             | Command::Where { .. }
+            | Command::Span { .. }
             | Command::Races { .. }
             | Command::Expected { .. } => None,
         }
@@ -166,6 +173,7 @@ impl<'a> Command<'a> {
             | Command::Lanes { .. }
             | Command::Page { .. }
             | Command::Where { .. }
+            | Command::Span { .. }
             | Command::Races { .. }
             | Command::Outcomes { .. }
             | Command::Expected { .. } => None,
@@ -183,6 +191,7 @@ impl<'a> Command<'a> {
             | Command::Lanes { .. }
             | Command::Page { .. }
             | Command::Where { .. }
+            | Command::Span { .. }
             | Command::Races { .. } => true,
             Command::Check
             | Command::Compile

@@ -232,6 +232,7 @@ fn command_by_log<'a>(name: &str, given: &ArgMatches<'a>) -> Option<Command<'a>>
             log,
             at: count_in(given, "AT"),
         }),
+        "span" => Some(Command::Span { log }),
         _ => None,
     }
 }

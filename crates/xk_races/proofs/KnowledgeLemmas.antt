@@ -13,35 +13,35 @@ use Rattle.xk_races.proofs.OrderLemmas.{Reaches, Tells, tells_none, tells_same, 
 
 -- ---- parts of steps
 
-abbrev is_start : Part → Bool
+abbrev pub is_start : Part → Bool
 is_start (part.Start b) = true
 is_start _ = false
 
-abbrev is_signal : Part → Bool
+abbrev pub is_signal : Part → Bool
 is_signal (part.Signal c) = true
 is_signal _ = false
 
-abbrev is_leave : Part → Bool
+abbrev pub is_leave : Part → Bool
 is_leave (part.Leave c) = true
 is_leave _ = false
 
-abbrev is_advance : Part → Bool
+abbrev pub is_advance : Part → Bool
 is_advance (part.Advance c) = true
 is_advance _ = false
 
-abbrev is_pass : Part → Bool
+abbrev pub is_pass : Part → Bool
 is_pass (part.Pass c) = true
 is_pass _ = false
 
-abbrev is_close : Part → Bool
+abbrev pub is_close : Part → Bool
 is_close part.Close = true
 is_close _ = false
 
-abbrev is_end : Part → Bool
+abbrev pub is_end : Part → Bool
 is_end part.End = true
 is_end _ = false
 
-abbrev number_in : Part → ℕ
+abbrev pub number_in : Part → ℕ
 number_in (part.Start b) = b
 number_in (part.Signal c) = c
 number_in (part.Leave c) = c
@@ -51,7 +51,7 @@ number_in (part.Access s) = s
 number_in _ = 0
 
 -- two parts that a test tells apart
-apart : {A : Type 0} (test : Part → Bool) (p q : Part) → test p ≡ false → test q ≡ true → p ≡ q → A
+pub apart : {A : Type 0} (test : Part → Bool) (p q : Part) → test p ≡ false → test q ≡ true → p ≡ q → A
 apart test p q never holds same = absurd (true≢false (sym holds ∙ sym (ap test same) ∙ never))
 
 -- ---- what holds behind some deeds
@@ -130,11 +130,11 @@ same_deed : (ds : List Deed) (m n : ℕ) (d e : Deed) → m ≡ n → IsAt ds m 
 same_deed ds m n d e is at here = same_Some d e (sym at ∙ ap (slice_get ds) is ∙ here)
 
 -- what is of activity x before number n + 1
-of_more : (ds : List Deed) (n x : ℕ) (e : Deed) → IsAt ds n e → (m : ℕ) → IsOf ds n x m ⊎ (((e.step.act ≡ x) ⊎ (e.part ≡ part.Start x)) × (m ≡ n)) → IsOf ds (suc n) x m
+pub of_more : (ds : List Deed) (n x : ℕ) (e : Deed) → IsAt ds n e → (m : ℕ) → IsOf ds n x m ⊎ (((e.step.act ≡ x) ⊎ (e.part ≡ part.Start x)) × (m ≡ n)) → IsOf ds (suc n) x m
 of_more ds n x e here m (inl h) = (omega (arith, h.0), h.1, h.2, h.3)
 of_more ds n x e here m (inr h) = (omega (arith, h.1), e, subst (λ i. IsAt ds i e) (sym h.1) here, h.0)
 
-of_less : (ds : List Deed) (n x : ℕ) (e : Deed) → IsAt ds n e → (m : ℕ) → IsOf ds (suc n) x m → IsOf ds n x m ⊎ (((e.step.act ≡ x) ⊎ (e.part ≡ part.Start x)) × (m ≡ n))
+pub of_less : (ds : List Deed) (n x : ℕ) (e : Deed) → IsAt ds n e → (m : ℕ) → IsOf ds (suc n) x m → IsOf ds n x m ⊎ (((e.step.act ≡ x) ⊎ (e.part ≡ part.Start x)) × (m ≡ n))
 of_less ds n x e here m h = by (at_last m n h.0)
   where
     by : (m < n) ⊎ (m ≡ n) → IsOf ds n x m ⊎ (((e.step.act ≡ x) ⊎ (e.part ≡ part.Start x)) × (m ≡ n))
@@ -145,12 +145,12 @@ of_less ds n x e here m h = by (at_last m n h.0)
 abbrev IsMade : List Deed → ℕ → Part → ℕ → Type 0
 IsMade ds n p m = (m < n) × (d : Deed) × IsAt ds m d × (d.part ≡ p)
 
-made_more : (ds : List Deed) (n : ℕ) (p : Part) (e : Deed) → IsAt ds n e → (m : ℕ)
+pub made_more : (ds : List Deed) (n : ℕ) (p : Part) (e : Deed) → IsAt ds n e → (m : ℕ)
     → IsMade ds n p m ⊎ ((e.part ≡ p) × (m ≡ n)) → IsMade ds (suc n) p m
 made_more ds n p e here m (inl h) = (omega (arith, h.0), h.1, h.2, h.3)
 made_more ds n p e here m (inr h) = (omega (arith, h.1), e, subst (λ i. IsAt ds i e) (sym h.1) here, h.0)
 
-made_less : (ds : List Deed) (n : ℕ) (p : Part) (e : Deed) → IsAt ds n e → (m : ℕ)
+pub made_less : (ds : List Deed) (n : ℕ) (p : Part) (e : Deed) → IsAt ds n e → (m : ℕ)
     → IsMade ds (suc n) p m → IsMade ds n p m ⊎ ((e.part ≡ p) × (m ≡ n))
 made_less ds n p e here m h = by (at_last m n h.0)
   where
@@ -162,12 +162,12 @@ made_less ds n p e here m h = by (at_last m n h.0)
 abbrev WasAtAdvance : List Deed → ℕ → ℕ → (ℕ → ℕ → Type 0) → ℕ → Type 0
 WasAtAdvance ds n c S m = (i : ℕ) × (i < n) × (d : Deed) × IsAt ds i d × (d.part ≡ part.Advance c) × S i m
 
-advance_more : (ds : List Deed) (n c : ℕ) (S : ℕ → ℕ → Type 0) (e : Deed) → IsAt ds n e → (m : ℕ)
+pub advance_more : (ds : List Deed) (n c : ℕ) (S : ℕ → ℕ → Type 0) (e : Deed) → IsAt ds n e → (m : ℕ)
     → WasAtAdvance ds n c S m ⊎ ((e.part ≡ part.Advance c) × S n m) → WasAtAdvance ds (suc n) c S m
 advance_more ds n c S e here m (inl h) = (h.0, omega (arith, h.1), h.2, h.3, h.4, h.5)
 advance_more ds n c S e here m (inr h) = (n, omega arith, e, here, h.0, h.1)
 
-advance_less : (ds : List Deed) (n c : ℕ) (S : ℕ → ℕ → Type 0) (e : Deed) → IsAt ds n e → (m : ℕ)
+pub advance_less : (ds : List Deed) (n c : ℕ) (S : ℕ → ℕ → Type 0) (e : Deed) → IsAt ds n e → (m : ℕ)
     → WasAtAdvance ds (suc n) c S m → WasAtAdvance ds n c S m ⊎ ((e.part ≡ part.Advance c) × S n m)
 advance_less ds n c S e here m h = by (at_last h.0 n h.1)
   where
@@ -176,17 +176,17 @@ advance_less ds n c S e here m h = by (at_last h.0 n h.1)
     by (inr is) = inr (subst (λ (d : Deed). d.part ≡ part.Advance c) (same_deed ds h.0 n h.2 e is h.3 here) h.4, subst (λ i. S i m) is h.5)
 
 -- by which deed number m comes to be awaited: it is a signal, or the clock advances behind a leave
-abbrev ComesToBeAwaited : List Deed → ℕ → ℕ → Deed → ℕ → Type 0
+abbrev pub ComesToBeAwaited : List Deed → ℕ → ℕ → Deed → ℕ → Type 0
 ComesToBeAwaited ds n c e m = ((e.part ≡ part.Signal c) × (m ≡ n)) ⊎ ((e.part ≡ part.Advance c) × IsLeave ds n c m)
 
-awaited_more : (ds : List Deed) (n c : ℕ) (e : Deed) → IsAt ds n e → (m : ℕ)
+pub awaited_more : (ds : List Deed) (n c : ℕ) (e : Deed) → IsAt ds n e → (m : ℕ)
     → IsAwaited ds n c m ⊎ ComesToBeAwaited ds n c e m → IsAwaited ds (suc n) c m
 awaited_more ds n c e here m (inl (inl h)) = inl (made_more ds n (part.Signal c) e here m (inl h))
 awaited_more ds n c e here m (inl (inr h)) = inr (advance_more ds n c (λ i. IsLeave ds i c) e here m (inl h))
 awaited_more ds n c e here m (inr (inl h)) = inl (made_more ds n (part.Signal c) e here m (inr h))
 awaited_more ds n c e here m (inr (inr h)) = inr (advance_more ds n c (λ i. IsLeave ds i c) e here m (inr h))
 
-awaited_less : (ds : List Deed) (n c : ℕ) (e : Deed) → IsAt ds n e → (m : ℕ)
+pub awaited_less : (ds : List Deed) (n c : ℕ) (e : Deed) → IsAt ds n e → (m : ℕ)
     → IsAwaited ds (suc n) c m → IsAwaited ds n c m ⊎ ComesToBeAwaited ds n c e m
 awaited_less ds n c e here m (inl h) = of (made_less ds n (part.Signal c) e here m h)
   where
@@ -199,12 +199,12 @@ awaited_less ds n c e here m (inr h) = of (advance_less ds n c (λ i. IsLeave ds
     of (inl x) = inl (inr x)
     of (inr x) = inr (inr x)
 
-end_more : (ds : List Deed) (n f : ℕ) (e : Deed) → IsAt ds n e → (m : ℕ)
+pub end_more : (ds : List Deed) (n f : ℕ) (e : Deed) → IsAt ds n e → (m : ℕ)
     → IsEnd ds n f m ⊎ ((e.part ≡ part.End) × (finish_at ds n e.step.act ≡ f) × (m ≡ n)) → IsEnd ds (suc n) f m
 end_more ds n f e here m (inl h) = (omega (arith, h.0), h.1, h.2, h.3, h.4)
 end_more ds n f e here m (inr h) = (omega (arith, h.2), e, subst (λ i. IsAt ds i e) (sym h.2) here, h.0, ap (λ i. finish_at ds i e.step.act) h.2 ∙ h.1)
 
-end_less : (ds : List Deed) (n f : ℕ) (e : Deed) → IsAt ds n e → (m : ℕ) → IsEnd ds (suc n) f m
+pub end_less : (ds : List Deed) (n f : ℕ) (e : Deed) → IsAt ds n e → (m : ℕ) → IsEnd ds (suc n) f m
     → IsEnd ds n f m ⊎ ((e.part ≡ part.End) × (finish_at ds n e.step.act ≡ f) × (m ≡ n))
 end_less ds n f e here m h = by (at_last m n h.0)
   where
@@ -216,7 +216,7 @@ end_less ds n f e here m h = by (at_last m n h.0)
 
 -- ---- what an activity learns
 
-reason_here : (ds : List Deed) (m n : ℕ) (e : Deed) → IsAt ds n e → Edge ds m n → Reason ds m n e
+pub reason_here : (ds : List Deed) (m n : ℕ) (e : Deed) → IsAt ds n e → Edge ds m n → Reason ds m n e
 reason_here ds m n e here h = subst (λ (d : Deed). Reason ds m n d) (same_Some h.0 e (sym h.1 ∙ here)) h.2
 
 edges_plain : (ds : List Deed) (n : ℕ) (e : Deed) (row : List ℕ) → IsAt ds n e → is_pass e.part ≡ false → is_close e.part ≡ false
@@ -541,7 +541,7 @@ ends_told ds n f e k h part.Close is = ends_plain ds n f e k h (ap is_end is)
 ends_told ds n f e k h (part.Access s) is = ends_plain ds n f e k h (ap is_end is)
 ends_told ds n f e k h part.Print is = ends_plain ds n f e k h (ap is_end is)
 
-scopes_more : (ds : List Deed) (n : ℕ) (e : Deed) (s : Scopes) → IsAt ds n e
+pub scopes_more : (ds : List Deed) (n : ℕ) (e : Deed) (s : Scopes) → IsAt ds n e
     → scopes_after (take (suc n) ds) s ≡ scoped e.step.act e.part (scopes_after (take n ds) s)
 scopes_more [] n e s here = absurd (none here)
   where

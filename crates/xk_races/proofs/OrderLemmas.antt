@@ -28,7 +28,7 @@ awaited_before : (ds : List Deed) (n c k : ℕ) → IsAwaited ds n c k → k < n
 awaited_before ds n c k (inl h) = h.0
 awaited_before ds n c k (inr h) = omega (arith, h.1, h.5.0)
 
-reason_less : (ds : List Deed) (k j : ℕ) (e : Deed) → Reason ds k j e → k < j
+pub reason_less : (ds : List Deed) (k j : ℕ) (e : Deed) → Reason ds k j e → k < j
 reason_less ds k j e (Own h) = h.0
 reason_less ds k j e (Passed c is h) = let a = awaited_before ds h.0 c k h.5 in omega (arith, h.1, a)
 reason_less ds k j e (Closed is h) = h.0

@@ -35,13 +35,13 @@ right_here ds n d k here known = record {
     from m is = (m, (omega (arith, is), d, subst (λ i. IsAt ds i d) (sym is) here, inl refl), inl refl)
 
 -- these deeds stand in the run from number n on
-abbrev IsRest : List Deed → ℕ → List Deed → Type 0
+abbrev pub IsRest : List Deed → ℕ → List Deed → Type 0
 IsRest ds n rest = (i : ℕ) (d : Deed) → slice_get rest i ≡ Some d → IsAt ds (n + i) d
 
-rest_head : (ds : List Deed) (n : ℕ) (d : Deed) (rest : List Deed) → IsRest ds n (d ∷ rest) → IsAt ds n d
+pub rest_head : (ds : List Deed) (n : ℕ) (d : Deed) (rest : List Deed) → IsRest ds n (d ∷ rest) → IsAt ds n d
 rest_head ds n d rest h = let e : n + 0 ≡ n = omega arith in subst (λ i. IsAt ds i d) e (h 0 d refl)
 
-rest_tail : (ds : List Deed) (n : ℕ) (d : Deed) (rest : List Deed) → IsRest ds n (d ∷ rest) → IsRest ds (suc n) rest
+pub rest_tail : (ds : List Deed) (n : ℕ) (d : Deed) (rest : List Deed) → IsRest ds n (d ∷ rest) → IsRest ds (suc n) rest
 rest_tail ds n d rest h i x at = let e : n + suc i ≡ suc n + i = omega arith in subst (λ j. IsAt ds j x) e (h (suc i) x at)
 
 right : (ds rest : List Deed) (n : ℕ) (k : Known) → IsKnown ds n k → IsRest ds n rest → (p : ℕ) (x : Sight) → slice_get (sights_from k n rest) p ≡ Some x → IsRight ds x

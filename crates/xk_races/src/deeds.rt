@@ -4,6 +4,7 @@ ghost use Rattle.std.specs.Prelude.{◌≡◌, ◌<◌, true, [], ◌∷◌, ◌
 ghost use Rattle.xk_types.specs.Step.{is_pending, is_signalled};
 ghost use Rattle.xk_types.specs.Schedule.{is_enabled};
 ghost use Rattle.xk_core.specs.Core.{StepsTo};
+ghost use Rattle.xk_show_events.specs.Steps.{run_step};
 ghost use Rattle.xk_races.specs.ClockSteps.{AreEnoughAwaiting, AreEnoughResumed, IsNextIfAny, concerns_clocks, instr_in, leaves_clocks, may_be};
 ghost use Rattle.xk_races.specs.Deeds.{advance, at_clocks, awaiting, awaits, cell_at, cell_of, deeds_of_run, gives_way, has_left, has_resumed, leave, pass, plain, plain_part, resumed_by, signal, signals, tell_deeds};
 
@@ -391,18 +392,19 @@ fn push_at_clocks(
     }
 }
 
-/// Takes a step that others see, and adds its deeds.
+/// Takes a step, says what is told of it, and adds its deeds. Err where memory was refused.
 #[tactic(auto, using(xk_show_events::proofs::StepLemmas::enabled_there))]
-fn push_seen(
+pub fn push_deeds(
     alloc: Global,
     list: &mut Vec<Deed>,
     core: &mut Core<'_>,
     act: Act,
-) -> Result<Event, AllocError>
+) -> Result<RunStep, AllocError>
     requires { is_enabled core.old.module_run core.old.world act ≡ true }
-    ensures stepped { IfOk result (StepsTo core.old act core.new) }
-    ensures told { IfOk result (λ e. list.new.items ≡ list.old.items
-        ++ tell_deeds core.old.module_run act core.old.world core.new.world e) }
+    ensures stepped { IfOk result (λ s. StepsTo core.old act core.new s.event) }
+    ensures step { IfOk result (λ s. s ≡ run_step act core.old.world core.new.world s.event) }
+    ensures told { IfOk result (λ s. list.new.items ≡ list.old.items
+        ++ tell_deeds core.old.module_run act core.old.world core.new.world s.event) }
     ensures same_module { core.new.module_run ≡ core.old.module_run }
 {
     let next = next_instr(core, act);
@@ -411,7 +413,7 @@ fn push_seen(
     let step = take_step(core, act)?;
     push_plain(list, core.module().module(), &step)?;
     push_at_clocks(alloc, list, core, &step, &resumed, &awaiting)?;
-    Ok(step.event)
+    Ok(step)
 }
 
 /// Tells of each step what it has to do with the order of the run.
@@ -430,7 +432,8 @@ impl Tell<Deed> for DeedTeller {
         if core.next_local(act) {
             return core.step(act);
         }
-        push_seen(alloc, out, core, act)
+        let step = push_deeds(alloc, out, core, act)?;
+        Ok(step.event)
     }
 }
 

@@ -11,7 +11,7 @@ use std::marker::Model;
 
 /// Which finish each activity is in, and which one is around each finish.
 #[derive(Drop)]
-struct Scopes {
+pub struct Scopes {
     within: Vec<usize>,
     around: Vec<usize>,
 }
@@ -25,8 +25,20 @@ impl Model for Scopes {
 }
 
 impl Scopes {
+    /// Before the first deed: all are in the finish that governs main. Err where memory was refused.
+    pub fn new(alloc: Global) -> Result<Scopes, AllocError>
+        ensures { IfOk result (λ s. s ≡ nothing_known.scopes) }
+    {
+        let mut around = Vec::new(alloc);
+        around.push(0)?;
+        Ok(Scopes {
+            within: Vec::new(alloc),
+            around,
+        })
+    }
+
     /// The finish that an activity is in.
-    fn of(&self, act: u32) -> usize
+    pub fn of(&self, act: u32) -> usize
         ensures { result ≡ number_at self.now.within act }
     {
         number_at(&self.within, act as usize)
@@ -51,8 +63,8 @@ impl Scopes {
         set_number(&mut self.within, act, around)
     }
 
-    /// What a deed makes of them.
-    fn take(&mut self, act: u32, part: Part) -> Result<(), AllocError>
+    /// What a deed makes of them. Err where memory was refused.
+    pub fn take(&mut self, act: u32, part: Part) -> Result<(), AllocError>
         ensures { OnOk result (self.new ≡ scoped act part self.old) }
     {
         match part {
@@ -102,18 +114,14 @@ impl Knowledge {
     pub fn new(alloc: Global) -> Result<Knowledge, AllocError>
         ensures { IfOk result (λ k. k ≡ nothing_known) }
     {
-        let mut around = Vec::new(alloc);
-        around.push(0)?;
+        let scopes = Scopes::new(alloc)?;
         Ok(Knowledge {
             acts: Vec::new(alloc),
             signals: Vec::new(alloc),
             leaves: Vec::new(alloc),
             advances: Vec::new(alloc),
             ends: Vec::new(alloc),
-            scopes: Scopes {
-                within: Vec::new(alloc),
-                around,
-            },
+            scopes,
         })
     }
 

@@ -12,4 +12,6 @@ mod rows;
 mod sights;
 mod text;
 
+pub use deeds::{Deed, Part, push_deeds};
+pub use knowledge::Scopes;
 pub use report::{RaceReport, Reach, module_races, reach_of, source_races};

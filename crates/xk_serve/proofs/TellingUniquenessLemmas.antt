@@ -17,7 +17,7 @@ use Rattle.xk_answers.specs.declared.picture.Picture.{Picture}
 use Rattle.xk_answers.specs.declared.picture.Picture.TheVariants as picture
 use Rattle.xk_answers.specs.Results.{Check, Compile, Doing, Draw, Expected, Explain, IsPicture, IsTelling, Listing, Outcomes, Races, Replay, Run, Tally, Where}
 use Rattle.xk_program.specs.Origins.{HaveOrigins, HaveSharedNames, IsByNames, IsByOrigins}
-use Rattle.xk_answers.specs.Explanation.{HaveHints, IsListed, Tale, acceptance_told, events_told, image_told, lanes_told, page_told, races_told, where_told}
+use Rattle.xk_answers.specs.Explanation.{HaveHints, IsListed, Tale, acceptance_told, events_told, image_told, lanes_told, page_told, races_told, span_told, where_told}
 use Rattle.xk_cli.specs.declared.job.Order.TheVariants as order
 use Rattle.xk_program.specs.Programs.{Gives}
 use Rattle.xk_types.specs.World.{World}
@@ -82,6 +82,7 @@ picture_once (picture.Image window) kind bytes m args es last a b given h k =
     by_names_once kind bytes m (image_told bytes window m es last) a b given h k
 picture_once (picture.Page window) kind bytes m args es last a b given h k =
     by_names_once kind bytes m (page_told bytes window m es last) a b given h k
+picture_once picture.Span kind bytes m args es last a b given h k = by_origins_once kind bytes m (span_told bytes m args es) a b given h k
 picture_once picture.Races kind bytes m args es last a b given h k = by_origins_once kind bytes m (races_told bytes m args es) a b given h k
 
 pub telling_once : (what : Doing) (kind : Form) (file bytes : List ℕ) (m : ModuleValue) (args : List ℤ) (logged : List ℕ) (a b : Tale) → Gives kind bytes m

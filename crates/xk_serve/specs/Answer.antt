@@ -75,6 +75,7 @@ doing_of (command.Events log) = Draw picture.Events
 doing_of (command.Lanes log from to svg) = Draw (lanes_given from to svg)
 doing_of (command.Page log from to) = Draw (picture.Page (window_given from to))
 doing_of (command.Where log at) = Where at
+doing_of (command.Span log) = Draw picture.Span
 doing_of (command.Races path) = races_by (is_some path)
 doing_of (command.Tally seed runs) = Tally seed runs
 doing_of (command.Outcomes limit pick path sets) = Outcomes sets limit (unwrap_or pick 1) (is_some path)

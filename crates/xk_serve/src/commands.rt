@@ -75,6 +75,10 @@ pub(crate) fn answer<R: Threads + Wait + Sync, L: Source>(
             let page = Picture::Page(window_given(from, to));
             drawn(alloc, page, program, arguments, log_in)
         }
+        Command::Span { .. } => {
+            let span = Picture::Span;
+            drawn(alloc, span, program, arguments, log_in)
+        }
         Command::Where { at, .. } => stood(alloc, program, at, arguments, log_in),
         Command::Races { log } => {
             let given = log.is_some();

@@ -19,5 +19,6 @@ returns c =
     let ten = c.add-line-10.ensures _ (on_run (codes "events")) nine c.events_line.ensures.shape c.events_line.ensures.local in
     let eleven = c.add-line-11.ensures _ lanes_line ten c.lanes_line.ensures.shape c.lanes_line.ensures.local in
     let twelve = c.add-line-12.ensures _ page_line eleven c.page_line.ensures.shape c.page_line.ensures.local in
+    let thirteen = c.add-line-13.ensures _ where_line twelve c.where_line.ensures.shape c.where_line.ensures.local in
     IfOk-weaker c.add.result _ _ (λ r h. (run.0, run.1, h))
-    (c.add.ensures _ where_line twelve c.where_line.ensures.shape c.where_line.ensures.local)
+    (c.add.ensures _ (on_run (codes "span")) thirteen c.span_line.ensures.shape c.span_line.ensures.local)

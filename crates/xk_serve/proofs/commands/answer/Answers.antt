@@ -101,6 +101,20 @@ returns-in-Page-clause-fault g c =
     let is = ap doing_of c.in-Page.is ∙ ap (λ window. Draw (picture.Page window)) (sym c.window_given.ensures) in
     against_log (task_of c.args.job.now) c.args.bytes.now (g.L.Source.remaining c.args.log_in.now) _ _ _ what c.as_slice-arguments.result.now c.drawn-in-Page.result is c.as_slice-arguments.ensures.value refl refl c.in_ok-program.ensures.module c.drawn-in-Page.ensures.fault
 
+pub returns-in-Span-clause-done : goal.returns-in-Span-clause-done
+returns-in-Span-clause-done g c =
+    done_of_run (task_of c.args.job.now) c.args.bytes.now (g.L.Source.remaining c.args.log_in.now) _
+    (Draw picture.Span) c.as_slice-arguments.result.now c.drawn-in-Span.result (ap doing_of c.in-Span.is) c.as_slice-arguments.ensures.value
+    refl
+    c.in_ok-program.ensures.module (c.drawn-in-Span.ensures.done c.args.job.now.form c.args.job.now.file.now c.args.bytes.now
+    (c.in_ok-program.ensures.from.0, λ _. c.in_ok-program.ensures.from.1 (c.shows_origins.ensures ∙ ap shows_origins c.in-Span.is)))
+
+pub returns-in-Span-clause-fault : goal.returns-in-Span-clause-fault
+returns-in-Span-clause-fault g c =
+    against_log (task_of c.args.job.now) c.args.bytes.now (g.L.Source.remaining c.args.log_in.now) _ _ _
+    (Draw picture.Span) c.as_slice-arguments.result.now c.drawn-in-Span.result (ap doing_of c.in-Span.is) c.as_slice-arguments.ensures.value
+    refl refl c.in_ok-program.ensures.module c.drawn-in-Span.ensures.fault
+
 pub returns-in-Where-clause-done : goal.returns-in-Where-clause-done
 returns-in-Where-clause-done g c =
     done_of_run (task_of c.args.job.now) c.args.bytes.now (g.L.Source.remaining c.args.log_in.now) _ (Where c.in-Where.at) c.as_slice-arguments.result.now c.stood.result (ap doing_of c.in-Where.is) c.as_slice-arguments.ensures.value refl c.in_ok-program.ensures.module (c.stood.ensures.done c.args.job.now.form c.args.job.now.file.now c.args.bytes.now (c.in_ok-program.ensures.from.0, λ _. c.in_ok-program.ensures.from.1 (c.shows_origins.ensures ∙ ap shows_origins c.in-Where.is)))

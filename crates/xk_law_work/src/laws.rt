@@ -1,0 +1,24 @@
+//! What is proved of the work of runs: nothing here is computed.
+
+ghost use Rattle.std.specs.Prelude.{◌≡◌, ℕ, ℤ, true, List, length};
+ghost use Rattle.xk_law_traces.specs.OneRun.{IsWholeRun};
+ghost use Rattle.xk_races.specs.Races.{is_race_free};
+ghost use Rattle.xk_span.specs.Steps.{steps_of_run, work_of};
+ghost use Rattle.xk_types.specs.Acceptance.{IsAccepted};
+ghost use Rattle.xk_types.specs.Code.{IsWithinLimits, ModuleValue};
+ghost use Rattle.xk_types.specs.Logs.{schedule_of};
+ghost use Rattle.xk_types.specs.Schedule.{Through, run};
+ghost use Rattle.xk_types.specs.World.{AreArguments, World, opening};
+ghost use Rattle.xk_types.specs.declared.world.Entry.{Entry};
+
+/// The work that is told of a run is how many steps it has; and where no race is told of it, each run to the end has as many. The
+/// call does nothing; its contract is the law.
+pub fn work_for_all()
+    ensures steps { (m : ModuleValue) (args : List ℤ) (log : List Entry) (z : World)
+        → run m (schedule_of log) (opening m args) ≡ Through z
+        → work_of (steps_of_run m args log) ≡ length (schedule_of log) }
+    ensures every { (m : ModuleValue) (args : List ℤ) (log : List Entry) (t : List ℕ)
+        (z y : World) → IsWithinLimits m → IsAccepted m → AreArguments m args
+        → IsWholeRun m args (schedule_of log) z → is_race_free m args log ≡ true
+        → IsWholeRun m args t y → length t ≡ work_of (steps_of_run m args log) }
+{}

@@ -1,0 +1,8 @@
+use Rattle.std.proofs.Common.{◌≡◌, take}
+use Rattle.std.specs.List.{flat_map}
+use Rattle.xk_show_span.specs.Phases.{if_last}
+use Rattle.xk_show_span.proofs.phase_lines.last_of.Given as goal
+
+-- those so far
+abbrev pub invariant-loop-arrival : goal.invariant-loop-arrival
+invariant-loop-arrival l = l.list.items ≡ flat_map (if_last l.round) (take l.arrival-index l.all)

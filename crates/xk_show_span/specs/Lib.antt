@@ -1,0 +1,3 @@
+pub mod Spots
+pub mod Phases
+pub mod Text

@@ -1,0 +1,6 @@
+pub mod TimeLemmas
+pub mod PassLemmas
+pub mod SpanLaw
+pub mod PathLaw
+pub mod StepLemmas
+pub mod BackLemmas

@@ -1,0 +1,4 @@
+pub mod Counts
+pub mod Shares
+pub mod Stretches
+pub mod Waits
