@@ -374,8 +374,8 @@ def races(program: pathlib.Path, text: str) -> str:
 
 
 def is_mended(program: pathlib.Path, fault: Fault, text: str) -> bool:
-    """Whether a text is accepted, or refused for another reason, or further on; of a fault behind another, whether fewer
-    are shown of its rule."""
+    """Whether a text is accepted, or refused for another reason, or further on; of a fault behind another, whether
+    fewer are shown of its rule."""
     if fault.number:
         return many(program, text, fault.rule) < many(program, fault.text, fault.rule)
     status, _, err = harness.call([program, "check", "-"], text.encode()).texts()
