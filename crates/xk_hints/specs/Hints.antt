@@ -99,8 +99,12 @@ in_branch p = record { is_clockless = p.is_clockless; is_shared = p.is_shared; i
 -- in the midst of it at once, unless there is a finish in the loop around it.
 abbrev pub in_body : PlaceValue → Option Clocks → Statement → PlaceValue
 in_body p cs s =
-    record { is_clockless = is_none cs && not (makes_clock s); is_shared = false; is_turned = false;
-        is_many = is_none cs && (p.is_turned || p.is_many) }
+    record {
+      is_clockless = is_none cs && not (makes_clock s);
+      is_shared = false;
+      is_turned = false;
+      is_many = is_none cs && (p.is_turned || p.is_many);
+    }
 
 -- in a finish
 abbrev pub in_finish : PlaceValue → PlaceValue

@@ -1,5 +1,5 @@
 -- Shared numbers: what is written in activities that nothing waits for, and what is read and written back. This project's own.
-use Rattle.std.specs.Prelude.{ℕ, Bool, true, false, ◌&&◌, ◌||◌, List, [], ◌∷◌, ◌++◌, Option, Some, None}
+use Rattle.std.specs.Prelude.{ℕ, Bool, false, ◌&&◌, ◌||◌, List, [], ◌∷◌, ◌++◌, Option, Some, None}
 use Rattle.std.specs.List.{list_any}
 use Rattle.xk_tree.specs.Tree.{Word, Clocks, Statement, Statements, Done, More, Block, Assign, Atomic, If, IfElse, For, Async, Finish}
 use Rattle.xk_tree.specs.Tree.{SharedValue}

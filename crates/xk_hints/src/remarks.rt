@@ -230,11 +230,8 @@ fn add_remarks<'t>(
         Stmt::Finish(_, s) => add_remarks(out, shared, left, in_finish(place), s, &[]),
         Stmt::Resume(c, _) => add_if(out, advance_first(rest), Matter::Resumed, *c),
         Stmt::AdvanceAll(at, _) => add_here(out, place.is_clockless, Matter::Clockless, *at),
-        Stmt::Empty => Ok(()),
+        Stmt::Empty | Stmt::Call(..) | Stmt::Drop(..) | Stmt::Print(..) => Ok(()),
         Stmt::Atomic(..) => Ok(()),
-        Stmt::Call(..) => Ok(()),
-        Stmt::Drop(..) => Ok(()),
-        Stmt::Print(..) => Ok(()),
     }
 }
 
