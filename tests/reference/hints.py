@@ -3,7 +3,7 @@
 from __future__ import annotations
 
 from collections.abc import Callable, Iterable, Iterator
-from dataclasses import dataclass
+from dataclasses import dataclass, replace
 
 from tests.reference import source
 from tests.reference.names import cut
@@ -24,6 +24,7 @@ from tests.reference.source import (
     Name,
     NewClock,
     OnClock,
+    Param,
     Print,
     Stmt,
     Tree,
@@ -40,6 +41,12 @@ CLOCKLESS = "this advanceAll waits for nobody: its activity is on no clock"
 UNJOINED_FINISH = "nobody joins the clock of this `clocked finish`; `clocked async` starts an activity on it"
 BESIDE = "this activity isn't on the clock of the `clocked finish` around it: no advance of that clock waits for it"
 UNJOINED = "is given to no activity and to no method: nobody is on it but its maker"
+UNAWAITED = "is read here, and nothing has waited for the end of the `async` that writes it"
+LOST = (
+    "is read here, and written back later: what the `async` of another turn writes in between is lost; "
+    "`atomic` adds in one step"
+)
+RESUMED = "the advanceAll behind this resumes all clocks, and waits for all: to resume `{}` first gains nothing"
 
 
 # What statements hold, and which names they use.
@@ -111,6 +118,11 @@ def called(stmt: Stmt) -> set[str]:
     return {stmt.name.text} if isinstance(stmt, Call) else set()
 
 
+def waits(stmt: Stmt) -> bool:
+    """Whether its activity may wait at all of its clocks: by itself, or in a method."""
+    return isinstance(stmt, AdvanceAll | Call)
+
+
 def some(names_of: Callable[[Stmt], set[str]], stmts: Iterable[Stmt], name: Name) -> bool:
     """Whether some statement does this with a name."""
     return any(name.text in names_of(stmt) for stmt in within(stmts))
@@ -147,19 +159,48 @@ def makes_clock(stmt: Stmt) -> bool:
     return any(map(makes_clock, held(stmt)))
 
 
+# Shared numbers.
+
+
+def is_plain(stmt: Stmt) -> bool:
+    """Whether it is an `async` without clocks."""
+    return isinstance(stmt, Async) and not stmt.clocks and stmt.clocked is None
+
+
+def left_by(stmt: Stmt) -> set[str]:
+    """What is written in the activities that it starts without clocks, and doesn't wait for, whatever its conditions
+    are."""
+    if is_plain(stmt):
+        return set().union(*map(written, within(held(stmt))))
+    if isinstance(stmt, Block | Loop):
+        return set().union(*map(left_by, held(stmt)))
+    return set()
+
+
+def turns(stmt: Loop) -> int:
+    """How often at least it goes round."""
+    return stmt.high - stmt.low + 1 if stmt.limit is None else 0
+
+
 @dataclass(frozen=True)
 class Activity:
     """What is known of the activity at a place: that it is never on a clock; that the place is in a `clocked finish`
-    that others have joined."""
+    that others have joined. `is_turned`: each turn of a loop comes to the place, and it has two or more. `is_many`:
+    each activity that such turns start comes to it. `left`: what is written in activities that were started before, and
+    that nothing has waited for."""
 
     is_clockless: bool
     is_shared: bool = False
+    is_turned: bool = False
+    is_many: bool = False
+    left: frozenset[str] = frozenset()
 
 
 class Hints:
     def __init__(self, parser: PlacedParser, tree: Tree) -> None:
         self.parser, self.tree = parser, tree
         self.bodies = [method.body for method in tree.methods]
+        self.shared = {shared.name.text for shared in tree.shared}
 
     def of_program(self) -> Iterator[Hint]:
         if any(self.parser.ends[id(body)] > MOST_BYTES for body in self.bodies):
@@ -168,7 +209,7 @@ class Hints:
             name = shared.name
             is_used, is_written = some(used, self.bodies, name), some(written, self.bodies, name)
             yield from of_number(name, is_used, is_written)
-            if is_used and not is_written:
+            if is_used and not is_written and shared.value == 0:
                 yield name.at, f"`{cut(name.text)}` is read, and never written"
         for method in self.tree.methods:
             yield from self.of_method(method)
@@ -178,8 +219,13 @@ class Hints:
         if not (is_main or some(called, self.bodies, method.name)):
             yield method.name.at, f"`{cut(method.name.text)}` is never called"
         for param in method.params:
-            yield from of_number(param.name, some(used, [method.body], param.name), False)
+            yield from of_number(param.name, self.is_param_used(method, param), False)
         yield from self.of_statement(method.body, Activity(is_main and not makes_clock(method.body)), [])
+
+    def is_param_used(self, method: Method, param: Param) -> bool:
+        """A clock is used, too, where the activity may wait at all of its clocks."""
+        stmts = [method.body]
+        return some(used, stmts, param.name) or param.type == "Clock" and any(map(waits, within(stmts)))
 
     def of_declaration(self, stmt: Declaration, behind: list[Stmt]) -> Iterator[Hint]:
         if not isinstance(stmt.right, NewClock):
@@ -187,28 +233,57 @@ class Hints:
         elif not some(given, behind, stmt.name):
             yield stmt.name.at, f"`{cut(stmt.name.text)}` {UNJOINED}"
 
+    def of_reading(self, stmt: Declaration | Assignment, activity: Activity, behind: list[Stmt]) -> Iterator[Hint]:
+        """A shared number is read alone."""
+        read = stmt.right
+        if not (isinstance(read, Name) and read.text in self.shared):
+            return
+        if read.text in activity.left:
+            yield read.at, f"`{cut(read.text)}` {UNAWAITED}"
+        if activity.is_many and any(is_written_back(read, stmt.name, after) for after in behind):
+            yield read.at, f"`{cut(read.text)}` {LOST}"
+
     def of_statement(self, stmt: Stmt, activity: Activity, behind: list[Stmt]) -> Iterator[Hint]:
         """Those of a statement, where these stand behind it in its block."""
+        within_it = replace(activity, is_turned=activity.is_turned and isinstance(stmt, Block))
         match stmt:
             case Declaration():
                 yield from self.of_declaration(stmt, behind)
+                yield from self.of_reading(stmt, activity, behind)
+            case Assignment():
+                yield from self.of_reading(stmt, activity, behind)
+            case OnClock(name, "resume") if behind and isinstance(behind[0], AdvanceAll):
+                yield name.at, RESUMED.format(cut(name.text))
             case AdvanceAll() if activity.is_clockless:
                 yield self.parser.places[id(stmt)], CLOCKLESS
-            case Loop(_, low, high) if low > high:
-                yield self.parser.places[id(stmt)], TURNLESS
+            case Branch():
+                within_it = replace(within_it, is_many=False)
+            case Loop(_, low, high):
+                if low > high:
+                    yield self.parser.places[id(stmt)], TURNLESS
+                is_many = activity.is_many and turns(stmt) >= 1
+                within_it = replace(activity, is_turned=turns(stmt) >= 2, is_many=is_many)
             case Async():
-                is_clockless = not stmt.clocks and stmt.clocked is None
-                if activity.is_shared and is_clockless:
+                if activity.is_shared and is_plain(stmt):
                     yield stmt.at, BESIDE
-                activity = Activity(is_clockless and not makes_clock(stmt.body))
+                is_many = is_plain(stmt) and (activity.is_turned or activity.is_many)
+                is_clockless = is_plain(stmt) and not makes_clock(stmt.body)
+                within_it = Activity(is_clockless, is_many=is_many)
             case Finish():
                 is_shared = stmt.clocked is not None and is_joined(stmt)
                 if stmt.clocked is not None and not is_shared:
                     yield stmt.clocked, UNJOINED_FINISH
-                activity = Activity(activity.is_clockless, is_shared)
-        stmts = held(stmt)
+                within_it = replace(within_it, is_shared=is_shared)
+        stmts, left = held(stmt), within_it.left
         for at, inner in enumerate(stmts, start=1):
-            yield from self.of_statement(inner, activity, stmts[at:] if isinstance(stmt, Block) else [])
+            rest = stmts[at:] if isinstance(stmt, Block) else []
+            yield from self.of_statement(inner, replace(within_it, left=left), rest)
+            left |= left_by(inner) if isinstance(stmt, Block) else set()
+
+
+def is_written_back(read: Name, own: Name, stmt: Stmt) -> bool:
+    """Whether it writes the number that was read, and computes that of the name that it was read into."""
+    return isinstance(stmt, Assignment) and stmt.name.text == read.text and own.text in names(stmt.right)
 
 
 def of_accepted(data: bytes, is_module: bool) -> list[Hint]:

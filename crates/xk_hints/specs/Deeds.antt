@@ -4,7 +4,7 @@ use Rattle.std.specs.List.{list_any}
 use Rattle.std.specs.Str.{bytes_eq}
 use Rattle.xk_tree.specs.Tree.{Word, Clocks, Expression, Literal, Named, Paren, Negation, Binary, Source, Make, Value, Bound, UpTo, Least}
 use Rattle.xk_tree.specs.Tree.{MethodValue, Statement, Statements, Done, More, Block, Declare, Assign, Atomic, If, IfElse, For, Async}
-use Rattle.xk_tree.specs.Tree.{Finish, Call, Resume, Print}
+use Rattle.xk_tree.specs.Tree.{Finish, Call, Resume, AdvanceAll, Print}
 use Rattle.xk_hints.specs.declared.deeds.Deed.{Deed}
 use Rattle.xk_hints.specs.declared.deeds.Deed.TheVariants as deed
 
@@ -69,11 +69,18 @@ abbrev pub calls : List ℕ → Statement → Bool
 calls x (Call g at es) = is_named x g
 calls x _ = false
 
+-- it may wait at all clocks of its activity: by itself, or in the method that it calls
+abbrev pub waits : Statement → Bool
+waits (Call g at es) = true
+waits (AdvanceAll at v) = true
+waits _ = false
+
 abbrev pub does : Deed → List ℕ → Statement → Bool
 does deed.Use x s = uses x s
 does deed.Give x s = gives x s
 does deed.Write x s = writes x s
 does deed.Call x s = calls x s
+does deed.Wait x s = waits s
 
 -- ---- in statements
 
@@ -104,6 +111,17 @@ some_in_method test m = some_among test m.body
 -- in those of methods
 abbrev pub some_of_methods : (Statement → Bool) → List MethodValue → Bool
 some_of_methods test ms = list_any (some_in_method test) ms
+
+-- ---- an advanceAll
+
+abbrev pub is_advance : Statement → Bool
+is_advance (AdvanceAll at v) = true
+is_advance _ = false
+
+-- it is the first of them
+abbrev pub advance_first : Statements → Bool
+advance_first Done = false
+advance_first (More s ss) = is_advance s
 
 -- ---- clocks that are made
 

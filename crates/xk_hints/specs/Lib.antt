@@ -1,3 +1,4 @@
 pub mod Deeds
 pub mod Hints
+pub mod SharedNumbers
 pub mod Words

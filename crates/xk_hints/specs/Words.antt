@@ -18,6 +18,7 @@ opening matter.UnjoinedFinish = codes "hint: nobody joins the clock of this `clo
 opening matter.Beside =
     codes "hint: this activity isn't on the clock of the `clocked finish` around it: no advance of that clock waits for it"
 opening matter.Clockless = codes "hint: this advanceAll waits for nobody: its activity is on no clock"
+opening matter.Resumed = codes "hint: the advanceAll behind this resumes all clocks, and waits for all: to resume `"
 opening _ = codes "hint: `"
 
 -- behind it
@@ -27,6 +28,10 @@ closing matter.Unread = codes "` is written, and never read"
 closing matter.Unwritten = codes "` is read, and never written"
 closing matter.Uncalled = codes "` is never called"
 closing matter.Unjoined = codes "` is given to no activity and to no method: nobody is on it but its maker"
+closing matter.Unawaited = codes "` is read here, and nothing has waited for the end of the `async` that writes it"
+closing matter.Overwritten =
+    codes "` is read here, and written back later: what the `async` of another turn writes in between is lost; `atomic` adds in one step"
+closing matter.Resumed = codes "` first gains nothing"
 closing _ = codes ""
 
 unfoldable pub words : RemarkValue → List ℕ

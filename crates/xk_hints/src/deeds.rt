@@ -4,8 +4,9 @@ ghost use Rattle.std.specs.Prelude.{◌≡◌, map, option_map};
 ghost use Rattle.std.specs.List.{list_any};
 ghost use Rattle.xk_tree.specs.Tree.{bound, clock_list, expression, expressions, method_value, source, statement, statements, word};
 ghost use Rattle.xk_tree.specs.Tree.{words};
-ghost use Rattle.xk_hints.specs.Deeds.{bound_mentions, calls, does, gives, is_made, is_named, lists, make_clock, makes_clock, mentions};
-ghost use Rattle.xk_hints.specs.Deeds.{some_among, some_in, some_in_method, some_of_methods, some_within, source_mentions, uses, writes};
+ghost use Rattle.xk_hints.specs.Deeds.{advance_first, bound_mentions, calls, does, gives, is_advance, is_made, is_named, lists};
+ghost use Rattle.xk_hints.specs.Deeds.{make_clock, makes_clock, mentions, some_among, some_in, some_in_method, some_of_methods};
+ghost use Rattle.xk_hints.specs.Deeds.{some_within, source_mentions, uses, waits, writes};
 
 use xk_tree::{Bound, ClockList, Expr, Method, Name, Right, Stmt};
 
@@ -20,17 +21,19 @@ pub enum Deed {
     Write,
     /// The method is called.
     Call,
+    /// The activity may wait at all of its clocks, whatever the name is.
+    Wait,
 }
 
 /// Whether this is the name.
-fn is_named(x: &[u8], w: Name<'_>) -> bool
+pub(crate) fn is_named(x: &[u8], w: Name<'_>) -> bool
     ensures { result ≡ is_named x.now (word w.entry) }
 {
     w.text == x
 }
 
 /// Whether the name stands in an expression.
-fn mentions(x: &[u8], e: &Expr<'_>) -> bool
+pub(crate) fn mentions(x: &[u8], e: &Expr<'_>) -> bool
     ensures { result ≡ mentions x.now (expression e.now) }
 {
     match e {
@@ -75,7 +78,7 @@ fn bound_mentions(x: &[u8], b: &Bound<'_>) -> bool
 }
 
 /// Whether it is one of these names.
-fn is_among(x: &[u8], ws: &[Name<'_>]) -> bool
+pub(crate) fn is_among(x: &[u8], ws: &[Name<'_>]) -> bool
     ensures { result ≡ list_any (is_named x.now) (words ws.now) }
 {
     for w in ws {
@@ -188,6 +191,29 @@ fn calls(x: &[u8], s: &Stmt<'_>) -> bool
     }
 }
 
+/// Whether its activity may wait there at all of its clocks.
+fn waits(s: &Stmt<'_>) -> bool
+    ensures { result ≡ waits (statement s.now) }
+{
+    match s {
+        Stmt::Call(..) => true,
+        Stmt::AdvanceAll(..) => true,
+        Stmt::Block(..)
+        | Stmt::Empty
+        | Stmt::Declare(..)
+        | Stmt::Assign(..)
+        | Stmt::Atomic(..)
+        | Stmt::If(..)
+        | Stmt::IfElse(..)
+        | Stmt::For(..)
+        | Stmt::Async(..)
+        | Stmt::Finish(..)
+        | Stmt::Resume(..)
+        | Stmt::Drop(..)
+        | Stmt::Print(..) => false,
+    }
+}
+
 /// Whether a statement itself does this with the name.
 fn does(deed: Deed, x: &[u8], s: &Stmt<'_>) -> bool
     ensures { result ≡ does deed x.now (statement s.now) }
@@ -197,6 +223,7 @@ fn does(deed: Deed, x: &[u8], s: &Stmt<'_>) -> bool
         Deed::Give => gives(x, s),
         Deed::Write => writes(x, s),
         Deed::Call => calls(x, s),
+        Deed::Wait => waits(s),
     }
 }
 
@@ -264,6 +291,39 @@ pub(crate) fn some_of_methods(deed: Deed, x: &[u8], methods: &[Method<'_>]) -> b
         }
     }
     false
+}
+
+/// Whether this is an `advanceAll`.
+fn is_advance(s: &Stmt<'_>) -> bool
+    ensures { result ≡ is_advance (statement s.now) }
+{
+    match s {
+        Stmt::AdvanceAll(..) => true,
+        Stmt::Block(..)
+        | Stmt::Empty
+        | Stmt::Declare(..)
+        | Stmt::Assign(..)
+        | Stmt::Atomic(..)
+        | Stmt::If(..)
+        | Stmt::IfElse(..)
+        | Stmt::For(..)
+        | Stmt::Async(..)
+        | Stmt::Finish(..)
+        | Stmt::Call(..)
+        | Stmt::Resume(..)
+        | Stmt::Drop(..)
+        | Stmt::Print(..) => false,
+    }
+}
+
+/// Whether the first of these statements is one.
+pub(crate) fn advance_first(ss: &[Stmt<'_>]) -> bool
+    ensures { result ≡ advance_first (statements ss.now) }
+{
+    match ss.first() {
+        Some(s) => is_advance(s),
+        None => false,
+    }
 }
 
 /// Whether a clock is made there.

@@ -1,10 +1,11 @@
 //! Hints on a program that is accepted: what is so in it, and is seldom meant.
-#![tactic(auto, using(crate::proofs::RemarkLemmas::remarks_push))]
+#![tactic(auto, using(crate::proofs::RemarkLemmas::remarks_push, crate::proofs::NameLemmas::words_push))]
 
 mod deeds;
 mod places;
 mod remark;
 mod remarks;
+mod shared_numbers;
 mod words;
 
 pub use words::{Hint, hints};

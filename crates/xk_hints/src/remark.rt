@@ -23,6 +23,12 @@ pub enum Matter {
     Beside,
     /// The `advanceAll` is that of an activity on no clock.
     Clockless,
+    /// The shared number is read, and nothing has waited for the end of the activity that writes it.
+    Unawaited,
+    /// The shared number is read and written back, by activities that are there at the same time.
+    Overwritten,
+    /// The clock of this name is resumed, and then all clocks are.
+    Resumed,
 }
 
 /// What is so, and of which name; where there is none, the name has no letters.
@@ -41,4 +47,8 @@ pub struct Place {
     pub is_clockless: bool,
     /// It is on the clock of the `clocked finish` that encloses the place most closely, and so are others.
     pub is_shared: bool,
+    /// Each turn of a loop comes to it, and the loop has two or more.
+    pub is_turned: bool,
+    /// Each of two or more activities, which the turns of a loop started without clocks, comes to it.
+    pub is_many: bool,
 }

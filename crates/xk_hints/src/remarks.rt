@@ -1,18 +1,21 @@
 //! What is so in a program.
 
-ghost use Rattle.std.specs.Prelude.{◌≡◌, ◌++◌, flat_map, map, IfOk, OnOk};
+ghost use Rattle.std.specs.Prelude.{◌≡◌, [], ◌++◌, flat_map, map, IfOk, OnOk};
 ghost use Rattle.std.specs.List.{list_any};
 ghost use Rattle.xk_tree.specs.Program.{tree_value};
-ghost use Rattle.xk_tree.specs.Tree.{method_value, param_value, shared_value, source, statement, statements, word};
-ghost use Rattle.xk_hints.specs.Hints.{all_remarks, declared_remarks, ends_late, here, method_remarks, number_remarks, on, param_remarks};
-ghost use Rattle.xk_hints.specs.Hints.{place_value, remarks, remarks_among, remarks_here, remarks_in, shared_number_remarks};
-ghost use Rattle.xk_hints.specs.Hints.{shared_remarks, unjoined, when};
+ghost use Rattle.xk_tree.specs.Tree.{expression, method_value, param_value, shared_value, source, statement, statements, word, words};
+ghost use Rattle.xk_hints.specs.Hints.{all_remarks, declared_remarks, ends_late, here, is_used, is_waited_at, method_remarks};
+ghost use Rattle.xk_hints.specs.Hints.{name_read_remarks, number_remarks, on, param_remarks, place_value, read_remarks, remarks};
+ghost use Rattle.xk_hints.specs.Hints.{remarks_among, remarks_here, remarks_in, shared_number_remarks, shared_read_remarks};
+ghost use Rattle.xk_hints.specs.Hints.{shared_remarks, source_remarks, unjoined, when};
 
-use crate::deeds::{Deed, some_among, some_of_methods};
-use crate::places::{behind, in_body, in_finish, in_method, is_main};
+use crate::deeds::{Deed, advance_first, is_among, some_among, some_of_methods};
+use crate::places::{behind, in_body, in_branch, in_finish, in_loop, in_method, is_main};
 use crate::remark::{Matter, Place, Remark};
+use crate::shared_numbers::{add_left, is_shared_number, is_written_back};
 use std::alloc::{AllocError, Global};
-use xk_tree::{Binding, Method, Name, Param, Right, Shared, Stmt, Tree};
+use xk_tree::{Binding, Expr, Method, Name, Param, Right, Shared, Stmt, Tree};
+use xk_types::ParamKind;
 
 /// The last offset at which a method may end in a text that is told of.
 const MOST_BYTES: usize = 65_536;
@@ -106,43 +109,129 @@ fn add_declared<'t>(
     }
 }
 
-/// Adds what is told of a statement, and of those that it holds; these stand behind it.
+/// Adds what is told of a shared number x that is read into t, before these statements.
+fn add_shared_read<'t>(
+    out: &mut Vec<Remark<'t>>,
+    left: &[Name<'t>],
+    place: Place,
+    t: Name<'t>,
+    x: Name<'t>,
+    rest: &[Stmt<'t>],
+) -> Result<(), AllocError>
+    ensures { OnOk result (remarks_here out.new.items ≡ remarks_here out.old.items
+        ++ shared_read_remarks (place_value place) (words left.now)
+        (word t.entry) (word x.entry) (statements rest.now)) }
+{
+    let is_left = is_among(x.text, left);
+    add_if(out, is_left, Matter::Unawaited, x)?;
+    let is_lost = place.is_many && is_written_back(x.text, t.text, rest);
+    add_if(out, is_lost, Matter::Overwritten, x)
+}
+
+/// The same of a name, if it is that of a shared number.
+fn add_name_read<'t>(
+    out: &mut Vec<Remark<'t>>,
+    shared: &[Shared<'t>],
+    left: &[Name<'t>],
+    place: Place,
+    t: Name<'t>,
+    x: Name<'t>,
+    rest: &[Stmt<'t>],
+) -> Result<(), AllocError>
+    ensures { OnOk result (remarks_here out.new.items ≡ remarks_here out.old.items
+        ++ name_read_remarks (place_value place) (map shared_value shared.now) (words left.now)
+        (word t.entry) (word x.entry) (statements rest.now)) }
+{
+    if is_shared_number(shared, x.text) {
+        return add_shared_read(out, left, place, t, x, rest);
+    }
+    Ok(())
+}
+
+/// The same of an expression.
+fn add_read<'t>(
+    out: &mut Vec<Remark<'t>>,
+    shared: &[Shared<'t>],
+    left: &[Name<'t>],
+    place: Place,
+    t: Name<'t>,
+    e: &Expr<'t>,
+    rest: &[Stmt<'t>],
+) -> Result<(), AllocError>
+    ensures { OnOk result (remarks_here out.new.items ≡ remarks_here out.old.items
+        ++ read_remarks (place_value place) (map shared_value shared.now) (words left.now)
+        (word t.entry) (expression e.now) (statements rest.now)) }
+{
+    match e {
+        Expr::Name(x) => add_name_read(out, shared, left, place, t, *x, rest),
+        Expr::Number(_) => Ok(()),
+        Expr::Paren(..) => Ok(()),
+        Expr::Negation(..) => Ok(()),
+        Expr::Binary(..) => Ok(()),
+    }
+}
+
+/// The same of what is behind the `=` of a declaration.
+fn add_source<'t>(
+    out: &mut Vec<Remark<'t>>,
+    shared: &[Shared<'t>],
+    left: &[Name<'t>],
+    place: Place,
+    t: Name<'t>,
+    right: &Right<'t>,
+    rest: &[Stmt<'t>],
+) -> Result<(), AllocError>
+    ensures { OnOk result (remarks_here out.new.items ≡ remarks_here out.old.items
+        ++ source_remarks (place_value place) (map shared_value shared.now) (words left.now)
+        (word t.entry) (source right.now) (statements rest.now)) }
+{
+    match right {
+        Right::Make(..) => Ok(()),
+        Right::Expr(e) => add_read(out, shared, left, place, t, e, rest),
+    }
+}
+
+/// Adds what is told of a statement, and of those that it holds; these stand behind it. The names that are left are written in activities
+/// that were started before and that nothing has waited for.
 #[cycle(remarks)]
 fn add_remarks<'t>(
     out: &mut Vec<Remark<'t>>,
+    shared: &[Shared<'t>],
+    left: &[Name<'t>],
     place: Place,
     s: &Stmt<'t>,
     rest: &[Stmt<'t>],
 ) -> Result<(), AllocError>
     ensures { OnOk result (remarks_here out.new.items ≡ remarks_here out.old.items
-        ++ remarks_in (place_value place) (statement s.now) (statements rest.now)) }
+        ++ remarks_in (place_value place) (map shared_value shared.now) (words left.now)
+        (statement s.now) (statements rest.now)) }
 {
     match s {
-        Stmt::Declare(binding, name, _, right) => add_declared(out, *binding, *name, right, rest),
-        Stmt::Block(_, ss) => add_all_remarks(out, place, ss),
-        Stmt::If(_, _, _, _, s) => add_remarks(out, place, s, &[]),
+        Stmt::Declare(binding, name, _, right) => {
+            add_declared(out, *binding, *name, right, rest)?;
+            add_source(out, shared, left, place, *name, right, rest)
+        }
+        Stmt::Assign(name, e) => add_read(out, shared, left, place, *name, e, rest),
+        Stmt::Block(_, ss) => add_all_remarks(out, shared, left, place, ss),
+        Stmt::If(_, _, _, _, s) => add_remarks(out, shared, left, in_branch(place), s, &[]),
         Stmt::IfElse(_, _, _, _, s, t) => {
-            add_remarks(out, place, s, &[])?;
-            add_remarks(out, place, t, &[])
+            add_remarks(out, shared, left, in_branch(place), s, &[])?;
+            add_remarks(out, shared, left, in_branch(place), t, &[])
         }
         Stmt::For(at, _, lo, limit, s) => {
             add_here(out, !limit.has_turns(*lo), Matter::Turnless, *at)?;
-            add_remarks(out, place, s, &[])
+            add_remarks(out, shared, left, in_loop(place, *lo, limit), s, &[])
         }
         Stmt::Async(at, clocks, s) => {
             let beside = place.is_shared && clocks.is_none();
             add_here(out, beside, Matter::Beside, *at)?;
-            add_remarks(out, in_body(clocks, s), s, &[])
+            add_remarks(out, shared, &[], in_body(place, clocks, s), s, &[])
         }
-        Stmt::Finish(_, s) => add_remarks(out, in_finish(place), s, &[]),
+        Stmt::Finish(_, s) => add_remarks(out, shared, left, in_finish(place), s, &[]),
+        Stmt::Resume(c, _) => add_if(out, advance_first(rest), Matter::Resumed, *c),
         Stmt::AdvanceAll(at, _) => add_here(out, place.is_clockless, Matter::Clockless, *at),
-        Stmt::Empty => Ok(()),
-        Stmt::Assign(..) => Ok(()),
+        Stmt::Empty | Stmt::Call(..) | Stmt::Drop(..) | Stmt::Print(..) => Ok(()),
         Stmt::Atomic(..) => Ok(()),
-        Stmt::Call(..) => Ok(()),
-        Stmt::Resume(..) => Ok(()),
-        Stmt::Drop(..) => Ok(()),
-        Stmt::Print(..) => Ok(()),
     }
 }
 
@@ -150,19 +239,41 @@ fn add_remarks<'t>(
 #[cycle(remarks)]
 fn add_all_remarks<'t>(
     out: &mut Vec<Remark<'t>>,
+    shared: &[Shared<'t>],
+    left: &[Name<'t>],
     place: Place,
     ss: &[Stmt<'t>],
 ) -> Result<(), AllocError>
     ensures { OnOk result (remarks_here out.new.items ≡ remarks_here out.old.items
-        ++ remarks_among (place_value place) (statements ss.now)) }
+        ++ remarks_among (place_value place) (map shared_value shared.now) (words left.now)
+        (statements ss.now)) }
 {
     let mut place = place;
+    let mut here = Vec::from_slice(*out.allocator(), left)?;
     for (i, s) in ss.iter().enumerate() {
         let rest = &ss[i + 1..];
-        add_remarks(out, place, s, rest)?;
+        add_remarks(out, shared, &here, place, s, rest)?;
+        add_left(&mut here, s)?;
         place = behind(place, s, rest);
     }
     Ok(())
+}
+
+/// Whether a parameter of the kind is used by who waits at all clocks of the activity.
+fn is_waited_at(kind: ParamKind, method: &Method<'_>) -> bool
+    ensures { result ≡ is_waited_at kind (method_value method.now) }
+{
+    match kind {
+        ParamKind::Number => false,
+        ParamKind::Clock => some_among(Deed::Wait, b"", &method.body),
+    }
+}
+
+/// Whether a parameter of a method is used.
+fn is_used(method: &Method<'_>, param: &Param<'_>) -> bool
+    ensures { result ≡ is_used (method_value method.now) (param_value param.now) }
+{
+    some_among(Deed::Use, param.name.text, &method.body) || is_waited_at(param.takes.kind, method)
 }
 
 /// Adds what is told of a parameter of a method.
@@ -174,8 +285,7 @@ fn add_param<'t>(
     ensures { OnOk result (remarks_here out.new.items ≡ remarks_here out.old.items
         ++ param_remarks (method_value method.now) (param_value param.now)) }
 {
-    let used = some_among(Deed::Use, param.name.text, &method.body);
-    add_if(out, !used, Matter::Unused, param.name)
+    add_if(out, !is_used(method, param), Matter::Unused, param.name)
 }
 
 /// The same of all of its parameters.
@@ -190,15 +300,17 @@ fn add_params<'t>(out: &mut Vec<Remark<'t>>, method: &Method<'t>) -> Result<(), 
     Ok(())
 }
 
-/// Adds what is told of a method, where these are all.
+/// Adds what is told of a method, where these are all shared numbers and methods.
 #[tactic(auto, unfolding(crate::specs::Hints::method_remarks))]
 fn add_method<'t>(
     out: &mut Vec<Remark<'t>>,
+    shared: &[Shared<'t>],
     methods: &[Method<'t>],
     method: &Method<'t>,
 ) -> Result<(), AllocError>
     ensures { OnOk result (remarks_here out.new.items ≡ remarks_here out.old.items
-        ++ method_remarks (map method_value methods.now) (method_value method.now)) }
+        ++ method_remarks (map shared_value shared.now) (map method_value methods.now)
+        (method_value method.now)) }
 {
     let called = some_of_methods(Deed::Call, method.name.text, methods);
     add_if(
@@ -208,17 +320,21 @@ fn add_method<'t>(
         method.name,
     )?;
     add_params(out, method)?;
-    add_all_remarks(out, in_method(method), &method.body)
+    add_all_remarks(out, shared, &[], in_method(method), &method.body)
 }
 
 /// The same of all methods.
-fn add_methods<'t>(out: &mut Vec<Remark<'t>>, methods: &[Method<'t>]) -> Result<(), AllocError>
+fn add_methods<'t>(
+    out: &mut Vec<Remark<'t>>,
+    shared: &[Shared<'t>],
+    methods: &[Method<'t>],
+) -> Result<(), AllocError>
     ensures { OnOk result (remarks_here out.new.items ≡ remarks_here out.old.items
-        ++ flat_map (method_remarks (map method_value methods.now))
+        ++ flat_map (method_remarks (map shared_value shared.now) (map method_value methods.now))
         (map method_value methods.now)) }
 {
     for method in methods {
-        add_method(out, methods, method)?;
+        add_method(out, shared, methods, method)?;
     }
     Ok(())
 }
@@ -226,17 +342,21 @@ fn add_methods<'t>(out: &mut Vec<Remark<'t>>, methods: &[Method<'t>]) -> Result<
 /// Adds what is told of a shared number, by whether it is read and whether it is written.
 fn add_shared_number<'t>(
     out: &mut Vec<Remark<'t>>,
-    name: Name<'t>,
+    number: &Shared<'t>,
     read: bool,
     written: bool,
 ) -> Result<(), AllocError>
     ensures { OnOk result (remarks_here out.new.items ≡ remarks_here out.old.items
-        ++ shared_number_remarks (word name.entry) read written) }
+        ++ shared_number_remarks (shared_value number.now) read written) }
 {
-    if read {
-        return add_if(out, !written, Matter::Unwritten, name);
+    if !read {
+        return add_number(out, number.name, false, written);
     }
-    add_number(out, name, false, written)
+    if written {
+        return Ok(());
+    }
+    let is_zero = number.start.value == 0;
+    add_if(out, is_zero, Matter::Unwritten, number.name)
 }
 
 /// Adds what is told of a shared number, where these are the methods.
@@ -251,7 +371,7 @@ fn add_shared<'t>(
 {
     let read = some_of_methods(Deed::Use, number.name.text, methods);
     let written = some_of_methods(Deed::Write, number.name.text, methods);
-    add_shared_number(out, number.name, read, written)
+    add_shared_number(out, number, read, written)
 }
 
 /// The same of all shared numbers.
@@ -300,7 +420,7 @@ fn all_remarks<'t>(
 {
     let mut out = Vec::new(alloc);
     add_all_shared(&mut out, methods, shared)?;
-    add_methods(&mut out, methods)?;
+    add_methods(&mut out, shared, methods)?;
     Ok(out)
 }
 

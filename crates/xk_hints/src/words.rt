@@ -50,6 +50,11 @@ fn opening(matter: Matter) -> &'static str
         Matter::Unwritten => "hint: `",
         Matter::Uncalled => "hint: `",
         Matter::Unjoined => "hint: `",
+        Matter::Unawaited => "hint: `",
+        Matter::Overwritten => "hint: `",
+        Matter::Resumed => {
+            "hint: the advanceAll behind this resumes all clocks, and waits for all: to resume `"
+        }
     }
 }
 
@@ -65,6 +70,13 @@ fn closing(matter: Matter) -> &'static str
         Matter::Unjoined => {
             "` is given to no activity and to no method: nobody is on it but its maker"
         }
+        Matter::Unawaited => {
+            "` is read here, and nothing has waited for the end of the `async` that writes it"
+        }
+        Matter::Overwritten => {
+            "` is read here, and written back later: what the `async` of another turn writes in between is lost; `atomic` adds in one step"
+        }
+        Matter::Resumed => "` first gains nothing",
         Matter::Turnless => "",
         Matter::UnjoinedFinish => "",
         Matter::Beside => "",
@@ -114,8 +126,9 @@ fn hints_of(alloc: Global, remarks: &[Remark<'_>]) -> Result<Vec<Hint>, AllocErr
 }
 
 /// The hints on a tree, in the order of the text: names, shared numbers and methods that are never used, loops without a turn, clocks
-/// that nobody joins, activities beside the clock of a `clocked finish`, and each `advanceAll` of an activity on no clock. A tree with
-/// a method that ends behind 65,536 bytes has none. Err where memory was refused.
+/// that nobody joins, activities beside the clock of a `clocked finish`, each `advanceAll` of an activity on no clock, clocks that are
+/// resumed right before one, and shared numbers that are read before anything has waited for who writes them, or are read and written back
+/// by the activities of a loop. A tree with a method that ends behind 65,536 bytes has none. Err where memory was refused.
 pub fn hints(alloc: Global, tree: &Tree<'_>) -> Result<Vec<Hint>, AllocError>
     ensures { IfOk result (λ v. v.items ≡ hints (tree_value tree.now)) }
 {

@@ -2,6 +2,7 @@ shared never = 0;
 shared written = 0;
 shared added = 0;
 shared constant = 5;
+shared forgotten = 0;
 
 def uncalled(n: Long, c: Clock) {
     val m = n;
@@ -13,7 +14,8 @@ def called(n: Long, m: Long) {
 
 def main(n: Long) {
     val start = constant;
-    var last = start;
+    var last = forgotten;
+    last = last + start;
     var sum = 0;
     sum = last;
     written = last;
