@@ -3,8 +3,11 @@
 ghost use Rattle.std.specs.Prelude.{◌≡◌, ◌<◌, ◌++◌, IfOk, OnOk, string_bytes};
 ghost use Rattle.xk_span.specs.Steps.{critical_steps, steps_span, work_of, work_with};
 ghost use Rattle.xk_span_summary.specs.Shares.{widths_of};
+ghost use Rattle.xk_span_summary.specs.Stretches.{stretches_of};
+ghost use Rattle.xk_span_summary.specs.Waits.{waits_of};
+ghost use Rattle.xk_show_span.specs.Phases.{phases_text};
 ghost use Rattle.xk_show_span.specs.Text.{head_text, on_processors, processors_line, processors_text, scope_line, text_by};
-ghost use Rattle.xk_show_span.specs.Text.{two_decimals, work_line};
+ghost use Rattle.xk_show_span.specs.Text.{lines_text, path_text, two_decimals, waits_text, work_line};
 
 use crate::lines::lines_text;
 use crate::path::path_text;
@@ -12,7 +15,7 @@ use crate::phases::phases_text;
 use crate::wait_lines::waits_text;
 use std::alloc::{AllocError, Global};
 use xk_races::{Deed, Part};
-use xk_show_events::Places;
+use xk_show_events::{Places, RunStep};
 use xk_span::Timing;
 use xk_span_summary::{
     greatest, hundredths, least_rounds, level_rounds, stretches_of, sum, waits_of, widths_of,
@@ -148,6 +151,44 @@ fn scope_line(free: bool) -> &'static str
     }
 }
 
+/// Adds the path that is told of a run, by stretches and by lines.
+fn push_path(
+    alloc: Global,
+    out: &mut Vec<u8>,
+    places: &Places<'_>,
+    path: &[RunStep],
+) -> Result<(), AllocError>
+    ensures { OnOk result (out.new.items
+        ≡ (out.old.items ++ path_text places.now (stretches_of path.now))
+        ++ lines_text places.now path.now) }
+{
+    let list = stretches_of(alloc, path)?;
+    let stretches = path_text(alloc, places, &list)?;
+    let lines = lines_text(alloc, places, path)?;
+    out.extend_from_slice(&stretches)?;
+    out.extend_from_slice(&lines)
+}
+
+/// Adds who came last at each phase, and where activities waited.
+fn push_phases(
+    alloc: Global,
+    out: &mut Vec<u8>,
+    places: &Places<'_>,
+    times: &[usize],
+    deeds: &[Deed],
+) -> Result<(), AllocError>
+    ensures { OnOk result (out.new.items
+        ≡ (out.old.items ++ phases_text places.now times.now deeds.now)
+        ++ waits_text places.now (waits_of times.now deeds.now)) }
+{
+    let phases = phases_text(alloc, places, times, deeds)?;
+    let waits = waits_of(alloc, times, deeds)?;
+    let text = waits_text(alloc, places, &waits)?;
+    out.extend_from_slice(&phases)?;
+    out.extend_from_slice(&text)?;
+    Ok(())
+}
+
 /// What is told of a run that is timed so.
 pub(crate) fn text_by(
     alloc: Global,
@@ -161,16 +202,8 @@ pub(crate) fn text_by(
         timing.now.deeds.items timing.now.times.items) }
 {
     let mut out = timing_head(alloc, free, timing)?;
-    let list = stretches_of(alloc, &timing.path)?;
-    let path = path_text(alloc, places, &list)?;
-    out.extend_from_slice(&path)?;
-    let lines = lines_text(alloc, places, &timing.path)?;
-    out.extend_from_slice(&lines)?;
-    let phases = phases_text(alloc, places, &timing.times, &timing.deeds)?;
-    out.extend_from_slice(&phases)?;
-    let waits = waits_of(alloc, &timing.times, &timing.deeds)?;
-    let text = waits_text(alloc, places, &waits)?;
-    out.extend_from_slice(&text)?;
+    push_path(alloc, &mut out, places, &timing.path)?;
+    push_phases(alloc, &mut out, places, &timing.times, &timing.deeds)?;
     out.extend_from_slice(scope_line(free).as_bytes())?;
     Ok(out)
 }
