@@ -341,10 +341,41 @@ fn span_of(alloc: Global, from: &Provenance<'_>, ended: &Ended<'_>) -> Result<Ta
         ≡ span_told from.now.text.now ended.now.module.now
         ended.now.core.world.arguments ended.now.log.items from.now.origins) }
 {
-    let report = match &from.origins {
-        Some(origins) => source_span(alloc, from.text, origins.units(), ended)?,
-        None => module_span(alloc, ended)?,
-    };
+    match &from.origins {
+        Some(origins) => source_span_of(alloc, from, origins.units(), ended),
+        None => module_span_of(alloc, from, ended),
+    }
+}
+
+/// The same of a source text whose units have these origins.
+fn source_span_of(
+    alloc: Global,
+    from: &Provenance<'_>,
+    units: &[UnitOrigins<'_>],
+    ended: &Ended<'_>,
+) -> Result<Tale, AllocError>
+    ensures { IfOk result (λ tale. (tale.text.items, tale.whole)
+        ≡ span_told from.now.text.now ended.now.module.now
+        ended.now.core.world.arguments ended.now.log.items (Some units.now)) }
+{
+    let report = source_span(alloc, from.text, units, ended)?;
+    Ok(Tale {
+        text: report.text,
+        whole: report.free,
+    })
+}
+
+/// The same of a module that is given as such.
+fn module_span_of(
+    alloc: Global,
+    from: &Provenance<'_>,
+    ended: &Ended<'_>,
+) -> Result<Tale, AllocError>
+    ensures { IfOk result (λ tale. (tale.text.items, tale.whole)
+        ≡ span_told from.now.text.now ended.now.module.now
+        ended.now.core.world.arguments ended.now.log.items None) }
+{
+    let report = module_span(alloc, ended)?;
     Ok(Tale {
         text: report.text,
         whole: report.free,
