@@ -241,8 +241,8 @@ NEW_NUMBER = (
 
 
 def role_at(text: bytes, name: str, at: int) -> str | None:
-    """As what a name is declared that is visible."""
-    return next((role for token, role in visible(text, at) if token.text == name), None)
+    """As what a name is declared last of those that are visible."""
+    return next((role for token, role in reversed([*visible(text, at)]) if token.text == name), None)
 
 
 def of_kind(text: bytes, name: str, at: int) -> str | None:
