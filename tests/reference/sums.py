@@ -150,14 +150,15 @@ def beside_kind(module: Module, number: int, place: int, slot: int, kind: str, s
 
 
 def beside_dropped(number: int, unit: Unit, slot: int, walk: list[int], speaker: Speaker) -> Iterator[Note]:
-    """Where the clock of a slot is dropped on a walk to where it may be dropped already: the last time."""
+    """Where the clock of a slot is dropped on a walk to where it may be dropped already, if that is elsewhere: the last
+    time."""
     found, is_out = None, False
     for place in walk[:-1]:
         if slot in unit.code[place].of(Role.LEAVE) and not is_out:
             found, is_out = place, True
         if slot in unit.code[place].of(Role.MAKE):
             is_out = False
-    if found is not None:
+    if found is not None and found != walk[-1]:
         yield speaker.at(number, found, f"{speaker.slot(number, slot)} is dropped here")
 
 

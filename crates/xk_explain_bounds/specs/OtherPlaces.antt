@@ -140,8 +140,14 @@ abbrev pub last_drop : UnitValue → ℕ → Option ℕ → List Visit → Optio
 last_drop u s found [] = found
 last_drop u s found (v ∷ vs) = last_drop u s (if is_dropped u s v then Some v.at else found) vs
 
+-- if that is elsewhere than at the place refused, where a walk comes back to it
+abbrev pub elsewhere : ℕ → Option ℕ → Option ℕ
+elsewhere at None = None
+elsewhere at (Some found) = if nat_eq found at then None else Some found
+
 abbrev pub drop_remark : UnitValue → KindFault → Option Remark
-drop_remark u f = if is_out f.kind then option_map (here f.unit (fact.Dropped f.slot)) (last_drop u f.slot None f.walk.items) else None
+drop_remark u f =
+    if is_out f.kind then option_map (here f.unit (fact.Dropped f.slot)) (elsewhere f.at (last_drop u f.slot None f.walk.items)) else None
 
 -- ---- faults
 

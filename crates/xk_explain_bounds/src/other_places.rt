@@ -399,7 +399,7 @@ fn is_dropped(u: &Unit, slot: u16, visit: Visit) -> bool
     }
 }
 
-/// Where the clock is dropped that may be dropped already at the place refused.
+/// Where the clock is dropped that may be dropped already at the place refused, if that is elsewhere.
 fn drop_remark(u: &Unit, fault: &KindFault) -> Option<Remark>
     ensures { result ≡ drop_remark u.now fault.now }
 {
@@ -412,7 +412,11 @@ fn drop_remark(u: &Unit, fault: &KindFault) -> Option<Remark>
             found = Some(visit.at);
         }
     }
-    Some(here(fault.unit, Fact::Dropped(fault.slot), found?))
+    let at = found?;
+    if at == fault.at {
+        return None;
+    }
+    Some(here(fault.unit, Fact::Dropped(fault.slot), at))
 }
 
 /// What is told beside an instruction whose slot is of the wrong kind.
