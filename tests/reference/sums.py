@@ -23,7 +23,8 @@ Note = tuple[int | None, str]
 # Numbers up to this one are printed in digits.
 MOST_TOLD = 10**18
 FAULT = re.compile(
-    r"(?P<rule>V\d+) \w+ (?:unit (?P<unit>\d+) at (?P<at>\d+)(?: slot (?P<slot>\d+) (?P<kind>\w+) walk (?P<walk>.*))?|over \d+)"
+    r"(?P<rule>V\d+) \w+ (?:unit (?P<unit>\d+) at (?P<at>\d+)"
+    r"(?: slot (?P<slot>\d+) (?P<kind>\w+) walk (?P<walk>.*))?|over \d+)"
 )
 LOOPS = ("for", "forto")
 

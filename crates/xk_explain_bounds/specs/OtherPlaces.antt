@@ -1,6 +1,6 @@
 -- The other places that a rule on clocks speaks of: where a clock is made, and which finish is open. This project's own.
-use Rattle.std.specs.Prelude.{ℕ, suc, ◌-◌, nat_eq, nat_lt, Bool, true, false, not, ◌&&◌, List, [], ◌∷◌, ◌++◌, length, take, Option, Some, None, option_map}
-use Rattle.std.specs.Prelude.{option_and_then, slice_get, if◌then◌else◌}
+use Rattle.std.specs.Prelude.{ℕ, suc, ◌-◌, nat_eq, nat_lt, Bool, true, false, not, ◌&&◌, List, [], ◌∷◌, ◌++◌, length, take}
+use Rattle.std.specs.Prelude.{Option, Some, None, option_map, option_and_then, slice_get, if◌then◌else◌}
 use Rattle.std.specs.Option.{option_map_or}
 use Rattle.xk_types.specs.declared.instr.Instr.{Instr}
 use Rattle.xk_types.specs.declared.instr.Instr.TheVariants as instr
@@ -157,14 +157,15 @@ shape_remarks_at rule.Home m unit u at i = home_remarks unit u at i
 shape_remarks_at rule.Registers m unit u at i = registers_remarks m unit u at i
 shape_remarks_at _ m unit u at i = []
 
--- beside one whose slot is of the wrong kind: what that may hold, and what is done with it; for V12 where the finish begins; and of a clock that is
--- dropped where
+-- beside one whose slot is of the wrong kind: what that may hold, and what is done with it; for V12 where the finish begins; and where a
+-- clock is dropped that may be dropped already
 abbrev pub begin_remarks : Rule → ℕ → Instr → List Remark
 begin_remarks rule.Held unit i = held_remarks unit i
 begin_remarks _ unit i = []
 
 abbrev pub kind_remarks_at : UnitValue → KindFault → Instr → List Remark
-kind_remarks_at u f i = (here f.unit (fact.Holds f.slot f.kind (deed_of i)) f.at ∷ begin_remarks f.rule f.unit i) ++ listed (drop_remark u f)
+kind_remarks_at u f i =
+    (here f.unit (fact.Holds f.slot f.kind (deed_of i)) f.at ∷ begin_remarks f.rule f.unit i) ++ listed (drop_remark u f)
 
 abbrev pub shape_remarks : ModuleValue → ShapeFault → List Remark
 shape_remarks m f =

@@ -4,8 +4,8 @@ ghost use Rattle.std.specs.Prelude.{◌≡◌, ◌++◌, codes, IfOk, OnOk};
 ghost use Rattle.std.specs.Option.{option_map_or};
 ghost use Rattle.xk_explain_words.specs.Names.{told_name};
 ghost use Rattle.xk_explain_bounds.specs.Words.{deed_words, loop_words, may_hold, most_words, note_of, place_before, place_in};
-ghost use Rattle.xk_explain_bounds.specs.Words.{slot_words, slots_words, started_by, started_words, this_unit, times_words, unit_around, unit_words};
-ghost use Rattle.xk_explain_bounds.specs.Words.{waits_words, words};
+ghost use Rattle.xk_explain_bounds.specs.Words.{slot_words, slots_words, started_by, started_words, this_unit, times_words};
+ghost use Rattle.xk_explain_bounds.specs.Words.{unit_around, unit_words, waits_words, words};
 
 use crate::amounts::{amount, counted};
 use crate::remark::{Deed, Fact, Remark};

@@ -1,6 +1,6 @@
 -- Brackets that are open at a place of a text. This project's own.
-use Rattle.std.specs.Prelude.{ℕ, ◌-◌, min, nat_le, nat_lt, Bool, true, false, not, ◌&&◌, ◌||◌, List, [], ◌∷◌, ◌++◌, length, take, drop, slice_get}
-use Rattle.std.specs.Prelude.{Option, Some, None, option_map, unwrap_or, codes, if◌then◌else◌}
+use Rattle.std.specs.Prelude.{ℕ, ◌-◌, min, nat_le, nat_lt, Bool, true, false, not, ◌&&◌, ◌||◌, List, [], ◌∷◌, ◌++◌, length}
+use Rattle.std.specs.Prelude.{take, drop, slice_get, Option, Some, None, option_map, unwrap_or, codes, if◌then◌else◌}
 use Rattle.std.specs.List.{prefix_len}
 use Rattle.std.specs.Str.{bytes_eq}
 use Rattle.xk_lexer.specs.Tokens.{TokenValue}
@@ -101,7 +101,8 @@ missing_before text at ts =
 
 abbrev pub missing_notes : Option ℕ → List NoteValue
 missing_notes None = []
-missing_notes (Some at) = record { at = Some at; text = codes "its `}` is missing before this line, which begins no further right"; repair = None } ∷ []
+missing_notes (Some at) =
+    record { at = Some at; text = codes "its `}` is missing before this line, which begins no further right"; repair = None } ∷ []
 
 -- ``write `}` before 4:5``
 unfoldable pub missing_text : List ℕ → ℕ → List ℕ

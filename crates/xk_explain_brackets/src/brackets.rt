@@ -316,7 +316,8 @@ fn missing_text(alloc: Global, text: &[u8], at: usize) -> Result<Vec<u8>, AllocE
     Ok(out)
 }
 
-/// The repair of a fault at an offset of a text, where these are the tokens, if it is known where a `}` is missing. Err where memory was refused.
+/// The repair of a fault at an offset of a text, where these are the tokens, if it is known where a `}` is missing.
+/// Err where memory was refused.
 pub fn bracket_repair(
     alloc: Global,
     text: &[u8],
@@ -351,8 +352,8 @@ fn push_open(
     push_unclosed(alloc, notes, text, unclosed(text, left, last_open(&opened)))
 }
 
-/// Adds the notes beside a fault at an offset of a text, where these are the tokens: the bracket that isn't closed, and where its `}` is missing.
-/// Err where memory was refused.
+/// Adds the notes beside a fault at an offset of a text, where these are the tokens: the bracket that isn't closed, and
+/// where its `}` is missing. Err where memory was refused.
 pub fn push_bracket(
     alloc: Global,
     notes: &mut Vec<Note>,

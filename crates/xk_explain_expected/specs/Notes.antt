@@ -15,7 +15,8 @@ use Rattle.xk_explain_expected.specs.Missing.{first_terminal, missing, missing_t
 
 -- ---- the repair
 
--- take away a `)` that closes nothing, write a `}` where it is missing, write one sign that is missing, or the one token that could stand, if nothing is advised for what stands there
+-- take away a `)` that closes nothing, write a `}` where it is missing, one sign that is missing, or the one token that could stand, if
+-- nothing is advised for what stands there
 abbrev pub only_if : Bool → List Symbol → Option (List ℕ)
 only_if usual stack = if usual then only_text (choices stack) else None
 

@@ -1,5 +1,5 @@
 -- A name that a text doesn't have yet, for a `val` that is advised. This project's own.
-use Rattle.std.specs.Prelude.{ℕ, Bool, List, ◌++◌, Option, Some, None, codes, if◌then◌else◌}
+use Rattle.std.specs.Prelude.{ℕ, Bool, not, List, ◌++◌, Option, Some, None, codes, if◌then◌else◌}
 use Rattle.std.specs.List.{list_any}
 use Rattle.std.specs.Str.{bytes_eq}
 use Rattle.xk_explain_words.specs.Names.{told_name}
@@ -15,8 +15,10 @@ is_taken name ds = list_any (is_named name) ds
 -- the first of `t`, `t1` and `t2` that nothing is declared by
 abbrev pub free_name : List Declared → Option (List ℕ)
 free_name ds =
-    if is_taken (codes "t") ds then (if is_taken (codes "t1") ds then (if is_taken (codes "t2") ds then None else Some (codes "t2")) else Some (codes "t1"))
-    else Some (codes "t")
+    if not (is_taken (codes "t") ds) then Some (codes "t")
+    else if not (is_taken (codes "t1") ds) then Some (codes "t1")
+    else if not (is_taken (codes "t2") ds) then Some (codes "t2")
+    else None
 
 -- `` `val t = n;` ``
 unfoldable pub val_of : List ℕ → List ℕ → List ℕ

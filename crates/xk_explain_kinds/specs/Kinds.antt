@@ -170,8 +170,8 @@ abbrev pub is_assigned : List ℕ → List ℕ → Bool
 is_assigned name rest =
     begins (from_sign (drop (length name) rest)) (codes "=") && not (begins (from_sign (drop (length name) rest)) (codes "=="))
 
--- the repair of a name that is declared so, between what stands before it and what the text goes on with; the method whose argument it is, and a name
--- that is free
+-- the repair of a name that is declared so, between what stands before it and what the text goes on with; the method whose argument it is,
+-- and a name that is free
 abbrev pub misused_text : List ℕ → Role → List ℕ
 misused_text name role.Clock = clock_text name
 misused_text name role.ClockParam = clock_text name

@@ -174,10 +174,12 @@ share_text name =
 
 -- in a `val`, of a name that is free
 unfoldable pub keep_in_text : List ℕ → List ℕ → List ℕ
-keep_in_text name new = (codes "take a " ++ val_of new name) ++ ((codes " before the `async`: a `var` as `" ++ told_name name) ++ codes "` isn't seen in it")
+keep_in_text name new =
+    (codes "take a " ++ val_of new name) ++ ((codes " before the `async`: a `var` as `" ++ told_name name) ++ codes "` isn't seen in it")
 
 unfoldable pub keep_apart_text : List ℕ → List ℕ
-keep_apart_text name = (codes "keep `" ++ told_name name) ++ codes "` in a `val` of another name before the `async`: a `var` isn't seen in it"
+keep_apart_text name =
+    (codes "keep `" ++ told_name name) ++ codes "` in a `val` of another name before the `async`: a `var` isn't seen in it"
 
 abbrev pub keep_text : List ℕ → Option (List ℕ) → List ℕ
 keep_text name None = keep_apart_text name

@@ -27,8 +27,8 @@ abbrev pub or_else : Option ℕ → Option ℕ → Option ℕ
 or_else None other = other
 or_else (Some found) other = Some found
 
--- The innermost `finish` around the `clocked async` at an offset, with no `async` of another clock, or of none, between the two; in a statement
--- around which this one is open.
+-- The innermost `finish` around the `clocked async` at an offset, with no `async` of another clock, or of none, between the two; in a
+-- statement around which this one is open.
 abbrev mutual
   pub finish_around : ℕ → Option ℕ → Statement → Option ℕ
   finish_around at opened (Block close ss) = finish_among at opened ss
@@ -44,7 +44,10 @@ abbrev mutual
   finish_among at opened (More s ss) = or_else (finish_around at opened s) (finish_among at opened ss)
 
 -- it has no clock: the repair gives it one
+abbrev pub in_place_text : List ℕ
+in_place_text = codes "write `clocked finish` in place of this `finish`"
+
 abbrev pub finish_notes : Option ℕ → List NoteValue
 finish_notes None = []
 finish_notes (Some p) =
-    record { at = Some p; text = codes "this `finish` has no clock"; repair = Some (codes "write `clocked finish` in place of this `finish`") } ∷ []
+    record { at = Some p; text = codes "this `finish` has no clock"; repair = Some in_place_text } ∷ []

@@ -4,4 +4,5 @@ use Rattle.xk_explain_bounds.specs.OtherPlaces.{last_drop}
 use Rattle.xk_explain_bounds.proofs.other_places.drop_remark.Given as goal
 
 abbrev pub invariant-loop-visit : goal.invariant-loop-visit
-invariant-loop-visit l = last_drop l.u l.fault.slot l.found (drop l.visit-index l.fault.walk.items) ≡ last_drop l.u l.fault.slot None l.fault.walk.items
+invariant-loop-visit l =
+    last_drop l.u l.fault.slot l.found (drop l.visit-index l.fault.walk.items) ≡ last_drop l.u l.fault.slot None l.fault.walk.items
