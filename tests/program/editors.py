@@ -217,7 +217,7 @@ def where(it: dict[str, Any]) -> str:
     return f"{it['line']}:{it['column']}: " if "line" in it else ""
 
 
-def faults(said: dict[str, Any]) -> list[dict[str, Any]]:
+def all_faults(said: dict[str, Any]) -> list[dict[str, Any]]:
     """What is said of the first fault, and of those behind it."""
     return [] if said["accepted"] else [said, *said.get("further", [])]
 
@@ -422,7 +422,7 @@ def entries(room: Room, name: str, kind: str) -> list[Any]:
     behind them."""
     heads = [line for line in room.lines[name] if line.startswith(name)]
     found = []
-    for said, line in zip(faults(room.said[name]), heads, strict=True):
+    for said, line in zip(all_faults(room.said[name]), heads, strict=True):
         before = f"{name}:{said['line']}:{said['column']}: " if "line" in said else f"{name}: "
         found.append([name, said.get("line", 0), said.get("column", 0), kind, line.removeprefix(before)])
     return found
@@ -442,7 +442,7 @@ def neovim(room: Room) -> list[str]:
     """The diagnostics of the script for neovim."""
     words = ["nvim", "--headless", "-n", "-i", "NONE", "-u", "NONE", "--cmd", f"set rtp^={TOP / 'editors/vim'}"]
     [(before, mended)] = room.drive(NEOVIM_DRIVER, "lua", *words, "--cmd", "filetype plugin on", "-S")
-    wanted = [[in_neovim(room.text(name), one) for one in faults(said)] for name, said in room.said.items()]
+    wanted = [[in_neovim(room.text(name), one) for one in all_faults(said)] for name, said in room.said.items()]
     wrong = otherwise("neovim", room.texts, before, wanted)
     return wrong + otherwise("neovim, mended", room.texts, mended, [[] for _ in wanted])
 
@@ -450,7 +450,7 @@ def neovim(room: Room) -> list[str]:
 def code(room: Room) -> list[str]:
     """The diagnostics of the extension for VS Code."""
     [(before, mended, left)] = room.drive(CODE_DRIVER, "js", "node")
-    wanted = [[in_code(room.text(name), one) for one in faults(said)] for name, said in room.said.items()]
+    wanted = [[in_code(room.text(name), one) for one in all_faults(said)] for name, said in room.said.items()]
     wrong = otherwise("vscode", room.texts, before, wanted)
     wrong += otherwise("vscode, mended", room.texts, mended, [[] for _ in wanted])
     return wrong + [f"vscode: diagnostics of {left} closed texts"] * bool(left)

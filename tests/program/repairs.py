@@ -30,7 +30,7 @@ from tests.harness import TOP
 
 ROWS = TOP / "tests/program/programs"
 FILES = ("sources-mistakes.rows", "sources-habits.rows", "sources-advice.rows")
-HEAD = re.compile(r"-:\d+:\d+: (F\d+) \w+: ")
+HEAD = re.compile(r"-:(\d+):(\d+): (F\d+) \w+: ")
 LINE = re.compile(r"x10clock: (F\d+) \w+ at (\d+)\n")
 USUAL = "   = usual repair: "
 WORD = re.compile(r"[0-9A-Za-z_]+")
@@ -40,12 +40,13 @@ HEADS = re.compile(r"\s*(?:(?:if|for)\s*\((?:[^()]|\([^()]*\))*\)|async(?:\s+clo
 
 @dataclass(frozen=True)
 class Fault:
-    """A text, by which rule it is refused and where, and the repair that is told."""
+    """A text, by which rule it is refused and where, the repair that is told, and how many faults of it come before."""
 
     text: str
     rule: str
     at: int
     repair: str
+    number: int = 0
 
     def before(self) -> str:
         return self.text[: self.at]
@@ -363,13 +364,21 @@ def programs() -> Iterator[str]:
                 yield line.replace("\\n", "\n")
 
 
-def ask(program: pathlib.Path, text: str) -> Fault | None:
-    """The fault of a text, with the repair; None where it has none that has a place."""
+def ask(program: pathlib.Path, text: str) -> list[Fault]:
+    """The faults of a text that are shown, each with its repair; none where the first has no place."""
     status, out, err = harness.call([program, "explain", "-"], text.encode()).texts()
-    found = LINE.fullmatch(err)
-    if status != 1 or not found or not out.splitlines()[-1].startswith(USUAL):
-        return None
-    return Fault(text, found[1], int(found[2]), out.splitlines()[-1].removeprefix(USUAL))
+    if status != 1 or not LINE.fullmatch(err):
+        return []
+    return [fault for number, shown in enumerate(out.split("\n\n")) for fault in shown_as(text, shown, number)]
+
+
+def shown_as(text: str, shown: str, number: int) -> Iterator[Fault]:
+    """The fault that is shown in these lines, if its repair is told."""
+    head, last = HEAD.match(shown), shown.splitlines()[-1]
+    if head and last.startswith(USUAL):
+        lines = text.encode().split(b"\n")[: int(head[1])]
+        at = sum(len(line) + 1 for line in lines[:-1]) + len(lines[-1].decode()[: int(head[2]) - 1].encode())
+        yield Fault(text, head[3], at, last.removeprefix(USUAL), number)
 
 
 def races(program: pathlib.Path, text: str) -> str:
@@ -382,12 +391,20 @@ def races(program: pathlib.Path, text: str) -> str:
 
 
 def is_mended(program: pathlib.Path, fault: Fault, text: str) -> bool:
-    """Whether a text is accepted, or refused for another reason, or further on."""
+    """Whether a text is accepted, or refused for another reason, or further on; of a fault behind another, whether
+    fewer are shown of its rule."""
+    if fault.number:
+        return many(program, text, fault.rule) < many(program, fault.text, fault.rule)
     status, _, err = harness.call([program, "check", "-"], text.encode()).texts()
     found = LINE.fullmatch(err)
     if status == 0 or not found:
         return status in (0, 1)
     return found[1] != fault.rule or int(found[2]) > fault.at
+
+
+def many(program: pathlib.Path, text: str, rule: str) -> int:
+    """How many faults by a rule are shown of a text."""
+    return [fault.rule for fault in ask(program, text)].count(rule)
 
 
 def applied(fault: Fault) -> str | None:
@@ -434,13 +451,13 @@ WRONG = [
 def unseen(program: pathlib.Path) -> Iterator[str]:
     """The wrong repairs that pass."""
     for text, repair in WRONG:
-        fault = ask(program, text)
-        if fault is None or not wrong_of(program, Fault(text, fault.rule, fault.at, repair)):
+        found = ask(program, text)
+        if not found or not wrong_of(program, Fault(text, found[0].rule, found[0].at, repair)):
             yield f"passes: {repair} {text!r}"
-    fault = ask(program, SUM)
+    found = ask(program, SUM)
     advised = "sum = t + i"
     raced = SUM.replace("sum = sum + i;", f"val t = sum; {advised};")
-    if fault is None or races(program, raced).startswith("races 0"):
+    if not found or races(program, raced).startswith("races 0"):
         yield f"no race: {raced!r}"
 
 
@@ -449,10 +466,8 @@ def main() -> int:
     harness.add_program(parser)
     program = parser.parse_args().program
     words, count, wrong = in_words(), Counter(), []
-    for text in programs():
-        fault = ask(program, text)
-        if fault is None:
-            continue
+    for fault in (fault for text in programs() for fault in ask(program, text)):
+        text = fault.text
         said = wrong_of(program, fault)
         is_worded = fault.repair in words or WORDED.fullmatch(fault.repair) is not None
         if said:
