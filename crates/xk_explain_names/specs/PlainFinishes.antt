@@ -6,13 +6,13 @@ use Rattle.xk_tree.specs.Tree.{Clocks, Statement, Statements, Done, More, Block,
 use Rattle.xk_explain.specs.Notes.{NoteValue}
 
 -- the word `clocked` of a `clocked async` stands at this offset
-abbrev pub is_clocked_at : ℕ → Option Clocks → Bool
-is_clocked_at at None = false
-is_clocked_at at (Some cs) = is_ahead_at at cs.written
-
 abbrev pub is_ahead_at : ℕ → Written → Bool
 is_ahead_at at (written.Listed p q) = false
 is_ahead_at at (written.Ahead p) = nat_eq p at
+
+abbrev pub is_clocked_at : ℕ → Option Clocks → Bool
+is_clocked_at at None = false
+is_clocked_at at (Some cs) = is_ahead_at at cs.written
 
 -- The `finish` whose clock an activity would have: a `clocked async` is on that around it, any other `async` on none.
 abbrev pub kept_by : Option ℕ → Written → Option ℕ
