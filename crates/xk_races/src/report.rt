@@ -58,14 +58,16 @@ pub fn reach_of(alloc: Global, ended: &Ended<'_>) -> Result<Reach, AllocError>
     })
 }
 
-/// The races of a run, as they are told: two accesses of one shared number, not both reads and not both additions, neither of which had to come
-/// before the other. Of each two places in the text the first such pair of the run is one, and of all pairs the first 10,000 are told. Behind them
-/// stands whether there are more; where there is none, whether the prints are in one order, at these places, and that every schedule prints these
-/// numbers; else nothing is said of other runs.
-/// It takes time in proportion to the deeds of the run (its steps that others see, those of clocks counted once for each clock) times its
-/// activities. For an access that is in a race there is, besides, time in proportion to how many activities access its shared number at how many
-/// places of the text, and for each of these places once to how often that shared number is accessed; each look whether two places are told
-/// already, and each sort, takes a logarithm of it more. Err where memory was refused.
+/// The races of a run, as they are told: two accesses of one shared number, not both reads and not both additions,
+/// neither of which had to come before the other. Of each two places in the text the first such pair of the run is one,
+/// and of all pairs the first 10,000 are told. Behind them stands whether there are more; where there is none, whether
+/// the prints are in one order, at these places, and that every schedule prints these numbers; else nothing is said of
+/// other runs.
+/// It takes time in proportion to the deeds of the run (its steps that others see, those of clocks counted once for each
+/// clock) times its activities. For an access that is in a race there is, besides, time in proportion to how many
+/// activities access its shared number at how many places of the text, and for each of these places once to how often
+/// that shared number is accessed; each look whether two places are told already, and each sort, takes a logarithm of it
+/// more. Err where memory was refused.
 pub fn shown_races(
     alloc: Global,
     places: &Places<'_>,
@@ -95,8 +97,8 @@ pub fn shown_races(
     })
 }
 
-/// The races of a run of a module, a line each, as `race shared 1: step 9 act 1 unit 0 place 4 write, step 19 act 2 unit 1 place 2 read`, and what
-/// is told behind them. Err where memory was refused.
+/// The races of a run of a module, a line each, as `race shared 1: step 9 act 1 unit 0 place 4 write, step 19 act 2 unit
+/// 1 place 2 read`, and what is told behind them. Err where memory was refused.
 pub fn module_races(alloc: Global, ended: &Ended<'_>) -> Result<RaceReport, AllocError>
     ensures text { IfOk result (λ r. r.text.items ≡ races_text no_text
         ended.now.module.now ended.now.core.world.arguments ended.now.log.items) }

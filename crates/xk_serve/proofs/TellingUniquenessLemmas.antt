@@ -109,7 +109,8 @@ telling_once Races kind file bytes m args logged a b given h k =
     let here = h.1 in
     let there = k.1 in
     let same = logged_once order.First m args there.0 here.0 there.1 here.1 there.2 here.2 there.3 here.3 in
-    by_names_once kind bytes m (races_told bytes m args here.2) a b given here.4 (subst (λ es. IsByNames kind bytes (races_told bytes m args es) b) same.2 there.4)
+    by_names_once kind bytes m (races_told bytes m args here.2) a b given here.4
+    (subst (λ es. IsByNames kind bytes (races_told bytes m args es) b) same.2 there.4)
 telling_once (Tally seed runs) kind file bytes m args logged a b given h k = same_tale (tally_once m args seed runs a.0 b.0 h.2.0 k.2.0) (h.2.1 ∙ sym k.2.1)
 telling_once Check kind file bytes m args logged a b given h k = absurd h
 telling_once Compile kind file bytes m args logged a b given h k = absurd h

@@ -39,8 +39,8 @@ either_side false true false = refl
 either_side false false true = refl
 either_side false false false = refl
 
-pub numbers_added : (old mid new : BTreeSet ℕ) (r : Race) → Updates nat_cmp old mid r.first.number true → Updates nat_cmp mid new r.second.number true
-    → (n : ℕ) → contains nat_cmp new n ≡ (contains nat_cmp old n || is_of r n)
+pub numbers_added : (old mid new : BTreeSet ℕ) (r : Race) → Updates nat_cmp old mid r.first.number true
+    → Updates nat_cmp mid new r.second.number true → (n : ℕ) → contains nat_cmp new n ≡ (contains nat_cmp old n || is_of r n)
 numbers_added old mid new r one two n =
     two.0 n ∙ ap (λ b. cond b true (contains nat_cmp mid n)) (tied r.second.number n)
     ∙ ap (λ b. cond (nat_eq n r.second.number) true b) (one.0 n ∙ ap (λ b. cond b true (contains nat_cmp old n)) (tied r.first.number n))
@@ -95,11 +95,12 @@ found_new old new a lacks more n =
     of false e = none (get nat_cmp old n)
 
 -- one step more
-pub found_more : (old new : BTreeMap ℕ Account) (steps : List Account) (i : ℕ) (z : Account) → i < length steps → AreByNumber old (take i steps)
-    → ((n : ℕ) → get nat_cmp new n ≡ or_this (get_or steps i z) n (get nat_cmp old n)) → AreByNumber new (take (i + 1) steps)
+pub found_more : (old new : BTreeMap ℕ Account) (steps : List Account) (i : ℕ) (z : Account) → i < length steps
+    → AreByNumber old (take i steps) → ((n : ℕ) → get nat_cmp new n ≡ or_this (get_or steps i z) n (get nat_cmp old n)) → AreByNumber new (take (i + 1) steps)
 found_more old new steps i z inside are more n =
     more n ∙ ap (or_this (get_or steps i z) n) (are n)
-    ∙ sym (ap (λ l. account_of l n) (take_more steps i z inside) ∙ find-append (λ a. nat_eq n a.step.number) (take i steps) (get_or steps i z ∷ []))
+    ∙ sym (ap (λ l. account_of l n) (take_more steps i z inside)
+    ∙ find-append (λ a. nat_eq n a.step.number) (take i steps) (get_or steps i z ∷ []))
 
 -- ---- those of a run
 

@@ -1,5 +1,5 @@
--- What is told of the races of a run of a source text's module: by the names of shared numbers, by the lines of the text, and with what was read
--- and written in this run. This project's own.
+-- What is told of the races of a run of a source text's module: by the names of shared numbers, by the lines of the text, and with what
+-- was read and written in this run. This project's own.
 use Rattle.std.specs.Prelude.{ℕ, ℤ, min, List, [], ◌++◌, length, take, flat_map, Option, Some, None, slice_get, codes, decimal}
 use Rattle.xk_types.specs.declared.world.Entry.{Entry}
 use Rattle.xk_types.specs.Code.{ModuleValue}
@@ -21,7 +21,8 @@ use Rattle.xk_show_races.specs.Accounts.{account_of}
 unfoldable pub access_line : PlacesValue → NamesValue → Account → List ℕ
 access_line p n a =
     codes "step " ++ (decimal a.step.number ++ (codes " act " ++ (decimal a.step.act
-    ++ (codes " " ++ (place_words a.step.unit a.step.place (origin_of p a.step.unit a.step.place) ++ (codes " " ++ (account_words n a ++ codes "\n")))))))
+    ++ (codes " " ++ (place_words a.step.unit a.step.place (origin_of p a.step.unit a.step.place)
+    ++ (codes " " ++ (account_words n a ++ codes "\n")))))))
 
 -- the line of the text that stands at an offset, with a caret below it, no further than where the text ends
 abbrev pub excerpt_by : List ℕ → Option ℕ → List ℕ
@@ -53,8 +54,8 @@ race_lines p n steps r = pair_lines p n (account_of steps r.first.number) (accou
 
 -- ---- the text
 
--- What is told of the run that a log stands for, where shared numbers have these names (no race is on a clock, so clocks have none here): the first
--- races, and behind them what is told of a module's.
+-- What is told of the run that a log stands for, where shared numbers have these names (no race is on a clock, so clocks have none here):
+-- the first races, and behind them what is told of a module's.
 abbrev pub named_races_text : PlacesValue → List (List ℕ) → ModuleValue → List ℤ → List Entry → List ℕ
 named_races_text p shared m args log =
     flat_map (race_lines p (names_by p shared []) (seen_accounts m args log)) (take most_shown (races_in (sights_of_run m args log)))

@@ -41,6 +41,7 @@ fn numbers_of(alloc: Global, races: &[Race]) -> Result<BTreeSet<u64>, AllocError
 }
 
 /// Tells of the steps of these numbers.
+#[derive(Drop)]
 struct StepsAmong<'a> {
     numbers: &'a BTreeSet<u64>,
 }
@@ -55,8 +56,10 @@ impl Recount<Account> for StepsAmong<'_> {
         _core: &Core<'_>,
         account: &Account,
     ) -> Result<(), AllocError> {
-        if self.numbers.contains(&account.step.number) && is_seen(account.step.event) {
-            out.push(*account)?;
+        if self.numbers.contains(&account.step.number) {
+            if is_seen(account.step.event) {
+                out.push(*account)?;
+            }
         }
         Ok(())
     }
