@@ -1,14 +1,16 @@
 -- The steps of races, as the code keeps them, are those among the steps of the run.
-use Rattle.std.proofs.Common.{◌≡◌, ◌∙◌, ℕ, ℤ, ◌+◌, ◌<◌, Bool, true, false, true≢false, ◌||◌, List, [], ◌∷◌, ◌++◌, length, take, get_or}
+use Rattle.std.proofs.Common.{◌≡◌, ◌∙◌, ℕ, ℤ, ◌+◌, ◌<◌, ◌≤◌, Bool, true, false, true≢false, ◌||◌, List, [], ◌∷◌, ◌++◌, length, take, get_or}
 use Rattle.std.proofs.Common.{Option, Some, None, refl, sym, ap, eq-eqb, arith}
-use Rattle.std.specs.Prelude.{cond, flat_map, nat_eq, if◌then◌else◌}
+use Rattle.std.specs.Prelude.{cond, flat_map, is_some, nat_eq, if◌then◌else◌}
 use Rattle.std.specs.List.{find, list_any}
 use Rattle.std.specs.Option.{option_or}
-use Rattle.std.specs.Ordering.{nat_cmp}
+use Rattle.std.specs.declared.cmp.Ordering.TheVariants.{Less, Equal, Greater}
+use Rattle.std.specs.Ordering.{is_lt, nat_cmp}
 use Rattle.std.specs.BTreeMap.{BTreeMap, get}
 use Rattle.std.specs.BTreeMap as tree
-use Rattle.std.specs.BTreeSet.{BTreeSet, contains, Updates}
-use Rattle.std.proofs.lemmas.Bool.{eqb-true}
+use Rattle.std.specs.BTreeMap.{is_at}
+use Rattle.std.specs.BTreeSet.{BTreeSet, IsUpperBound, Updates, btree_set_len, contains}
+use Rattle.std.proofs.lemmas.Bool.{eqb-true, lt-ltb}
 use Rattle.std.proofs.lemmas.List.{append-nil, take_more}
 use Rattle.std.proofs.lemmas.List.Folds.{find-append, list_any-append}
 use Rattle.xk_types.specs.declared.world.Entry.{Entry}
@@ -18,6 +20,7 @@ use Rattle.xk_types.specs.World.{World, opening}
 use Rattle.xk_types.specs.Logs.{schedule_of}
 use Rattle.xk_types.specs.Schedule.{is_local}
 use Rattle.xk_show_events.specs.Events.{PlacesValue}
+use Rattle.xk_show_events.specs.Steps.{IsSilentAfter}
 use Rattle.xk_show_names.specs.declared.accounts.Account.{Account}
 use Rattle.xk_show_names.specs.Accounts.{account, account_if_seen, recounted_by, seen_accounts, tell_seen_accounts}
 use Rattle.xk_show_names.specs.ClockNames.{NamesValue}
@@ -60,39 +63,41 @@ numbers_more old new races i z inside are more n =
 
 -- ---- steps by their numbers
 
+or_none : (o : Option Account) → o ≡ option_or o None
+or_none (Some a) = refl
+or_none None = refl
+
 -- what there is of a number, and else this step, if it has that number
 abbrev pub or_this : Account → ℕ → Option Account → Option Account
 or_this a n o = option_or o (if nat_eq n a.step.number then Some a else None)
 
 -- a step whose number is there already changes nothing
-pub found_already : (map : BTreeMap ℕ Account) (a x : Account) → get nat_cmp map a.step.number ≡ Some x → (n : ℕ)
+pub found_already : (map : BTreeMap ℕ Account) (a : Account) → is_some (get nat_cmp map a.step.number) ≡ true → (n : ℕ)
     → get nat_cmp map n ≡ or_this a n (get nat_cmp map n)
-found_already map a x there n = of (nat_eq n a.step.number) refl
+found_already map a there n = of (nat_eq n a.step.number) refl
   where
-    none : (o : Option Account) → o ≡ option_or o None
-    none (Some y) = refl
-    none None = refl
+    stays : (o : Option Account) → is_some o ≡ true → o ≡ option_or o (Some a)
+    stays (Some y) h = refl
+    stays None h = cc
 
     of : (b : Bool) → nat_eq n a.step.number ≡ b → get nat_cmp map n ≡ option_or (get nat_cmp map n) (if b then Some a else None)
-    of true e =
-        let is : get nat_cmp map n ≡ Some x = ap (get nat_cmp map) (eqb-true n a.step.number e) ∙ there in
-        is ∙ sym (ap (λ o. option_or o (Some a)) is)
-    of false e = none (get nat_cmp map n)
+    of true e = stays (get nat_cmp map n) (ap (λ k. is_some (get nat_cmp map k)) (eqb-true n a.step.number e) ∙ there)
+    of false e = or_none (get nat_cmp map n)
 
 -- one that wasn't there is
-pub found_new : (old new : BTreeMap ℕ Account) (a : Account) → get nat_cmp old a.step.number ≡ None
+pub found_new : (old new : BTreeMap ℕ Account) (a : Account) → is_some (get nat_cmp old a.step.number) ≡ false
     → tree.Updates nat_cmp old new a.step.number (Some a) → (n : ℕ) → get nat_cmp new n ≡ or_this a n (get nat_cmp old n)
 found_new old new a lacks more n =
     more.0 n ∙ ap (λ b. cond b (Some a) (get nat_cmp old n)) (tied a.step.number n) ∙ of (nat_eq n a.step.number) refl
   where
-    none : (o : Option Account) → o ≡ option_or o None
-    none (Some y) = refl
-    none None = refl
+    comes : (o : Option Account) → is_some o ≡ false → Some a ≡ option_or o (Some a)
+    comes (Some y) h = cc
+    comes None h = refl
 
     of : (b : Bool) → nat_eq n a.step.number ≡ b
         → cond b (Some a) (get nat_cmp old n) ≡ option_or (get nat_cmp old n) (if b then Some a else None)
-    of true e = sym (ap (λ o. option_or o (Some a)) (ap (get nat_cmp old) (eqb-true n a.step.number e) ∙ lacks))
-    of false e = none (get nat_cmp old n)
+    of true e = comes (get nat_cmp old n) (ap (λ k. is_some (get nat_cmp old k)) (eqb-true n a.step.number e) ∙ lacks)
+    of false e = or_none (get nat_cmp old n)
 
 -- one step more
 pub found_more : (old new : BTreeMap ℕ Account) (steps : List Account) (i : ℕ) (z : Account) → i < length steps
@@ -125,6 +130,27 @@ among_seen : (numbers : BTreeSet ℕ) (m : ModuleValue) (args : List ℤ) (log :
 among_seen numbers m args log =
     told_of_told (kept numbers) (tell_seen_accounts m) (recounted_by m (λ v a. account_if_among numbers a)) m
     (λ a w v e. kept_if_seen numbers (account m a w v e)) (schedule_of log) (opening m args)
+
+-- behind the step of the greatest number none is kept
+pub none_above : (numbers : BTreeSet ℕ) (last n : ℕ) (m : ModuleValue) → IsUpperBound nat_cmp numbers last → last ≤ n
+    → IsSilentAfter (recounted_by m (λ v a. account_if_among numbers a)) n
+none_above numbers last n m above up a w v e more = of (contains nat_cmp numbers v.steps) refl
+  where
+    lt : is_lt (nat_cmp last v.steps) ≡ true
+    lt = ap (λ b. is_lt (cond b Less (cond (nat_eq last v.steps) Equal Greater))) (lt-ltb last v.steps (omega (arith, up, more)))
+
+    of : (b : Bool) → contains nat_cmp numbers v.steps ≡ b → (if b then account_if_seen (account m a w v e) else []) ≡ []
+    of true has = absurd (true≢false (sym lt ∙ above v.steps has))
+    of false has = refl
+
+-- nor is any of no numbers
+pub none_of_none : (numbers : BTreeSet ℕ) (n : ℕ) (m : ModuleValue) → btree_set_len numbers ≡ 0
+    → IsSilentAfter (recounted_by m (λ v a. account_if_among numbers a)) n
+none_of_none numbers n m none a w v e more = of numbers.keys none
+  where
+    of : (ks : List ℕ) → length ks ≡ 0 → (if list_any (is_at (nat_cmp v.steps)) ks then account_if_seen (account m a w v e) else []) ≡ []
+    of [] h = refl
+    of (k ∷ ks) h = absurd (omega (arith, h))
 
 -- a step of these numbers is the same among those that are kept
 same_found : (numbers : BTreeSet ℕ) (n : ℕ) → contains nat_cmp numbers n ≡ true → (steps : List Account)

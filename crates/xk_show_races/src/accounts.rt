@@ -20,6 +20,7 @@ use xk_show_names::{Account, Recount, recount_run};
 pub(crate) type ByNumber = BTreeMap<u64, Account>;
 
 /// Adds the numbers of both steps of a race.
+#[tactic(auto, using(crate::proofs::StepLemmas::numbers_added))]
 fn add_numbers(numbers: &mut BTreeSet<u64>, race: &Race) -> Result<(), AllocError>
     ensures { OnOk result ((n : ℕ) → contains nat_cmp numbers.new n
         ≡ (contains nat_cmp numbers.old n || is_of race.now n)) }
@@ -30,6 +31,7 @@ fn add_numbers(numbers: &mut BTreeSet<u64>, race: &Race) -> Result<(), AllocErro
 }
 
 /// The numbers of the steps of races.
+#[tactic(auto, using(crate::proofs::StepLemmas::numbers_more))]
 fn numbers_of(alloc: Global, races: &[Race]) -> Result<BTreeSet<u64>, AllocError>
     ensures { IfOk result (λ s. AreNumbers s races.now) }
 {
@@ -63,6 +65,14 @@ impl Recount<Account> for StepsAmong<'_> {
         }
         Ok(())
     }
+
+    #[tactic(auto, using(crate::proofs::StepLemmas::none_above, crate::proofs::StepLemmas::none_of_none))]
+    fn is_silent_after(&self, steps: u64) -> bool {
+        match self.numbers.last() {
+            Some(last) => *last <= steps,
+            None => true,
+        }
+    }
 }
 
 /// The steps of a run that have these numbers, in their order. The log is played again for it.
@@ -80,6 +90,7 @@ fn accounts_among(
 }
 
 /// Adds a step, unless there is one of its number.
+#[tactic(auto, using(crate::proofs::StepLemmas::found_already, crate::proofs::StepLemmas::found_new))]
 fn add(steps: &mut ByNumber, account: &Account) -> Result<(), AllocError>
     ensures { OnOk result ((n : ℕ) → get nat_cmp steps.new n ≡ option_or (get nat_cmp steps.old n)
         (if nat_eq n account.now.step.number then Some account.now else None)) }
@@ -91,6 +102,7 @@ fn add(steps: &mut ByNumber, account: &Account) -> Result<(), AllocError>
 }
 
 /// Steps by their numbers.
+#[tactic(auto, using(crate::proofs::StepLemmas::found_more))]
 fn by_number(alloc: Global, accounts: &[Account]) -> Result<ByNumber, AllocError>
     ensures { IfOk result (λ map. AreByNumber map accounts.now) }
 {
@@ -103,6 +115,7 @@ fn by_number(alloc: Global, accounts: &[Account]) -> Result<ByNumber, AllocError
 
 /// The steps of these races of a run, by their numbers, and what they were about. The log is played again for it, and
 /// no other step is kept. Err where memory was refused.
+#[tactic(auto, using(crate::proofs::StepLemmas::racing_found))]
 pub(crate) fn racing(
     alloc: Global,
     races: &[Race],

@@ -1,18 +1,36 @@
 //! The whole report.
 
-ghost use Rattle.std.specs.Prelude.{◌≡◌, map, IfOk};
+ghost use Rattle.std.specs.Prelude.{◌≡◌, flat_map, map, IfOk};
 ghost use Rattle.xk_show_events.specs.Events.{places_of};
+ghost use Rattle.xk_show_names.specs.Accounts.{seen_accounts};
 ghost use Rattle.xk_races.specs.Races.{is_race_free};
-ghost use Rattle.xk_show_races.specs.Text.{named_races_text};
+ghost use Rattle.xk_show_races.specs.Text.{named_races_text, race_lines};
 
 use crate::accounts::racing;
 use crate::source_lines::SourceLines;
 use crate::text::lines_of;
 use std::alloc::{AllocError, Global};
 use xk_origins::UnitOrigins;
-use xk_races::{RaceReport, shown_races};
+use xk_races::{Race, RaceReport, shown_races};
 use xk_scheduler::Ended;
 use xk_show_names::Names;
+
+/// The lines of these races of a run.
+#[tactic(auto, using(crate::proofs::StepLemmas::same_lines))]
+fn lines_told(
+    alloc: Global,
+    source: &SourceLines<'_>,
+    names: &Names<'_>,
+    races: &[Race],
+    ended: &Ended<'_>,
+) -> Result<Vec<u8>, AllocError>
+    ensures { IfOk result (λ v. v.items ≡ flat_map (race_lines source.now names.now
+        (seen_accounts
+        ended.now.module.now ended.now.core.world.arguments ended.now.log.items)) races.now) }
+{
+    let steps = racing(alloc, races, ended)?;
+    lines_of(alloc, source, names, &steps, races)
+}
 
 /// The races of a run of a source text's module, whose shared numbers have these names. Of each race, `race on total`,
 /// and of both of its accesses what it did, with what was read or written then, as `step 15 act 2 at 7:5 write total 3`,
@@ -36,8 +54,7 @@ pub fn source_races(
     let program = ended.module.module();
     let names = Names::by_steps(alloc, source.places(), origins, shared, program, &[])?;
     let shown = shown_races(alloc, source.places(), ended)?;
-    let steps = racing(alloc, &shown.races, ended)?;
-    let mut lines = lines_of(alloc, &source, &names, &steps, &shown.races)?;
+    let mut lines = lines_told(alloc, &source, &names, &shown.races, ended)?;
     lines.extend_from_slice(&shown.closing)?;
     Ok(RaceReport {
         text: lines,
