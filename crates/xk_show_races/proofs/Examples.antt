@@ -1,9 +1,8 @@
--- A run of two activities that race, as it is told.
+-- A run of two activities that race for a shared number whose name isn't known, as it is told.
 use Rattle.std.proofs.Common.{◌≡◌, ℕ, ◌<◌, pos, List, [], ◌∷◌, ◌++◌, None, refl, lit<}
 use Rattle.std.specs.Prelude.{codes}
 use Rattle.std.specs.Fmt.{digits}
 use Rattle.std.specs.Str.{chars, is_utf8}
-use Rattle.std.specs.Str.Lossy.{utf8_lossy}
 use lib.Utf8.{encode}
 use Rattle.xk_types.specs.declared.instr.Instr.TheVariants as instr
 use Rattle.xk_types.specs.declared.unit.UnitKind.{UnitKind}
@@ -40,10 +39,10 @@ source = places_of (codes "\nx = t;\n\tt = 5;")
 abbrev log : List Entry
 log = entry 0 2 (lit< tt) ∷ entry 1 2 (lit< tt) ∷ entry 0 1 (lit< tt) ∷ []
 
-both_told : named_races_text source (codes "t" ∷ []) raced [] log
-    ≡ codes "race on t\nstep 2 act 0 at 2:5 read t 3\n   |\n 2 | x = t;\n   |     ^\n"
-    ++ (codes "step 4 act 1 at 3:2 write t 5\n   |\n 3 |  t = 5;\n   |  ^\n"
-    ++ (codes "race on t\nstep 4 act 1 at 3:2 write t 5\n   |\n 3 |  t = 5;\n   |  ^\n"
-    ++ codes "step 5 act 0 at 2:1 add t 5 -> 8\n   |\n 2 | x = t;\n   | ^\nraces 2\nof this run alone\n"))
-unfolding access_line head_line shared_word value_words change_words count_line most_shown signs utf8_lossy is_utf8 chars encode digits
+both_told : named_races_text source [] raced [] log
+    ≡ codes "race on shared 0\nstep 2 act 0 at 2:5 read shared 0 3\n   |\n 2 | x = t;\n   |     ^\n"
+    ++ (codes "step 4 act 1 at 3:2 write shared 0 5\n   |\n 3 |  t = 5;\n   |  ^\n"
+    ++ (codes "race on shared 0\nstep 4 act 1 at 3:2 write shared 0 5\n   |\n 3 |  t = 5;\n   |  ^\n"
+    ++ codes "step 5 act 0 at 2:1 add shared 0 5 -> 8\n   |\n 2 | x = t;\n   | ^\nraces 2\nof this run alone\n"))
+unfolding access_line head_line shared_word value_words change_words count_line most_shown signs is_utf8 chars encode digits
 both_told = refl

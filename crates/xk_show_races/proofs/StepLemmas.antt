@@ -12,6 +12,7 @@ use Rattle.std.specs.BTreeMap.{is_at}
 use Rattle.std.specs.BTreeSet.{BTreeSet, IsUpperBound, Updates, btree_set_len, contains}
 use Rattle.std.proofs.lemmas.Bool.{eqb-true, lt-ltb}
 use Rattle.std.proofs.lemmas.List.{append-nil, take_more}
+use Rattle.std.proofs.lemmas.Grind.{flat_map-append}
 use Rattle.std.proofs.lemmas.List.Folds.{find-append, list_any-append}
 use Rattle.xk_types.specs.declared.world.Entry.{Entry}
 use Rattle.xk_types.specs.declared.world.Event.{Event}
@@ -27,8 +28,8 @@ use Rattle.xk_show_names.specs.ClockNames.{NamesValue}
 use Rattle.xk_show_names.proofs.BirthLemmas.{told_of_told}
 use Rattle.xk_races.specs.declared.pairs.Race.{Race}
 use Rattle.xk_races.proofs.ToldPlaceLemmas.{tied}
-use Rattle.xk_show_races.specs.Accounts.{AreByNumber, AreNumbers, AreRacing, account_if_among, account_of, accounts_among, is_of, is_of_any}
-use Rattle.xk_show_races.specs.Text.{pair_lines, race_lines}
+use Rattle.xk_show_races.specs.Accounts.{AreByNumber, AreNumbers, AreRacing, account_if_among, accounts_among, is_of, is_of_any, kept_lines}
+use Rattle.xk_show_races.specs.Text.{account_of, pair_lines, race_lines}
 
 -- ---- the numbers of races
 
@@ -116,7 +117,7 @@ kept numbers a = if contains nat_cmp numbers a.step.number then a ∷ [] else []
 kept_if_seen : (numbers : BTreeSet ℕ) (a : Account) → account_if_among numbers a ≡ flat_map (kept numbers) (account_if_seen a)
 kept_if_seen numbers a = of (is_local a.step.event)
   where
-    neither : (b : Bool) → (if b then ([] {A = Account}) else []) ≡ []
+    neither : (b : Bool) → ◌≡◌ {A = List Account} (if b then [] else []) []
     neither true = refl
     neither false = refl
 
@@ -179,11 +180,18 @@ or_true : (b : Bool) → (b || true) ≡ true
 or_true true = refl
 or_true false = refl
 
+-- those of one race more
+pub lines_more : (f : Race → List ℕ) (races : List Race) (i : ℕ) (z : Race) (old new : List ℕ) → i < length races
+    → old ≡ flat_map f (take i races) → new ≡ old ++ f (get_or races i z) → new ≡ flat_map f (take (i + 1) races)
+lines_more f races i z old new inside are more =
+    more ∙ ap (λ l. l ++ f (get_or races i z)) are
+    ∙ ap (λ l. flat_map f (take i races) ++ l) (sym (append-nil (f (get_or races i z))))
+    ∙ sym (ap (flat_map f) (take_more races i z inside) ∙ flat_map-append f (take i races) (get_or races i z ∷ []))
+
 -- are the same by what is kept and by all steps
 pub same_lines : (p : PlacesValue) (names : NamesValue) (map : BTreeMap ℕ Account) (steps : List Account) (races : List Race)
     → AreRacing map races steps
-    → flat_map (λ r. pair_lines p names (get nat_cmp map r.first.number) (get nat_cmp map r.second.number)) races
-    ≡ flat_map (race_lines p names steps) races
+    → flat_map (kept_lines p names map) races ≡ flat_map (race_lines p names steps) races
 same_lines p names map steps [] found = refl
 same_lines p names map steps (r ∷ races) found =
     let first = found r.first.number (ap (λ b. (b || nat_eq r.first.number r.second.number) || is_of_any races r.first.number)
@@ -192,8 +200,6 @@ same_lines p names map steps (r ∷ races) found =
     (eq-eqb r.second.number r.second.number refl)
     ∙ ap (λ b. b || is_of_any races r.second.number) (or_true (nat_eq r.second.number r.first.number))) in
     let rest = same_lines p names map steps races (λ n is. found n (ap (λ b. is_of r n || b) is ∙ or_true (is_of r n))) in
-    ap (λ o. pair_lines p names o (get nat_cmp map r.second.number)
-    ++ flat_map (λ q. pair_lines p names (get nat_cmp map q.first.number) (get nat_cmp map q.second.number)) races) first
-    ∙ ap (λ o. pair_lines p names (account_of steps r.first.number) o
-    ++ flat_map (λ q. pair_lines p names (get nat_cmp map q.first.number) (get nat_cmp map q.second.number)) races) second
+    ap (λ o. pair_lines p names o (get nat_cmp map r.second.number) ++ flat_map (kept_lines p names map) races) first
+    ∙ ap (λ o. pair_lines p names (account_of steps r.first.number) o ++ flat_map (kept_lines p names map) races) second
     ∙ ap (λ l. race_lines p names steps r ++ l) rest

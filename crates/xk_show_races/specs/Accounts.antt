@@ -1,21 +1,18 @@
--- The steps of a run by their numbers, and which of them are kept for the races that are told.
-use Rattle.std.specs.Prelude.{◌≡◌, ℕ, ℤ, nat_eq, Bool, true, ◌||◌, List, [], Option, if◌then◌else◌}
-use Rattle.std.specs.List.{find, list_any}
+-- Which steps of a run are kept for the races that are told, as the code keeps them.
+use Rattle.std.specs.Prelude.{◌≡◌, ℕ, ℤ, nat_eq, Bool, true, ◌||◌, List, [], if◌then◌else◌}
+use Rattle.std.specs.List.{list_any}
 use Rattle.std.specs.Ordering.{nat_cmp}
 use Rattle.std.specs.BTreeMap.{BTreeMap, get}
 use Rattle.std.specs.BTreeSet.{BTreeSet, contains}
 use Rattle.xk_types.specs.declared.world.Entry.{Entry}
 use Rattle.xk_types.specs.Code.{ModuleValue}
+use Rattle.xk_show_events.specs.Events.{PlacesValue}
 use Rattle.xk_show_events.specs.Steps.{told_of_run}
 use Rattle.xk_show_names.specs.declared.accounts.Account.{Account}
 use Rattle.xk_show_names.specs.Accounts.{account_if_seen, recounted_by}
+use Rattle.xk_show_names.specs.ClockNames.{NamesValue}
 use Rattle.xk_races.specs.declared.pairs.Race.{Race}
-
--- which of these steps has a number
-abbrev pub account_of : List Account → ℕ → Option Account
-account_of steps n = find (λ a. nat_eq n a.step.number) steps
-
--- ---- as the code keeps them
+use Rattle.xk_show_races.specs.Text.{account_of, pair_lines}
 
 -- the step of this number is one of a race
 abbrev pub is_of : Race → ℕ → Bool
@@ -43,3 +40,7 @@ AreByNumber map steps = (n : ℕ) → get nat_cmp map n ≡ account_of steps n
 -- the map has the steps of these races as they are among those
 abbrev pub AreRacing : BTreeMap ℕ Account → List Race → List Account → Type 0
 AreRacing map races steps = (n : ℕ) → is_of_any races n ≡ true → get nat_cmp map n ≡ account_of steps n
+
+-- the lines of a race whose steps the map has
+abbrev pub kept_lines : PlacesValue → NamesValue → BTreeMap ℕ Account → Race → List ℕ
+kept_lines p n map r = pair_lines p n (get nat_cmp map r.first.number) (get nat_cmp map r.second.number)

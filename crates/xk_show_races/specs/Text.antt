@@ -1,6 +1,7 @@
 -- What is told of the races of a run of a source text's module: by the names of shared numbers, by the lines of the text, and with what
 -- was read and written in this run. This project's own.
-use Rattle.std.specs.Prelude.{ℕ, ℤ, min, List, [], ◌++◌, length, take, flat_map, Option, Some, None, slice_get, codes, decimal}
+use Rattle.std.specs.Prelude.{ℕ, ℤ, min, nat_eq, List, [], ◌++◌, length, take, flat_map, Option, Some, None, slice_get, codes, decimal}
+use Rattle.std.specs.List.{find}
 use Rattle.xk_types.specs.declared.world.Entry.{Entry}
 use Rattle.xk_types.specs.Code.{ModuleValue}
 use Rattle.xk_lines.specs.Excerpts.{excerpt}
@@ -13,7 +14,6 @@ use Rattle.xk_show_names.specs.Events.{account_words, subject_word}
 use Rattle.xk_races.specs.declared.pairs.Race.{Race}
 use Rattle.xk_races.specs.Races.{gap_in, races_in, sights_of_run}
 use Rattle.xk_races.specs.Text.{closing_text, most_shown}
-use Rattle.xk_show_races.specs.Accounts.{account_of}
 
 -- ---- an access
 
@@ -47,6 +47,10 @@ abbrev pub pair_lines : PlacesValue → NamesValue → Option Account → Option
 pair_lines p n None second = []
 pair_lines p n (Some a) None = []
 pair_lines p n (Some a) (Some b) = head_line n a ++ (access_lines p n a ++ access_lines p n b)
+
+-- which of these steps has a number
+abbrev pub account_of : List Account → ℕ → Option Account
+account_of steps n = find (λ a. nat_eq n a.step.number) steps
 
 -- of a race among these steps
 abbrev pub race_lines : PlacesValue → NamesValue → List Account → Race → List ℕ

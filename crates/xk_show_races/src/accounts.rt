@@ -102,7 +102,6 @@ fn add(steps: &mut ByNumber, account: &Account) -> Result<(), AllocError>
 }
 
 /// Steps by their numbers.
-#[tactic(auto, using(crate::proofs::StepLemmas::found_more))]
 fn by_number(alloc: Global, accounts: &[Account]) -> Result<ByNumber, AllocError>
     ensures { IfOk result (λ map. AreByNumber map accounts.now) }
 {
@@ -115,7 +114,6 @@ fn by_number(alloc: Global, accounts: &[Account]) -> Result<ByNumber, AllocError
 
 /// The steps of these races of a run, by their numbers, and what they were about. The log is played again for it, and
 /// no other step is kept. Err where memory was refused.
-#[tactic(auto, using(crate::proofs::StepLemmas::racing_found))]
 pub(crate) fn racing(
     alloc: Global,
     races: &[Race],

@@ -16,7 +16,6 @@ use xk_scheduler::Ended;
 use xk_show_names::Names;
 
 /// The lines of these races of a run.
-#[tactic(auto, using(crate::proofs::StepLemmas::same_lines))]
 fn lines_told(
     alloc: Global,
     source: &SourceLines<'_>,

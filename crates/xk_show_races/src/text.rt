@@ -1,9 +1,8 @@
 //! What is told of races, each by two accesses.
 
 ghost use Rattle.std.specs.Prelude.{◌≡◌, ◌++◌, flat_map, option_map, IfOk, OnOk, string_bytes};
-ghost use Rattle.std.specs.Ordering.{nat_cmp};
-ghost use Rattle.std.specs.BTreeMap.{get};
 ghost use Rattle.xk_show_names.specs.Events.{subject_word};
+ghost use Rattle.xk_show_races.specs.Accounts.{kept_lines};
 ghost use Rattle.xk_show_races.specs.Text.{access_line, access_lines, head_line, pair_lines};
 
 use crate::accounts::ByNumber;
@@ -120,9 +119,8 @@ fn push_race(
     steps: &ByNumber,
     race: &Race,
 ) -> Result<(), AllocError>
-    ensures { OnOk result (out.new.items ≡ out.old.items ++ pair_lines source.now names.now
-        (get nat_cmp steps.now race.now.first.number)
-        (get nat_cmp steps.now race.now.second.number)) }
+    ensures { OnOk result (out.new.items ≡ out.old.items
+        ++ kept_lines source.now names.now steps.now race.now) }
 {
     let first = steps.get(&race.first.number);
     let second = steps.get(&race.second.number);
@@ -138,9 +136,8 @@ pub(crate) fn lines_of(
     steps: &ByNumber,
     races: &[Race],
 ) -> Result<Vec<u8>, AllocError>
-    ensures { IfOk result (λ v. v.items ≡ flat_map (λ r. pair_lines source.now names.now
-        (get nat_cmp steps.now r.first.number) (get nat_cmp steps.now r.second.number))
-        races.now) }
+    ensures { IfOk result
+        (λ v. v.items ≡ flat_map (kept_lines source.now names.now steps.now) races.now) }
 {
     let mut out = Vec::new(alloc);
     for race in races {
