@@ -67,13 +67,9 @@ or_none : (o : Option Account) → o ≡ option_or o None
 or_none (Some a) = refl
 or_none None = refl
 
--- what there is of a number, and else this step, if it has that number
-abbrev pub or_this : Account → ℕ → Option Account → Option Account
-or_this a n o = option_or o (if nat_eq n a.step.number then Some a else None)
-
 -- a step whose number is there already changes nothing
 pub found_already : (map : BTreeMap ℕ Account) (a : Account) → is_some (get nat_cmp map a.step.number) ≡ true → (n : ℕ)
-    → get nat_cmp map n ≡ or_this a n (get nat_cmp map n)
+    → get nat_cmp map n ≡ option_or (get nat_cmp map n) (if nat_eq n a.step.number then Some a else None)
 found_already map a there n = of (nat_eq n a.step.number) refl
   where
     stays : (o : Option Account) → is_some o ≡ true → o ≡ option_or o (Some a)
@@ -86,7 +82,8 @@ found_already map a there n = of (nat_eq n a.step.number) refl
 
 -- one that wasn't there is
 pub found_new : (old new : BTreeMap ℕ Account) (a : Account) → is_some (get nat_cmp old a.step.number) ≡ false
-    → tree.Updates nat_cmp old new a.step.number (Some a) → (n : ℕ) → get nat_cmp new n ≡ or_this a n (get nat_cmp old n)
+    → tree.Updates nat_cmp old new a.step.number (Some a) → (n : ℕ)
+    → get nat_cmp new n ≡ option_or (get nat_cmp old n) (if nat_eq n a.step.number then Some a else None)
 found_new old new a lacks more n =
     more.0 n ∙ ap (λ b. cond b (Some a) (get nat_cmp old n)) (tied a.step.number n) ∙ of (nat_eq n a.step.number) refl
   where
@@ -101,9 +98,11 @@ found_new old new a lacks more n =
 
 -- one step more
 pub found_more : (old new : BTreeMap ℕ Account) (steps : List Account) (i : ℕ) (z : Account) → i < length steps
-    → AreByNumber old (take i steps) → ((n : ℕ) → get nat_cmp new n ≡ or_this (get_or steps i z) n (get nat_cmp old n)) → AreByNumber new (take (i + 1) steps)
+    → AreByNumber old (take i steps) → ((n : ℕ)
+    → get nat_cmp new n ≡ option_or (get nat_cmp old n) (if nat_eq n (get_or steps i z).step.number then Some (get_or steps i z) else None))
+    → AreByNumber new (take (i + 1) steps)
 found_more old new steps i z inside are more n =
-    more n ∙ ap (or_this (get_or steps i z) n) (are n)
+    more n ∙ ap (λ o. option_or o (if nat_eq n (get_or steps i z).step.number then Some (get_or steps i z) else None)) (are n)
     ∙ sym (ap (λ l. account_of l n) (take_more steps i z inside)
     ∙ find-append (λ a. nat_eq n a.step.number) (take i steps) (get_or steps i z ∷ []))
 
@@ -175,10 +174,6 @@ racing_found numbers map races steps m args log are is found = λ n of.
 
 -- ---- the lines of races
 
-or_true : (b : Bool) → (b || true) ≡ true
-or_true true = refl
-or_true false = refl
-
 -- those of one race more
 pub lines_more : (f : Race → List ℕ) (races : List Race) (i : ℕ) (z : Race) (old new : List ℕ) → i < length races
     → old ≡ flat_map f (take i races) → new ≡ old ++ f (get_or races i z) → new ≡ flat_map f (take (i + 1) races)
@@ -202,3 +197,7 @@ same_lines p names map steps (r ∷ races) found =
     ap (λ o. pair_lines p names o (get nat_cmp map r.second.number) ++ flat_map (kept_lines p names map) races) first
     ∙ ap (λ o. pair_lines p names (account_of steps r.first.number) o ++ flat_map (kept_lines p names map) races) second
     ∙ ap (λ l. race_lines p names steps r ++ l) rest
+  where
+    or_true : (b : Bool) → (b || true) ≡ true
+    or_true true = refl
+    or_true false = refl
