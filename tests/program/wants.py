@@ -103,8 +103,8 @@ def to_list(text: str) -> int:
 
 
 def to_draw(steps: int) -> int:
-    """The lists of the steps that others see, and of their rows."""
-    return 128 * steps
+    """The lists of the steps that others see, with what they were about, and of their rows."""
+    return (128 + 90) * steps
 
 
 def to_stand(activities: int) -> int:
