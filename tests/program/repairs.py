@@ -108,10 +108,24 @@ def written(fault: Fault, found: re.Match[str]) -> str:
 
 
 def read_first(fault: Fault, found: re.Match[str]) -> str:
-    """A shared number is read in a statement of its own."""
+    """A shared number is read in a statement of its own, by this name."""
     begin = max(fault.text.rfind(sign, 0, fault.at) for sign in ";{}") + 1
-    read = f" val t__ = {fault.word()}; "
-    return fault.text[:begin] + read + fault.text[begin : fault.at] + "t__" + fault.rest()[len(fault.word()) :]
+    read = f" val {found[1]} = {fault.word()}; "
+    return fault.text[:begin] + read + fault.text[begin : fault.at] + found[1] + fault.rest()[len(fault.word()) :]
+
+
+def brace_before(fault: Fault, found: re.Match[str]) -> str:
+    """A `}` at the line and column that are told."""
+    lines = fault.text.split("\n")
+    line, column = int(found[1]) - 1, int(found[2]) - 1
+    lines[line] = lines[line][:column] + "} " + lines[line][column:]
+    return "\n".join(lines)
+
+
+def clocked(fault: Fault, found: re.Match[str]) -> str:
+    """The last `finish` before the fault has a clock."""
+    begin = [where.start() for where in re.finditer(r"\bfinish\b", fault.before())][-1]
+    return f"{fault.text[:begin]}clocked {fault.text[begin:]}"
 
 
 def declared_as(word: str) -> Callable[[Fault, re.Match[str]], str]:
@@ -143,12 +157,13 @@ def new_method(fault: Fault, found: re.Match[str]) -> str:
 
 
 def kept_in_val(fault: Fault, found: re.Match[str]) -> str:
-    """A `val` of the `var` is taken before the innermost `async`."""
+    """A `val` of the `var`, by this name, is taken before the innermost `async`."""
     begin = [where.start() for where in re.finditer(r"\basync\b", fault.before())][-1]
     begin = max(fault.text.rfind(sign, 0, begin) for sign in ";{}") + 1
     name = fault.word()
     return (
-        f"{fault.text[:begin]} val t__ = {name};{fault.text[begin : fault.at]}t__{fault.rest()[len(name) :]}"
+        f"{fault.text[:begin]} val {found[1]} = {name};{fault.text[begin : fault.at]}{found[1]}"
+        f"{fault.rest()[len(name) :]}"
     )
 
 
@@ -283,16 +298,18 @@ def stop_at(fault: Fault, found: re.Match[str]) -> str:
 Rule = tuple[re.Pattern[str], Callable[[Fault, re.Match[str]], str]]
 APPLIED: list[Rule] = [
     (re.compile(r"write `([^`]+)` before it"), insert),
+    (re.compile(r"write `}` before (\d+):(\d+)"), brace_before),
+    (re.compile(r"write `clocked finish` in place of this `finish`"), clocked),
     (re.compile(r"write `([^`]+)` here"), instead),
     (re.compile(r"take this `[)}]` away: .*"), away),
     (re.compile(r"perhaps `(\w+)` is meant"), meant),
     (re.compile(r"write `(=|!=|<=)`(?: or `>=`)?"), comparison),
     (re.compile(r"(.)close the comment by `\*/`|close the comment by `\*/`"), stop_at),
     (re.compile(r"write `(atomic \w+ = .*;)`: it adds in one step"), added),
-    (re.compile(r"read `\w+` first, which is shared: .*"), read_first),
+    (re.compile(r"read `\w+` first, which is shared: `val (t\d?) = \w+;`"), read_first),
     (re.compile(r"`\w+` is a `val`, which stays: declare it by `var`"), declared_as("var")),
     (re.compile(r"an `async` doesn't write `\w+`, which is a `var`: .*"), shared),
-    (re.compile(r"take a `val t = \w+;` before the `async`: .*"), kept_in_val),
+    (re.compile(r"take a `val (t\d?) = \w+;` before the `async`: .*"), kept_in_val),
     (re.compile(r"hand `\w+` on: write `async clocked \((\w+)\)`"), handed_on),
     (re.compile(r"declare it before, by `var \w+ = 0;`, .*"), new_number),
     (re.compile(r"write a method `def \w+\(\) \{ \.\. \}`, .*"), new_method),
@@ -331,7 +348,7 @@ def in_words() -> set[str]:
 
 WORDED = re.compile(
     r"add in one step, .*|give a (?:number|clock) in place of .*|`\w+` is (?:a parameter|the number|a clock|seen in).*"
-    r"|`\w+` isn't seen outside .*"
+    r"|`\w+` isn't seen outside .*|read `\w+` first, .* of another name|keep `\w+` in a `val` of another name .*"
 )
 
 
@@ -425,6 +442,8 @@ WRONG = [
     ("def main() {\n    val n = 1;\n    n = 2;\n}\n", "hand `n` on: write `async clocked (n)`"),
     ("def w(n: Long, c: Clock) { }\ndef main() {\n    val c = Clock.make();\n    w(c, 1);\n}\n",
      "give `w` a number for each `Long`, in the order of `(c: Clock, n: Long)`"),
+    ("def main() {\n    finish {\n        for (i in 1..2) {\n            f();\n    }\n    f();\n}\n\ndef f() { }\n",
+     "write `}` before 2:5"),
     ("def main() {\n    work;\n}\ndef work() { }\n", "perhaps `wark` is meant"),
 ]  # fmt: skip
 

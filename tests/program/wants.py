@@ -119,8 +119,8 @@ def to_tally(lists: int, numbers: int) -> int:
 
 def to_order(activities: int, deeds: int, races: int) -> int:
     """What each activity knows of each other one, and of so many clocks, finishes, accesses and prints; these and the
-    advances; the races."""
-    return 8 * activities * (activities + deeds) + 450 * deeds + 300 * races
+    advances; the races, and of those that are printed the steps, with what they were about."""
+    return 8 * activities * (activities + deeds) + 450 * deeds + 300 * races + 800 * min(races, 10_000)
 
 
 # The programs.

@@ -179,13 +179,21 @@ def added(text: bytes, name: str, at: int) -> str | None:
     return f"-{term}" if sign.text == "-" else term
 
 
+def free_name(text: bytes) -> str | None:
+    """The first of these that nothing in the text is declared by."""
+    taken = {token.text for token, _ in declarations(text)}
+    return next((name for name in ("t", "t1", "t2") if name not in taken), None)
+
+
 def of_shared(text: bytes, name: str, at: int) -> str:
     """The repair where a shared number is read."""
     front, _, value = text[:at].rpartition(b"=")
     assigned = LAST_WORD.search(blanked(front).rstrip(BLANKS))[0].decode()
     told = cut(name)
     if assigned != name or re.search(rb"[;{}]", value):
-        return f"read `{told}` first, which is shared: `val t = {told};`"
+        new = free_name(text)
+        kept = f": `val {new} = {told};`" if new else ", into a `val` of another name"
+        return f"read `{told}` first, which is shared{kept}"
     term = None if trimmed(value) else added(text, name, at)
     if term:
         return f"write `atomic {told} = {told} + {term};`: it adds in one step"
@@ -213,10 +221,11 @@ def callee(text: bytes, at: int) -> str:
 
 # What is said of a name that stays, and is assigned to.
 STAYS = {
-    "a parameter (a number)": "`{0}` is a parameter, which stays: assign to a `var m = {0};`",
+    "a parameter (a number)": "`{0}` is a parameter, which stays: keep it in a `var` of another name, and assign to "
+    "that",
     "the number of a loop": "`{0}` is the number of a loop, which goes on by itself: assign to a `var`",
-    "a clock": "`{0}` is a clock, which stays: make another one by `val d = Clock.make();`",
-    "a parameter (a clock)": "`{0}` is a clock, which stays: make another one by `val d = Clock.make();`",
+    "a clock": "`{0}` is a clock, which stays: make another one, by a `val` of another name",
+    "a parameter (a clock)": "`{0}` is a clock, which stays: make another one, by a `val` of another name",
 }
 # Of a name that isn't visible where it stands.
 UNSEEN = {
@@ -230,10 +239,12 @@ OUTSIDE = (
     "`{0}` isn't seen outside of its block, nor before it is declared: declare it further out, and where an `async` "
     "writes it as a shared number"
 )
-KEPT = "take a `val t = {0};` before the `async`: a `var` as `{0}` isn't seen in it"
+KEPT = "take a `val {1} = {0};` before the `async`: a `var` as `{0}` isn't seen in it"
+KEPT_APART = "keep `{0}` in a `val` of another name before the `async`: a `var` isn't seen in it"
 WRITTEN = (
     "an `async` doesn't write `{0}`, which is a `var`: declare it as `shared {0} = 0;` in front of the methods"
 )
+IN_PLACE = "write `clocked finish` in place of this `finish`"
 NEW_METHOD = "write a method `def {0}() {{ .. }}`, with as many parameters as it is given, or look for another spelling"
 NEW_NUMBER = (
     "declare it before, by `var {0} = 0;`, or where an `async` writes it by `shared {0} = 0;` in front of the methods"
@@ -269,7 +280,11 @@ def of_captured(text: bytes, name: str, at: int) -> str | None:
     role = role_at(text, name, at)
     if role in CLOCKS:
         return f"hand `{cut(name)}` on: write `async clocked ({cut(name)})`"
-    return (WRITTEN if behind(text, at) == "=" else KEPT).format(cut(name)) if role == "a `var`" else None
+    if role != "a `var`":
+        return None
+    new = free_name(text)
+    said = WRITTEN if behind(text, at) == "=" else KEPT if new else KEPT_APART
+    return said.format(cut(name), new)
 
 
 def of_unknown(text: bytes, name: str, at: int) -> str | None:
@@ -282,6 +297,32 @@ def of_unknown(text: bytes, name: str, at: int) -> str | None:
     if near:
         return f"perhaps `{cut(near[0].text)}` is meant"
     return (NEW_METHOD if behind(text, at) == "(" else NEW_NUMBER).format(cut(name))
+
+
+def activity(tokens: list[Token], i: int) -> tuple[str, int] | None:
+    """How the `async` that begins with this token has its clocks, and the number of the token that its statement begins
+    with; None of any other token."""
+    if tokens[i].text == "clocked" and tokens[i + 1].text == "async":
+        return "ahead", i + 2
+    if tokens[i].text != "async" or i > 0 and tokens[i - 1].text == "clocked":
+        return None
+    if tokens[i + 1].text != "clocked":
+        return "none", i + 1
+    return "listed", closing(tokens, i + 2) + 1
+
+
+def plain_finish(text: bytes, at: int) -> Token | None:
+    """The innermost `finish` around the `clocked async` at an offset, if there is no other `async` between the two than
+    such that take its clock."""
+    tokens = tokens_of(text)
+    here = next(i for i, token in enumerate(tokens) if token.at == at)
+    for i in reversed(range(here)):
+        started = activity(tokens, i)
+        if started and started[0] != "ahead" and statement_end(tokens, started[1]) >= here:
+            return None
+        if tokens[i].text == "finish" and statement_end(tokens, i + 1) >= here:
+            return tokens[i]
+    return None
 
 
 def lender(text: bytes, at: int) -> tuple[Token, str] | None:
@@ -304,7 +345,7 @@ def repair(text: bytes, rule: str, at: int) -> str | None:
     """The repair that the notes beside a fault call for."""
     if rule == "F15":
         found = lender(text, at)
-        return found and found[1]
+        return found[1] if found else IN_PLACE if plain_finish(text, at) else None
     name = word_at(text, at)
     if rule == "F5":
         return of_unknown(text, name, at)
@@ -320,8 +361,10 @@ def repair(text: bytes, rule: str, at: int) -> str | None:
 def notes(text: bytes, rule: str, at: int) -> list[tuple[int | None, str]]:
     """The notes beside a fault of a text, each with its offset, if it has one."""
     if rule == "F15":
-        found = lender(text, at)
-        return [(found[0].at, f"`{cut(found[0].text)}` doesn't see the clocks of those that call it")] if found else []
+        found, finish = lender(text, at), plain_finish(text, at)
+        if found:
+            return [(found[0].at, f"`{cut(found[0].text)}` doesn't see the clocks of those that call it")]
+        return [(finish.at, "this `finish` has no clock")] if finish else []
     if rule not in ON_NAMES:
         return []
     name = word_at(text, at)

@@ -38,7 +38,11 @@ class Program:
         """The line and column that a frame's next instruction comes from; a module alone has none."""
         if self.is_module:
             return None
-        return explain.place_title(self.data, origins.origins(self.data)[frame.unit].offsets[frame.place])
+        return explain.place_title(self.data, self.offset(frame))
+
+    def offset(self, frame: Frame) -> int:
+        """The offset in a source text that it comes from."""
+        return origins.origins(self.data)[frame.unit].offsets[frame.place]
 
 
 def frame_before(taken: Taken) -> Frame:

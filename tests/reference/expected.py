@@ -11,6 +11,7 @@ from tests.reference.source import Fault, Sort, Token, parse, tokens_of
 ALONE = """; , ) } ( { = : . .. + - * == != < <= > >= shared def else in async finish Clock Long
     Math min make resume drop advanceAll OUT println""".split()
 END = "the end of the text"
+BEGINS_NO_FURTHER = "its `}` is missing before this line, which begins no further right"
 # A name that no place of the grammar wants by its letters.
 ANY = "anything"
 # What a group is called, by which tokens it is known, and the tokens that aren't named alone beside it.
@@ -91,6 +92,9 @@ def repair(text: bytes, rule: str, at: int, is_advised: bool) -> str | None:
         return None
     if is_closed_too_often(text, at):
         return "take this `)` away: no `(` is open"
+    place = missing_brace(text, at)
+    if place is not None:
+        return "write `}}` before {}:{}".format(*line_and_column(text, place))
     signs = missing(text, at)
     if len(signs) == 1:
         return f"write `{signs[0]}` before it"
@@ -104,8 +108,14 @@ def indent(text: bytes, at: int) -> int:
     return len(line) - len(line.lstrip(b" \t"))
 
 
-def unclosed(text: bytes, at: int) -> Token | None:
-    """The bracket that is open at an offset, the last one; of braces the first whose `}` stands further left."""
+def is_at_end(text: bytes, at: int) -> bool:
+    """Whether the text ends at an offset, or goes on with a method."""
+    token = next_tokens(text, at)[0]
+    return token.sort is Sort.END or token.text == "def"
+
+
+def brackets(text: bytes, at: int) -> tuple[Token | None, Token | None]:
+    """The last bracket that is open at an offset, and the first `{` before it whose `}` stands further left."""
     opened, left = [], None
     for token in tokens_of(text):
         if token.at >= at:
@@ -116,9 +126,30 @@ def unclosed(text: bytes, at: int) -> Token | None:
             closed = opened.pop()
             if token.text == "}" and left is None and indent(text, token.at) < indent(text, closed.at):
                 left = closed
-    if opened and opened[-1].text == "{":
-        return left or opened[-1]
-    return opened[-1] if opened else None
+    return (opened[-1] if opened else None), left
+
+
+def unclosed(text: bytes, at: int) -> Token | None:
+    """The bracket that isn't closed: the last that is open; of braces the first whose `}` stands further left."""
+    last, left = brackets(text, at)
+    return left if left and last and last.text == "{" else last
+
+
+def missing_brace(text: bytes, at: int) -> int | None:
+    """Where the `}` is missing of a `{` whose `}` stands further left: before the next line that begins no further
+    right than the line of the `{`."""
+    last, left = brackets(text, at)
+    if not is_at_end(text, at) or not left or not last or last.text != "{":
+        return None
+    behind = text.find(b"\n", left.at)
+    starts = [token.at for token in tokens_of(text) if token.at > behind]
+    return next((start for start in starts if indent(text, start) <= indent(text, left.at)), None)
+
+
+def line_and_column(text: bytes, at: int) -> tuple[int, int]:
+    """The place of an offset, in characters."""
+    front = text[:at].rpartition(b"\n")[2]
+    return text.count(b"\n", 0, at) + 1, sum(not 0x80 <= byte <= 0xBF for byte in front) + 1
 
 
 def told(text: bytes, at: int) -> list[str]:
@@ -138,6 +169,7 @@ def notes(text: bytes, rule: str, at: int) -> list[tuple[int | None, str]]:
     if rule != "F2":
         return []
     found: list[tuple[int | None, str]] = [(None, "could stand here: " + ", ".join(told(text, at)))]
-    token = next_tokens(text, at)[0]
-    bracket = unclosed(text, at) if token.sort is Sort.END or token.text == "def" else None
-    return found + ([(bracket.at, f"this `{bracket.text}` is not closed")] if bracket else [])
+    bracket = unclosed(text, at) if is_at_end(text, at) else None
+    place = missing_brace(text, at)
+    found += [(bracket.at, f"this `{bracket.text}` is not closed")] if bracket else []
+    return found + ([(place, BEGINS_NO_FURTHER)] if place is not None else [])

@@ -280,6 +280,7 @@ def between(what: str, kept: bytes, rest: bytes, blanked: bytes) -> bool | None:
         "a word before a `;`, behind a name alone": word != b"" and is_alone(kept) and behind_word.startswith(b";"),
         "`.`, at a name before a `(`": kept.endswith(b".") and behind_word.startswith(b"("),
         "`:`, behind a name alone": rest.startswith(b":") and is_alone(kept),
+        "`x10log`, behind nothing": word == b"x10log" and not kept,
         "`val`, `var`, behind nothing or a `;`": word in (b"val", b"var") and (not kept or kept.endswith(b";")),
         "`;` behind a lone `next`, `advance`, `barrier`": rest.startswith(b";")
         and last in (b"next", b"advance", b"barrier")

@@ -8,10 +8,11 @@ from collections.abc import Iterator
 from dataclasses import dataclass, field
 from itertools import combinations
 
-from tests.reference import events
+from tests.reference import events, explain
 from tests.reference.events import Program
 from tests.reference.logs import Played, Taken
 from tests.reference.modules import Frame, Standing
+from tests.reference.naming import Naming
 
 AWAITED = (Standing.OPEN, Standing.AHEAD)
 ACCESSES = ("Got", "Put", "Added")
@@ -132,17 +133,31 @@ def print_words(program: Program, played: Played, past: dict[int, int]) -> str:
     return IN_ORDER
 
 
+def numbered(program: Program, number: int, first: Taken, second: Taken) -> str:
+    """A race of a module's run, on a line."""
+    one, other = (f"{step_words(program, taken)} {events.words(taken)}" for taken in (first, second))
+    return f"race shared {number}: {one}, {other}\n"
+
+
+def named(naming: Naming, number: int, first: Taken, second: Taken) -> str:
+    """A race of a source text's run: by names and with values, and with the line of each access."""
+
+    def access(taken: Taken) -> str:
+        text = naming.program.data
+        at = min(naming.program.offset(frame(taken)), len(text))
+        return f"{naming.told(taken)}\n{explain.excerpt(text, at, 1)}"
+
+    return f"race on {naming.shared[number]}\n{access(first)}{access(second)}"
+
+
 def races(program: Program, played: Played) -> str:
     past = pasts(played)
-    def access(taken: Taken) -> str:
-        return f"{step_words(program, taken)} {events.words(taken)}"
-
-    lines = [
-        f"race shared {number}: {access(first)}, {access(second)}\n" for number, first, second in found(played, past)
-    ]
-    if lines:
-        count = f"{len(lines)}" if len(lines) <= SHOWN else f"{SHOWN} and more"
-        return "".join(lines[:SHOWN]) + f"races {count}\n" + "of this run alone\n"
+    pairs = list(found(played, past))
+    if pairs:
+        naming = None if program.is_module else Naming(program, played)
+        told = (named(naming, *pair) if naming else numbered(program, *pair) for pair in pairs[:SHOWN])
+        count = f"{len(pairs)}" if len(pairs) <= SHOWN else f"{SHOWN} and more"
+        return "".join(told) + f"races {count}\n" + "of this run alone\n"
     prints = print_words(program, played, past)
     order = " in this order" if prints == IN_ORDER else ""
     return f"races 0\n{prints}every schedule prints these numbers{order}\n"

@@ -2,8 +2,8 @@
 where its instructions come from.
 
 Beside V8, V9 and V12 stands the other place that the rule speaks of, beside V9 who waits for whom, beside V11 to V13
-what the slot may hold when which thing is done with it, beside V14 to V17 the sum by its parts, and of a program that
-is accepted what its numbers come from.
+what the slot may hold when which thing is done with it, and of a clock that is dropped where, beside V14 to V17 the sum
+by its parts, and of a program that is accepted what its numbers come from.
 """
 
 from __future__ import annotations
@@ -23,7 +23,8 @@ Note = tuple[int | None, str]
 # Numbers up to this one are printed in digits.
 MOST_TOLD = 10**18
 FAULT = re.compile(
-    r"(?P<rule>V\d+) \w+ (?:unit (?P<unit>\d+) at (?P<at>\d+)(?: slot (?P<slot>\d+) (?P<kind>\w+))?|over \d+)"
+    r"(?P<rule>V\d+) \w+ (?:unit (?P<unit>\d+) at (?P<at>\d+)"
+    r"(?: slot (?P<slot>\d+) (?P<kind>\w+) walk (?P<walk>.*))?|over \d+)"
 )
 LOOPS = ("for", "forto")
 
@@ -149,6 +150,19 @@ def beside_kind(module: Module, number: int, place: int, slot: int, kind: str, s
     return speaker.at(number, place, f"{speaker.slot(number, slot)} {HOLDS[kind]} {done}")
 
 
+def beside_dropped(number: int, unit: Unit, slot: int, walk: list[int], speaker: Speaker) -> Iterator[Note]:
+    """Where the clock of a slot is dropped on a walk to where it may be dropped already, if that is elsewhere: the last
+    time."""
+    found, is_out = None, False
+    for place in walk[:-1]:
+        if slot in unit.code[place].of(Role.LEAVE) and not is_out:
+            found, is_out = place, True
+        if slot in unit.code[place].of(Role.MAKE):
+            is_out = False
+    if found is not None and found != walk[-1]:
+        yield speaker.at(number, found, f"{speaker.slot(number, slot)} is dropped here")
+
+
 # Sums.
 
 
@@ -257,8 +271,13 @@ def of_refused(data: bytes, said: str, is_module: bool) -> list[Note]:
         return list(beside_registers(module, number, place, speaker))
     if rule == "V8":
         return list(beside_home(number, module.units[number], place, speaker))
-    kind = beside_kind(module, number, place, int(found["slot"]), found["kind"], speaker)
-    return [kind, *(beside_held(number, module.units[number], place, speaker) if rule == "V12" else ())]
+    unit, slot = module.units[number], int(found["slot"])
+    notes = [beside_kind(module, number, place, slot, found["kind"], speaker)]
+    if rule == "V12":
+        notes += beside_held(number, unit, place, speaker)
+    if found["kind"] == "out":
+        notes += beside_dropped(number, unit, slot, list(map(int, found["walk"].split())), speaker)
+    return notes
 
 
 def of_accepted(data: bytes, is_module: bool) -> list[Note]:

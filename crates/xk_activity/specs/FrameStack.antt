@@ -1,5 +1,5 @@
 -- How the frames of an activity lie on one stack of words, and the room that they keep. This project's own.
-use Rattle.std.specs.Prelude.{ℕ, ℤ, ◌≡◌, ◌+◌, ◌<◌, ◌≤◌, List, [], ◌∷◌, length, max, take, drop, map, All, Some, slice_get, slice_index_or, slice_set}
+use Rattle.std.specs.Prelude.{Bool, true, false, ℕ, ℤ, ◌≡◌, ◌+◌, ◌<◌, ◌≤◌, List, [], ◌∷◌, length, max, take, drop, map, All, Some, slice_get, slice_index_or, slice_set}
 use Rattle.xk_types.specs.declared.world.Value.{Value}
 use Rattle.xk_types.specs.declared.world.Value.TheVariants as value
 use Rattle.xk_types.specs.declared.instr.Instr.TheVariants as instr
@@ -78,6 +78,11 @@ pub record CanCall (fs : FramesValue) (t : ℕ) (args : List ℕ) : Type 0 where
 -- with another place
 abbrev pub placed : FramesValue → ℕ → FramesValue
 placed fs p = record fs { frame = record fs.frame { place = p } }
+
+-- the nearest of these frames that wait in place of the present one, and whether there is one
+abbrev pub outer : FramesValue → List Frame → Bool × FramesValue
+outer fs [] = (false, fs)
+outer fs (g ∷ gs) = (true, record fs { frame = g; callers = gs })
 
 -- with another value in slot s of the present frame
 abbrev pub with_slot : FramesValue → ℕ → Value → FramesValue

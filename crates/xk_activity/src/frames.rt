@@ -10,7 +10,7 @@ ghost use Rattle.xk_types.specs.World.{instruction_at, slots_of};
 ghost use Rattle.xk_types.specs.Bound.{stack_of, frames_of};
 ghost use Rattle.xk_activity.specs.Local.{Beyond, Stepped, IsRight, IsSafe, local, ran, turn, code_of, spot_of, spot_at, begun, called, returning, is_stepped};
 ghost use Rattle.xk_activity.specs.Interpreter.{Answers, IsNear};
-ghost use Rattle.xk_activity.specs.FrameStack.{CanCall, Does, values_at, placed, with_slot};
+ghost use Rattle.xk_activity.specs.FrameStack.{CanCall, Does, outer, values_at, placed, with_slot};
 ghost use Rattle.xk_activity.specs.Slots.{values_of};
 
 use crate::caller::Caller;
@@ -307,6 +307,31 @@ impl<'m> Frames<'m> {
         self.place = 0;
         self.marks = marks;
         self.base = top;
+    }
+
+    /// How many slots the present frame has.
+    pub fn slot_count(&self) -> usize
+        ensures { result ≡ length self.now.frame.slots }
+    {
+        self.stack.len() - self.base
+    }
+
+    /// Puts the nearest frame that waits in place of the present one, at its `call`, and returns whether there was one: so one looks at
+    /// those that called. No step of a run does that.
+    pub fn up(&mut self) -> bool
+        ensures { (result, self.new) ≡ outer self.old self.old.callers }
+    {
+        match self.callers.pop() {
+            Some(c) => {
+                self.stack.truncate(self.base);
+                self.unit = c.unit;
+                self.place = c.place as u32;
+                self.marks = c.marks;
+                self.base = c.base;
+                true
+            }
+            None => false,
+        }
     }
 
     /// Goes back into the nearest frame that waits, behind its `call`, if one does.

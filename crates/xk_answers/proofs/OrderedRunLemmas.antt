@@ -104,7 +104,8 @@ is_picture (picture.Page window) kind bytes from m args es last told is h =
     let shared = map (λ x. x.now) from.shared.items in
     (shared, (is.1 refl).1, (from.origins, (is.1 refl).0, h ∙ ap (λ t. page_told t window m es last shared from.origins) is.0))
 is_picture picture.Races kind bytes from m args es last told is h =
-    (from.origins, (is.1 refl).0, h ∙ ap (λ t. races_told t m args es from.origins) is.0)
+    let shared = map (λ x. x.now) from.shared.items in
+    (shared, (is.1 refl).1, (from.origins, (is.1 refl).0, h ∙ ap (λ t. races_told t m args es shared from.origins) is.0))
 is_picture picture.Span kind bytes from m args es last told is h =
     (from.origins, (is.1 refl).0, h ∙ ap (λ t. span_told t m args es from.origins) is.0)
 

@@ -30,6 +30,7 @@ use Rattle.xk_show_picture.specs.Picture.{is_drawn, named_picture_text, picture_
 use Rattle.xk_show_page.specs.Page.{named_page_text, page_text}
 use Rattle.xk_races.specs.Races.{is_race_free}
 use Rattle.xk_races.specs.Text.{races_text}
+use Rattle.xk_show_races.specs.Text.{named_races_text}
 use Rattle.xk_show_span.specs.Text.{span_text}
 use Rattle.xk_show_where.specs.Where.{are_steps_legal, named_where_text, where_text}
 use Rattle.xk_answers.specs.Beginnings.{first_steps, steps_in}
@@ -179,9 +180,13 @@ page_told text window m log last shared origins = (page_of text shared window m 
 abbrev pub span_told : List ℕ → ModuleValue → List ℤ → List Entry → Option (List UnitOrigins) → Tale
 span_told text m args log origins = (span_text (places_in text origins) m args log, is_race_free m args log)
 
--- its races
-abbrev pub races_told : List ℕ → ModuleValue → List ℤ → List Entry → Option (List UnitOrigins) → Tale
-races_told text m args log origins = (races_text (places_in text origins) m args log, is_race_free m args log)
+-- its races; of a source text by names, where its shared numbers have these, and with values
+abbrev pub races_of : List ℕ → List (List ℕ) → ModuleValue → List ℤ → List Entry → Option (List UnitOrigins) → List ℕ
+races_of text shared m args log None = races_text no_text m args log
+races_of text shared m args log (Some origins) = named_races_text (places_in text (Some origins)) shared m args log
+
+abbrev pub races_told : List ℕ → ModuleValue → List ℤ → List Entry → List (List ℕ) → Option (List UnitOrigins) → Tale
+races_told text m args log shared origins = (races_of text shared m args log origins, is_race_free m args log)
 
 -- how things stand behind the steps of a log, as far as they can be taken; of a source text by names, where its shared numbers have these
 abbrev pub standings_of : List ℕ → List (List ℕ) → ModuleValue → List ℤ → List Entry → Option (List UnitOrigins) → List ℕ

@@ -145,7 +145,7 @@ ComesTo (Expected sets limit) m args logged d = IsAccepted m × IsHeldOut m args
 ComesTo _ m args logged _ = ⊥
 
 -- What is told of a run of the module that the bytes give, by their lines where they are a source text: its chart; by their names, too,
--- what others see of its steps, and the same with a lane for each activity, also as an image or as a page; its races; or how long it had
+-- what others see of its steps, the same with a lane for each activity, also as an image or as a page, and its races; or how long it had
 -- to take.
 abbrev pub IsPicture : Picture → Form → List ℕ → ModuleValue → List ℤ → List Entry → World → Tale → Type 0
 IsPicture picture.Chart kind bytes m args es last told = told ≡ all_told (chart_text m args es)
@@ -153,7 +153,7 @@ IsPicture picture.Events kind bytes m args es last told = IsByNames kind bytes (
 IsPicture (picture.Lanes window) kind bytes m args es last told = IsByNames kind bytes (lanes_told bytes window m es last) told
 IsPicture (picture.Image window) kind bytes m args es last told = IsByNames kind bytes (image_told bytes window m es last) told
 IsPicture (picture.Page window) kind bytes m args es last told = IsByNames kind bytes (page_told bytes window m es last) told
-IsPicture picture.Races kind bytes m args es last told = IsByOrigins kind bytes (races_told bytes m args es) told
+IsPicture picture.Races kind bytes m args es last told = IsByNames kind bytes (races_told bytes m args es) told
 IsPicture picture.Span kind bytes m args es last told = IsByOrigins kind bytes (span_told bytes m args es) told
 
 -- whether it is told by the lines of a source text
@@ -168,7 +168,7 @@ picture_told picture.Events bytes shared m args es last origins = events_told by
 picture_told (picture.Lanes window) bytes shared m args es last origins = lanes_told bytes window m es last shared origins
 picture_told (picture.Image window) bytes shared m args es last origins = image_told bytes window m es last shared origins
 picture_told (picture.Page window) bytes shared m args es last origins = page_told bytes window m es last shared origins
-picture_told picture.Races bytes shared m args es last origins = races_told bytes m args es origins
+picture_told picture.Races bytes shared m args es last origins = races_told bytes m args es shared origins
 picture_told picture.Span bytes shared m args es last origins = span_told bytes m args es origins
 
 -- Where things stand behind the steps of a log, or behind so many, is told by the lines and names of a source text. The log need not be
@@ -180,7 +180,7 @@ IsWhereabouts at kind bytes m args logged told =
 -- the races of the run in the order `first` are told
 abbrev pub AreFirstRaces : Form → List ℕ → ModuleValue → List ℤ → Tale → Type 0
 AreFirstRaces kind bytes m args told = (numbers : List ℤ) × (steps : ℕ) × (es : List Entry) × IsLoggedRun order.First m args numbers steps es
-    × IsByOrigins kind bytes (races_told bytes m args es) told
+    × IsByNames kind bytes (races_told bytes m args es) told
 
 -- so many runs by chance, from this seed on, are told as a tally
 abbrev pub IsTallied : ModuleValue → List ℤ → ℕ → ℕ → Tale → Type 0

@@ -18,7 +18,7 @@ use std::alloc::{AllocError, Global};
 use xk_bounds::Verified;
 use xk_origins::UnitOrigins;
 use xk_program::{Fault, Program, Provenance, runnable};
-use xk_races::{module_races, source_races};
+use xk_races::module_races;
 use xk_replay::chart;
 use xk_scheduler::Ended;
 use xk_show_events::module_events;
@@ -26,6 +26,7 @@ use xk_show_lanes::{Window, lanes_with_names, module_lanes};
 use xk_show_names::named_events;
 use xk_show_page::{module_page, source_page};
 use xk_show_picture::{module_picture, source_picture};
+use xk_show_races::source_races;
 use xk_show_span::{module_span, source_span};
 use xk_types::Source;
 
@@ -315,7 +316,7 @@ fn named_page_of(
     })
 }
 
-/// The races of a run that came to its end.
+/// The races of a run that came to its end; of a source text by names, and with values.
 pub(crate) fn races_of(
     alloc: Global,
     from: &Provenance<'_>,
@@ -323,12 +324,34 @@ pub(crate) fn races_of(
 ) -> Result<Tale, AllocError>
     ensures { IfOk result (λ tale. (tale.text.items, tale.whole)
         ≡ races_told from.now.text.now ended.now.module.now
-        ended.now.core.world.arguments ended.now.log.items from.now.origins) }
+        ended.now.core.world.arguments ended.now.log.items
+        (map (λ x. x.now) from.now.shared.items) from.now.origins) }
 {
-    let report = match &from.origins {
-        Some(origins) => source_races(alloc, from.text, origins.units(), ended)?,
-        None => module_races(alloc, ended)?,
-    };
+    match &from.origins {
+        Some(origins) => named_races_of(alloc, from, origins.units(), ended),
+        None => {
+            let report = module_races(alloc, ended)?;
+            Ok(Tale {
+                text: report.text,
+                whole: report.free,
+            })
+        }
+    }
+}
+
+/// The same of a source text whose units have these origins.
+fn named_races_of(
+    alloc: Global,
+    from: &Provenance<'_>,
+    units: &[UnitOrigins<'_>],
+    ended: &Ended<'_>,
+) -> Result<Tale, AllocError>
+    ensures { IfOk result (λ tale. (tale.text.items, tale.whole)
+        ≡ races_told from.now.text.now ended.now.module.now
+        ended.now.core.world.arguments ended.now.log.items
+        (map (λ x. x.now) from.now.shared.items) (Some units.now)) }
+{
+    let report = source_races(alloc, from.text, units, &from.shared, ended)?;
     Ok(Tale {
         text: report.text,
         whole: report.free,

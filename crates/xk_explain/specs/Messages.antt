@@ -76,8 +76,8 @@ rule_repair rule.Home = codes "let the caller drop it; in a module, make each cl
 rule_repair rule.Registers =
     codes "make the clock in the finish and drop it before its end, as `clocked finish` does; or hand it on outside of the finish"
 rule_repair rule.SameClock = codes "name each clock once"
-rule_repair rule.Use = codes "use a clock only while it is registered: drop it behind the loop, or in both branches or none"
-rule_repair rule.Held = codes "drop it before the end of the finish, on every way; or write `clocked finish`"
+rule_repair rule.Use = codes "drop a clock once, behind its last use, in the block of its `val` or `async`"
+rule_repair rule.Held = codes "drop it before the end of the finish, on every way; the clock of a `clocked finish` needs no drop"
 rule_repair rule.Leak = codes "drop it before it is made anew, and before the end of the method"
 rule_repair rule.Steps = codes "loops in one another multiply their turns: have fewer, or smaller bounds"
 rule_repair rule.Activities = codes "start fewer, each with more to do: an `async` in a loop counts in each turn"

@@ -96,10 +96,9 @@ pub fn rule_repair(rule: Rule) -> &'static str
         Rule::Registers =>
             "make the clock in the finish and drop it before its end, as `clocked finish` does; or hand it on outside of the finish",
         Rule::SameClock => "name each clock once",
-        Rule::Use =>
-            "use a clock only while it is registered: drop it behind the loop, or in both branches or none",
+        Rule::Use => "drop a clock once, behind its last use, in the block of its `val` or `async`",
         Rule::Held =>
-            "drop it before the end of the finish, on every way; or write `clocked finish`",
+            "drop it before the end of the finish, on every way; the clock of a `clocked finish` needs no drop",
         Rule::Leak => "drop it before it is made anew, and before the end of the method",
         Rule::Steps => "loops in one another multiply their turns: have fewer, or smaller bounds",
         Rule::Activities =>

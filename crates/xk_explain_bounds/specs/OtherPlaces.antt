@@ -1,11 +1,14 @@
 -- The other places that a rule on clocks speaks of: where a clock is made, and which finish is open. This project's own.
-use Rattle.std.specs.Prelude.{ℕ, suc, ◌-◌, nat_lt, Bool, true, not, ◌&&◌, List, [], ◌∷◌, ◌++◌, length, take, Option, Some, None, option_map}
-use Rattle.std.specs.Prelude.{option_and_then, slice_get, if◌then◌else◌}
+use Rattle.std.specs.Prelude.{ℕ, suc, ◌-◌, nat_eq, nat_lt, Bool, true, false, not, ◌&&◌, List, [], ◌∷◌, ◌++◌, length, take}
+use Rattle.std.specs.Prelude.{Option, Some, None, option_map, option_and_then, slice_get, if◌then◌else◌}
 use Rattle.std.specs.Option.{option_map_or}
 use Rattle.xk_types.specs.declared.instr.Instr.{Instr}
 use Rattle.xk_types.specs.declared.instr.Instr.TheVariants as instr
 use Rattle.xk_types.specs.declared.rules.Rule.{Rule}
 use Rattle.xk_types.specs.declared.rules.Rule.TheVariants as rule
+use Rattle.xk_types.specs.declared.rules.Kind.{Kind}
+use Rattle.xk_types.specs.declared.rules.Kind.TheVariants as kind
+use Rattle.xk_types.specs.declared.rules.Visit.{Visit}
 use Rattle.xk_types.specs.Code.{ModuleValue, UnitValue, clock_arguments, params_of}
 use Rattle.xk_types.specs.Blocks.{block_at, makes, same_block, takes_clock}
 use Rattle.xk_shape.specs.declared.fault.ShapeFault.{ShapeFault}
@@ -118,6 +121,34 @@ abbrev pub held_remarks : ℕ → Instr → List Remark
 held_remarks unit (instr.EndFinish b) = here unit fact.Begins b ∷ []
 held_remarks unit _ = []
 
+-- ---- V11: where a clock is dropped that may be dropped already
+
+abbrev pub is_out : Kind → Bool
+is_out kind.Out = true
+is_out _ = false
+
+-- at a stop of a walk, before which the slot is of this kind
+abbrev pub drops : ℕ → Kind → Option Instr → Bool
+drops s k (Some (instr.Drop d)) = nat_eq d s && not (is_out k)
+drops s k _ = false
+
+abbrev pub is_dropped : UnitValue → ℕ → Visit → Bool
+is_dropped u s v = drops s v.kind (slice_get u.code v.at)
+
+-- the last such stop
+abbrev pub last_drop : UnitValue → ℕ → Option ℕ → List Visit → Option ℕ
+last_drop u s found [] = found
+last_drop u s found (v ∷ vs) = last_drop u s (if is_dropped u s v then Some v.at else found) vs
+
+-- if that is elsewhere than at the place refused, where a walk comes back to it
+abbrev pub elsewhere : ℕ → Option ℕ → Option ℕ
+elsewhere at None = None
+elsewhere at (Some found) = if nat_eq found at then None else Some found
+
+abbrev pub drop_remark : UnitValue → KindFault → Option Remark
+drop_remark u f =
+    if is_out f.kind then option_map (here f.unit (fact.Dropped f.slot)) (elsewhere f.at (last_drop u f.slot None f.walk.items)) else None
+
 -- ---- faults
 
 -- beside an instruction of a unit that breaks a rule on shape
@@ -126,17 +157,19 @@ shape_remarks_at rule.Home m unit u at i = home_remarks unit u at i
 shape_remarks_at rule.Registers m unit u at i = registers_remarks m unit u at i
 shape_remarks_at _ m unit u at i = []
 
--- beside one whose slot is of the wrong kind: what that may hold, and what is done with it; and for V12 where the finish begins
+-- beside one whose slot is of the wrong kind: what that may hold, and what is done with it; for V12 where the finish begins; and where a
+-- clock is dropped that may be dropped already
 abbrev pub begin_remarks : Rule → ℕ → Instr → List Remark
 begin_remarks rule.Held unit i = held_remarks unit i
 begin_remarks _ unit i = []
 
-abbrev pub kind_remarks_at : KindFault → Instr → List Remark
-kind_remarks_at f i = here f.unit (fact.Holds f.slot f.kind (deed_of i)) f.at ∷ begin_remarks f.rule f.unit i
+abbrev pub kind_remarks_at : UnitValue → KindFault → Instr → List Remark
+kind_remarks_at u f i =
+    (here f.unit (fact.Holds f.slot f.kind (deed_of i)) f.at ∷ begin_remarks f.rule f.unit i) ++ listed (drop_remark u f)
 
 abbrev pub shape_remarks : ModuleValue → ShapeFault → List Remark
 shape_remarks m f =
     option_map_or (λ u. option_map_or (shape_remarks_at f.rule m f.unit u f.at) (slice_get u.code f.at) []) (slice_get m.units f.unit) []
 
 abbrev pub kind_remarks : ModuleValue → KindFault → List Remark
-kind_remarks m f = option_map_or (λ u. option_map_or (kind_remarks_at f) (slice_get u.code f.at) []) (slice_get m.units f.unit) []
+kind_remarks m f = option_map_or (λ u. option_map_or (kind_remarks_at u f) (slice_get u.code f.at) []) (slice_get m.units f.unit) []

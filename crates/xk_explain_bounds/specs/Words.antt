@@ -17,19 +17,18 @@ use Rattle.xk_explain_bounds.specs.Amounts.{amount, counted}
 
 -- ---- names
 
--- `unit 2`
-abbrev pub numbered : ℕ → List ℕ
-numbered unit = codes "unit " ++ decimal unit
+-- a unit by its name, with no more than 60 letters of it; by these words, if it has none; or by its number: `unit 2`
+abbrev pub unit_words : List ℕ → List UnitOrigins → ℕ → List ℕ
+unit_words nameless origins unit =
+    option_map_or (λ u. option_map_or told_name u.head.name nameless) (slice_get origins unit) (codes "unit " ++ decimal unit)
 
--- a unit that is spoken of at its own place, with no more than 60 letters of its name: `main`, ``this `async` ``
+-- one that is spoken of at its own place: `main`, ``this `async` ``
 abbrev pub this_unit : List UnitOrigins → ℕ → List ℕ
-this_unit origins unit =
-    option_map_or (λ u. option_map_or told_name u.head.name (codes "this `async`")) (slice_get origins unit) (numbered unit)
+this_unit origins unit = unit_words (codes "this `async`") origins unit
 
--- a unit that is spoken of at a place in it: `main`, ``the `async` around it``
+-- one that is spoken of at a place in it: `main`, ``the `async` around it``
 abbrev pub unit_around : List UnitOrigins → ℕ → List ℕ
-unit_around origins unit =
-    option_map_or (λ u. option_map_or told_name u.head.name (codes "the `async` around it")) (slice_get origins unit) (numbered unit)
+unit_around origins unit = unit_words (codes "the `async` around it") origins unit
 
 -- a slot of a unit: `` `c` ``, or `slot 3`
 abbrev pub slot_words : List UnitOrigins → ℕ → ℕ → List ℕ
@@ -99,6 +98,7 @@ words origins unit (fact.Clocks n) = this_unit origins unit ++ most_words (codes
 words origins unit (fact.Slots own all) = this_unit origins unit ++ slots_words own all
 words origins unit (fact.Made s) = slot_words origins unit s ++ codes " is made here"
 words origins unit (fact.Outside s) = slot_words origins unit s ++ codes " comes from outside"
+words origins unit (fact.Dropped s) = slot_words origins unit s ++ codes " is dropped here"
 words origins unit fact.Open = codes "this finish is open"
 words origins unit fact.Begins = codes "the finish begins here"
 words origins unit (fact.Holds s k d) = (slot_words origins unit s ++ may_hold k) ++ deed_words origins unit d

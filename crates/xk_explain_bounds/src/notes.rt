@@ -1,6 +1,6 @@
 //! The notes on what the verifier says of a module.
 
-ghost use Rattle.std.specs.Prelude.{◌≡◌, ◌++◌, [], ◌∷◌, map, IfOk, OnOk};
+ghost use Rattle.std.specs.Prelude.{◌≡◌, map, IfOk};
 ghost use Rattle.xk_explain_bounds.specs.Notes.{accepted_notes, module_notes, refusal_notes, refusal_remarks};
 ghost use Rattle.xk_explain_bounds.specs.Words.{note_of};
 
@@ -64,20 +64,6 @@ fn refusal_remarks(alloc: Global, m: &Module, refusal: &Refusal) -> Result<Vec<R
     }
 }
 
-/// Adds the note of a remark.
-fn push_note(
-    alloc: Global,
-    out: &mut Vec<Note>,
-    origins: &[UnitOrigins<'_>],
-    remark: Remark,
-) -> Result<(), AllocError>
-    ensures { OnOk result
-        (out.new.items ≡ out.old.items ++ note_of origins.now remark ∷ []) }
-{
-    out.push(note_of(alloc, origins, remark)?)?;
-    Ok(())
-}
-
 /// The notes of remarks.
 fn notes_of(
     alloc: Global,
@@ -88,7 +74,7 @@ fn notes_of(
 {
     let mut out = Vec::new(alloc);
     for remark in remarks {
-        push_note(alloc, &mut out, origins, *remark)?;
+        out.push(note_of(alloc, origins, *remark)?)?;
     }
     Ok(out)
 }

@@ -7,12 +7,12 @@ ghost use Rattle.xk_shape.specs.Arguments.{clocks};
 ghost use Rattle.xk_explain_bounds.specs.OtherPlaces.{deed_of, first_elsewhere, first_home, handed_on, held_remarks, here, home_remarks};
 ghost use Rattle.xk_explain_bounds.specs.OtherPlaces.{home_slot, is_before, is_outside, kind_remarks, kind_remarks_at, listed, made_before};
 ghost use Rattle.xk_explain_bounds.specs.OtherPlaces.{makes_elsewhere, on_unit, other_home, registers_remarks, remarks_on, shape_remarks};
-ghost use Rattle.xk_explain_bounds.specs.OtherPlaces.{waits_at};
+ghost use Rattle.xk_explain_bounds.specs.OtherPlaces.{drop_remark, is_dropped, is_out, waits_at};
 
 use crate::remark::{Deed, Fact, Remark};
 use std::alloc::{AllocError, Global};
 use xk_shape::{Arguments, ShapeFault, params_of};
-use xk_types::{Instr, Module, ParamKind, Rule, Unit};
+use xk_types::{Instr, Kind, Module, ParamKind, Rule, Unit, Visit};
 use xk_typestate::KindFault;
 
 /// A remark on a place of a unit.
@@ -379,13 +379,54 @@ pub(crate) fn shape_remarks(
     }
 }
 
+/// Whether a slot holds a clock that is dropped.
+fn is_out(kind: Kind) -> bool
+    ensures { result ≡ is_out kind }
+{
+    match kind {
+        Kind::Unset | Kind::Number | Kind::Live | Kind::Resumed => false,
+        Kind::Out => true,
+    }
+}
+
+/// Whether a slot's clock is dropped at a stop of a walk.
+fn is_dropped(u: &Unit, slot: u16, visit: Visit) -> bool
+    ensures { result ≡ is_dropped u.now slot visit }
+{
+    match u.code.get(visit.at as usize) {
+        Some(Instr::Drop(dropped)) => *dropped == slot && !is_out(visit.kind),
+        _ => false,
+    }
+}
+
+/// Where the clock is dropped that may be dropped already at the place refused, if that is elsewhere.
+fn drop_remark(u: &Unit, fault: &KindFault) -> Option<Remark>
+    ensures { result ≡ drop_remark u.now fault.now }
+{
+    if !is_out(fault.kind) {
+        return None;
+    }
+    let mut found = None;
+    for visit in &fault.walk {
+        if is_dropped(u, fault.slot, *visit) {
+            found = Some(visit.at);
+        }
+    }
+    let at = found?;
+    if at == fault.at {
+        return None;
+    }
+    Some(here(fault.unit, Fact::Dropped(fault.slot), at))
+}
+
 /// What is told beside an instruction whose slot is of the wrong kind.
 fn kind_remarks_at(
     alloc: Global,
+    u: &Unit,
     fault: &KindFault,
     instr: &Instr,
 ) -> Result<Vec<Remark>, AllocError>
-    ensures { IfOk result (λ v. v.items ≡ kind_remarks_at fault.now instr.now) }
+    ensures { IfOk result (λ v. v.items ≡ kind_remarks_at u.now fault.now instr.now) }
 {
     let holds = Fact::Holds {
         slot: fault.slot,
@@ -395,6 +436,9 @@ fn kind_remarks_at(
     let mut out = listed(alloc, Some(here(fault.unit, holds, fault.at)))?;
     if let Rule::Held = fault.rule {
         out.extend_from_slice(&held_remarks(alloc, fault.unit, instr)?)?;
+    }
+    if let Some(remark) = drop_remark(u, fault) {
+        out.push(remark)?;
     }
     Ok(out)
 }
@@ -413,5 +457,5 @@ pub(crate) fn kind_remarks(
     let Some(instr) = u.code.get(fault.at as usize) else {
         return Ok(Vec::new(alloc));
     };
-    kind_remarks_at(alloc, fault, instr)
+    kind_remarks_at(alloc, u, fault, instr)
 }

@@ -46,6 +46,8 @@ pub(crate) enum Fact {
     Made(u16),
     /// The clock of this slot comes from outside of the unit.
     Outside(u16),
+    /// The clock of this slot is dropped here, on the way to the place refused.
+    Dropped(u16),
     /// The finish that begins here is open at the place refused.
     Open,
     /// The finish that ends at the place refused begins here.

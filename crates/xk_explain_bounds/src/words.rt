@@ -3,9 +3,9 @@
 ghost use Rattle.std.specs.Prelude.{◌≡◌, ◌++◌, codes, IfOk, OnOk};
 ghost use Rattle.std.specs.Option.{option_map_or};
 ghost use Rattle.xk_explain_words.specs.Names.{told_name};
-ghost use Rattle.xk_explain_bounds.specs.Words.{deed_words, loop_words, may_hold, most_words, note_of, numbered, place_before, place_in};
-ghost use Rattle.xk_explain_bounds.specs.Words.{slot_words, slots_words, started_by, started_words, this_unit, times_words, unit_around};
-ghost use Rattle.xk_explain_bounds.specs.Words.{waits_words, words};
+ghost use Rattle.xk_explain_bounds.specs.Words.{deed_words, loop_words, may_hold, most_words, note_of, place_before, place_in};
+ghost use Rattle.xk_explain_bounds.specs.Words.{slot_words, slots_words, started_by, started_words, this_unit, times_words};
+ghost use Rattle.xk_explain_bounds.specs.Words.{unit_around, unit_words, waits_words, words};
 
 use crate::amounts::{amount, counted};
 use crate::remark::{Deed, Fact, Remark};
@@ -14,6 +14,12 @@ use xk_explain::{Note, slot_title};
 use xk_explain_words::told_name;
 use xk_origins::UnitOrigins;
 use xk_types::Kind;
+
+/// What stands for the name of an `async` at its own place.
+const THIS: &str = "this `async`";
+
+/// What stands for it at a place in it.
+const AROUND: &str = "the `async` around it";
 
 /// A text, byte by byte.
 fn text(alloc: Global, words: &str) -> Result<Vec<u8>, AllocError>
@@ -29,13 +35,6 @@ fn push_text(out: &mut Vec<u8>, words: &str) -> Result<(), AllocError>
     out.extend_from_slice(words.as_bytes())
 }
 
-/// A unit by its number: `unit 2`.
-fn numbered(alloc: Global, unit: u16) -> Result<Vec<u8>, AllocError>
-    ensures { IfOk result (λ v. v.items ≡ numbered unit) }
-{
-    text(alloc, format!(in alloc; "unit {unit}")?.as_str())
-}
-
 /// The name of a unit, no more than 60 letters of it, or what stands for that of one without a name.
 fn name_or(alloc: Global, u: &UnitOrigins<'_>, nameless: &str) -> Result<Vec<u8>, AllocError>
     ensures { IfOk result
@@ -47,23 +46,18 @@ fn name_or(alloc: Global, u: &UnitOrigins<'_>, nameless: &str) -> Result<Vec<u8>
     }
 }
 
-/// A unit that is spoken of at its own place.
-fn this_unit(alloc: Global, origins: &[UnitOrigins<'_>], unit: u16) -> Result<Vec<u8>, AllocError>
-    ensures { IfOk result (λ v. v.items ≡ this_unit origins.now unit) }
+/// A unit by its name, or by what stands for that, or by its number.
+fn unit_words(
+    alloc: Global,
+    origins: &[UnitOrigins<'_>],
+    unit: u16,
+    nameless: &str,
+) -> Result<Vec<u8>, AllocError>
+    ensures { IfOk result (λ v. v.items ≡ unit_words nameless.now origins.now unit) }
 {
     match origins.get(unit as usize) {
-        Some(u) => name_or(alloc, u, "this `async`"),
-        None => numbered(alloc, unit),
-    }
-}
-
-/// A unit that is spoken of at a place in it.
-fn unit_around(alloc: Global, origins: &[UnitOrigins<'_>], unit: u16) -> Result<Vec<u8>, AllocError>
-    ensures { IfOk result (λ v. v.items ≡ unit_around origins.now unit) }
-{
-    match origins.get(unit as usize) {
-        Some(u) => name_or(alloc, u, "the `async` around it"),
-        None => numbered(alloc, unit),
+        Some(u) => name_or(alloc, u, nameless),
+        None => text(alloc, format!(in alloc; "unit {unit}")?.as_str()),
     }
 }
 
@@ -148,7 +142,7 @@ fn loop_note(
 ) -> Result<Vec<u8>, AllocError>
     ensures { IfOk result (λ v. v.items ≡ loop_words turns all (unit_around origins.now unit)) }
 {
-    let around = unit_around(alloc, origins, unit)?;
+    let around = unit_words(alloc, origins, unit, AROUND)?;
     loop_words(alloc, turns, all, &around)
 }
 
@@ -164,9 +158,9 @@ fn run_note(
     ensures { IfOk result (λ v. v.items ≡ (this_unit origins.now run ++ done.now)
         ++ times_words times (unit_around origins.now unit)) }
 {
-    let around = unit_around(alloc, origins, unit)?;
+    let around = unit_words(alloc, origins, unit, AROUND)?;
     let often = times_words(alloc, times, &around)?;
-    let mut out = this_unit(alloc, origins, run)?;
+    let mut out = unit_words(alloc, origins, run, THIS)?;
     push_text(&mut out, done)?;
     out.extend_from_slice(&often)?;
     Ok(out)
@@ -182,7 +176,7 @@ fn make_note(
     ensures { IfOk result (λ v. v.items
         ≡ codes "a clock is made here" ++ times_words times (unit_around origins.now unit)) }
 {
-    let around = unit_around(alloc, origins, unit)?;
+    let around = unit_words(alloc, origins, unit, AROUND)?;
     let often = times_words(alloc, times, &around)?;
     let mut out = text(alloc, "a clock is made here")?;
     out.extend_from_slice(&often)?;
@@ -203,7 +197,7 @@ fn most_note(
         ≡ this_unit origins.now unit ++ most_words does.now n one.now many.now) }
 {
     let most = most_words(alloc, does, n, one, many)?;
-    let mut out = this_unit(alloc, origins, unit)?;
+    let mut out = unit_words(alloc, origins, unit, THIS)?;
     out.extend_from_slice(&most)?;
     Ok(out)
 }
@@ -219,7 +213,7 @@ fn slots_note(
     ensures { IfOk result (λ v. v.items ≡ this_unit origins.now unit ++ slots_words own all) }
 {
     let slots = slots_words(alloc, own, all)?;
-    let mut out = this_unit(alloc, origins, unit)?;
+    let mut out = unit_words(alloc, origins, unit, THIS)?;
     out.extend_from_slice(&slots)?;
     Ok(out)
 }
@@ -276,13 +270,13 @@ fn deed_words(
         Deed::Dropped => text(alloc, " when it is dropped here"),
         Deed::Started => text(alloc, " when it is handed on here"),
         Deed::Called(run) => {
-            let name = this_unit(alloc, origins, run)?;
+            let name = unit_words(alloc, origins, run, THIS)?;
             around(alloc, " when it is lent to ", &name, " here")
         }
         Deed::Finished => text(alloc, " when the finish ends here"),
         Deed::MadeAnew => text(alloc, " when it is made anew here"),
         Deed::Left => {
-            let name = this_unit(alloc, origins, unit)?;
+            let name = unit_words(alloc, origins, unit, THIS)?;
             around(alloc, " when ", &name, " ends here")
         }
         Deed::Other => text(alloc, " where it is used here"),
@@ -326,7 +320,7 @@ fn started_words(
 {
     match deed {
         Deed::Called(run) => {
-            let name = this_unit(alloc, origins, run)?;
+            let name = unit_words(alloc, origins, run, THIS)?;
             started_by(alloc, &name)
         }
         _ => text(alloc, "the one started here"),
@@ -396,6 +390,7 @@ fn words(
         Fact::Slots { own, all } => slots_note(alloc, origins, unit, own, all),
         Fact::Made(slot) => slot_note(alloc, origins, unit, slot, " is made here"),
         Fact::Outside(slot) => slot_note(alloc, origins, unit, slot, " comes from outside"),
+        Fact::Dropped(slot) => slot_note(alloc, origins, unit, slot, " is dropped here"),
         Fact::Open => text(alloc, "this finish is open"),
         Fact::Begins => text(alloc, "the finish begins here"),
         Fact::Holds { slot, kind, deed } => holds_note(alloc, origins, unit, slot, kind, deed),

@@ -1,12 +1,12 @@
 -- Brackets that are open at a place of a text. This project's own.
-use Rattle.std.specs.Prelude.{ℕ, ◌-◌, nat_lt, Bool, true, false, not, ◌&&◌, ◌||◌, List, [], ◌∷◌, ◌++◌, length, take, drop, slice_get}
-use Rattle.std.specs.Prelude.{Option, Some, None, unwrap_or, codes, if◌then◌else◌}
+use Rattle.std.specs.Prelude.{ℕ, ◌-◌, min, nat_le, nat_lt, Bool, true, false, not, ◌&&◌, ◌||◌, List, [], ◌∷◌, ◌++◌, length}
+use Rattle.std.specs.Prelude.{take, drop, slice_get, Option, Some, None, option_map, unwrap_or, codes, if◌then◌else◌}
 use Rattle.std.specs.List.{prefix_len}
 use Rattle.std.specs.Str.{bytes_eq}
 use Rattle.xk_lexer.specs.Tokens.{TokenValue}
-use Rattle.xk_lines.specs.Lines.{is_blank, line_start}
+use Rattle.xk_lines.specs.Lines.{is_blank, line_start, position_of}
 use Rattle.xk_explain_words.specs.Words.{begins, first_word}
-use Rattle.xk_explain.specs.Notes.{NoteValue}
+use Rattle.xk_explain.specs.Notes.{NoteValue, place_title}
 
 -- ---- which are open
 
@@ -79,10 +79,47 @@ abbrev pub unclosed_note : List ℕ → Option ℕ → List NoteValue
 unclosed_note text None = []
 unclosed_note text (Some at) = record { at = Some at; text = unclosed_text text at; repair = None } ∷ []
 
--- beside a fault at an offset, where these are the tokens
-abbrev pub bracket_notes : List ℕ → ℕ → List TokenValue → List NoteValue
-bracket_notes text at ts =
+-- ---- where the `}` is missing of a `{` whose `}` stands further left
+
+-- a line begins behind an offset, and no further right than the line of that
+abbrev pub stands_back : List ℕ → ℕ → ℕ → Bool
+stands_back text opened at = nat_lt opened (line_start text at) && nat_le (indent text at) (indent text opened)
+
+-- the first token of the first such line
+abbrev pub first_back : List ℕ → ℕ → List TokenValue → Option ℕ
+first_back text opened [] = None
+first_back text opened (t ∷ ts) = if stands_back text opened t.at then Some t.at else first_back text opened ts
+
+abbrev pub missing_by : List ℕ → List TokenValue → Option ℕ → Option ℕ → Option ℕ
+missing_by text ts None opened = None
+missing_by text ts (Some left) None = None
+missing_by text ts (Some left) (Some opened) = if is_brace_at text opened then first_back text left ts else None
+
+abbrev pub missing_before : List ℕ → ℕ → List TokenValue → Option ℕ
+missing_before text at ts =
+    if ends_all (drop at text) then missing_by text ts (left_before text at None [] ts) (last_open (open_before text at [] ts)) else None
+
+abbrev pub missing_notes : Option ℕ → List NoteValue
+missing_notes None = []
+missing_notes (Some at) =
+    record { at = Some at; text = codes "its `}` is missing before this line, which begins no further right"; repair = None } ∷ []
+
+-- ``write `}` before 4:5``
+unfoldable pub missing_text : List ℕ → ℕ → List ℕ
+missing_text text at = codes "write `}` before " ++ place_title (position_of text (min at (length text)))
+
+-- the repair, where it is known where that `}` is missing
+abbrev pub bracket_repair : List ℕ → ℕ → List TokenValue → Option (List ℕ)
+bracket_repair text at ts = option_map (missing_text text) (missing_before text at ts)
+
+-- ---- beside a fault at an offset, where these are the tokens
+
+abbrev pub unclosed_notes : List ℕ → ℕ → List TokenValue → List NoteValue
+unclosed_notes text at ts =
     if ends_all (drop at text) then unclosed_note text (unclosed text (left_before text at None [] ts) (last_open (open_before text at [] ts))) else []
+
+abbrev pub bracket_notes : List ℕ → ℕ → List TokenValue → List NoteValue
+bracket_notes text at ts = unclosed_notes text at ts ++ missing_notes (missing_before text at ts)
 
 -- a `)` stands where no `(` is open
 abbrev pub is_paren : List ℕ → Option ℕ → Bool

@@ -1,15 +1,16 @@
 //! Brackets that are open at a place of a text.
 
-ghost use Rattle.std.specs.Prelude.{◌≡◌, ◌≤◌, ◌++◌, [], None, drop, length, map, take, IfOk, OnOk};
+ghost use Rattle.std.specs.Prelude.{◌≡◌, ◌≤◌, ◌++◌, [], None, drop, length, map, option_map, take, IfOk, OnOk};
 ghost use Rattle.std.specs.List.{prefix_len, suffix_len};
 ghost use Rattle.xk_lexer.specs.Tokens.{token_value};
 ghost use Rattle.xk_lines.specs.Lines.{is_blank, isnt_line_feed, line_start};
 ghost use Rattle.xk_explain_brackets.specs.Brackets.{bracket_notes, closes, closes_nothing, ends_all, indent, is_brace_at, is_left_of};
 ghost use Rattle.xk_explain_brackets.specs.Brackets.{is_paren, last_open, left_after, left_before, left_by, open_after, open_before, opens};
-ghost use Rattle.xk_explain_brackets.specs.Brackets.{unclosed, unclosed_note, unclosed_text};
+ghost use Rattle.xk_explain_brackets.specs.Brackets.{bracket_repair, first_back, missing_before, missing_by, missing_notes};
+ghost use Rattle.xk_explain_brackets.specs.Brackets.{missing_text, stands_back, unclosed, unclosed_note, unclosed_notes, unclosed_text};
 
 use std::alloc::{AllocError, Global};
-use xk_explain::Note;
+use xk_explain::{Note, SourceText, place_title};
 use xk_explain_words::{begins, first_word, is_spelled};
 use xk_lexer::Token;
 
@@ -231,7 +232,128 @@ fn push_unclosed(
     Ok(())
 }
 
-/// Adds the note beside a fault at an offset of a text, where these are the tokens. Err where memory was refused.
+/// Whether a line begins behind an offset, and no further right than the line of that.
+fn stands_back(text: &[u8], opened: usize, at: usize) -> bool
+    ensures { result ≡ stands_back text.now opened at }
+{
+    opened < line_start(text, at) && indent(text, at) <= indent(text, opened)
+}
+
+/// The first token of the first such line.
+fn first_back(text: &[u8], opened: usize, tokens: &[Token<'_>]) -> Option<usize>
+    ensures { result ≡ first_back text.now opened (map token_value tokens.now) }
+{
+    for token in tokens {
+        if stands_back(text, opened, token.at) {
+            return Some(token.at);
+        }
+    }
+    None
+}
+
+/// Before what a `}` is missing, where this `{` has its `}` further left, and this bracket is the last that is open.
+fn missing_by(
+    text: &[u8],
+    tokens: &[Token<'_>],
+    left: Option<usize>,
+    opened: Option<usize>,
+) -> Option<usize>
+    ensures { result ≡ missing_by text.now (map token_value tokens.now) left opened }
+{
+    let left = left?;
+    let opened = opened?;
+    if is_brace_at(text, opened) {
+        return first_back(text, left, tokens);
+    }
+    None
+}
+
+/// The same at an offset of a text.
+fn missing_before(
+    alloc: Global,
+    text: &[u8],
+    at: usize,
+    tokens: &[Token<'_>],
+) -> Result<Option<usize>, AllocError>
+    ensures { IfOk result (λ o. o ≡ missing_before text.now at (map token_value tokens.now)) }
+{
+    if !ends_all(from(text, at)) {
+        return Ok(None);
+    }
+    let opened = open_before(alloc, text, at, tokens)?;
+    let left = left_before(alloc, text, at, tokens)?;
+    Ok(missing_by(text, tokens, left, last_open(&opened)))
+}
+
+/// Adds the note on where a `}` is missing, if that is known.
+fn push_missing(
+    alloc: Global,
+    notes: &mut Vec<Note>,
+    missing: Option<usize>,
+) -> Result<(), AllocError>
+    ensures { OnOk result (notes.new.items ≡ notes.old.items ++ missing_notes missing) }
+{
+    if let Some(at) = missing {
+        let words = "its `}` is missing before this line, which begins no further right";
+        notes.push(Note {
+            at: Some(at),
+            text: words.as_bytes().to_vec(alloc)?,
+            repair: None,
+        })?;
+    }
+    Ok(())
+}
+
+/// The repair where it is missing before an offset.
+#[tactic(auto, unfolding(crate::specs::Brackets::missing_text))]
+fn missing_text(alloc: Global, text: &[u8], at: usize) -> Result<Vec<u8>, AllocError>
+    ensures { IfOk result (λ v. v.items ≡ missing_text text.now at) }
+{
+    let source = SourceText::new(alloc, text)?;
+    let place = place_title(alloc, source.nearest(at))?;
+    let mut out = "write `}` before ".as_bytes().to_vec(alloc)?;
+    out.extend_from_slice(place.as_bytes())?;
+    Ok(out)
+}
+
+/// The repair of a fault at an offset of a text, where these are the tokens, if it is known where a `}` is missing.
+/// Err where memory was refused.
+pub fn bracket_repair(
+    alloc: Global,
+    text: &[u8],
+    at: usize,
+    tokens: &[Token<'_>],
+) -> Result<Option<Vec<u8>>, AllocError>
+    ensures { IfOk result (λ o. option_map (λ v. v.items) o
+        ≡ bracket_repair text.now at (map token_value tokens.now)) }
+{
+    match missing_before(alloc, text, at, tokens)? {
+        Some(missing) => Ok(Some(missing_text(alloc, text, missing)?)),
+        None => Ok(None),
+    }
+}
+
+/// Adds the note on the bracket that isn't closed.
+fn push_open(
+    alloc: Global,
+    notes: &mut Vec<Note>,
+    text: &[u8],
+    at: usize,
+    tokens: &[Token<'_>],
+) -> Result<(), AllocError>
+    ensures { OnOk result (notes.new.items ≡ notes.old.items
+        ++ unclosed_notes text.now at (map token_value tokens.now)) }
+{
+    if !ends_all(from(text, at)) {
+        return Ok(());
+    }
+    let opened = open_before(alloc, text, at, tokens)?;
+    let left = left_before(alloc, text, at, tokens)?;
+    push_unclosed(alloc, notes, text, unclosed(text, left, last_open(&opened)))
+}
+
+/// Adds the notes beside a fault at an offset of a text, where these are the tokens: the bracket that isn't closed, and
+/// where its `}` is missing. Err where memory was refused.
 pub fn push_bracket(
     alloc: Global,
     notes: &mut Vec<Note>,
@@ -242,12 +364,9 @@ pub fn push_bracket(
     ensures { OnOk result (notes.new.items ≡ notes.old.items
         ++ bracket_notes text.now at (map token_value tokens.now)) }
 {
-    if !ends_all(from(text, at)) {
-        return Ok(());
-    }
-    let opened = open_before(alloc, text, at, tokens)?;
-    let left = left_before(alloc, text, at, tokens)?;
-    push_unclosed(alloc, notes, text, unclosed(text, left, last_open(&opened)))
+    push_open(alloc, notes, text, at, tokens)?;
+    let missing = missing_before(alloc, text, at, tokens)?;
+    push_missing(alloc, notes, missing)
 }
 
 /// Whether what is open is a `(`.

@@ -3,4 +3,4 @@
 
 mod brackets;
 
-pub use brackets::{closes_nothing, push_bracket};
+pub use brackets::{bracket_repair, closes_nothing, push_bracket};

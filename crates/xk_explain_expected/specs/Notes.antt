@@ -6,7 +6,7 @@ use Rattle.xk_tree.specs.declared.fault.FrontFault.{FrontFault}
 use Rattle.xk_tree.specs.declared.fault.FrontRule.TheVariants as rule
 use Rattle.xk_explain_repairs.specs.Advice.{is_usual}
 use Rattle.xk_explain_repairs.specs.Repairs.{further_advice_at}
-use Rattle.xk_explain_brackets.specs.Brackets.{bracket_notes, closes_nothing}
+use Rattle.xk_explain_brackets.specs.Brackets.{bracket_notes, bracket_repair, closes_nothing}
 use Rattle.xk_explain.specs.FrontRepairs.{or_else}
 use Rattle.xk_explain.specs.Notes.{NoteValue}
 use Rattle.xk_explain_expected.specs.declared.grammar.Symbol.{Symbol}
@@ -15,7 +15,8 @@ use Rattle.xk_explain_expected.specs.Missing.{first_terminal, missing, missing_t
 
 -- ---- the repair
 
--- take away a `)` that closes nothing, write one sign that is missing, or the one token that could stand, if nothing is advised for what stands there
+-- take away a `)` that closes nothing, write a `}` where it is missing, one sign that is missing, or the one token that could stand, if
+-- nothing is advised for what stands there
 abbrev pub only_if : Bool → List Symbol → Option (List ℕ)
 only_if usual stack = if usual then only_text (choices stack) else None
 
@@ -25,7 +26,7 @@ sign_repair usual stack next = or_else (missing_text (missing stack (first_termi
 abbrev pub stack_repair : List ℕ → ℕ → List TokenValue → List Symbol → List TokenValue → Option (List ℕ)
 stack_repair text at ts stack next =
     if closes_nothing text at ts then Some (codes "take this `)` away: no `(` is open")
-    else sign_repair (is_usual (further_advice_at text rule.Syntax (min at (length text)))) stack next
+    else or_else (bracket_repair text at ts) (sign_repair (is_usual (further_advice_at text rule.Syntax (min at (length text)))) stack next)
 
 -- ---- the notes
 

@@ -14,7 +14,7 @@ use crate::missing::{first_terminal, missing, missing_text, second_terminal, tok
 use crate::terminal::{Terminal, terminal_text};
 use std::alloc::{AllocError, Global};
 use xk_explain::Note;
-use xk_explain_brackets::{closes_nothing, push_bracket};
+use xk_explain_brackets::{bracket_repair, closes_nothing, push_bracket};
 use xk_explain_repairs::{further_advice_at, is_usual};
 use xk_lexer::Token;
 use xk_tree::{FrontFault, FrontRule};
@@ -114,7 +114,7 @@ fn sign_repair(
     }
 }
 
-/// The repair: take away a `)` that closes nothing, or write what is missing.
+/// The repair: take away a `)` that closes nothing, write a `}` where it is missing, or write what is missing at the fault.
 fn stack_repair(
     alloc: Global,
     text: &[u8],
@@ -132,6 +132,9 @@ fn stack_repair(
                 .as_bytes()
                 .to_vec(alloc)?,
         ));
+    }
+    if let Some(repair) = bracket_repair(alloc, text, at, tokens)? {
+        return Ok(Some(repair));
     }
     let further = further_advice_at(alloc, text, FrontRule::Syntax, at.min(text.len()))?;
     sign_repair(alloc, is_usual(further), stack, next)

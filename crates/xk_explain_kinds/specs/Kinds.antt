@@ -11,6 +11,7 @@ use Rattle.xk_explain_kinds.specs.Calls.{order_text}
 use Rattle.xk_explain_kinds.specs.declared.declaration.Role.{Role}
 use Rattle.xk_explain_kinds.specs.declared.declaration.Role.TheVariants as role
 use Rattle.xk_explain_kinds.specs.Declarations.{Declared}
+use Rattle.xk_explain_kinds.specs.FreeNames.{val_of}
 
 -- ---- which declaration is visible
 
@@ -123,12 +124,19 @@ abbrev pub sum_text : List ℕ → Option (List ℕ) → List ℕ
 sum_text name None = one_step_text name
 sum_text name (Some e) = added_text name e
 
--- ``read `n` first, which is shared: `val t = n;` ``
-unfoldable pub read_text : List ℕ → List ℕ
-read_text name = (((codes "read `" ++ told_name name) ++ codes "` first, which is shared: `val t = ") ++ told_name name) ++ codes ";`"
+-- ``read `n` first, which is shared: `val t = n;` ``, where t is free
+unfoldable pub read_into_text : List ℕ → List ℕ → List ℕ
+read_into_text name new = ((codes "read `" ++ told_name name) ++ codes "` first, which is shared: ") ++ val_of new name
 
-abbrev pub shared_text : List ℕ → List ℕ → List ℕ → List ℕ
-shared_text name before rest = if is_written_back name before then sum_text name (term_added name before rest) else read_text name
+unfoldable pub read_apart_text : List ℕ → List ℕ
+read_apart_text name = (codes "read `" ++ told_name name) ++ codes "` first, which is shared, into a `val` of another name"
+
+abbrev pub read_text : List ℕ → Option (List ℕ) → List ℕ
+read_text name None = read_apart_text name
+read_text name (Some new) = read_into_text name new
+
+abbrev pub shared_text : List ℕ → List ℕ → List ℕ → Option (List ℕ) → List ℕ
+shared_text name before rest new = if is_written_back name before then sum_text name (term_added name before rest) else read_text name new
 
 unfoldable pub clock_text : List ℕ → List ℕ
 clock_text name = (codes "give a number in place of `" ++ told_name name) ++ codes "`, which is a clock"
@@ -142,13 +150,13 @@ val_text name = (codes "`" ++ told_name name) ++ codes "` is a `val`, which stay
 
 unfoldable pub param_stays_text : List ℕ → List ℕ
 param_stays_text name =
-    (((codes "`" ++ told_name name) ++ codes "` is a parameter, which stays: assign to a `var m = ") ++ told_name name) ++ codes ";`"
+    (codes "`" ++ told_name name) ++ codes "` is a parameter, which stays: keep it in a `var` of another name, and assign to that"
 
 unfoldable pub loop_stays_text : List ℕ → List ℕ
 loop_stays_text name = (codes "`" ++ told_name name) ++ codes "` is the number of a loop, which goes on by itself: assign to a `var`"
 
 unfoldable pub clock_stays_text : List ℕ → List ℕ
-clock_stays_text name = (codes "`" ++ told_name name) ++ codes "` is a clock, which stays: make another one by `val d = Clock.make();`"
+clock_stays_text name = (codes "`" ++ told_name name) ++ codes "` is a clock, which stays: make another one, by a `val` of another name"
 
 abbrev pub stays_text : List ℕ → Role → List ℕ
 stays_text name role.Clock = clock_stays_text name
@@ -162,7 +170,8 @@ abbrev pub is_assigned : List ℕ → List ℕ → Bool
 is_assigned name rest =
     begins (from_sign (drop (length name) rest)) (codes "=") && not (begins (from_sign (drop (length name) rest)) (codes "=="))
 
--- the repair of a name that is declared so, between what stands before it and what the text goes on with; the method whose argument it is
+-- the repair of a name that is declared so, between what stands before it and what the text goes on with; the method whose argument it is,
+-- and a name that is free
 abbrev pub misused_text : List ℕ → Role → List ℕ
 misused_text name role.Clock = clock_text name
 misused_text name role.ClockParam = clock_text name
@@ -175,10 +184,10 @@ wanted_text name r (Some m) = order_text m
 abbrev pub other_kind_text : List ℕ → List ℕ → Role → Option MethodValue → List ℕ
 other_kind_text name rest r m = if is_assigned name rest then stays_text name r else wanted_text name r m
 
-abbrev pub kind_text : List ℕ → List ℕ → List ℕ → Role → Option MethodValue → List ℕ
-kind_text name before rest role.Shared m = shared_text name before rest
-kind_text name before rest r m = other_kind_text name rest r m
+abbrev pub kind_text : List ℕ → List ℕ → List ℕ → Role → Option MethodValue → Option (List ℕ) → List ℕ
+kind_text name before rest role.Shared m new = shared_text name before rest new
+kind_text name before rest r m new = other_kind_text name rest r m
 
-abbrev pub kind_repair : List ℕ → List ℕ → List ℕ → Option MethodValue → Option Declared → Option (List ℕ)
-kind_repair name before rest m None = None
-kind_repair name before rest m (Some d) = Some (kind_text name before rest d.role m)
+abbrev pub kind_repair : List ℕ → List ℕ → List ℕ → Option MethodValue → Option (List ℕ) → Option Declared → Option (List ℕ)
+kind_repair name before rest m new None = None
+kind_repair name before rest m new (Some d) = Some (kind_text name before rest d.role m new)

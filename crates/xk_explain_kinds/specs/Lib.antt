@@ -1,3 +1,4 @@
 pub mod Declarations
 pub mod Calls
+pub mod FreeNames
 pub mod Kinds

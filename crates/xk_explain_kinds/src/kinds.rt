@@ -8,12 +8,14 @@ ghost use Rattle.xk_explain_kinds.specs.Declarations.{declared, declared_here};
 ghost use Rattle.xk_explain_kinds.specs.Kinds.{added_text, addend, assigned, clock_stays_text, clock_text, ends_here, is_assigned};
 ghost use Rattle.xk_explain_kinds.specs.Kinds.{is_empty, is_method, is_plain, is_seen, is_shared, is_shown, is_sign, is_visible};
 ghost use Rattle.xk_explain_kinds.specs.Kinds.{is_written_back, isnt_semicolon, kind_repair, kind_text, loop_stays_text, misused_text};
-ghost use Rattle.xk_explain_kinds.specs.Kinds.{number_text, one_step_text, other_kind_text, param_stays_text, read_text, shared_text};
+ghost use Rattle.xk_explain_kinds.specs.Kinds.{number_text, one_step_text, other_kind_text, param_stays_text, read_apart_text};
+ghost use Rattle.xk_explain_kinds.specs.Kinds.{read_into_text, read_text, shared_text};
 ghost use Rattle.xk_explain_kinds.specs.Kinds.{stays_text, sum_text, term, term_added, term_behind, term_of, val_text, value_len};
 ghost use Rattle.xk_explain_kinds.specs.Kinds.{value_text, visible, wanted_text};
 
 use crate::calls::order_text;
 use crate::declaration::{Declaration, Role};
+use crate::free_names::val_of;
 use crate::texts::{around, around_name, around_twice, push_text};
 use std::alloc::{AllocError, Global};
 use xk_explain_words::{begins, from_sign, is_same, is_word_byte, last_word, to_sign};
@@ -290,18 +292,39 @@ fn one_step_text(alloc: Global, name: &[u8]) -> Result<Vec<u8>, AllocError>
     )
 }
 
-/// A number that is read.
-#[tactic(auto, unfolding(crate::specs::Kinds::read_text))]
-fn read_text(alloc: Global, name: &[u8]) -> Result<Vec<u8>, AllocError>
-    ensures { IfOk result (λ v. v.items ≡ read_text name.now) }
+/// A number that is read into a `val` of this name.
+#[tactic(auto, unfolding(crate::specs::Kinds::read_into_text))]
+fn read_into_text(alloc: Global, name: &[u8], new: &[u8]) -> Result<Vec<u8>, AllocError>
+    ensures { IfOk result (λ v. v.items ≡ read_into_text name.now new.now) }
 {
-    around_twice(
+    let kept = val_of(alloc, new, name)?;
+    let mut out = around_name(alloc, "read `", name, "` first, which is shared: ")?;
+    out.extend_from_slice(&kept)?;
+    Ok(out)
+}
+
+/// A number that is read into one of a name that is to be found.
+#[tactic(auto, unfolding(crate::specs::Kinds::read_apart_text))]
+fn read_apart_text(alloc: Global, name: &[u8]) -> Result<Vec<u8>, AllocError>
+    ensures { IfOk result (λ v. v.items ≡ read_apart_text name.now) }
+{
+    around_name(
         alloc,
         "read `",
         name,
-        "` first, which is shared: `val t = ",
-        ";`",
+        "` first, which is shared, into a `val` of another name",
     )
+}
+
+/// A number that is read, where this name is free.
+fn read_text(alloc: Global, name: &[u8], new: Option<&[u8]>) -> Result<Vec<u8>, AllocError>
+    ensures { IfOk result
+        (λ v. v.items ≡ read_text name.now (option_map (λ n. n.now) new.entry)) }
+{
+    match new {
+        Some(new) => read_into_text(alloc, name, new),
+        None => read_apart_text(alloc, name),
+    }
 }
 
 /// A shared number whose name stands between these.
@@ -310,11 +333,13 @@ fn shared_text(
     name: &[u8],
     before: &[u8],
     rest: &[u8],
+    new: Option<&[u8]>,
 ) -> Result<Vec<u8>, AllocError>
-    ensures { IfOk result (λ v. v.items ≡ shared_text name.now before.now rest.now) }
+    ensures { IfOk result (λ v. v.items ≡ shared_text name.now before.now rest.now
+        (option_map (λ n. n.now) new.entry)) }
 {
     if !is_written_back(name, before) {
-        return read_text(alloc, name);
+        return read_text(alloc, name, new);
     }
     match term_added(alloc, name, before, rest)? {
         Some(e) => added_text(alloc, name, &e),
@@ -366,12 +391,11 @@ fn val_text(alloc: Global, name: &[u8]) -> Result<Vec<u8>, AllocError>
 fn param_stays_text(alloc: Global, name: &[u8]) -> Result<Vec<u8>, AllocError>
     ensures { IfOk result (λ v. v.items ≡ param_stays_text name.now) }
 {
-    around_twice(
+    around_name(
         alloc,
         "`",
         name,
-        "` is a parameter, which stays: assign to a `var m = ",
-        ";`",
+        "` is a parameter, which stays: keep it in a `var` of another name, and assign to that",
     )
 }
 
@@ -397,7 +421,7 @@ fn clock_stays_text(alloc: Global, name: &[u8]) -> Result<Vec<u8>, AllocError>
         alloc,
         "`",
         name,
-        "` is a clock, which stays: make another one by `val d = Clock.make();`",
+        "` is a clock, which stays: make another one, by a `val` of another name",
     )
 }
 
@@ -482,12 +506,14 @@ fn kind_text(
     rest: &[u8],
     role: Role,
     method: Option<&Method<'_>>,
+    new: Option<&[u8]>,
 ) -> Result<Vec<u8>, AllocError>
     ensures { IfOk result (λ v. v.items ≡ kind_text name.now before.now rest.now role
-        (option_map (λ m. method_value m.now) method.entry)) }
+        (option_map (λ m. method_value m.now) method.entry)
+        (option_map (λ n. n.now) new.entry)) }
 {
     match role {
-        Role::Shared => shared_text(alloc, name, before, rest),
+        Role::Shared => shared_text(alloc, name, before, rest, new),
         Role::Clock => other_kind_text(alloc, name, rest, role, method),
         Role::ClockParam => other_kind_text(alloc, name, rest, role, method),
         Role::Method(_) => other_kind_text(alloc, name, rest, role, method),
@@ -498,21 +524,25 @@ fn kind_text(
     }
 }
 
-/// The same, if the name is declared.
+/// The same, if the name is declared. Err where memory was refused.
 pub fn kind_repair(
     alloc: Global,
     name: &[u8],
     before: &[u8],
     rest: &[u8],
     method: Option<&Method<'_>>,
+    new: Option<&[u8]>,
     d: Option<Declaration<'_>>,
 ) -> Result<Option<Vec<u8>>, AllocError>
     ensures { IfOk result (λ o. option_map (λ v. v.items) o ≡ kind_repair name.now before.now
         rest.now (option_map (λ m. method_value m.now) method.entry)
-        (option_map (λ d. declared d) d.entry)) }
+        (option_map (λ n. n.now) new.entry) (option_map (λ d. declared d) d.entry)) }
 {
     match d {
-        Some(d) => Ok(Some(kind_text(alloc, name, before, rest, d.role, method)?)),
+        Some(d) => {
+            let role = d.role;
+            Ok(Some(kind_text(alloc, name, before, rest, role, method, new)?))
+        }
         None => Ok(None),
     }
 }

@@ -1,7 +1,6 @@
 -- What is told where a method starts an activity on the clock of a `clocked finish` around a call of it, F15. This project's own.
 use Rattle.std.specs.Prelude.{ℕ, ◌-◌, nat_lt, Bool, false, not, ◌&&◌, ◌||◌, List, [], ◌∷◌, ◌++◌, take, drop, Option, Some, None}
 use Rattle.std.specs.Prelude.{codes, if◌then◌else◌}
-use Rattle.std.specs.List.{list_any}
 use Rattle.std.specs.Str.{bytes_eq}
 use Rattle.xk_tree.specs.Tree.{MethodValue, TreeValue}
 use Rattle.xk_explain_words.specs.Words.{begins}
@@ -9,6 +8,8 @@ use Rattle.xk_explain_words.specs.Names.{told_name}
 use Rattle.xk_explain.specs.Notes.{NoteValue}
 use Rattle.xk_explain_kinds.specs.Calls.{params_text}
 use Rattle.xk_explain_kinds.specs.Declarations.{Declared, declarations}
+use Rattle.xk_explain_kinds.specs.FreeNames.{is_taken}
+use Rattle.xk_explain_names.specs.PlainFinishes.{finish_among, finish_notes}
 
 -- the method that an offset stands in: the last one that begins before it
 abbrev pub last_method : ℕ → Option MethodValue → List MethodValue → Option MethodValue
@@ -26,12 +27,9 @@ is_lender text at m = not (bytes_eq m.name.text (codes "main")) && not (has_fini
 
 -- ---- the head to write
 
--- a name that isn't declared
-abbrev pub is_named : List ℕ → Declared → Bool
-is_named name d = bytes_eq d.name.text name
-
+-- a name for its clock
 abbrev pub clock_name : List Declared → List ℕ
-clock_name ds = if list_any (is_named (codes "c")) ds then codes "clock" else codes "c"
+clock_name ds = if is_taken (codes "c") ds then codes "clock" else codes "c"
 
 -- ``take the clock as a parameter, `def f(n: Long, c: Clock)`, and write `async clocked (c)` ``
 unfoldable pub lent_text : List ℕ → MethodValue → List ℕ
@@ -48,8 +46,9 @@ lent_note clock m = record { at = Some m.name.at; text = unseen_text m.name.text
 
 abbrev pub lent_by : TreeValue → List ℕ → ℕ → Option MethodValue → List NoteValue
 lent_by t text at None = []
-lent_by t text at (Some m) = if is_lender text at m then lent_note (clock_name (declarations t)) m ∷ [] else []
+lent_by t text at (Some m) =
+    if is_lender text at m then lent_note (clock_name (declarations t)) m ∷ [] else finish_notes (finish_among at None m.body)
 
--- beside such a fault
+-- beside such a fault: the method, or the `finish` around it
 abbrev pub lent_notes : TreeValue → List ℕ → ℕ → List NoteValue
 lent_notes t text at = lent_by t text at (last_method at None t.methods)

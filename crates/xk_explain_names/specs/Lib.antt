@@ -1,2 +1,3 @@
 pub mod LentClocks
+pub mod PlainFinishes
 pub mod Notes

@@ -15,6 +15,7 @@ use Rattle.xk_explain.specs.Notes.{NoteValue}
 use Rattle.xk_explain_kinds.specs.declared.declaration.Role.{Role}
 use Rattle.xk_explain_kinds.specs.declared.declaration.Role.TheVariants as role
 use Rattle.xk_explain_kinds.specs.Declarations.{Declared, declarations}
+use Rattle.xk_explain_kinds.specs.FreeNames.{free_name, val_of}
 use Rattle.xk_explain_kinds.specs.Calls.{callee, count_repair, method_named}
 use Rattle.xk_explain_kinds.specs.Kinds.{is_assigned, is_method, is_visible, kind_repair, last_of, visible}
 use Rattle.xk_explain_names.specs.LentClocks.{lent_notes}
@@ -153,9 +154,10 @@ unknown_notes name rest at ds = unknown_by name rest at (namesakes name at ds) d
 
 -- ---- a name that is used as what it isn't, F7
 
--- the repair of such a name, by the method whose argument it is, and as what it is declared that is visible
+-- the repair of such a name, by the method whose argument it is, a name that is free, and as what it is declared that is visible
 abbrev pub repair_of_kind : List ℕ → List ℕ → ℕ → List MethodValue → List Declared → Option (List ℕ)
-repair_of_kind name text at ms ds = kind_repair name (take at text) (drop at text) (callee (take at text) ms) (visible name at ds)
+repair_of_kind name text at ms ds =
+    kind_repair name (take at text) (drop at text) (callee (take at text) ms) (free_name ds) (visible name at ds)
 
 unfoldable pub kind_notes : List ℕ → List ℕ → ℕ → List MethodValue → List Declared → List NoteValue
 kind_notes name text at ms ds = notes_on (repair_of_kind name text at ms ds) name (namesakes name at ds)
@@ -170,24 +172,34 @@ share_text name =
     (((codes "an `async` doesn't write `" ++ told_name name) ++ codes "`, which is a `var`: declare it as `shared ") ++ told_name name)
     ++ codes " = 0;` in front of the methods"
 
-unfoldable pub keep_text : List ℕ → List ℕ
-keep_text name = (((codes "take a `val t = " ++ told_name name) ++ codes ";` before the `async`: a `var` as `") ++ told_name name) ++ codes "` isn't seen in it"
+-- in a `val`, of a name that is free
+unfoldable pub keep_in_text : List ℕ → List ℕ → List ℕ
+keep_in_text name new =
+    (codes "take a " ++ val_of new name) ++ ((codes " before the `async`: a `var` as `" ++ told_name name) ++ codes "` isn't seen in it")
 
-abbrev pub var_text : List ℕ → List ℕ → List ℕ
-var_text name rest = if is_assigned name rest then share_text name else keep_text name
+unfoldable pub keep_apart_text : List ℕ → List ℕ
+keep_apart_text name =
+    (codes "keep `" ++ told_name name) ++ codes "` in a `val` of another name before the `async`: a `var` isn't seen in it"
 
-abbrev pub captured_by : List ℕ → List ℕ → Role → Option (List ℕ)
-captured_by name rest role.Clock = Some (hand_on_text name)
-captured_by name rest role.ClockParam = Some (hand_on_text name)
-captured_by name rest role.Var = Some (var_text name rest)
-captured_by name rest _ = None
+abbrev pub keep_text : List ℕ → Option (List ℕ) → List ℕ
+keep_text name None = keep_apart_text name
+keep_text name (Some new) = keep_in_text name new
 
-abbrev pub capture_repair : List ℕ → List ℕ → Option Declared → Option (List ℕ)
-capture_repair name rest None = None
-capture_repair name rest (Some d) = captured_by name rest d.role
+abbrev pub var_text : List ℕ → List ℕ → Option (List ℕ) → List ℕ
+var_text name rest new = if is_assigned name rest then share_text name else keep_text name new
+
+abbrev pub captured_by : List ℕ → List ℕ → Option (List ℕ) → Role → Option (List ℕ)
+captured_by name rest new role.Clock = Some (hand_on_text name)
+captured_by name rest new role.ClockParam = Some (hand_on_text name)
+captured_by name rest new role.Var = Some (var_text name rest new)
+captured_by name rest new _ = None
+
+abbrev pub capture_repair : List ℕ → List ℕ → Option (List ℕ) → Option Declared → Option (List ℕ)
+capture_repair name rest new None = None
+capture_repair name rest new (Some d) = captured_by name rest new d.role
 
 unfoldable pub capture_notes : List ℕ → List ℕ → ℕ → List Declared → List NoteValue
-capture_notes name rest at ds = notes_on (capture_repair name rest (visible name at ds)) name (namesakes name at ds)
+capture_notes name rest at ds = notes_on (capture_repair name rest (free_name ds) (visible name at ds)) name (namesakes name at ds)
 
 -- ---- a call with more or fewer arguments, F11
 

@@ -7,9 +7,10 @@ ghost use Rattle.xk_explain_kinds.specs.Declarations.{declared_here};
 ghost use Rattle.xk_explain_names.specs.LentClocks.{clock_name, has_finish, is_lender, last_method, lent_by, lent_note, lent_notes};
 ghost use Rattle.xk_explain_names.specs.LentClocks.{lent_text, unseen_text};
 
+use crate::plain_finishes::{finish_among, push_finish};
 use std::alloc::{AllocError, Global};
 use xk_explain::Note;
-use xk_explain_kinds::{Declaration, around_name, declarations, params_text, push_text};
+use xk_explain_kinds::{Declaration, around_name, declarations, is_taken, params_text, push_text};
 use xk_explain_words::{begins, is_same, told_name};
 use xk_tree::{Method, Tree};
 
@@ -58,14 +59,12 @@ fn is_lender(text: &[u8], at: usize, method: &Method<'_>) -> bool
     !is_same(method.name.text, b"main") && !has_finish(part(text, method.name.at, at))
 }
 
-/// A name that isn't declared.
+/// A name for its clock.
 fn clock_name(all: &[Declaration<'_>]) -> &'static [u8]
     ensures { result.now ≡ clock_name (declared_here all.now) }
 {
-    for d in all {
-        if is_same(d.name.text, b"c") {
-            return b"clock";
-        }
+    if is_taken(b"c", all) {
+        return b"clock";
     }
     b"c"
 }
@@ -129,6 +128,7 @@ pub(crate) fn lent_notes(
         return Ok(notes);
     };
     if !is_lender(text, at, method) {
+        push_finish(alloc, &mut notes, finish_among(at, None, &method.body))?;
         return Ok(notes);
     }
     let all = declarations(alloc, tree)?;

@@ -3,5 +3,6 @@
 
 mod lent_clocks;
 mod notes;
+mod plain_finishes;
 
 pub use notes::front_notes;

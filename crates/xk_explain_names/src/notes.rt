@@ -7,7 +7,8 @@ ghost use Rattle.xk_explain_kinds.specs.Declarations.{declared, declared_here};
 ghost use Rattle.xk_explain_kinds.specs.Kinds.{last_of};
 ghost use Rattle.xk_explain_names.specs.Notes.{block_text, capture_notes, capture_repair, captured_by, count_notes, declared_text};
 ghost use Rattle.xk_explain_names.specs.Notes.{front_notes, further_notes, further_text, hand_on_text, is_called, is_meant, is_namesake};
-ghost use Rattle.xk_explain_names.specs.Notes.{is_on_names, keep_text, kind_notes, loop_alone_text, may_be, meant_notes, meant_text};
+ghost use Rattle.xk_explain_names.specs.Notes.{is_on_names, keep_apart_text, keep_in_text, keep_text, kind_notes, loop_alone_text};
+ghost use Rattle.xk_explain_names.specs.Notes.{may_be, meant_notes, meant_text};
 ghost use Rattle.xk_explain_names.specs.Notes.{named_notes, namesakes, new_method_text, new_number_text, new_text, note_of, notes_on};
 ghost use Rattle.xk_explain_names.specs.Notes.{nowhere_note, nowhere_text, other_clock_text, other_param_text, parameters_text};
 ghost use Rattle.xk_explain_names.specs.Notes.{repair_of_kind, role_text};
@@ -18,7 +19,8 @@ use std::alloc::{AllocError, Global};
 use xk_explain::Note;
 use xk_explain_kinds::{
     Declaration, Role, around_name, around_twice, behind, callee, count_repair, declarations,
-    is_assigned, is_method, is_visible, kind_repair, method_named, push_text, visible,
+    free_name, is_assigned, is_method, is_visible, kind_repair, method_named, push_text, val_of,
+    visible,
 };
 use xk_explain_words::{begins, first_word, from_sign, is_near, is_same};
 use xk_tree::{FrontFault, FrontRule, Method, Tree};
@@ -507,7 +509,8 @@ fn repair_of_kind(
     let before = before(text, at);
     let method = callee(before, methods);
     let seen = visible(name, at, all);
-    kind_repair(alloc, name, before, from(text, at), method, seen)
+    let new = free_name(all);
+    kind_repair(alloc, name, before, from(text, at), method, new, seen)
 }
 
 /// Beside a name that is used as what it isn't.
@@ -550,28 +553,63 @@ fn share_text(alloc: Global, name: &[u8]) -> Result<Vec<u8>, AllocError>
     )
 }
 
-/// A `var` that it reads.
-#[tactic(auto, unfolding(crate::specs::Notes::keep_text))]
-fn keep_text(alloc: Global, name: &[u8]) -> Result<Vec<u8>, AllocError>
-    ensures { IfOk result (λ v. v.items ≡ keep_text name.now) }
+/// A `var` that it reads, by a `val` of this name.
+#[tactic(auto, unfolding(crate::specs::Notes::keep_in_text))]
+fn keep_in_text(alloc: Global, name: &[u8], new: &[u8]) -> Result<Vec<u8>, AllocError>
+    ensures { IfOk result (λ v. v.items ≡ keep_in_text name.now new.now) }
 {
-    around_twice(
+    let kept = val_of(alloc, new, name)?;
+    let unseen = around_name(
         alloc,
-        "take a `val t = ",
+        " before the `async`: a `var` as `",
         name,
-        ";` before the `async`: a `var` as `",
         "` isn't seen in it",
+    )?;
+    let mut out = Vec::new(alloc);
+    push_text(&mut out, "take a ")?;
+    out.extend_from_slice(&kept)?;
+    out.extend_from_slice(&unseen)?;
+    Ok(out)
+}
+
+/// The same by one of a name that is to be found.
+#[tactic(auto, unfolding(crate::specs::Notes::keep_apart_text))]
+fn keep_apart_text(alloc: Global, name: &[u8]) -> Result<Vec<u8>, AllocError>
+    ensures { IfOk result (λ v. v.items ≡ keep_apart_text name.now) }
+{
+    around_name(
+        alloc,
+        "keep `",
+        name,
+        "` in a `val` of another name before the `async`: a `var` isn't seen in it",
     )
 }
 
+/// A `var` that it reads, where this name is free.
+fn keep_text(alloc: Global, name: &[u8], new: Option<&[u8]>) -> Result<Vec<u8>, AllocError>
+    ensures { IfOk result
+        (λ v. v.items ≡ keep_text name.now (option_map (λ n. n.now) new.entry)) }
+{
+    match new {
+        Some(new) => keep_in_text(alloc, name, new),
+        None => keep_apart_text(alloc, name),
+    }
+}
+
 /// A `var`.
-fn var_text(alloc: Global, name: &[u8], rest: &[u8]) -> Result<Vec<u8>, AllocError>
-    ensures { IfOk result (λ v. v.items ≡ var_text name.now rest.now) }
+fn var_text(
+    alloc: Global,
+    name: &[u8],
+    rest: &[u8],
+    new: Option<&[u8]>,
+) -> Result<Vec<u8>, AllocError>
+    ensures { IfOk result (λ v. v.items
+        ≡ var_text name.now rest.now (option_map (λ n. n.now) new.entry)) }
 {
     if is_assigned(name, rest) {
         return share_text(alloc, name);
     }
-    keep_text(alloc, name)
+    keep_text(alloc, name, new)
 }
 
 /// The repair of a name that is declared so, and that an `async` doesn't see.
@@ -579,15 +617,16 @@ fn captured_by(
     alloc: Global,
     name: &[u8],
     rest: &[u8],
+    new: Option<&[u8]>,
     role: Role,
 ) -> Result<Option<Vec<u8>>, AllocError>
-    ensures { IfOk result
-        (λ o. option_map (λ v. v.items) o ≡ captured_by name.now rest.now role) }
+    ensures { IfOk result (λ o. option_map (λ v. v.items) o
+        ≡ captured_by name.now rest.now (option_map (λ n. n.now) new.entry) role) }
 {
     match role {
         Role::Clock => Ok(Some(hand_on_text(alloc, name)?)),
         Role::ClockParam => Ok(Some(hand_on_text(alloc, name)?)),
-        Role::Var => Ok(Some(var_text(alloc, name, rest)?)),
+        Role::Var => Ok(Some(var_text(alloc, name, rest, new)?)),
         Role::Shared => Ok(None),
         Role::Method(_) => Ok(None),
         Role::NumberParam => Ok(None),
@@ -601,13 +640,15 @@ fn capture_repair(
     alloc: Global,
     name: &[u8],
     rest: &[u8],
+    new: Option<&[u8]>,
     d: Option<Declaration<'_>>,
 ) -> Result<Option<Vec<u8>>, AllocError>
     ensures { IfOk result (λ o. option_map (λ v. v.items) o
-        ≡ capture_repair name.now rest.now (option_map (λ d. declared d) d.entry)) }
+        ≡ capture_repair name.now rest.now (option_map (λ n. n.now) new.entry)
+        (option_map (λ d. declared d) d.entry)) }
 {
     match d {
-        Some(d) => captured_by(alloc, name, rest, d.role),
+        Some(d) => captured_by(alloc, name, rest, new, d.role),
         None => Ok(None),
     }
 }
@@ -625,7 +666,8 @@ fn capture_notes(
         ≡ capture_notes name.now rest.now at (declared_here all.now)) }
 {
     let same = namesakes(alloc, name, at, all)?;
-    let repair = capture_repair(alloc, name, rest, visible(name, at, all))?;
+    let new = free_name(all);
+    let repair = capture_repair(alloc, name, rest, new, visible(name, at, all))?;
     repair_notes(alloc, repair, name, &same)
 }
 

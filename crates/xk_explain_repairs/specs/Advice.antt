@@ -65,6 +65,8 @@ there_text advice.AddOne other = codes "write `n = n + 1;`, or of a shared numbe
 there_text advice.AssignSign other = codes "write `=`"
 there_text advice.NoValue other = codes "a method gives nothing back: call it by `f(1);`, and read the shared number that it writes"
 there_text advice.Program other = codes "a program is `shared` numbers and methods: begin with `def main() {`"
+there_text advice.Log other =
+    codes "this is a log of a run, and no program: `x10clock replay FILE LOG` plays it"
 there_text advice.SharedNumber other = codes "write `shared s = 0;`, with a number, in front of the methods"
 there_text advice.MethodsBeside other = codes "methods stand beside each other: look for a `}` that is missing before it"
 there_text advice.ElseBehind other =

@@ -335,8 +335,12 @@ abbrev pub advice_behind_brace : ℕ → List ℕ → Advice → Advice
 advice_behind_brace depth rest other =
     if depth == 0 then (if begins rest (codes "}") then advice.ClosesNothing else advice.Outside) else other
 
+-- the first word of a log
+abbrev pub advice_at_front : List ℕ → Advice
+advice_at_front word = if bytes_eq word (codes "x10log") then advice.Log else advice.Program
+
 unfoldable pub advice_behind_sign : ℕ → List ℕ → List ℕ → Advice → Advice
-advice_behind_sign depth [] rest other = advice.Program
+advice_behind_sign depth [] rest other = advice_at_front (first_word rest)
 advice_behind_sign depth (b ∷ bs) rest other =
     if ends_with nat_eq (b ∷ bs) (codes "}") then advice_behind_brace depth rest other
     else if ends_with nat_eq (b ∷ bs) (codes ":") then advice.Types

@@ -117,6 +117,8 @@ pub enum Advice {
     NoValue,
     /// What a program is made of.
     Program,
+    /// What a log is for.
+    Log,
     /// A shared number.
     SharedNumber,
     /// A method in a method.
@@ -324,6 +326,8 @@ fn there_text(advice: Advice, other: &'static str) -> &'static str
         Advice::NoValue =>
             "a method gives nothing back: call it by `f(1);`, and read the shared number that it writes",
         Advice::Program => "a program is `shared` numbers and methods: begin with `def main() {`",
+        Advice::Log =>
+            "this is a log of a run, and no program: `x10clock replay FILE LOG` plays it",
         Advice::SharedNumber => "write `shared s = 0;`, with a number, in front of the methods",
         Advice::MethodsBeside =>
             "methods stand beside each other: look for a `}` that is missing before it",

@@ -5,7 +5,7 @@ ghost use Rattle.xk_explain_repairs.specs.Repairs.{advice_at_call, advice_at_col
 ghost use Rattle.xk_explain_repairs.specs.Repairs.{advice_behind_brace, advice_behind_line, advice_behind_point, advice_behind_sign};
 ghost use Rattle.xk_explain_repairs.specs.Repairs.{advice_of_global, advice_of_head, advice_of_lone, advice_of_long, advice_of_member};
 ghost use Rattle.xk_explain_repairs.specs.Repairs.{advice_of_outside, advice_of_pair, advice_of_two, advice_outside, further_syntax_advice};
-ghost use Rattle.xk_explain_repairs.specs.Repairs.{advice_at_array, advice_in_def, advice_of_array, further_there, is_def};
+ghost use Rattle.xk_explain_repairs.specs.Repairs.{advice_at_array, advice_at_front, advice_in_def, advice_of_array, further_there, is_def};
 
 use crate::advice::Advice;
 use xk_explain_parts::{
@@ -247,13 +247,24 @@ fn advice_behind_brace(depth: usize, rest: &[u8], other: Advice) -> Advice
     }
 }
 
+/// By the word that a text begins with.
+fn advice_at_front(word: &[u8]) -> Advice
+    ensures { result ≡ advice_at_front word.now }
+{
+    if is_spelled(word, b"x10log") {
+        Advice::Log
+    } else {
+        Advice::Program
+    }
+}
+
 /// By nothing, a `}` or a `:` before the fault.
 #[tactic(auto, unfolding(crate::specs::Repairs::advice_behind_sign))]
 fn advice_behind_sign(depth: usize, before: &[u8], rest: &[u8], other: Advice) -> Advice
     ensures { result ≡ advice_behind_sign depth before.now rest.now other }
 {
     match before {
-        [] => Advice::Program,
+        [] => advice_at_front(first_word(rest)),
         [_, ..] => {
             if ends(before, b"}") {
                 advice_behind_brace(depth, rest, other)

@@ -1,7 +1,7 @@
 -- Where there are more races than are shown, the first ones tell what all tell.
 use Rattle.std.proofs.Common.{◌≡◌, ◌∙◌, suc, ◌<◌, min, Bool, true, false, List, [], ◌∷◌, ◌++◌}
 use Rattle.std.proofs.Common.{length, take, Option, refl, sym, ap, arith}
-use Rattle.std.specs.Prelude.{flat_map, nat_le, if◌then◌else◌}
+use Rattle.std.specs.Prelude.{nat_le, if◌then◌else◌}
 use Rattle.std.specs.List.{list_any}
 use Rattle.std.proofs.lemmas.Bool.{leb-true, leb-false, lt-leb}
 use Rattle.std.proofs.lemmas.List.{append_assoc, append-nil, length-take, take-append-le, take-take}
@@ -10,7 +10,7 @@ use Rattle.xk_races.specs.declared.pairs.Race.{Race}
 use Rattle.xk_races.specs.declared.pairs.Gap.{Gap}
 use Rattle.xk_races.specs.Knowledge.{Sight}
 use Rattle.xk_races.specs.Races.{have_same_places, is_race, race, races_from, with_race, with_races_of}
-use Rattle.xk_races.specs.Text.{AreEnough, count_line, most_shown, print_line_if_free, race_line, scope_line, text_by}
+use Rattle.xk_races.specs.Text.{AreEnough, closing_text, count_line, most_shown, print_line_if_free, scope_line}
 
 -- ---- a list of races only grows
 
@@ -57,7 +57,7 @@ enough_early earlier ys list all is more =
 
 -- ---- what is told of them
 
-told_first : (rs all : List Race) → AreEnough rs all → take most_shown rs ≡ take most_shown all
+pub told_first : (rs all : List Race) → AreEnough rs all → take most_shown rs ≡ take most_shown all
 told_first rs all h =
     sym (take-take most_shown (suc most_shown) rs (omega arith)) ∙ ap (take most_shown) h
     ∙ take-take most_shown (suc most_shown) all (omega arith)
@@ -92,11 +92,8 @@ scope_alike [] (q ∷ all) g h = absurd (cc)
 scope_alike (r ∷ rs) [] g h = absurd (cc)
 scope_alike (r ∷ rs) (q ∷ all) g h = refl
 
-pub told_alike : (p : PlacesValue) (rs all : List Race) (g : Option Gap) → AreEnough rs all → text_by p rs g ≡ text_by p all g
-told_alike p rs all g h =
-    ap (λ l. ((flat_map (race_line p) l ++ count_line (length rs)) ++ print_line_if_free p rs g) ++ scope_line rs g) (told_first rs all h)
-    ∙ ap (λ l. ((flat_map (race_line p) (take most_shown all) ++ l) ++ print_line_if_free p rs g) ++ scope_line rs g) (count_alike rs all h)
-    ∙ ap (λ l. ((flat_map (race_line p) (take most_shown all) ++ count_line (length all)) ++ l) ++ scope_line rs g)
-    (print_alike p rs all g h)
-    ∙ ap (λ l. ((flat_map (race_line p) (take most_shown all) ++ count_line (length all)) ++ print_line_if_free p all g) ++ l)
-    (scope_alike rs all g h)
+pub closing_alike : (p : PlacesValue) (rs all : List Race) (g : Option Gap) → AreEnough rs all → closing_text p rs g ≡ closing_text p all g
+closing_alike p rs all g h =
+    ap (λ l. (l ++ print_line_if_free p rs g) ++ scope_line rs g) (count_alike rs all h)
+    ∙ ap (λ l. (count_line (length all) ++ l) ++ scope_line rs g) (print_alike p rs all g h)
+    ∙ ap (λ l. (count_line (length all) ++ print_line_if_free p all g) ++ l) (scope_alike rs all g h)

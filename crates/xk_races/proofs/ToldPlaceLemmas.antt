@@ -22,7 +22,7 @@ tied_then Less b = refl
 tied_then Equal b = refl
 tied_then Greater b = refl
 
-tied : (m n : ℕ) → is_eq (nat_cmp m n) ≡ nat_eq n m
+pub tied : (m n : ℕ) → is_eq (nat_cmp m n) ≡ nat_eq n m
 tied m n = of (nat_lt m n) refl ∙ nat_eq_equiv.symm m n
   where
     last : (b : Bool) → is_eq (cond b Equal Greater) ≡ b

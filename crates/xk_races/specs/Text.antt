@@ -46,8 +46,12 @@ scope_line [] None = codes "every schedule prints these numbers in this order\n"
 scope_line [] (Some g) = codes "every schedule prints these numbers\n"
 scope_line (r ∷ rs) g = codes "of this run alone\n"
 
+-- what is told behind the races: how many there are, where there is none whether the prints are in one order, and of which runs it holds
+abbrev pub closing_text : PlacesValue → List Race → Option Gap → List ℕ
+closing_text p rs g = (count_line (length rs) ++ print_line_if_free p rs g) ++ scope_line rs g
+
 abbrev pub text_by : PlacesValue → List Race → Option Gap → List ℕ
-text_by p rs g = ((flat_map (race_line p) (take most_shown rs) ++ count_line (length rs)) ++ print_line_if_free p rs g) ++ scope_line rs g
+text_by p rs g = flat_map (race_line p) (take most_shown rs) ++ closing_text p rs g
 
 -- what is told of the run that a log stands for
 abbrev pub races_text : PlacesValue → ModuleValue → List ℤ → List Entry → List ℕ

@@ -14,4 +14,5 @@ mod text;
 
 pub use deeds::{Deed, Part, push_deeds};
 pub use knowledge::Scopes;
-pub use report::{RaceReport, Reach, module_races, reach_of, source_races};
+pub use pairs::Race;
+pub use report::{RaceReport, Reach, ShownRaces, module_races, reach_of, shown_races};

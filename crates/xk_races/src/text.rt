@@ -1,7 +1,7 @@
 //! What is told of the races of a run.
 
 ghost use Rattle.std.specs.Prelude.{◌≡◌, ◌++◌, flat_map, length, IfOk, OnOk, string_bytes};
-ghost use Rattle.xk_races.specs.Text.{access_words, count_line, most_shown, print_line, print_line_if_free, race_line, scope_line, step_words, text_by};
+ghost use Rattle.xk_races.specs.Text.{access_words, closing_text, count_line, most_shown, print_line, print_line_if_free, race_line, scope_line, step_words};
 
 use crate::pairs::{Gap, Race};
 use std::alloc::{AllocError, Global};
@@ -41,7 +41,7 @@ fn race_line(alloc: Global, places: &Places<'_>, race: &Race) -> Result<String, 
 }
 
 /// The lines of races.
-fn race_lines(alloc: Global, places: &Places<'_>, races: &[Race]) -> Result<Vec<u8>, AllocError>
+pub fn race_lines(alloc: Global, places: &Places<'_>, races: &[Race]) -> Result<Vec<u8>, AllocError>
     ensures { IfOk result (λ v. v.items ≡ flat_map (race_line places.now) races.now) }
 {
     let mut out = Vec::new(alloc);
@@ -116,17 +116,16 @@ fn scope_line(races: &[Race], gap: Option<Gap>) -> &'static str
     }
 }
 
-/// What is told of a run with these races, and this gap among its prints.
-pub fn text_by(
+/// What is told behind the races of a run that has these, and this gap among its prints.
+pub fn closing_text(
     alloc: Global,
     places: &Places<'_>,
     races: &[Race],
     gap: Option<Gap>,
 ) -> Result<Vec<u8>, AllocError>
-    ensures { IfOk result (λ v. v.items ≡ text_by places.now races.now gap) }
+    ensures { IfOk result (λ v. v.items ≡ closing_text places.now races.now gap) }
 {
-    let shown = &races[..races.len().min(most_shown())];
-    let mut out = race_lines(alloc, places, shown)?;
+    let mut out = Vec::new(alloc);
     let count = count_line(alloc, races.len())?;
     out.extend_from_slice(count.as_bytes())?;
     let prints = print_line_if_free(alloc, places, races, gap)?;

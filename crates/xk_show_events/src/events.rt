@@ -1,13 +1,12 @@
 //! The steps of a run that other activities can see, a line each.
 
 ghost use Rattle.std.specs.Prelude.{◌≡◌, ◌++◌, flat_map, IfOk, OnOk, string_bytes};
-ghost use Rattle.xk_show_events.specs.Events.{event_line, events_text, no_text, places_of};
+ghost use Rattle.xk_show_events.specs.Events.{event_line, events_text, no_text};
 
 use crate::places::Places;
 use crate::steps::{RunStep, seen_steps};
 use crate::words::event_line;
 use std::alloc::{AllocError, Global};
-use xk_origins::UnitOrigins;
 use xk_scheduler::Ended;
 
 /// Puts a piece behind a text.
@@ -41,25 +40,8 @@ fn events(alloc: Global, places: &Places<'_>, ended: &Ended<'_>) -> Result<Strin
     event_lines(alloc, places, &steps)
 }
 
-/// The steps of a run of a source text's module that other activities can see, in their order, a line each, as `step 4
-/// act 0 at 6:5 print 10`: which step of the run it was, counted from 1; whose; the line and column that its
-/// instruction comes from, of a pass those of the `advance`; and what was seen. Where no origin says the line, it is
-/// told as of a module. Err where memory was refused.
-pub fn source_events(
-    alloc: Global,
-    text: &[u8],
-    origins: &[UnitOrigins<'_>],
-    ended: &Ended<'_>,
-) -> Result<String, AllocError>
-    ensures { IfOk result (λ lines. string_bytes lines
-        ≡ events_text (places_of text.now origins.now)
-        ended.now.module.now ended.now.core.world.arguments ended.now.log.items) }
-{
-    let places = Places::of_source(alloc, text, origins)?;
-    events(alloc, &places, ended)
-}
-
-/// The same of a module without a text, with the unit and place of the instruction: `step 4 act 0 unit 0 place 3 print 10`. Err where
+/// The steps of a run of a module without a text that other activities can see, in their order, a line each, as `step 4 act 0 unit 0 place 3
+/// print 10`: which step of the run it was, counted from 1; whose; the unit and place of its instruction; and what was seen. Err where
 /// memory was refused.
 pub fn module_events(alloc: Global, ended: &Ended<'_>) -> Result<String, AllocError>
     ensures { IfOk result (λ lines. string_bytes lines ≡ events_text no_text

@@ -10,7 +10,7 @@ mod walk;
 mod words;
 
 pub use advances::advanced;
-pub use events::{module_events, source_events};
+pub use events::module_events;
 pub use pairs::{Both, describe_run_by_both};
 pub use places::Places;
 pub use steps::{RunStep, seen_steps, take_step};

@@ -50,7 +50,7 @@ fn span(alloc: Global, places: &Places<'_>, ended: &Ended<'_>) -> Result<SpanRep
 /// it passes, and those that end in the finish that it closes. Where the run has no race, every schedule has this work; else nothing is
 /// said of other runs. Of the stretches the first 200 are told, of the lines five.
 /// It takes time in proportion to the deeds of the run (its steps, those at clocks counted once for each clock) and to the lines of the
-/// text, and what `source_races` of `xk_races` takes. Err where memory was refused.
+/// text, and what `shown_races` of `xk_races` takes. Err where memory was refused.
 pub fn source_span(
     alloc: Global,
     text: &[u8],

@@ -16,4 +16,4 @@ mod waits;
 pub use condition::Condition;
 pub use named::{named_standings_text, named_where};
 pub use progress::Stop;
-pub use standings::{Whereabouts, module_where, source_where, standings_text};
+pub use standings::{Whereabouts, module_where, standings_text};

@@ -2,7 +2,7 @@
 
 ghost use Rattle.std.specs.Prelude.{◌≡◌, ◌<◌, ◌++◌, length, is_none, Some, IfOk, OnOk};
 ghost use Rattle.xk_types.specs.World.{AreArguments};
-ghost use Rattle.xk_show_events.specs.Events.{no_text, places_of};
+ghost use Rattle.xk_show_events.specs.Events.{no_text};
 ghost use Rattle.xk_show_events.specs.Worlds.{each_below};
 ghost use Rattle.xk_show_where.specs.Where.{are_steps_legal, clock_line, shared_line, shared_line_of, standings_text, steps_line};
 ghost use Rattle.xk_show_where.specs.Where.{stop_line, stop_text, where_text};
@@ -14,7 +14,6 @@ use crate::texts::push_text;
 use std::alloc::{AllocError, Global};
 use xk_bounds::Verified;
 use xk_core::Core;
-use xk_origins::UnitOrigins;
 use xk_show_events::Places;
 use xk_types::{Act, ClockId, Entry};
 
@@ -204,29 +203,10 @@ fn standings_behind(
     Ok(Whereabouts { text, whole })
 }
 
-/// How things stand behind the steps of a log of a source text's module, main being given as many numbers as it takes: the steps are taken in order, up
-/// to the first that can't be. It is told how many were taken; of each activity where it is, whether it can step, waits or has ended, for
-/// whom it waits, and where it stands on its clocks; the phases of the clocks; the shared numbers; and the step that can't be taken, and why.
-/// Where no origin says the line, a place is told as of a module. Err where memory was refused.
-pub fn source_where(
-    alloc: Global,
-    text: &[u8],
-    origins: &[UnitOrigins<'_>],
-    verified: &Verified,
-    arguments: &[i64],
-    log: &[Entry],
-) -> Result<Whereabouts, AllocError>
-    requires { AreArguments verified.now arguments.now }
-    ensures text { IfOk result (λ r. r.text.items ≡ where_text
-        (places_of text.now origins.now) verified.now arguments.now log.now) }
-    ensures whole { IfOk result (λ r. r.whole
-        ≡ are_steps_legal verified.now arguments.now log.now) }
-{
-    let places = Places::of_source(alloc, text, origins)?;
-    standings_behind(alloc, &places, verified, arguments, log)
-}
-
-/// The same of a module without a text, with units and places of instructions. Err where memory was refused.
+/// How things stand behind the steps of a log of a module without a text, main being given as many numbers as it takes: the steps are taken
+/// in order, up to the first that can't be. It is told how many were taken; of each activity where it is, by unit and place of an
+/// instruction, whether it can step, waits or has ended, for whom it waits, and where it stands on its clocks; the phases of the clocks; the
+/// shared numbers; and the step that can't be taken, and why. Err where memory was refused.
 pub fn module_where(
     alloc: Global,
     verified: &Verified,

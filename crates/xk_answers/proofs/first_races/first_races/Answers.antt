@@ -1,4 +1,4 @@
-use Rattle.std.proofs.Common.{◌∙◌, ap, refl}
+use Rattle.std.proofs.Common.{◌∙◌, ap, map, refl}
 use Rattle.std.proofs.lemmas.Result.{IfOk-weaker}
 use Rattle.xk_answers.specs.Explanation.{races_told}
 use Rattle.xk_answers.proofs.OrderedRunLemmas.{log_without_state}
@@ -9,6 +9,7 @@ returns c = λ form bytes given.
     let e = c.in_ok-ended.ended in
     let is = c.in_ok-ended.ensures in
     let origins = c.args.from.now.origins in
+    let shared = map (λ x. x.now) c.args.from.now.shared.items in
     IfOk-weaker c.races_of.result _ _
     (λ tale h. (
       e.printed.items,
@@ -16,11 +17,15 @@ returns c = λ form bytes given.
       e.log.items,
       log_without_state (λ enabled. 0) c.args.verified.now c.args.arguments.now _ e.log.items e.printed.items e.core.world.steps is.run,
       (
-        origins,
-        (given.1 refl).0,
-        h ∙ ap (λ t. races_told t e.module.now e.core.world.arguments e.log.items origins) given.0
-            ∙ ap (λ m. races_told bytes m e.core.world.arguments e.log.items origins) is.same_module
-            ∙ ap (λ args. races_told bytes c.args.verified.now args e.log.items origins) is.same_arguments,
+        shared,
+        (given.1 refl).1,
+        (
+          origins,
+          (given.1 refl).0,
+          h ∙ ap (λ t. races_told t e.module.now e.core.world.arguments e.log.items shared origins) given.0
+              ∙ ap (λ m. races_told bytes m e.core.world.arguments e.log.items shared origins) is.same_module
+              ∙ ap (λ args. races_told bytes c.args.verified.now args e.log.items shared origins) is.same_arguments,
+        ),
       ),
     ))
     c.races_of.ensures
