@@ -318,6 +318,7 @@ impl<'m> Frames<'m> {
 
     /// Puts the nearest frame that waits in place of the present one, at its `call`, and returns whether there was one: so one looks at
     /// those that called. No step of a run does that.
+    #[inline(always)]
     pub fn up(&mut self) -> bool
         ensures { (result, self.new) ≡ outer self.old self.old.callers }
     {
@@ -339,17 +340,11 @@ impl<'m> Frames<'m> {
         ensures does { Does (returning self.old self.old.callers) self.old result self.new }
         ensures same { self.new.module_run ≡ self.old.module_run }
     {
-        match self.callers.pop() {
-            Some(c) => {
-                self.stack.truncate(self.base);
-                self.unit = c.unit;
-                self.place = c.place as u32 + 1;
-                self.marks = c.marks;
-                self.base = c.base;
-                Next::Stepped
-            }
-            None => Next::Visible,
+        if self.up() {
+            self.place += 1;
+            return Next::Stepped;
         }
+        Next::Visible
     }
 
     /// The next step, where it concerns more than the present frame.
