@@ -318,21 +318,18 @@ impl<'m> Frames<'m> {
 
     /// Puts the nearest frame that waits in place of the present one, at its `call`, and returns whether there was one: so one looks at
     /// those that called. No step of a run does that.
-    #[inline(always)]
     pub fn up(&mut self) -> bool
         ensures { (result, self.new) ≡ outer self.old self.old.callers }
     {
-        match self.callers.pop() {
-            Some(c) => {
-                self.stack.truncate(self.base);
-                self.unit = c.unit;
-                self.place = c.place as u32;
-                self.marks = c.marks;
-                self.base = c.base;
-                true
-            }
-            None => false,
-        }
+        let Some(caller) = self.callers.pop() else {
+            return false;
+        };
+        self.stack.truncate(self.base);
+        self.unit = caller.unit;
+        self.place = caller.place as u32;
+        self.marks = caller.marks;
+        self.base = caller.base;
+        true
     }
 
     /// Goes back into the nearest frame that waits, behind its `call`, if one does.
@@ -340,11 +337,17 @@ impl<'m> Frames<'m> {
         ensures does { Does (returning self.old self.old.callers) self.old result self.new }
         ensures same { self.new.module_run ≡ self.old.module_run }
     {
-        if self.up() {
-            self.place += 1;
-            return Next::Stepped;
+        match self.callers.pop() {
+            Some(c) => {
+                self.stack.truncate(self.base);
+                self.unit = c.unit;
+                self.place = c.place as u32 + 1;
+                self.marks = c.marks;
+                self.base = c.base;
+                Next::Stepped
+            }
+            None => Next::Visible,
         }
-        Next::Visible
     }
 
     /// The next step, where it concerns more than the present frame.
