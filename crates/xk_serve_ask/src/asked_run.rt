@@ -87,7 +87,8 @@ fn played_by<L: Source, E: Sink>(
     match &from.origins {
         Some(origins) => {
             let units = origins.units();
-            match source_ask(alloc, from.text, units, verified, arguments, input, err) {
+            let shared = &from.shared;
+            match source_ask(alloc, from.text, units, shared, verified, arguments, input, err) {
                 Ok(played) => Ok(played),
                 Err(fault) => Err(fault_of(fault)),
             }
@@ -233,8 +234,8 @@ fn print<O: Sink, E: Sink, K: Sink>(
     }
 }
 
-/// Reads the program, and runs it, if it is accepted and main takes as many numbers as it is given: it is told on `err` who can take a step, and where, and
-/// a line of the input names one of them, until all have ended or the input ends. Then the numbers that were printed and a last line are written to `out`,
+/// Reads the program, and runs it, if it is accepted and main takes as many numbers as it is given: it is told on `err` how things are, what was printed,
+/// and who can take a step, and where, and a line of the input names one of them, until all have ended or the input ends, which is told. Then the numbers that were printed and a last line are written to `out`,
 /// and the log of what was played to `log_out`, where that is to be kept. The answer is the exit status: 0 where all have ended, 6 where the input ended
 /// before, 1 where the program is refused or main takes another number of arguments, 4 where memory ran out, 5 where a device failed. At 4 and 5 a beginning
 /// of what is asked stands on `err`, and then the line that tells it; `out` has a beginning of what is written there, and `log_out` has nothing before `out`
