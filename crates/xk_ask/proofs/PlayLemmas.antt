@@ -17,9 +17,9 @@ use Rattle.xk_scheduler.proofs.EnabledSetLemmas.{going}
 use Rattle.xk_io.specs.Writing.{AppendsBeginning}
 use Rattle.xk_io.proofs.DeviceLemmas.{appends_then, beginning_more, beginning_then}
 use Rattle.xk_ask.specs.Answers.{answers, answers_read, behind_lines, most_bytes}
-use Rattle.xk_ask.specs.Asking.{BeginsByAnswers, BeginsSome, EndAlike, FollowsSome, IsByAnswers, Leaves, TakesAnswer, TakesLine, to_come}
+use Rattle.xk_ask.specs.Asking.{BeginsByAnswers, BeginsSome, EndAlike, FollowsSome, IsByAnswers, Leaves, TakesAnswer, TakesLine, said_from, said_on, to_come}
 use Rattle.xk_ask.specs.ProgramTexts.{ProgramTextValue}
-use Rattle.xk_ask.specs.Play.{all_said, behind, end_words, log_behind, looked_at, picked, played, played_log, question, said, taken, told_by, told_text, unread, unread_from}
+use Rattle.xk_ask.specs.Play.{all_said, behind, end_words, log_behind, looked_at, picked, played, played_log, said, taken, told_by, told_text, unread, unread_from}
 use Rattle.xk_ask.proofs.LineLemmas.{passing_stops}
 
 -- ---- where all have ended
@@ -262,7 +262,7 @@ pub playing_breaks : (p : ProgramTextValue) (first : CoreValue) (log : List Entr
     (more : List Entry) (later last now next : Option (List ℕ))
     → IsPlaying p first log err text c more later now → TakesAnswer x now next → all_ended c.world ≡ false
     → AppendsBeginning later last (said p c.module_run c.world more (picked c.module_run c.world x))
-    → IfSome text (λ t. AppendsBeginning err last (all_said p first.module_run (answers t) first.world log))
+    → IfSome text (λ t. AppendsBeginning err last (said_on p first log (answers t)))
 playing_breaks p first log err text x c more later last now next i takes goes wrote =
     are_on_breaks p first.module_run first.world log err text x c.world more later last now next i.on takes goes
     (subst (λ k. AppendsBeginning later last (said p k c.world more (picked k c.world x))) i.same_module wrote)
@@ -272,7 +272,7 @@ pub playing_breaks_some : (p : ProgramTextValue) (first : CoreValue) (log : List
     (more : List Entry) (later last now : Option (List ℕ))
     → IsPlaying p first log err text c more later now → all_ended c.world ≡ false
     → AppendsBeginning later last (said p c.module_run c.world more (picked c.module_run c.world x))
-    → BeginsSome (λ xs. all_said p first.module_run xs first.world log) err last
+    → BeginsSome (said_on p first log) err last
 playing_breaks_some p first log err text x c more later last now i goes wrote =
     let s = i.some in (
       s.followed ++ x ∷ [],
@@ -290,12 +290,12 @@ are_on_stops p m w log err (Some text) v more later (Some rest) on = on_stops p 
 -- so far a beginning was written
 pub playing_stops : (p : ProgramTextValue) (first : CoreValue) (log : List Entry) (err text : Option (List ℕ)) (c : CoreValue)
     (more : List Entry) (later now : Option (List ℕ))
-    → IsPlaying p first log err text c more later now → IfSome text (λ t. AppendsBeginning err later (all_said p first.module_run (answers t) first.world log))
+    → IsPlaying p first log err text c more later now → IfSome text (λ t. AppendsBeginning err later (said_on p first log (answers t)))
 playing_stops p first log err text c more later now i = are_on_stops p first.module_run first.world log err text c.world more later now i.on
 
 pub playing_stops_some : (p : ProgramTextValue) (first : CoreValue) (log : List Entry) (err text : Option (List ℕ)) (c : CoreValue)
     (more : List Entry) (later now : Option (List ℕ))
-    → IsPlaying p first log err text c more later now → BeginsSome (λ xs. all_said p first.module_run xs first.world log) err later
+    → IsPlaying p first log err text c more later now → BeginsSome (said_on p first log) err later
 playing_stops_some p first log err text c more later now i =
     let s = i.some in
     (s.followed ++ [], on_stops p first.module_run (s.followed ++ []) first.world log err [] c.world more later (s.on []))
@@ -304,7 +304,7 @@ playing_stops_some p first log err text c more later now i =
 pub playing_some : (p : ProgramTextValue) (first : CoreValue) (log : List Entry) (err text : Option (List ℕ)) (c d : CoreValue)
     (more : List Entry) (later last now : Option (List ℕ))
     → IsPlaying p first log err text c more later now → d ≡ c → Appends later last (end_words d.world)
-    → FollowsSome first.module_run first.world log more (λ xs. all_said p first.module_run xs first.world log) err last
+    → FollowsSome first.module_run first.world log more (said_on p first log) err last
 playing_some p first log err text c d more later last now i same wrote =
     let s = i.some in
     let ends =
@@ -316,7 +316,7 @@ playing_some p first log err text c d more later last now i same wrote =
 pub playing_ends_early_some : (p : ProgramTextValue) (first : CoreValue) (log : List Entry) (err text : Option (List ℕ)) (c d : CoreValue)
     (more : List Entry) (later last now : Option (List ℕ))
     → IsPlaying p first log err text c more later now → d ≡ c → AppendsBeginning later last (end_words d.world)
-    → BeginsSome (λ xs. all_said p first.module_run xs first.world log) err last
+    → BeginsSome (said_on p first log) err last
 playing_ends_early_some p first log err text c d more later last now i same wrote =
     let s = i.some in (
       s.followed ++ [],
@@ -370,7 +370,7 @@ pub playing_ends_early : (p : ProgramTextValue) (first : CoreValue) (log : List 
     (more : List Entry) (later last now : Option (List ℕ)) (o : Option (Option ℕ))
     → IsPlaying p first log err text c more later now → d ≡ c → e ≡ c → ((x : Option ℕ) → o ≡ Some x → ⊥)
     → IsLast d now o → AppendsBeginning later last (end_words e.world)
-    → IfSome text (λ t. AppendsBeginning err last (all_said p first.module_run (answers t) first.world log))
+    → IfSome text (λ t. AppendsBeginning err last (said_on p first log (answers t)))
 playing_ends_early p first log err text c d e more later last now o i same seen none ends wrote =
     are_on_ends_early p first.module_run first.world log err text c.world more later last now i.on
     (subst (λ (k : CoreValue). (all_ended k.world ≡ true) ⊎ IfSome now (λ t. answers t ≡ [])) same (last_of d now o none ends))
@@ -497,14 +497,14 @@ opened_log m args d known before log result start empty is h =
 -- and so is what is told
 pub opened_text : (Q : List ℕ → Type 0) (p : ProgramTextValue) (m : ModuleValue) (args : List ℤ) (d : CoreValue) (known : Option (List ℕ)) (before : List Entry)
     → d ≡ opening_core m args → before ≡ []
-    → IfSome (to_come most_bytes known) (λ t. Q (question p d.module_run d.world before ++ all_said p d.module_run (answers t) d.world before))
+    → IfSome (to_come most_bytes known) (λ t. Q (said_from p d before (answers t)))
     → IfSome known (λ t. Q (told_text p m args t))
 opened_text Q p m args d known before start empty h =
-    of_known most_bytes known (λ t. Q (question p m (opening m args) [] ++ all_said p m (answers t) (opening m args) []))
+    of_known most_bytes known (λ t. Q (told_by p m args (answers t)))
     (subst (λ (l : List Entry). IfSome (to_come most_bytes known)
-    (λ t. Q (question p m (opening m args) l ++ all_said p m (answers t) (opening m args) l))) empty
+    (λ t. Q (said_from p (opening_core m args) l (answers t)))) empty
     (subst (λ (x : CoreValue). IfSome (to_come most_bytes known)
-    (λ t. Q (question p x.module_run x.world before ++ all_said p x.module_run (answers t) x.world before))) start h))
+    (λ t. Q (said_from p x before (answers t)))) start h))
 
 -- by the answers that are known, or by some
 by_answers : (p : ProgramTextValue) (m : ModuleValue) (args : List ℤ) (input : Option (List ℕ)) (log : List Entry) (old new : Option (List ℕ))
@@ -517,15 +517,15 @@ pub opened_by : (p : ProgramTextValue) (m : ModuleValue) (args : List ℤ) (d : 
     (old new : Option (List ℕ))
     → d ≡ opening_core m args → before ≡ [] → result ≡ log
     → IfSome input (λ t. result ≡ played_log m args t) → IfSome input (λ t. Appends old new (told_text p m args t))
-    → FollowsSome d.module_run d.world before log (λ xs. question p d.module_run d.world before ++ all_said p d.module_run xs d.world before) old new
+    → FollowsSome d.module_run d.world before log (said_from p d before) old new
     → IsByAnswers p m args input result old new
 opened_by p m args d input before log result old new start empty is logged wrote some =
     by_answers p m args input result old new logged wrote
     (subst (λ (l : List Entry). FollowsSome m (opening m args) [] l (told_by p m args) old new) (sym is)
     (subst (λ (l : List Entry). FollowsSome m (opening m args) l log
-    (λ xs. question p m (opening m args) l ++ all_said p m xs (opening m args) l) old new) empty
+    (said_from p (opening_core m args) l) old new) empty
     (subst (λ (x : CoreValue). FollowsSome x.module_run x.world before log
-    (λ xs. question p x.module_run x.world before ++ all_said p x.module_run xs x.world before) old new) start some)))
+    (said_from p x before) old new) start some)))
 
 begins_by : (p : ProgramTextValue) (m : ModuleValue) (args : List ℤ) (input old new : Option (List ℕ))
     → IfSome input (λ t. AppendsBeginning old new (told_text p m args t))
@@ -536,11 +536,11 @@ begins_by p m args (Some t) old new known some = (answers_read t, refl, known)
 pub opened_begins : (p : ProgramTextValue) (m : ModuleValue) (args : List ℤ) (d : CoreValue) (input : Option (List ℕ)) (before : List Entry)
     (old new : Option (List ℕ)) → d ≡ opening_core m args → before ≡ []
     → IfSome input (λ t. AppendsBeginning old new (told_text p m args t))
-    → BeginsSome (λ xs. question p d.module_run d.world before ++ all_said p d.module_run xs d.world before) old new → BeginsByAnswers p m args input old new
+    → BeginsSome (said_from p d before) old new → BeginsByAnswers p m args input old new
 opened_begins p m args d input before old new start empty known some =
     begins_by p m args input old new known
-    (subst (λ (l : List Entry). BeginsSome (λ xs. question p m (opening m args) l ++ all_said p m xs (opening m args) l) old new) empty
-    (subst (λ (x : CoreValue). BeginsSome (λ xs. question p x.module_run x.world before ++ all_said p x.module_run xs x.world before) old new) start some))
+    (subst (λ (l : List Entry). BeginsSome (said_from p (opening_core m args) l) old new) empty
+    (subst (λ (x : CoreValue). BeginsSome (said_from p x before) old new) start some))
 
 -- nothing was written, before any was read
 pub nothing_begun_by : (p : ProgramTextValue) (m : ModuleValue) (args : List ℤ) (input a : Option (List ℕ)) → BeginsByAnswers p m args input a a

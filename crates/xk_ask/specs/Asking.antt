@@ -10,7 +10,8 @@ use Rattle.xk_types.specs.Device.{Rose}
 use Rattle.xk_ask.specs.declared.fault.AskFault.{AskFault}
 use Rattle.xk_ask.specs.declared.fault.AskFault.TheVariants as fault
 use Rattle.xk_ask.specs.Answers.{AreAnswers, answers}
-use Rattle.xk_ask.specs.Play.{log_by, played, told_by}
+use Rattle.xk_core.specs.Core.{CoreValue}
+use Rattle.xk_ask.specs.Play.{all_said, log_by, played, question, told_by}
 use Rattle.xk_ask.specs.ProgramTexts.{ProgramTextValue}
 use Rattle.xk_io.specs.Writing.{AppendsBeginning}
 
@@ -39,6 +40,14 @@ EndAlike n (Some text) k (Some rest) = drop k rest ≡ drop n text
 -- a line of the known bytes was read with its line feed, and nothing behind it, where so many bytes might be read before and may be now
 abbrev pub TakesLine : ℕ → Option (List ℕ) → ℕ → Option (List ℕ) → Type 0
 TakesLine n old k new = Leaves (drop_through 10) old new × EndAlike n old k new
+
+-- what is said to these answers behind the question of a core, to which the run with this log has come
+abbrev pub said_on : ProgramTextValue → CoreValue → List Entry → List (Option ℕ) → List ℕ
+said_on p c log xs = all_said p c.module_run xs c.world log
+
+-- that question, and what is said to them
+abbrev pub said_from : ProgramTextValue → CoreValue → List Entry → List (Option ℕ) → List ℕ
+said_from p c log xs = question p c.module_run c.world log ++ said_on p c log xs
 
 -- by some answers the log grew so from this world on, and all that is said to them was written
 abbrev pub FollowsSome : ModuleValue → World → List Entry → List Entry → (List (Option ℕ) → List ℕ) → Option (List ℕ) → Option (List ℕ) → Type 0

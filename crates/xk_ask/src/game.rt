@@ -9,9 +9,10 @@ ghost use Rattle.xk_types.specs.Schedule.{all_ended};
 ghost use Rattle.xk_io.specs.Writing.{AppendsBeginning};
 ghost use Rattle.xk_ask.specs.Answers.{answers, most_bytes};
 ghost use Rattle.xk_ask.specs.ProgramTexts.{known_text, no_source};
-ghost use Rattle.xk_ask.specs.Play.{IsPlayed, all_said, behind, end_words, picked, played, played_log, question, said, taken, told_text};
+ghost use Rattle.xk_ask.specs.Play.{IsPlayed, behind, end_words, picked, played, played_log, question, said, taken, told_text};
 ghost use Rattle.xk_ask.specs.Play.{unread, unread_from};
-ghost use Rattle.xk_ask.specs.Asking.{BeginsByAnswers, BeginsSome, FailsToAsk, FailsToWrite, FollowsSome, IsByAnswers, Leaves, TakesAnswer, TakesLine, to_come};
+ghost use Rattle.xk_ask.specs.Asking.{BeginsByAnswers, BeginsSome, FailsToAsk, FailsToWrite, FollowsSome, IsByAnswers, Leaves, TakesAnswer, TakesLine};
+ghost use Rattle.xk_ask.specs.Asking.{said_from, said_on, to_come};
 
 use crate::answers::next_answer;
 use crate::fault::AskFault;
@@ -134,10 +135,10 @@ fn say_end<E: Sink>(core: &Core<'_>, err: &mut E) -> Result<(), Device>
     ensures no_fault { OnOk result (E.fault_count err.new ≡ E.fault_count err.old) }
     ensures failed { OnErr result (Rose (E.fault_count err.old) (E.fault_count err.new)) }
 {
-    if core.ended() {
-        return Ok(());
+    if !core.ended() {
+        return write_all(err, end_line().as_bytes());
     }
-    write_all(err, end_line().as_bytes())
+    Ok(())
 }
 
 /// Plays on behind a question, to the end of the run or of the input.
@@ -156,20 +157,14 @@ fn play_on<R: Source, E: Sink>(
         (played game.old.driver.module_run (answers bytes) game.old.driver.world))) }
     ensures told { OnOk result (IfSome (to_come most_bytes (R.remaining input.old)) (λ bytes.
         Appends (E.contents err.old) (E.contents err.new)
-        (all_said text.now game.old.driver.module_run (answers bytes) game.old.driver.world
-        game.old.log.items))) }
+        (said_on text.now game.old.driver game.old.log.items (answers bytes)))) }
     ensures begins { IfSome (to_come most_bytes (R.remaining input.old)) (λ bytes.
         AppendsBeginning (E.contents err.old) (E.contents err.new)
-        (all_said text.now game.old.driver.module_run (answers bytes) game.old.driver.world
-        game.old.log.items)) }
+        (said_on text.now game.old.driver game.old.log.items (answers bytes))) }
     ensures by_some { OnOk result (FollowsSome game.old.driver.module_run game.old.driver.world
-        game.old.log.items game.new.log.items
-        (λ xs. all_said text.now game.old.driver.module_run xs game.old.driver.world
-        game.old.log.items)
+        game.old.log.items game.new.log.items (said_on text.now game.old.driver game.old.log.items)
         (E.contents err.old) (E.contents err.new)) }
-    ensures begins_some { BeginsSome
-        (λ xs. all_said text.now game.old.driver.module_run xs game.old.driver.world
-        game.old.log.items)
+    ensures begins_some { BeginsSome (said_on text.now game.old.driver game.old.log.items)
         (E.contents err.old) (E.contents err.new) }
     ensures unread { OnOk result (Leaves (unread_from game.old.driver.module_run
         game.old.driver.world (all_ended game.new.driver.world))
@@ -203,23 +198,14 @@ fn play<R: Source, E: Sink>(
         (played game.old.driver.module_run (answers bytes) game.old.driver.world))) }
     ensures told { OnOk result (IfSome (to_come most_bytes (R.remaining input.old)) (λ bytes.
         Appends (E.contents err.old) (E.contents err.new)
-        (question text.now game.old.driver.module_run game.old.driver.world game.old.log.items
-        ++ all_said text.now game.old.driver.module_run (answers bytes) game.old.driver.world
-        game.old.log.items))) }
+        (said_from text.now game.old.driver game.old.log.items (answers bytes)))) }
     ensures begins { IfSome (to_come most_bytes (R.remaining input.old)) (λ bytes.
         AppendsBeginning (E.contents err.old) (E.contents err.new)
-        (question text.now game.old.driver.module_run game.old.driver.world game.old.log.items
-        ++ all_said text.now game.old.driver.module_run (answers bytes) game.old.driver.world
-        game.old.log.items)) }
+        (said_from text.now game.old.driver game.old.log.items (answers bytes))) }
     ensures by_some { OnOk result (FollowsSome game.old.driver.module_run game.old.driver.world
-        game.old.log.items game.new.log.items
-        (λ xs. question text.now game.old.driver.module_run game.old.driver.world
-        game.old.log.items ++ all_said text.now game.old.driver.module_run xs
-        game.old.driver.world game.old.log.items)
+        game.old.log.items game.new.log.items (said_from text.now game.old.driver game.old.log.items)
         (E.contents err.old) (E.contents err.new)) }
-    ensures begins_some { BeginsSome (λ xs. question text.now game.old.driver.module_run
-        game.old.driver.world game.old.log.items ++ all_said text.now
-        game.old.driver.module_run xs game.old.driver.world game.old.log.items)
+    ensures begins_some { BeginsSome (said_from text.now game.old.driver game.old.log.items)
         (E.contents err.old) (E.contents err.new) }
     ensures unread { OnOk result (Leaves (unread_from game.old.driver.module_run
         game.old.driver.world (all_ended game.new.driver.world))

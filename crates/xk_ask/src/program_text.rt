@@ -31,9 +31,9 @@ impl<'t> Model for ProgramText<'t> {
     ghost Value = { ProgramTextValue };
 
     ghost view = { λ s. record {
-        places = places_of s.text.now s.origins.now;
-        shared = map (λ x. x.now) s.shared.now;
-        is_known = s.is_known;
+      places = places_of s.text.now s.origins.now;
+      shared = map (λ x. x.now) s.shared.now;
+      is_known = s.is_known;
     } };
 
     ghost invariant = { λ s. (s.lines ≡ s.text.now)

@@ -87,8 +87,16 @@ fn played_by<L: Source, E: Sink>(
     match &from.origins {
         Some(origins) => {
             let units = origins.units();
-            let shared = &from.shared;
-            match source_ask(alloc, from.text, units, shared, verified, arguments, input, err) {
+            match source_ask(
+                alloc,
+                from.text,
+                units,
+                &from.shared,
+                verified,
+                arguments,
+                input,
+                err,
+            ) {
                 Ok(played) => Ok(played),
                 Err(fault) => Err(fault_of(fault)),
             }
