@@ -62,22 +62,22 @@ fn played_by<L: Source, E: Sink>(
     alloc: Global,
     from: &Provenance<'_>,
     verified: &Verified,
-    arguments: &[i64],
+    given: &[i64],
     input: &mut L,
     err: &mut E,
 ) -> Result<Played, Fault>
-    requires { AreArguments verified.now arguments.now }
-    ensures played { IfOk result (λ r. IsPlayed verified.now arguments.now
+    requires { AreArguments verified.now given.now }
+    ensures played { IfOk result (λ r. IsPlayed verified.now given.now
         r.log.items r.printed.items r.steps r.whole) }
     ensures answers { (form : FormValue) (bytes : List ℕ) → IsFrom true form bytes from.now
         → IfOk result (λ r. (xs : List (Option ℕ)) × AreAnswers (L.remaining input.old) xs
-        × (r.log.items ≡ log_by verified.now arguments.now xs)
-        × IsWrittenBy (IsAskedBy form bytes verified.now arguments.now xs)
+        × (r.log.items ≡ log_by verified.now given.now xs)
+        × IsWrittenBy (IsAskedBy form bytes verified.now given.now xs)
         (E.contents err.old) (E.contents err.new)) }
     ensures begins { (form : FormValue) (bytes : List ℕ) → IsFrom true form bytes from.now
-        → BeginsToAsk form bytes verified.now arguments.now
+        → BeginsToAsk form bytes verified.now given.now
         (L.remaining input.old) (E.contents err.old) (E.contents err.new) }
-    ensures rest { IfOk result (λ r. Leaves (unread verified.now arguments.now r.whole)
+    ensures rest { IfOk result (λ r. Leaves (unread verified.now given.now r.whole)
         (L.remaining input.old) (L.remaining input.new)) }
     ensures no_fault { OnOk result ((L.fault_count input.new ≡ L.fault_count input.old)
         × (E.fault_count err.new ≡ E.fault_count err.old)) }
@@ -93,7 +93,7 @@ fn played_by<L: Source, E: Sink>(
                 units,
                 &from.shared,
                 verified,
-                arguments,
+                given,
                 input,
                 err,
             ) {
@@ -101,7 +101,7 @@ fn played_by<L: Source, E: Sink>(
                 Err(fault) => Err(fault_of(fault)),
             }
         }
-        None => match module_ask(alloc, verified, arguments, input, err) {
+        None => match module_ask(alloc, verified, given, input, err) {
             Ok(played) => Ok(played),
             Err(fault) => Err(fault_of(fault)),
         },
