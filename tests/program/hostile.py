@@ -36,6 +36,21 @@ DEVICE, MEMORY = "x10clock: device\n", "x10clock: out of memory\n"
 # Of these commands nothing is told of a file that can't be opened but that.
 FIXED = ("check", "compile", "run", "replay", "chart")
 FOLDER, MISSING, OTHER = "it is a folder", "no such file or folder", "the system can't open it"
+# What a person is asked before the first step of in-step.x10 and before the second, and what is said where no answer
+# comes.
+ASKED = """steps 0
+act 0 at 2:9 can step
+act 0 at 2:9: val c = Clock.make();
+who steps?
+"""
+ASKED_AGAIN = """steps 1
+act 0 at 3:5 can step, clock 0 open
+act 0 in main, c is clock 0
+clock 0 phase 0
+act 0 at 3:5: async clocked(c) {
+who steps?
+"""
+OVER = "the input has ended\n"
 TOO_LONG = """/dev/zero: F4 TooLong: the text has more than 1048576 bytes
    = usual repair: write a shorter one: a method is written once, however often it is called
 """
@@ -185,15 +200,16 @@ def over_streams(tried: Tried) -> None:
 def shared_path(tried: Tried) -> None:
     """A log that is longer than what was written, for something else writes there, too, is a failure."""
     tried.calls += 1
-    first, path = "act 0 at 2:9\nwho steps?\n", tried.folder / "shared"
+    path = tried.folder / "shared"
     words = [tried.program, "run", "--order", "ask", "--log", path, "in-step.x10"]
     with subprocess.Popen(
         words, stdin=subprocess.PIPE, stdout=subprocess.PIPE, stderr=subprocess.PIPE, cwd=tried.folder, text=True
     ) as one:
-        told = "".join(one.stderr.readline() for _ in range(2))
+        told = "".join(one.stderr.readline() for _ in ASKED.splitlines())
         tried.answers("exec $x run --log shared in-step.x10", 0, PRINTED)
         out, err = one.communicate("", timeout=harness.SECONDS)
-        tried.wants("one that writes less", (told + err, out, one.returncode), (first + DEVICE, "stopped steps 0\n", 5))
+        wanted = (ASKED + OVER + DEVICE, "stopped steps 0\n", 5)
+        tried.wants("one that writes less", (told + err, out, one.returncode), wanted)
 
 
 def fifo(tried: Tried) -> None:
@@ -259,21 +275,21 @@ def strange_names(tried: Tried) -> None:
 def asked(tried: Tried) -> None:
     """Answers that can't be read, that end early, or have no end; and a question stands there before its answer is
     read."""
-    first, run = "act 0 at 2:9\nwho steps?\n", "run --order ask in-step.x10"
+    run = "run --order ask in-step.x10"
     for given in ("<&-", "< ."):
-        tried.answers(f"exec $x {run} {given}", 5, err=first + DEVICE)
+        tried.answers(f"exec $x {run} {given}", 5, err=ASKED + DEVICE)
     tried.answers(f"exec $x {run} 2> /dev/full", 5)
     tried.answers(f"exec $x {run} 2>&-", 5)
-    tried.answers(f"exec $x {run} > /dev/full", 5, err=first + DEVICE)
-    tried.answers(f"exec $x {run} --log /dev/full", 5, "stopped steps 0\n", first + DEVICE)
+    tried.answers(f"exec $x {run} > /dev/full", 5, err=ASKED + OVER + DEVICE)
+    tried.answers(f"exec $x {run} --log /dev/full", 5, "stopped steps 0\n", ASKED + OVER + DEVICE)
     tried.answers(f"exec $x {run} --log no-folder/log", 5, err=DEVICE)
-    tried.answers(f"exec $x {run} < /dev/null", 6, "stopped steps 0\n", first)
-    tried.answers(f"head -c 30000000 /dev/zero | $x {run}", 6, "stopped steps 0\n", first)
+    tried.answers(f"exec $x {run} < /dev/null", 6, "stopped steps 0\n", ASKED + OVER)
+    tried.answers(f"head -c 30000000 /dev/zero | $x {run}", 6, "stopped steps 0\n", ASKED + OVER)
     tried.answers(
         f"{{ head -c 30000000 /dev/zero; echo; }} | $x {run}",
         6,
         "stopped steps 0\n",
-        first + "none of these: who steps?\n",
+        ASKED + "none of these: who steps?\n" + OVER,
     )
     tried.answers("exec $x run --order ask .", 5, err=DEVICE)
     for path in ("in-step.x10", "answers", "/dev/stdin"):
@@ -287,15 +303,15 @@ def asked(tried: Tried) -> None:
     with subprocess.Popen(
         words, stdin=subprocess.PIPE, stdout=subprocess.PIPE, stderr=subprocess.PIPE, cwd=tried.folder, text=True
     ) as person:
-        told = [person.stderr.readline() for _ in range(2)]
+        told = [person.stderr.readline() for _ in ASKED.splitlines()]
         person.stdin.write("0\n")
         person.stdin.flush()
-        told += [person.stderr.readline() for _ in range(2)]
-        out, _ = person.communicate(timeout=harness.SECONDS)
+        told += [person.stderr.readline() for _ in ASKED_AGAIN.splitlines()]
+        out, err = person.communicate(timeout=harness.SECONDS)
         tried.wants(
             "what a person is asked",
-            ("".join(told), out, person.returncode),
-            (first + "act 0 at 3:5\nwho steps?\n", "stopped steps 1\n", 6),
+            ("".join(told), out, err, person.returncode),
+            (ASKED + ASKED_AGAIN, "stopped steps 1\n", OVER, 6),
         )
     tried.wants("the log of what was played", (tried.folder / "played").read_text(), "x10log 1\n0 1\nend 1\n")
 

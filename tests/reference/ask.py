@@ -11,13 +11,15 @@ import re
 import sys
 from dataclasses import dataclass
 
-from tests.reference import logs, modules, source
+from tests.reference import explain, logs, modules, source, where
 from tests.reference.events import Program
 from tests.reference.logs import Entry, Played
 from tests.reference.modules import Accepted, Arguments, Refused
 
 NUMBER = re.compile(rb"[ \t\r]*([0-9]+)[ \t\r]*")
-PROMPT, AGAIN = "who steps?\n", "none of these: who steps?\n"
+PROMPT, AGAIN, OVER = "who steps?\n", "none of these: who steps?\n", "the input has ended\n"
+# So many numbers that were printed are told, the last ones.
+PRINTED = 20
 # The status where the input ends before the run does.
 EARLY = 6
 
@@ -45,18 +47,29 @@ def able(played: Played) -> list[int]:
     ]
 
 
+def printed(numbers: list[int]) -> str:
+    """The line of the numbers that were printed, if some were."""
+    if not numbers:
+        return ""
+    return "printed" + " .." * (len(numbers) > PRINTED) + "".join(f" {number}" for number in numbers[-PRINTED:]) + "\n"
+
+
+def able_line(program: Program, played: Played, who: int) -> str:
+    """An activity, and where it is; of a source text also the line there."""
+    frame = played.world.activities[who].frames[-1]
+    if program.is_module:
+        return f"act {who} unit {frame.unit} place {frame.place}\n"
+    line = explain.line_text(program.data, program.offset(frame))
+    return f"act {who} at {program.position(frame)}: {line}\n"
+
+
 def question(program: Program, played: Played) -> str:
-    """A line for each that can step, and the prompt; nothing where all have ended."""
+    """How things are, what was printed, a line for each that can step, and the prompt; nothing where all have
+    ended."""
     if played.world.has_ended:
         return ""
-    lines = []
-    for who in able(played):
-        frame = played.world.activities[who].frames[-1]
-        position = program.position(frame)
-        lines.append(
-            f"act {who} " + (f"at {position}" if position else f"unit {frame.unit} place {frame.place}") + "\n"
-        )
-    return "".join(lines) + PROMPT
+    lines = "".join(able_line(program, played, who) for who in able(played))
+    return where.Place(program, played, None).text() + printed(played.printed) + lines + PROMPT
 
 
 def take_turn(played: Played, who: int) -> None:
@@ -85,7 +98,7 @@ def game(program: Program, judged: Accepted | Refused, data: bytes, arguments: A
     if played.world.has_ended:
         return Game(0, played.output(), told, log)
     return Game(
-        EARLY, "".join(f"{number}\n" for number in played.printed) + f"stopped steps {played.steps}\n", told, log
+        EARLY, "".join(f"{number}\n" for number in played.printed) + f"stopped steps {played.steps}\n", told + OVER, log
     )
 
 

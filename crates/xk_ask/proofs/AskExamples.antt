@@ -8,7 +8,7 @@ use Rattle.xk_types.specs.Code.{ModuleValue}
 use Rattle.xk_types.specs.World.{opening}
 use Rattle.xk_types.specs.Schedule.{printed}
 use Rattle.xk_types.proofs.Examples.Notation.{main_with, body_with, module_with}
-use Rattle.xk_show_events.specs.Events.{no_text}
+use Rattle.xk_ask.specs.ProgramTexts.{no_source}
 use Rattle.xk_ask.specs.Answers.{answers}
 use Rattle.xk_ask.specs.Play.{able_line, all_said, played, question, unread}
 
@@ -43,16 +43,16 @@ two_printed : printed two (played two (answers whole) (opening two [])) (opening
 unfolding total_within
 two_printed = refl
 
-two_asked : question no_text two (opening two []) ≡ codes "act 0 unit 0 place 0\nwho steps?\n"
+two_asked : question no_source two (opening two []) ≡ codes "act 0 unit 0 place 0\nwho steps?\n"
 unfolding able_line digits
 two_asked = refl
 
-two_told : all_said no_text two (answers whole) (opening two []) ≡ codes "act 0 unit 0 place 1\nact 1 unit 1 place 0\nwho steps?\nact 0 unit 0 place 1\nact 1 unit 1 place 2\nwho steps?\nnone of these: who steps?\nact 0 unit 0 place 1\nwho steps?\nact 0 unit 0 place 3\nwho steps?\n"
+two_told : all_said no_source two (answers whole) (opening two []) ≡ codes "act 0 unit 0 place 1\nact 1 unit 1 place 0\nwho steps?\nact 0 unit 0 place 1\nact 1 unit 1 place 2\nwho steps?\nnone of these: who steps?\nact 0 unit 0 place 1\nwho steps?\nact 0 unit 0 place 3\nwho steps?\n"
 unfolding able_line digits total_within
 two_told = refl
 
 -- an answer behind the end is not looked at
-none_behind : all_said no_text two (answers (codes "0\n1\n1\n0\n0\n0\n")) (opening two []) ≡ all_said no_text two (answers (codes "0\n1\n1\n0\n0\n")) (opening two [])
+none_behind : all_said no_source two (answers (codes "0\n1\n1\n0\n0\n0\n")) (opening two []) ≡ all_said no_source two (answers (codes "0\n1\n1\n0\n0\n")) (opening two [])
 unfolding able_line digits total_within
 none_behind = refl
 

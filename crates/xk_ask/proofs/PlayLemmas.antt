@@ -16,10 +16,10 @@ use Rattle.xk_core.specs.Core.{CoreValue, opening_core}
 use Rattle.xk_scheduler.proofs.EnabledSetLemmas.{going}
 use Rattle.xk_io.specs.Writing.{AppendsBeginning}
 use Rattle.xk_io.proofs.DeviceLemmas.{appends_then, beginning_more, beginning_then}
-use Rattle.xk_show_events.specs.Events.{PlacesValue}
 use Rattle.xk_ask.specs.Answers.{answers, answers_read, behind_lines, most_bytes}
-use Rattle.xk_ask.specs.Asking.{BeginsByAnswers, BeginsSome, EndAlike, FollowsSome, IsByAnswers, Leaves, TakesAnswer, TakesLine, to_come}
-use Rattle.xk_ask.specs.Play.{all_said, behind, looked_at, picked, played, played_log, question, said, taken, told_by, told_text, unread, unread_from}
+use Rattle.xk_ask.specs.Asking.{BeginsByAnswers, BeginsSome, EndAlike, FollowsSome, IsByAnswers, Leaves, TakesAnswer, TakesLine, said_from, said_on, to_come}
+use Rattle.xk_ask.specs.ProgramTexts.{ProgramTextValue}
+use Rattle.xk_ask.specs.Play.{all_said, behind, end_words, log_behind, looked_at, picked, played, played_log, said, taken, told_by, told_text, unread, unread_from}
 use Rattle.xk_ask.proofs.LineLemmas.{passing_stops}
 
 -- ---- where all have ended
@@ -37,35 +37,36 @@ played_over m [] w over = refl
 played_over m (x ∷ xs) w over =
     ap (λ o. taken m w o ++ played m xs (behind m w o)) (picked_over m w x over) ∙ played_over m xs w over
 
-told_over : (p : PlacesValue) (m : ModuleValue) (xs : List (Option ℕ)) (w : World) → all_ended w ≡ true → all_said p m xs w ≡ []
-told_over p m [] w over = refl
-told_over p m (x ∷ xs) w over = cond-true (all_ended w) _ _ over
+told_over : (p : ProgramTextValue) (m : ModuleValue) (xs : List (Option ℕ)) (w : World) (log : List Entry) → all_ended w ≡ true → all_said p m xs w log ≡ end_words w
+told_over p m [] w log over = refl
+told_over p m (x ∷ xs) w log over = cond-true (all_ended w) _ _ over ∙ sym (cond-true (all_ended w) _ _ over)
 
 -- ---- from a world on
 
 -- Some of the answers xs were followed, from world w on, and ys are left, in world v: by these the log is made whole, and what is told.
-pub record IsOn (p : PlacesValue) (m : ModuleValue) (xs : List (Option ℕ)) (w : World) (log : List Entry) (err : Option (List ℕ))
+pub record IsOn (p : ProgramTextValue) (m : ModuleValue) (xs : List (Option ℕ)) (w : World) (log : List Entry) (err : Option (List ℕ))
     (ys : List (Option ℕ)) (v : World) (more : List Entry) (later : Option (List ℕ)) : Type 0 where
   pub logged : more ++ map one_step_of (played m ys v) ≡ log ++ map one_step_of (played m xs w)
   pub words : List ℕ
   pub wrote : Appends err later words
-  pub words_are : words ++ all_said p m ys v ≡ all_said p m xs w
+  pub words_are : words ++ all_said p m ys v more ≡ all_said p m xs w log
 
-on_starts : (p : PlacesValue) (m : ModuleValue) (xs : List (Option ℕ)) (w : World) (log : List Entry) (err : Option (List ℕ)) → IsOn p m xs w log err xs w log err
+on_starts : (p : ProgramTextValue) (m : ModuleValue) (xs : List (Option ℕ)) (w : World) (log : List Entry) (err : Option (List ℕ)) → IsOn p m xs w log err xs w log err
 on_starts p m xs w log err = record { logged = refl; words = []; wrote = Appends-nil err; words_are = refl }
 
 -- what is told where an answer is looked at
-told_next : (p : PlacesValue) (m : ModuleValue) (x : Option ℕ) (ys zs : List (Option ℕ)) (v : World) → ys ≡ x ∷ zs → all_ended v ≡ false
-    → all_said p m ys v ≡ said p m v (picked m v x) ++ all_said p m zs (behind m v (picked m v x))
-told_next p m x ys zs v is goes = ap (λ l. all_said p m l v) is ∙ cond-false (all_ended v) _ _ goes
+told_next : (p : ProgramTextValue) (m : ModuleValue) (x : Option ℕ) (ys zs : List (Option ℕ)) (v : World) (more : List Entry) → ys ≡ x ∷ zs → all_ended v ≡ false
+    → all_said p m ys v more ≡ said p m v more (picked m v x) ++ all_said p m zs (behind m v (picked m v x)) (log_behind m v more (picked m v x))
+told_next p m x ys zs v more is goes = ap (λ l. all_said p m l v more) is ∙ cond-false (all_ended v) _ _ goes
 
-on_more : (p : PlacesValue) (m : ModuleValue) (xs : List (Option ℕ)) (w : World) (log : List Entry) (err : Option (List ℕ))
+on_more : (p : ProgramTextValue) (m : ModuleValue) (xs : List (Option ℕ)) (w : World) (log : List Entry) (err : Option (List ℕ))
     (x : Option ℕ) (ys zs : List (Option ℕ)) (v u : World) (more next : List Entry) (later last : Option (List ℕ))
     → IsOn p m xs w log err ys v more later → ys ≡ x ∷ zs → all_ended v ≡ false → u ≡ behind m v (picked m v x)
-    → next ≡ more ++ map one_step_of (taken m v (picked m v x)) → Appends later last (said p m v (picked m v x)) → IsOn p m xs w log err zs u next last
+    → next ≡ log_behind m v more (picked m v x) → Appends later last (said p m v more (picked m v x)) → IsOn p m xs w log err zs u next last
 on_more p m xs w log err x ys zs v u more next later last i is goes led grown wrote =
     let o = picked m v x in
     let rest = played m zs (behind m v o) in
+    let here = said p m v more o in
     record {
       logged = ap (λ z. next ++ map one_step_of (played m zs z)) led
           ∙ ap (λ l. l ++ map one_step_of rest) grown
@@ -73,23 +74,24 @@ on_more p m xs w log err x ys zs v u more next later last i is goes led grown wr
           ∙ ap (λ l. more ++ l) (sym (map-append one_step_of (taken m v o) rest))
           ∙ ap (λ l. more ++ map one_step_of (played m l v)) (sym is)
           ∙ i.logged;
-      words = i.words ++ said p m v o;
-      wrote = appends_then err later last i.words (said p m v o) i.wrote wrote;
-      words_are = ap (λ z. (i.words ++ said p m v o) ++ all_said p m zs z) led
-          ∙ append_assoc i.words (said p m v o) (all_said p m zs (behind m v o))
-          ∙ ap (λ l. i.words ++ l) (sym (told_next p m x ys zs v is goes))
+      words = i.words ++ here;
+      wrote = appends_then err later last i.words here i.wrote wrote;
+      words_are = ap (λ z. (i.words ++ here) ++ all_said p m zs z next) led
+          ∙ ap (λ l. (i.words ++ here) ++ all_said p m zs (behind m v o) l) grown
+          ∙ append_assoc i.words here (all_said p m zs (behind m v o) (log_behind m v more o))
+          ∙ ap (λ l. i.words ++ l) (sym (told_next p m x ys zs v more is goes))
           ∙ i.words_are;
     }
 
-on_breaks : (p : PlacesValue) (m : ModuleValue) (xs : List (Option ℕ)) (w : World) (log : List Entry) (err : Option (List ℕ))
+on_breaks : (p : ProgramTextValue) (m : ModuleValue) (xs : List (Option ℕ)) (w : World) (log : List Entry) (err : Option (List ℕ))
     (x : Option ℕ) (ys zs : List (Option ℕ)) (v : World) (more : List Entry) (later last : Option (List ℕ))
     → IsOn p m xs w log err ys v more later → ys ≡ x ∷ zs → all_ended v ≡ false
-    → AppendsBeginning later last (said p m v (picked m v x)) → AppendsBeginning err last (all_said p m xs w)
+    → AppendsBeginning later last (said p m v more (picked m v x)) → AppendsBeginning err last (all_said p m xs w log)
 on_breaks p m xs w log err x ys zs v more later last i is goes wrote =
-    let here = said p m v (picked m v x) in
-    let rest = all_said p m zs (behind m v (picked m v x)) in
-    let whole : (i.words ++ here) ++ rest ≡ all_said p m xs w =
-    append_assoc i.words here rest ∙ ap (λ l. i.words ++ l) (sym (told_next p m x ys zs v is goes)) ∙ i.words_are in
+    let here = said p m v more (picked m v x) in
+    let rest = all_said p m zs (behind m v (picked m v x)) (log_behind m v more (picked m v x)) in
+    let whole : (i.words ++ here) ++ rest ≡ all_said p m xs w log =
+    append_assoc i.words here rest ∙ ap (λ l. i.words ++ l) (sym (told_next p m x ys zs v more is goes)) ∙ i.words_are in
     subst (AppendsBeginning err last) whole
     (beginning_more err last (i.words ++ here) rest (beginning_then err later last i.words here i.wrote wrote))
 
@@ -97,43 +99,54 @@ on_breaks p m xs w log err x ys zs v more later last i is goes wrote =
 whole_beginning : (a b : Option (List ℕ)) (text : List ℕ) → Appends a b text → AppendsBeginning a b text
 whole_beginning a b text h = (length text, subst (Appends a b) (sym (take-length text)) h)
 
-on_stops : (p : PlacesValue) (m : ModuleValue) (xs : List (Option ℕ)) (w : World) (log : List Entry) (err : Option (List ℕ))
+on_stops : (p : ProgramTextValue) (m : ModuleValue) (xs : List (Option ℕ)) (w : World) (log : List Entry) (err : Option (List ℕ))
     (ys : List (Option ℕ)) (v : World) (more : List Entry) (later : Option (List ℕ))
-    → IsOn p m xs w log err ys v more later → AppendsBeginning err later (all_said p m xs w)
+    → IsOn p m xs w log err ys v more later → AppendsBeginning err later (all_said p m xs w log)
 on_stops p m xs w log err ys v more later i =
     subst (AppendsBeginning err later) i.words_are
-    (beginning_more err later i.words (all_said p m ys v) (whole_beginning err later i.words i.wrote))
+    (beginning_more err later i.words (all_said p m ys v more) (whole_beginning err later i.words i.wrote))
 
 -- no answer is left, or none is looked at
-on_ends : (p : PlacesValue) (m : ModuleValue) (xs : List (Option ℕ)) (w : World) (log : List Entry) (err : Option (List ℕ))
-    (ys : List (Option ℕ)) (v : World) (more : List Entry) (later : Option (List ℕ))
-    → IsOn p m xs w log err ys v more later → (all_ended v ≡ true) ⊎ (ys ≡ [])
-    → (more ≡ log ++ map one_step_of (played m xs w)) × Appends err later (all_said p m xs w)
-on_ends p m xs w log err ys v more later i ends =
-    let none = none_left ends in (
+none_left : (p : ProgramTextValue) (m : ModuleValue) (ys : List (Option ℕ)) (v : World) (more : List Entry) → (all_ended v ≡ true) ⊎ (ys ≡ [])
+    → (played m ys v ≡ []) × (all_said p m ys v more ≡ end_words v)
+none_left p m ys v more (inl over) = (played_over m ys v over, told_over p m ys v more over)
+none_left p m ys v more (inr is) = (ap (λ l. played m l v) is, ap (λ l. all_said p m l v more) is)
+
+on_ends : (p : ProgramTextValue) (m : ModuleValue) (xs : List (Option ℕ)) (w : World) (log : List Entry) (err : Option (List ℕ))
+    (ys : List (Option ℕ)) (v : World) (more : List Entry) (later last : Option (List ℕ))
+    → IsOn p m xs w log err ys v more later → (all_ended v ≡ true) ⊎ (ys ≡ []) → Appends later last (end_words v)
+    → (more ≡ log ++ map one_step_of (played m xs w)) × Appends err last (all_said p m xs w log)
+on_ends p m xs w log err ys v more later last i ends wrote =
+    let none = none_left p m ys v more ends in (
       sym (append-nil more) ∙ ap (λ l. more ++ map one_step_of l) (sym none.0) ∙ i.logged,
-      subst (Appends err later) (sym (append-nil i.words) ∙ ap (λ l. i.words ++ l) (sym none.1) ∙ i.words_are) i.wrote,
+      subst (Appends err last) (ap (λ l. i.words ++ l) (sym none.1) ∙ i.words_are)
+          (appends_then err later last i.words (end_words v) i.wrote wrote),
     )
-  where
-    none_left : (all_ended v ≡ true) ⊎ (ys ≡ []) → (played m ys v ≡ []) × (all_said p m ys v ≡ [])
-    none_left (inl over) = (played_over m ys v over, told_over p m ys v over)
-    none_left (inr is) = (ap (λ l. played m l v) is, ap (λ l. all_said p m l v) is)
+
+-- and a beginning of what is said then was written
+on_ends_early : (p : ProgramTextValue) (m : ModuleValue) (xs : List (Option ℕ)) (w : World) (log : List Entry) (err : Option (List ℕ))
+    (ys : List (Option ℕ)) (v : World) (more : List Entry) (later last : Option (List ℕ))
+    → IsOn p m xs w log err ys v more later → (all_ended v ≡ true) ⊎ (ys ≡ []) → AppendsBeginning later last (end_words v)
+    → AppendsBeginning err last (all_said p m xs w log)
+on_ends_early p m xs w log err ys v more later last i ends wrote =
+    subst (AppendsBeginning err last) (ap (λ l. i.words ++ l) (sym (none_left p m ys v more ends).1) ∙ i.words_are)
+    (beginning_then err later last i.words (end_words v) i.wrote wrote)
 
 -- ---- by some answers
 
 -- Some answers were followed, whatever the input: any that come behind them go on from here.
-pub record IsBySome (p : PlacesValue) (m : ModuleValue) (w : World) (log : List Entry) (err : Option (List ℕ))
+pub record IsBySome (p : ProgramTextValue) (m : ModuleValue) (w : World) (log : List Entry) (err : Option (List ℕ))
     (v : World) (more : List Entry) (later : Option (List ℕ)) : Type 0 where
   pub followed : List (Option ℕ)
   pub on : (ys : List (Option ℕ)) → IsOn p m (followed ++ ys) w log err ys v more later
 
-by_none : (p : PlacesValue) (m : ModuleValue) (w : World) (log : List Entry) (err : Option (List ℕ)) → IsBySome p m w log err w log err
+by_none : (p : ProgramTextValue) (m : ModuleValue) (w : World) (log : List Entry) (err : Option (List ℕ)) → IsBySome p m w log err w log err
 by_none p m w log err = record { followed = []; on = λ ys. on_starts p m ys w log err }
 
-by_one_more : (p : PlacesValue) (m : ModuleValue) (w : World) (log : List Entry) (err : Option (List ℕ)) (x : Option ℕ) (v u : World)
+by_one_more : (p : ProgramTextValue) (m : ModuleValue) (w : World) (log : List Entry) (err : Option (List ℕ)) (x : Option ℕ) (v u : World)
     (more next : List Entry) (later last : Option (List ℕ))
     → IsBySome p m w log err v more later → all_ended v ≡ false → u ≡ behind m v (picked m v x)
-    → next ≡ more ++ map one_step_of (taken m v (picked m v x)) → Appends later last (said p m v (picked m v x)) → IsBySome p m w log err u next last
+    → next ≡ log_behind m v more (picked m v x) → Appends later last (said p m v more (picked m v x)) → IsBySome p m w log err u next last
 by_one_more p m w log err x v u more next later last i goes led grown wrote = record {
   followed = i.followed ++ x ∷ [];
   on = λ ys. subst (λ l. IsOn p m l w log err ys u next last) (sym (append_assoc i.followed (x ∷ []) ys))
@@ -177,25 +190,25 @@ left_ended m w v k (Some text) (Some rest) are over =
 
 -- ---- by the bytes that are known
 
-abbrev pub AreOn : PlacesValue → ModuleValue → World → List Entry → Option (List ℕ) → Option (List ℕ) → World → List Entry → Option (List ℕ) → Option (List ℕ) → Type 0
+abbrev pub AreOn : ProgramTextValue → ModuleValue → World → List Entry → Option (List ℕ) → Option (List ℕ) → World → List Entry → Option (List ℕ) → Option (List ℕ) → Type 0
 AreOn p m w log err None v more later now = ⊤
 AreOn p m w log err (Some text) v more later None = ⊥
 AreOn p m w log err (Some text) v more later (Some rest) = IsOn p m (answers text) w log err (answers rest) v more later
 
 -- Of the bytes that were to come in the first core some are left in this one, and the answers in the others were followed: the log and what was written
 -- to standard error lack what comes of the rest.
-pub record IsPlaying (p : PlacesValue) (first : CoreValue) (log : List Entry) (err text : Option (List ℕ))
+pub record IsPlaying (p : ProgramTextValue) (first : CoreValue) (log : List Entry) (err text : Option (List ℕ))
     (c : CoreValue) (more : List Entry) (later now : Option (List ℕ)) : Type 0 where
   pub same_module : c.module_run ≡ first.module_run
   pub same_arguments : c.world.arguments ≡ first.world.arguments
   pub some : IsBySome p first.module_run first.world log err c.world more later
   pub on : AreOn p first.module_run first.world log err text c.world more later now
 
-are_on_first : (p : PlacesValue) (m : ModuleValue) (w : World) (log : List Entry) (err text : Option (List ℕ)) → AreOn p m w log err text w log err text
+are_on_first : (p : ProgramTextValue) (m : ModuleValue) (w : World) (log : List Entry) (err text : Option (List ℕ)) → AreOn p m w log err text w log err text
 are_on_first p m w log err None = tt
 are_on_first p m w log err (Some text) = on_starts p m (answers text) w log err
 
-pub playing_starts : (p : PlacesValue) (c : CoreValue) (log : List Entry) (err text : Option (List ℕ)) → IsPlaying p c log err text c log err text
+pub playing_starts : (p : ProgramTextValue) (c : CoreValue) (log : List Entry) (err text : Option (List ℕ)) → IsPlaying p c log err text c log err text
 playing_starts p c log err text = record {
   same_module = refl;
   same_arguments = refl;
@@ -203,10 +216,10 @@ playing_starts p c log err text = record {
   on = are_on_first p c.module_run c.world log err text;
 }
 
-are_on_more : (p : PlacesValue) (m : ModuleValue) (w : World) (log : List Entry) (err text : Option (List ℕ)) (x : Option ℕ) (v u : World)
+are_on_more : (p : ProgramTextValue) (m : ModuleValue) (w : World) (log : List Entry) (err text : Option (List ℕ)) (x : Option ℕ) (v u : World)
     (more longer : List Entry) (later last now next : Option (List ℕ))
     → AreOn p m w log err text v more later now → TakesAnswer x now next → all_ended v ≡ false → u ≡ behind m v (picked m v x)
-    → longer ≡ more ++ map one_step_of (taken m v (picked m v x)) → Appends later last (said p m v (picked m v x)) → AreOn p m w log err text u longer last next
+    → longer ≡ log_behind m v more (picked m v x) → Appends later last (said p m v more (picked m v x)) → AreOn p m w log err text u longer last next
 are_on_more p m w log err None x v u more longer later last now next on takes goes led grown wrote = tt
 are_on_more p m w log err (Some text) x v u more longer later last None next on takes goes led grown wrote = absurd on
 are_on_more p m w log err (Some text) x v u more longer later last (Some rest) None on takes goes led grown wrote = absurd takes
@@ -214,19 +227,19 @@ are_on_more p m w log err (Some text) x v u more longer later last (Some rest) (
     on_more p m (answers text) w log err x (answers rest) (answers left) v u more longer later last on takes goes led grown wrote
 
 -- one answer more was followed
-pub playing_on : (p : PlacesValue) (first : CoreValue) (log : List Entry) (err text : Option (List ℕ)) (x : Option ℕ) (c d : CoreValue)
+pub playing_on : (p : ProgramTextValue) (first : CoreValue) (log : List Entry) (err text : Option (List ℕ)) (x : Option ℕ) (c d : CoreValue)
     (more longer : List Entry) (later last now next : Option (List ℕ))
     → IsPlaying p first log err text c more later now → TakesAnswer x now next → all_ended c.world ≡ false
     → d.module_run ≡ c.module_run → d.world.arguments ≡ c.world.arguments → d.world ≡ behind c.module_run c.world (picked c.module_run c.world x)
-    → longer ≡ more ++ map one_step_of (taken c.module_run c.world (picked c.module_run c.world x))
-    → Appends later last (said p c.module_run c.world (picked c.module_run c.world x)) → IsPlaying p first log err text d longer last next
+    → longer ≡ log_behind c.module_run c.world more (picked c.module_run c.world x)
+    → Appends later last (said p c.module_run c.world more (picked c.module_run c.world x)) → IsPlaying p first log err text d longer last next
 playing_on p first log err text x c d more longer later last now next i takes goes same given led grown wrote =
     let m = first.module_run in
     let to : d.world ≡ behind m c.world (picked m c.world x) = subst (λ k. d.world ≡ behind k c.world (picked k c.world x)) i.same_module led in
-    let entries : longer ≡ more ++ map one_step_of (taken m c.world (picked m c.world x)) =
-    subst (λ k. longer ≡ more ++ map one_step_of (taken k c.world (picked k c.world x))) i.same_module grown in
-    let words : Appends later last (said p m c.world (picked m c.world x)) =
-    subst (λ k. Appends later last (said p k c.world (picked k c.world x))) i.same_module wrote in
+    let entries : longer ≡ log_behind m c.world more (picked m c.world x) =
+    subst (λ k. longer ≡ log_behind k c.world more (picked k c.world x)) i.same_module grown in
+    let words : Appends later last (said p m c.world more (picked m c.world x)) =
+    subst (λ k. Appends later last (said p k c.world more (picked k c.world x))) i.same_module wrote in
     record {
       same_module = same ∙ i.same_module;
       same_arguments = given ∙ i.same_arguments;
@@ -234,10 +247,10 @@ playing_on p first log err text x c d more longer later last now next i takes go
       on = are_on_more p m first.world log err text x c.world d.world more longer later last now next i.on takes goes to entries words;
     }
 
-are_on_breaks : (p : PlacesValue) (m : ModuleValue) (w : World) (log : List Entry) (err text : Option (List ℕ)) (x : Option ℕ) (v : World)
+are_on_breaks : (p : ProgramTextValue) (m : ModuleValue) (w : World) (log : List Entry) (err text : Option (List ℕ)) (x : Option ℕ) (v : World)
     (more : List Entry) (later last now next : Option (List ℕ))
     → AreOn p m w log err text v more later now → TakesAnswer x now next → all_ended v ≡ false
-    → AppendsBeginning later last (said p m v (picked m v x)) → IfSome text (λ t. AppendsBeginning err last (all_said p m (answers t) w))
+    → AppendsBeginning later last (said p m v more (picked m v x)) → IfSome text (λ t. AppendsBeginning err last (all_said p m (answers t) w log))
 are_on_breaks p m w log err None x v more later last now next on takes goes wrote = tt
 are_on_breaks p m w log err (Some text) x v more later last None next on takes goes wrote = absurd on
 are_on_breaks p m w log err (Some text) x v more later last (Some rest) None on takes goes wrote = absurd takes
@@ -245,87 +258,123 @@ are_on_breaks p m w log err (Some text) x v more later last (Some rest) (Some le
     on_breaks p m (answers text) w log err x (answers rest) (answers left) v more later last on takes goes wrote
 
 -- an answer could not be followed to the end
-pub playing_breaks : (p : PlacesValue) (first : CoreValue) (log : List Entry) (err text : Option (List ℕ)) (x : Option ℕ) (c : CoreValue)
+pub playing_breaks : (p : ProgramTextValue) (first : CoreValue) (log : List Entry) (err text : Option (List ℕ)) (x : Option ℕ) (c : CoreValue)
     (more : List Entry) (later last now next : Option (List ℕ))
     → IsPlaying p first log err text c more later now → TakesAnswer x now next → all_ended c.world ≡ false
-    → AppendsBeginning later last (said p c.module_run c.world (picked c.module_run c.world x))
-    → IfSome text (λ t. AppendsBeginning err last (all_said p first.module_run (answers t) first.world))
+    → AppendsBeginning later last (said p c.module_run c.world more (picked c.module_run c.world x))
+    → IfSome text (λ t. AppendsBeginning err last (said_on p first log (answers t)))
 playing_breaks p first log err text x c more later last now next i takes goes wrote =
     are_on_breaks p first.module_run first.world log err text x c.world more later last now next i.on takes goes
-    (subst (λ k. AppendsBeginning later last (said p k c.world (picked k c.world x))) i.same_module wrote)
+    (subst (λ k. AppendsBeginning later last (said p k c.world more (picked k c.world x))) i.same_module wrote)
 
 -- so it is by some answers
-pub playing_breaks_some : (p : PlacesValue) (first : CoreValue) (log : List Entry) (err text : Option (List ℕ)) (x : Option ℕ) (c : CoreValue)
+pub playing_breaks_some : (p : ProgramTextValue) (first : CoreValue) (log : List Entry) (err text : Option (List ℕ)) (x : Option ℕ) (c : CoreValue)
     (more : List Entry) (later last now : Option (List ℕ))
     → IsPlaying p first log err text c more later now → all_ended c.world ≡ false
-    → AppendsBeginning later last (said p c.module_run c.world (picked c.module_run c.world x))
-    → BeginsSome (λ xs. all_said p first.module_run xs first.world) err last
+    → AppendsBeginning later last (said p c.module_run c.world more (picked c.module_run c.world x))
+    → BeginsSome (said_on p first log) err last
 playing_breaks_some p first log err text x c more later last now i goes wrote =
     let s = i.some in (
       s.followed ++ x ∷ [],
       on_breaks p first.module_run (s.followed ++ x ∷ []) first.world log err x (x ∷ []) [] c.world more later last (s.on (x ∷ [])) refl goes
-          (subst (λ k. AppendsBeginning later last (said p k c.world (picked k c.world x))) i.same_module wrote),
+          (subst (λ k. AppendsBeginning later last (said p k c.world more (picked k c.world x))) i.same_module wrote),
     )
 
-are_on_stops : (p : PlacesValue) (m : ModuleValue) (w : World) (log : List Entry) (err text : Option (List ℕ)) (v : World)
+are_on_stops : (p : ProgramTextValue) (m : ModuleValue) (w : World) (log : List Entry) (err text : Option (List ℕ)) (v : World)
     (more : List Entry) (later now : Option (List ℕ))
-    → AreOn p m w log err text v more later now → IfSome text (λ t. AppendsBeginning err later (all_said p m (answers t) w))
+    → AreOn p m w log err text v more later now → IfSome text (λ t. AppendsBeginning err later (all_said p m (answers t) w log))
 are_on_stops p m w log err None v more later now on = tt
 are_on_stops p m w log err (Some text) v more later None on = absurd on
 are_on_stops p m w log err (Some text) v more later (Some rest) on = on_stops p m (answers text) w log err (answers rest) v more later on
 
 -- so far a beginning was written
-pub playing_stops : (p : PlacesValue) (first : CoreValue) (log : List Entry) (err text : Option (List ℕ)) (c : CoreValue)
+pub playing_stops : (p : ProgramTextValue) (first : CoreValue) (log : List Entry) (err text : Option (List ℕ)) (c : CoreValue)
     (more : List Entry) (later now : Option (List ℕ))
-    → IsPlaying p first log err text c more later now → IfSome text (λ t. AppendsBeginning err later (all_said p first.module_run (answers t) first.world))
+    → IsPlaying p first log err text c more later now → IfSome text (λ t. AppendsBeginning err later (said_on p first log (answers t)))
 playing_stops p first log err text c more later now i = are_on_stops p first.module_run first.world log err text c.world more later now i.on
 
-pub playing_stops_some : (p : PlacesValue) (first : CoreValue) (log : List Entry) (err text : Option (List ℕ)) (c : CoreValue)
+pub playing_stops_some : (p : ProgramTextValue) (first : CoreValue) (log : List Entry) (err text : Option (List ℕ)) (c : CoreValue)
     (more : List Entry) (later now : Option (List ℕ))
-    → IsPlaying p first log err text c more later now → BeginsSome (λ xs. all_said p first.module_run xs first.world) err later
+    → IsPlaying p first log err text c more later now → BeginsSome (said_on p first log) err later
 playing_stops_some p first log err text c more later now i =
     let s = i.some in
     (s.followed ++ [], on_stops p first.module_run (s.followed ++ []) first.world log err [] c.world more later (s.on []))
 
--- whatever is known, what was played and told is so by some answers
-pub playing_some : (p : PlacesValue) (first : CoreValue) (log : List Entry) (err text : Option (List ℕ)) (c : CoreValue)
-    (more : List Entry) (later now : Option (List ℕ))
-    → IsPlaying p first log err text c more later now → FollowsSome first.module_run first.world log more
-    (λ xs. all_said p first.module_run xs first.world) err later
-playing_some p first log err text c more later now i =
+-- whatever is known, what was played and told is so by some answers, behind which none came
+pub playing_some : (p : ProgramTextValue) (first : CoreValue) (log : List Entry) (err text : Option (List ℕ)) (c d : CoreValue)
+    (more : List Entry) (later last now : Option (List ℕ))
+    → IsPlaying p first log err text c more later now → d ≡ c → Appends later last (end_words d.world)
+    → FollowsSome first.module_run first.world log more (said_on p first log) err last
+playing_some p first log err text c d more later last now i same wrote =
     let s = i.some in
-    let ends = on_ends p first.module_run (s.followed ++ []) first.world log err [] c.world more later (s.on []) (inr refl) in
+    let ends =
+    on_ends p first.module_run (s.followed ++ []) first.world log err [] c.world more later last (s.on []) (inr refl)
+    (subst (λ (k : CoreValue). Appends later last (end_words k.world)) same wrote) in
     (s.followed ++ [], ends.0, ends.1)
 
+-- of what is said where none comes a beginning was written
+pub playing_ends_early_some : (p : ProgramTextValue) (first : CoreValue) (log : List Entry) (err text : Option (List ℕ)) (c d : CoreValue)
+    (more : List Entry) (later last now : Option (List ℕ))
+    → IsPlaying p first log err text c more later now → d ≡ c → AppendsBeginning later last (end_words d.world)
+    → BeginsSome (said_on p first log) err last
+playing_ends_early_some p first log err text c d more later last now i same wrote =
+    let s = i.some in (
+      s.followed ++ [],
+      on_ends_early p first.module_run (s.followed ++ []) first.world log err [] c.world more later last (s.on []) (inr refl)
+          (subst (λ (k : CoreValue). AppendsBeginning later last (end_words k.world)) same wrote),
+    )
+
 -- it is played to the end, and all is told
-abbrev pub AreOut : PlacesValue → ModuleValue → World → List Entry → Option (List ℕ) → Option (List ℕ) → List Entry → Option (List ℕ) → Type 0
+abbrev pub AreOut : ProgramTextValue → ModuleValue → World → List Entry → Option (List ℕ) → Option (List ℕ) → List Entry → Option (List ℕ) → Type 0
 AreOut p m w log err text more later =
-    IfSome text (λ t. more ≡ log ++ map one_step_of (played m (answers t) w)) × IfSome text (λ t. Appends err later (all_said p m (answers t) w))
+    IfSome text (λ t. more ≡ log ++ map one_step_of (played m (answers t) w)) × IfSome text (λ t. Appends err later (all_said p m (answers t) w log))
 
-are_on_ends : (p : PlacesValue) (m : ModuleValue) (w : World) (log : List Entry) (err text : Option (List ℕ)) (v : World)
-    (more : List Entry) (later now : Option (List ℕ))
-    → AreOn p m w log err text v more later now → (all_ended v ≡ true) ⊎ IfSome now (λ t. answers t ≡ []) → AreOut p m w log err text more later
-are_on_ends p m w log err None v more later now on ends = (tt, tt)
-are_on_ends p m w log err (Some text) v more later None on ends = absurd on
-are_on_ends p m w log err (Some text) v more later (Some rest) on ends =
-    on_ends p m (answers text) w log err (answers rest) v more later on ends
+are_on_ends : (p : ProgramTextValue) (m : ModuleValue) (w : World) (log : List Entry) (err text : Option (List ℕ)) (v : World)
+    (more : List Entry) (later last now : Option (List ℕ))
+    → AreOn p m w log err text v more later now → (all_ended v ≡ true) ⊎ IfSome now (λ t. answers t ≡ []) → Appends later last (end_words v)
+    → AreOut p m w log err text more last
+are_on_ends p m w log err None v more later last now on ends wrote = (tt, tt)
+are_on_ends p m w log err (Some text) v more later last None on ends wrote = absurd on
+are_on_ends p m w log err (Some text) v more later last (Some rest) on ends wrote =
+    on_ends p m (answers text) w log err (answers rest) v more later last on ends wrote
 
--- no answer is wanted, or none comes
-playing_ends : (p : PlacesValue) (first : CoreValue) (log : List Entry) (err text : Option (List ℕ)) (c : CoreValue)
-    (more : List Entry) (later now : Option (List ℕ))
-    → IsPlaying p first log err text c more later now → (all_ended c.world ≡ true) ⊎ IfSome now (λ t. answers t ≡ [])
-    → AreOut p first.module_run first.world log err text more later
-playing_ends p first log err text c more later now i ends =
-    are_on_ends p first.module_run first.world log err text c.world more later now i.on ends
+are_on_ends_early : (p : ProgramTextValue) (m : ModuleValue) (w : World) (log : List Entry) (err text : Option (List ℕ)) (v : World)
+    (more : List Entry) (later last now : Option (List ℕ))
+    → AreOn p m w log err text v more later now → (all_ended v ≡ true) ⊎ IfSome now (λ t. answers t ≡ []) → AppendsBeginning later last (end_words v)
+    → IfSome text (λ t. AppendsBeginning err last (all_said p m (answers t) w log))
+are_on_ends_early p m w log err None v more later last now on ends wrote = tt
+are_on_ends_early p m w log err (Some text) v more later last None on ends wrote = absurd on
+are_on_ends_early p m w log err (Some text) v more later last (Some rest) on ends wrote =
+    on_ends_early p m (answers text) w log err (answers rest) v more later last on ends wrote
 
 -- where the next answer wasn't there, no answer is wanted, or none comes
-pub playing_out : (p : PlacesValue) (first : CoreValue) (log : List Entry) (err text : Option (List ℕ)) (c d : CoreValue)
-    (more : List Entry) (later now : Option (List ℕ)) (o : Option (Option ℕ))
-    → IsPlaying p first log err text c more later now → d ≡ c → ((x : Option ℕ) → o ≡ Some x → ⊥)
-    → IfNone o ((all_ended d.world ≡ true) ⊎ IfSome now (λ t. answers t ≡ [])) → AreOut p first.module_run first.world log err text more later
-playing_out p first log err text c d more later now (Some x) i same none ends = absurd (none x refl)
-playing_out p first log err text c d more later now None i same none ends =
-    playing_ends p first log err text c more later now i (subst (λ k. (all_ended k.world ≡ true) ⊎ IfSome now (λ t. answers t ≡ [])) same ends)
+abbrev IsLast : CoreValue → Option (List ℕ) → Option (Option ℕ) → Type 0
+IsLast d now o = IfNone o ((all_ended d.world ≡ true) ⊎ IfSome now (λ t. answers t ≡ []))
+
+last_of : (d : CoreValue) (now : Option (List ℕ)) (o : Option (Option ℕ)) → ((x : Option ℕ) → o ≡ Some x → ⊥) → IsLast d now o
+    → (all_ended d.world ≡ true) ⊎ IfSome now (λ t. answers t ≡ [])
+last_of d now (Some x) none ends = absurd (none x refl)
+last_of d now None none ends = ends
+
+-- what was seen of the core when it was asked for the answer, and when that was told
+pub playing_out : (p : ProgramTextValue) (first : CoreValue) (log : List Entry) (err text : Option (List ℕ)) (c d e : CoreValue)
+    (more : List Entry) (later last now : Option (List ℕ)) (o : Option (Option ℕ))
+    → IsPlaying p first log err text c more later now → d ≡ c → e ≡ c → ((x : Option ℕ) → o ≡ Some x → ⊥)
+    → IsLast d now o → Appends later last (end_words e.world) → AreOut p first.module_run first.world log err text more last
+playing_out p first log err text c d e more later last now o i same seen none ends wrote =
+    are_on_ends p first.module_run first.world log err text c.world more later last now i.on
+    (subst (λ (k : CoreValue). (all_ended k.world ≡ true) ⊎ IfSome now (λ t. answers t ≡ [])) same (last_of d now o none ends))
+    (subst (λ (k : CoreValue). Appends later last (end_words k.world)) seen wrote)
+
+pub playing_ends_early : (p : ProgramTextValue) (first : CoreValue) (log : List Entry) (err text : Option (List ℕ)) (c d e : CoreValue)
+    (more : List Entry) (later last now : Option (List ℕ)) (o : Option (Option ℕ))
+    → IsPlaying p first log err text c more later now → d ≡ c → e ≡ c → ((x : Option ℕ) → o ≡ Some x → ⊥)
+    → IsLast d now o → AppendsBeginning later last (end_words e.world)
+    → IfSome text (λ t. AppendsBeginning err last (said_on p first log (answers t)))
+playing_ends_early p first log err text c d e more later last now o i same seen none ends wrote =
+    are_on_ends_early p first.module_run first.world log err text c.world more later last now i.on
+    (subst (λ (k : CoreValue). (all_ended k.world ≡ true) ⊎ IfSome now (λ t. answers t ≡ [])) same (last_of d now o none ends))
+    (subst (λ (k : CoreValue). AppendsBeginning later last (end_words k.world)) seen wrote)
 
 -- ---- calls that failed
 
@@ -446,48 +495,55 @@ opened_log m args d known before log result start empty is h =
     (subst (λ (x : CoreValue). IfSome (to_come most_bytes known) (λ t. log ≡ before ++ map one_step_of (played x.module_run (answers t) x.world))) start h)))
 
 -- and so is what is told
-pub opened_text : (Q : List ℕ → Type 0) (p : PlacesValue) (m : ModuleValue) (args : List ℤ) (d : CoreValue) (known : Option (List ℕ)) → d ≡ opening_core m args
-    → IfSome (to_come most_bytes known) (λ t. Q (question p d.module_run d.world ++ all_said p d.module_run (answers t) d.world))
+pub opened_text : (Q : List ℕ → Type 0) (p : ProgramTextValue) (m : ModuleValue) (args : List ℤ) (d : CoreValue) (known : Option (List ℕ)) (before : List Entry)
+    → d ≡ opening_core m args → before ≡ []
+    → IfSome (to_come most_bytes known) (λ t. Q (said_from p d before (answers t)))
     → IfSome known (λ t. Q (told_text p m args t))
-opened_text Q p m args d known start h =
-    of_known most_bytes known (λ t. Q (question p m (opening m args) ++ all_said p m (answers t) (opening m args)))
-    (subst (λ (x : CoreValue). IfSome (to_come most_bytes known) (λ t. Q (question p x.module_run x.world ++ all_said p x.module_run (answers t) x.world))) start h)
+opened_text Q p m args d known before start empty h =
+    of_known most_bytes known (λ t. Q (told_by p m args (answers t)))
+    (subst (λ (l : List Entry). IfSome (to_come most_bytes known)
+    (λ t. Q (said_from p (opening_core m args) l (answers t)))) empty
+    (subst (λ (x : CoreValue). IfSome (to_come most_bytes known)
+    (λ t. Q (said_from p x before (answers t)))) start h))
 
 -- by the answers that are known, or by some
-by_answers : (p : PlacesValue) (m : ModuleValue) (args : List ℤ) (input : Option (List ℕ)) (log : List Entry) (old new : Option (List ℕ))
+by_answers : (p : ProgramTextValue) (m : ModuleValue) (args : List ℤ) (input : Option (List ℕ)) (log : List Entry) (old new : Option (List ℕ))
     → IfSome input (λ t. log ≡ played_log m args t) → IfSome input (λ t. Appends old new (told_text p m args t))
     → FollowsSome m (opening m args) [] log (told_by p m args) old new → IsByAnswers p m args input log old new
 by_answers p m args None log old new logged wrote some = (some.0, tt, some.1, some.2)
 by_answers p m args (Some t) log old new logged wrote some = (answers_read t, refl, logged, wrote)
 
-pub opened_by : (p : PlacesValue) (m : ModuleValue) (args : List ℤ) (d : CoreValue) (input : Option (List ℕ)) (before log result : List Entry)
+pub opened_by : (p : ProgramTextValue) (m : ModuleValue) (args : List ℤ) (d : CoreValue) (input : Option (List ℕ)) (before log result : List Entry)
     (old new : Option (List ℕ))
     → d ≡ opening_core m args → before ≡ [] → result ≡ log
     → IfSome input (λ t. result ≡ played_log m args t) → IfSome input (λ t. Appends old new (told_text p m args t))
-    → FollowsSome d.module_run d.world before log (λ xs. question p d.module_run d.world ++ all_said p d.module_run xs d.world) old new
+    → FollowsSome d.module_run d.world before log (said_from p d before) old new
     → IsByAnswers p m args input result old new
 opened_by p m args d input before log result old new start empty is logged wrote some =
     by_answers p m args input result old new logged wrote
     (subst (λ (l : List Entry). FollowsSome m (opening m args) [] l (told_by p m args) old new) (sym is)
-    (subst (λ (l : List Entry). FollowsSome m (opening m args) l log (told_by p m args) old new) empty
+    (subst (λ (l : List Entry). FollowsSome m (opening m args) l log
+    (said_from p (opening_core m args) l) old new) empty
     (subst (λ (x : CoreValue). FollowsSome x.module_run x.world before log
-    (λ xs. question p x.module_run x.world ++ all_said p x.module_run xs x.world) old new) start some)))
+    (said_from p x before) old new) start some)))
 
-begins_by : (p : PlacesValue) (m : ModuleValue) (args : List ℤ) (input old new : Option (List ℕ))
+begins_by : (p : ProgramTextValue) (m : ModuleValue) (args : List ℤ) (input old new : Option (List ℕ))
     → IfSome input (λ t. AppendsBeginning old new (told_text p m args t))
     → BeginsSome (told_by p m args) old new → BeginsByAnswers p m args input old new
 begins_by p m args None old new known some = (some.0, tt, some.1)
 begins_by p m args (Some t) old new known some = (answers_read t, refl, known)
 
-pub opened_begins : (p : PlacesValue) (m : ModuleValue) (args : List ℤ) (d : CoreValue) (input old new : Option (List ℕ)) → d ≡ opening_core m args
+pub opened_begins : (p : ProgramTextValue) (m : ModuleValue) (args : List ℤ) (d : CoreValue) (input : Option (List ℕ)) (before : List Entry)
+    (old new : Option (List ℕ)) → d ≡ opening_core m args → before ≡ []
     → IfSome input (λ t. AppendsBeginning old new (told_text p m args t))
-    → BeginsSome (λ xs. question p d.module_run d.world ++ all_said p d.module_run xs d.world) old new → BeginsByAnswers p m args input old new
-opened_begins p m args d input old new start known some =
+    → BeginsSome (said_from p d before) old new → BeginsByAnswers p m args input old new
+opened_begins p m args d input before old new start empty known some =
     begins_by p m args input old new known
-    (subst (λ (x : CoreValue). BeginsSome (λ xs. question p x.module_run x.world ++ all_said p x.module_run xs x.world) old new) start some)
+    (subst (λ (l : List Entry). BeginsSome (said_from p (opening_core m args) l) old new) empty
+    (subst (λ (x : CoreValue). BeginsSome (said_from p x before) old new) start some))
 
 -- nothing was written, before any was read
-pub nothing_begun_by : (p : PlacesValue) (m : ModuleValue) (args : List ℤ) (input a : Option (List ℕ)) → BeginsByAnswers p m args input a a
+pub nothing_begun_by : (p : ProgramTextValue) (m : ModuleValue) (args : List ℤ) (input a : Option (List ℕ)) → BeginsByAnswers p m args input a a
 nothing_begun_by p m args None a = ([], tt, (0, Appends-nil a))
 nothing_begun_by p m args (Some t) a = (answers_read t, refl, (0, Appends-nil a))
 

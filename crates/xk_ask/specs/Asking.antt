@@ -10,8 +10,9 @@ use Rattle.xk_types.specs.Device.{Rose}
 use Rattle.xk_ask.specs.declared.fault.AskFault.{AskFault}
 use Rattle.xk_ask.specs.declared.fault.AskFault.TheVariants as fault
 use Rattle.xk_ask.specs.Answers.{AreAnswers, answers}
-use Rattle.xk_ask.specs.Play.{log_by, played, told_by}
-use Rattle.xk_show_events.specs.Events.{PlacesValue}
+use Rattle.xk_core.specs.Core.{CoreValue}
+use Rattle.xk_ask.specs.Play.{all_said, log_by, played, question, told_by}
+use Rattle.xk_ask.specs.ProgramTexts.{ProgramTextValue}
 use Rattle.xk_io.specs.Writing.{AppendsBeginning}
 
 -- the bytes that are still to come, of those that a source has left: no more than may still be read
@@ -40,6 +41,14 @@ EndAlike n (Some text) k (Some rest) = drop k rest ≡ drop n text
 abbrev pub TakesLine : ℕ → Option (List ℕ) → ℕ → Option (List ℕ) → Type 0
 TakesLine n old k new = Leaves (drop_through 10) old new × EndAlike n old k new
 
+-- what is said to these answers behind the question of a core, to which the run with this log has come
+abbrev pub said_on : ProgramTextValue → CoreValue → List Entry → List (Option ℕ) → List ℕ
+said_on p c log xs = all_said p c.module_run xs c.world log
+
+-- that question, and what is said to them
+abbrev pub said_from : ProgramTextValue → CoreValue → List Entry → List (Option ℕ) → List ℕ
+said_from p c log xs = question p c.module_run c.world log ++ said_on p c log xs
+
 -- by some answers the log grew so from this world on, and all that is said to them was written
 abbrev pub FollowsSome : ModuleValue → World → List Entry → List Entry → (List (Option ℕ) → List ℕ) → Option (List ℕ) → Option (List ℕ) → Type 0
 FollowsSome m w log more text old new =
@@ -50,12 +59,12 @@ abbrev pub BeginsSome : (List (Option ℕ) → List ℕ) → Option (List ℕ) �
 BeginsSome text old new = (xs : List (Option ℕ)) × AppendsBeginning old new (text xs)
 
 -- By answers, which are those of the input where its bytes are known, a run of the module with these arguments has this log, and all that is said was written.
-abbrev pub IsByAnswers : PlacesValue → ModuleValue → List ℤ → Option (List ℕ) → List Entry → Option (List ℕ) → Option (List ℕ) → Type 0
+abbrev pub IsByAnswers : ProgramTextValue → ModuleValue → List ℤ → Option (List ℕ) → List Entry → Option (List ℕ) → Option (List ℕ) → Type 0
 IsByAnswers p m args input log old new =
     (xs : List (Option ℕ)) × AreAnswers input xs × (log ≡ log_by m args xs) × Appends old new (told_by p m args xs)
 
 -- by such answers a beginning of what is said was written
-abbrev pub BeginsByAnswers : PlacesValue → ModuleValue → List ℤ → Option (List ℕ) → Option (List ℕ) → Option (List ℕ) → Type 0
+abbrev pub BeginsByAnswers : ProgramTextValue → ModuleValue → List ℤ → Option (List ℕ) → Option (List ℕ) → Option (List ℕ) → Type 0
 BeginsByAnswers p m args input old new = (xs : List (Option ℕ)) × AreAnswers input xs × AppendsBeginning old new (told_by p m args xs)
 
 -- writing failed because a device did, or for want of memory, and then no device failed

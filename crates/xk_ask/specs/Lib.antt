@@ -1,4 +1,5 @@
 pub mod Answers
 pub mod Reading
+pub mod ProgramTexts
 pub mod Play
 pub mod Asking

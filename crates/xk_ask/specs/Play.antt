@@ -14,6 +14,7 @@ use Rattle.xk_scheduler.specs.Choosers.{enabled_in}
 use Rattle.xk_show_events.specs.Worlds.{last_world}
 use Rattle.xk_show_events.specs.Events.{PlacesValue, origin_of, place_words}
 use Rattle.xk_ask.specs.Answers.{answers_read, behind_lines, most_bytes}
+use Rattle.xk_ask.specs.ProgramTexts.{ProgramTextValue, printed_line, standings, statement}
 
 -- ---- a turn
 
@@ -74,14 +75,26 @@ looked_at m (x ∷ xs) w = if all_ended w then 0 else suc (looked_at m xs (behin
 
 -- ---- what is asked
 
--- an activity, and where it is, as `where` tells it: `act 0 at 8:13`
-unfoldable pub able_line : PlacesValue → World → ℕ → List ℕ
+-- the log behind these steps, an entry for each
+abbrev pub log_behind : ModuleValue → World → List Entry → Option ℕ → List Entry
+log_behind m w log o = log ++ map one_step_of (taken m w o)
+
+-- the numbers that were printed in the run with this log, which has come to this world
+abbrev pub printed_by : ModuleValue → World → List Entry → List ℤ
+printed_by m w log = printed m (schedule_of log) (opening m w.arguments)
+
+-- an activity, and where its instruction is, as `where` tells it: `act 0 at 8:13`
+unfoldable pub able_head : PlacesValue → ℕ → ℕ → ℕ → List ℕ
+able_head p a unit place = codes "act " ++ (decimal a ++ (codes " " ++ place_words unit place (origin_of p unit place)))
+
+-- and the line of the text there, if it is known: `act 0 at 8:13: Console.OUT.println(1);`
+unfoldable pub able_line : ProgramTextValue → World → ℕ → List ℕ
 able_line p w a =
-    codes "act " ++ (decimal a ++ (codes " " ++ (place_words (act_at w.activities a).frame.unit (act_at w.activities a).frame.place
-    (origin_of p (act_at w.activities a).frame.unit (act_at w.activities a).frame.place) ++ codes "\n")))
+    (able_head p.places a (act_at w.activities a).frame.unit (act_at w.activities a).frame.place
+    ++ statement p.places (act_at w.activities a).frame.unit (act_at w.activities a).frame.place) ++ codes "\n"
 
 -- a line for each that can step, rising
-abbrev pub able_lines : PlacesValue → ModuleValue → World → List ℕ
+abbrev pub able_lines : ProgramTextValue → ModuleValue → World → List ℕ
 able_lines p m w = flat_map (able_line p w) (enabled_in m w)
 
 -- behind the lines of those who can step
@@ -92,20 +105,33 @@ prompt_line = codes "who steps?\n"
 abbrev pub again_line : List ℕ
 again_line = codes "none of these: who steps?\n"
 
--- who can step, rising, and the question which of them does; where all have ended nothing is asked
-abbrev pub question : PlacesValue → ModuleValue → World → List ℕ
-question p m w = if all_ended w then [] else able_lines p m w ++ prompt_line
+-- where no answer comes, and the run has not come to its end
+abbrev pub end_line : List ℕ
+end_line = codes "the input has ended\n"
+
+-- How things are, what was printed so far, who can step, rising, and the question which of them does; where all have ended nothing is asked.
+abbrev pub question_at : ProgramTextValue → ModuleValue → World → List ℤ → List ℕ
+question_at p m w ns = if all_ended w then [] else ((standings p m w ++ printed_line ns) ++ able_lines p m w) ++ prompt_line
+
+-- the same of a run with this log
+abbrev pub question : ProgramTextValue → ModuleValue → World → List Entry → List ℕ
+question p m w log = question_at p m w (printed_by m w log)
 
 -- what is said to an answer: the next question, or that it names none of these
-abbrev pub said : PlacesValue → ModuleValue → World → Option ℕ → List ℕ
-said p m w None = again_line
-said p m w (Some a) = question p m (behind m w (Some a))
+abbrev pub said : ProgramTextValue → ModuleValue → World → List Entry → Option ℕ → List ℕ
+said p m w log None = again_line
+said p m w log (Some a) = question p m (behind m w (Some a)) (log_behind m w log (Some a))
 
--- what is said to these answers, behind the question of this world; where all have ended no answer is looked at
-abbrev pub all_said : PlacesValue → ModuleValue → List (Option ℕ) → World → List ℕ
-all_said p m [] w = []
-all_said p m (x ∷ xs) w =
-    if all_ended w then [] else said p m w (picked m w x) ++ all_said p m xs (behind m w (picked m w x))
+-- what is said where no answer comes
+abbrev pub end_words : World → List ℕ
+end_words w = if all_ended w then [] else end_line
+
+-- what is said to these answers, behind the question of this world, to which the run with this log has come; where all have ended no answer is looked at
+abbrev pub all_said : ProgramTextValue → ModuleValue → List (Option ℕ) → World → List Entry → List ℕ
+all_said p m [] w log = end_words w
+all_said p m (x ∷ xs) w log =
+    if all_ended w then []
+    else said p m w log (picked m w x) ++ all_said p m xs (behind m w (picked m w x)) (log_behind m w log (picked m w x))
 
 -- ---- by answers
 
@@ -114,8 +140,8 @@ abbrev pub log_by : ModuleValue → List ℤ → List (Option ℕ) → List Entr
 log_by m args xs = map one_step_of (played m xs (opening m args))
 
 -- all that is asked and said
-abbrev pub told_by : PlacesValue → ModuleValue → List ℤ → List (Option ℕ) → List ℕ
-told_by p m args xs = question p m (opening m args) ++ all_said p m xs (opening m args)
+abbrev pub told_by : ProgramTextValue → ModuleValue → List ℤ → List (Option ℕ) → List ℕ
+told_by p m args xs = question p m (opening m args) [] ++ all_said p m xs (opening m args) []
 
 -- ---- by the bytes of the input
 
@@ -123,7 +149,7 @@ told_by p m args xs = question p m (opening m args) ++ all_said p m xs (opening 
 abbrev pub played_log : ModuleValue → List ℤ → List ℕ → List Entry
 played_log m args text = log_by m args (answers_read text)
 
-abbrev pub told_text : PlacesValue → ModuleValue → List ℤ → List ℕ → List ℕ
+abbrev pub told_text : ProgramTextValue → ModuleValue → List ℤ → List ℕ → List ℕ
 told_text p m args text = told_by p m args (answers_read text)
 
 -- Which bytes aren't read, where a run from this world comes to its end or doesn't: those behind the line of the last answer that is looked at; or none,

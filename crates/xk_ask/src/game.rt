@@ -7,14 +7,17 @@ ghost use Rattle.xk_types.specs.World.{AreArguments};
 ghost use Rattle.xk_types.specs.Logs.{one_step_of};
 ghost use Rattle.xk_types.specs.Schedule.{all_ended};
 ghost use Rattle.xk_io.specs.Writing.{AppendsBeginning};
-ghost use Rattle.xk_show_events.specs.Events.{no_text, places_of};
 ghost use Rattle.xk_ask.specs.Answers.{answers, most_bytes};
-ghost use Rattle.xk_ask.specs.Play.{IsPlayed, all_said, behind, picked, played, played_log, question, said, taken, told_text, unread, unread_from};
-ghost use Rattle.xk_ask.specs.Asking.{BeginsByAnswers, BeginsSome, FailsToAsk, FailsToWrite, FollowsSome, IsByAnswers, Leaves, TakesAnswer, TakesLine, to_come};
+ghost use Rattle.xk_ask.specs.ProgramTexts.{known_text, no_source};
+ghost use Rattle.xk_ask.specs.Play.{IsPlayed, behind, end_words, picked, played, played_log, question, said, taken, told_text};
+ghost use Rattle.xk_ask.specs.Play.{unread, unread_from};
+ghost use Rattle.xk_ask.specs.Asking.{BeginsByAnswers, BeginsSome, FailsToAsk, FailsToWrite, FollowsSome, IsByAnswers, Leaves, TakesAnswer, TakesLine};
+ghost use Rattle.xk_ask.specs.Asking.{said_from, said_on, to_come};
 
 use crate::answers::next_answer;
 use crate::fault::AskFault;
-use crate::question::{again_line, question};
+use crate::program_text::ProgramText;
+use crate::question::{again_line, end_line, question};
 use crate::turn::{picked, take_turn};
 use std::alloc::Global;
 use xk_bounds::Verified;
@@ -22,7 +25,6 @@ use xk_core::Core;
 use xk_io::{Device, write_all};
 use xk_origins::UnitOrigins;
 use xk_scheduler::Logged;
-use xk_show_events::Places;
 use xk_types::{Entry, Sink, Source};
 
 /// What was played.
@@ -38,30 +40,30 @@ pub struct Played {
     pub whole: bool,
 }
 
-/// Asks who steps.
+/// Tells how things are, and asks who steps.
 fn ask<E: Sink>(
     alloc: Global,
-    places: &Places<'_>,
-    core: &Core<'_>,
+    text: &ProgramText<'_>,
+    game: &Logged<'_>,
     err: &mut E,
 ) -> Result<(), AskFault>
     ensures asked { OnOk result (Appends (E.contents err.old) (E.contents err.new)
-        (question places.now core.now.module_run core.now.world)) }
+        (question text.now game.now.driver.module_run game.now.driver.world game.now.log.items)) }
     ensures begins { AppendsBeginning (E.contents err.old) (E.contents err.new)
-        (question places.now core.now.module_run core.now.world) }
+        (question text.now game.now.driver.module_run game.now.driver.world game.now.log.items) }
     ensures no_fault { OnOk result (E.fault_count err.new ≡ E.fault_count err.old) }
     ensures failed { IfErr result
         (FailsToWrite (E.fault_count err.old) (E.fault_count err.new)) }
 {
-    let text = question(alloc, places, core)?;
-    write_all(err, &text)?;
+    let asked = question(alloc, text, game.driver.core(), &game.printed)?;
+    write_all(err, &asked)?;
     Ok(())
 }
 
 /// Takes the steps that an answer asks for, and puts the next question; or says that it names nobody who can step.
 fn follow<E: Sink>(
     alloc: Global,
-    places: &Places<'_>,
+    text: &ProgramText<'_>,
     game: &mut Logged<'_>,
     answer: Option<u32>,
     err: &mut E,
@@ -77,10 +79,10 @@ fn follow<E: Sink>(
         (game.new.driver.world.arguments ≡ game.old.driver.world.arguments) }
     ensures told { let o = picked game.old.driver.module_run game.old.driver.world answer in
         OnOk result (Appends (E.contents err.old) (E.contents err.new)
-        (said places.now game.old.driver.module_run game.old.driver.world o)) }
+        (said text.now game.old.driver.module_run game.old.driver.world game.old.log.items o)) }
     ensures begins { let o = picked game.old.driver.module_run game.old.driver.world answer in
         AppendsBeginning (E.contents err.old) (E.contents err.new)
-        (said places.now game.old.driver.module_run game.old.driver.world o) }
+        (said text.now game.old.driver.module_run game.old.driver.world game.old.log.items o) }
     ensures no_fault { OnOk result (E.fault_count err.new ≡ E.fault_count err.old) }
     ensures failed { IfErr result
         (FailsToWrite (E.fault_count err.old) (E.fault_count err.new)) }
@@ -92,7 +94,7 @@ fn follow<E: Sink>(
         }
         Some(act) => {
             take_turn(game, act)?;
-            ask(alloc, places, game.driver.core(), err)
+            ask(alloc, text, game, err)
         }
     }
 }
@@ -124,10 +126,25 @@ fn awaited<R: Source>(
     next_answer(input, left)
 }
 
+/// Says that no answer comes, where one is wanted.
+fn say_end<E: Sink>(core: &Core<'_>, err: &mut E) -> Result<(), Device>
+    ensures told { OnOk result (Appends (E.contents err.old) (E.contents err.new)
+        (end_words core.now.world)) }
+    ensures begins { AppendsBeginning (E.contents err.old) (E.contents err.new)
+        (end_words core.now.world) }
+    ensures no_fault { OnOk result (E.fault_count err.new ≡ E.fault_count err.old) }
+    ensures failed { OnErr result (Rose (E.fault_count err.old) (E.fault_count err.new)) }
+{
+    if !core.ended() {
+        return write_all(err, end_line().as_bytes());
+    }
+    Ok(())
+}
+
 /// Plays on behind a question, to the end of the run or of the input.
 fn play_on<R: Source, E: Sink>(
     alloc: Global,
-    places: &Places<'_>,
+    text: &ProgramText<'_>,
     game: &mut Logged<'_>,
     input: &mut R,
     err: &mut E,
@@ -135,21 +152,19 @@ fn play_on<R: Source, E: Sink>(
     ensures same_module { game.new.driver.module_run ≡ game.old.driver.module_run }
     ensures arguments { OnOk result
         (game.new.driver.world.arguments ≡ game.old.driver.world.arguments) }
-    ensures played { OnOk result (IfSome (to_come most_bytes (R.remaining input.old)) (λ text.
+    ensures played { OnOk result (IfSome (to_come most_bytes (R.remaining input.old)) (λ bytes.
         game.new.log.items ≡ game.old.log.items ++ map one_step_of
-        (played game.old.driver.module_run (answers text) game.old.driver.world))) }
-    ensures told { OnOk result (IfSome (to_come most_bytes (R.remaining input.old)) (λ text.
+        (played game.old.driver.module_run (answers bytes) game.old.driver.world))) }
+    ensures told { OnOk result (IfSome (to_come most_bytes (R.remaining input.old)) (λ bytes.
         Appends (E.contents err.old) (E.contents err.new)
-        (all_said places.now game.old.driver.module_run (answers text) game.old.driver.world))) }
-    ensures begins { IfSome (to_come most_bytes (R.remaining input.old)) (λ text.
+        (said_on text.now game.old.driver game.old.log.items (answers bytes)))) }
+    ensures begins { IfSome (to_come most_bytes (R.remaining input.old)) (λ bytes.
         AppendsBeginning (E.contents err.old) (E.contents err.new)
-        (all_said places.now game.old.driver.module_run (answers text) game.old.driver.world)) }
+        (said_on text.now game.old.driver game.old.log.items (answers bytes))) }
     ensures by_some { OnOk result (FollowsSome game.old.driver.module_run game.old.driver.world
-        game.old.log.items game.new.log.items
-        (λ xs. all_said places.now game.old.driver.module_run xs game.old.driver.world)
+        game.old.log.items game.new.log.items (said_on text.now game.old.driver game.old.log.items)
         (E.contents err.old) (E.contents err.new)) }
-    ensures begins_some { BeginsSome
-        (λ xs. all_said places.now game.old.driver.module_run xs game.old.driver.world)
+    ensures begins_some { BeginsSome (said_on text.now game.old.driver game.old.log.items)
         (E.contents err.old) (E.contents err.new) }
     ensures unread { OnOk result (Leaves (unread_from game.old.driver.module_run
         game.old.driver.world (all_ended game.new.driver.world))
@@ -161,15 +176,16 @@ fn play_on<R: Source, E: Sink>(
 {
     let mut left = u64::MAX;
     while let Some(answer) = awaited(game.driver.core(), input, &mut left)? {
-        follow(alloc, places, game, answer, err)?;
+        follow(alloc, text, game, answer, err)?;
     }
+    say_end(game.driver.core(), err)?;
     Ok(())
 }
 
 /// Plays a run from where it stands.
 fn play<R: Source, E: Sink>(
     alloc: Global,
-    places: &Places<'_>,
+    text: &ProgramText<'_>,
     game: &mut Logged<'_>,
     input: &mut R,
     err: &mut E,
@@ -177,25 +193,20 @@ fn play<R: Source, E: Sink>(
     ensures same_module { game.new.driver.module_run ≡ game.old.driver.module_run }
     ensures arguments { OnOk result
         (game.new.driver.world.arguments ≡ game.old.driver.world.arguments) }
-    ensures played { OnOk result (IfSome (to_come most_bytes (R.remaining input.old)) (λ text.
+    ensures played { OnOk result (IfSome (to_come most_bytes (R.remaining input.old)) (λ bytes.
         game.new.log.items ≡ game.old.log.items ++ map one_step_of
-        (played game.old.driver.module_run (answers text) game.old.driver.world))) }
-    ensures told { OnOk result (IfSome (to_come most_bytes (R.remaining input.old)) (λ text.
+        (played game.old.driver.module_run (answers bytes) game.old.driver.world))) }
+    ensures told { OnOk result (IfSome (to_come most_bytes (R.remaining input.old)) (λ bytes.
         Appends (E.contents err.old) (E.contents err.new)
-        (question places.now game.old.driver.module_run game.old.driver.world
-        ++ all_said places.now game.old.driver.module_run (answers text) game.old.driver.world))) }
-    ensures begins { IfSome (to_come most_bytes (R.remaining input.old)) (λ text.
+        (said_from text.now game.old.driver game.old.log.items (answers bytes)))) }
+    ensures begins { IfSome (to_come most_bytes (R.remaining input.old)) (λ bytes.
         AppendsBeginning (E.contents err.old) (E.contents err.new)
-        (question places.now game.old.driver.module_run game.old.driver.world
-        ++ all_said places.now game.old.driver.module_run (answers text) game.old.driver.world)) }
+        (said_from text.now game.old.driver game.old.log.items (answers bytes))) }
     ensures by_some { OnOk result (FollowsSome game.old.driver.module_run game.old.driver.world
-        game.old.log.items game.new.log.items
-        (λ xs. question places.now game.old.driver.module_run game.old.driver.world
-        ++ all_said places.now game.old.driver.module_run xs game.old.driver.world)
+        game.old.log.items game.new.log.items (said_from text.now game.old.driver game.old.log.items)
         (E.contents err.old) (E.contents err.new)) }
-    ensures begins_some { BeginsSome (λ xs. question places.now game.old.driver.module_run
-        game.old.driver.world ++ all_said places.now game.old.driver.module_run xs
-        game.old.driver.world) (E.contents err.old) (E.contents err.new) }
+    ensures begins_some { BeginsSome (said_from text.now game.old.driver game.old.log.items)
+        (E.contents err.old) (E.contents err.new) }
     ensures unread { OnOk result (Leaves (unread_from game.old.driver.module_run
         game.old.driver.world (all_ended game.new.driver.world))
         (R.remaining input.old) (R.remaining input.new)) }
@@ -204,8 +215,8 @@ fn play<R: Source, E: Sink>(
     ensures failed { IfErr result (FailsToAsk (R.fault_count input.old) (R.fault_count input.new)
         (E.fault_count err.old) (E.fault_count err.new)) }
 {
-    ask(alloc, places, game.driver.core(), err)?;
-    play_on(alloc, places, game, input, err)
+    ask(alloc, text, game, err)?;
+    play_on(alloc, text, game, input, err)
 }
 
 /// What is kept of a run.
@@ -228,54 +239,7 @@ fn closed(game: Logged<'_>) -> Played
 /// Plays a run of the module.
 fn play_whole<R: Source, E: Sink>(
     alloc: Global,
-    places: &Places<'_>,
-    verified: &Verified,
-    arguments: &[i64],
-    input: &mut R,
-    err: &mut E,
-) -> Result<Played, AskFault>
-    requires { AreArguments verified.now arguments.now }
-    ensures legal { IfOk result (λ r. IsPlayed verified.now arguments.now
-        r.log.items r.printed.items r.steps r.whole) }
-    ensures played { IfOk result (λ r. IfSome (R.remaining input.old) (λ text.
-        r.log.items ≡ played_log verified.now arguments.now text)) }
-    ensures told { OnOk result (IfSome (R.remaining input.old) (λ text.
-        Appends (E.contents err.old) (E.contents err.new)
-        (told_text places.now verified.now arguments.now text))) }
-    ensures begins { IfSome (R.remaining input.old) (λ text.
-        AppendsBeginning (E.contents err.old) (E.contents err.new)
-        (told_text places.now verified.now arguments.now text)) }
-    ensures by_answers { IfOk result (λ r. IsByAnswers places.now
-        verified.now arguments.now (R.remaining input.old) r.log.items
-        (E.contents err.old) (E.contents err.new)) }
-    ensures begins_by { BeginsByAnswers places.now verified.now arguments.now
-        (R.remaining input.old) (E.contents err.old) (E.contents err.new) }
-    ensures unread { IfOk result (λ r. Leaves (unread verified.now arguments.now r.whole)
-        (R.remaining input.old) (R.remaining input.new)) }
-    ensures no_fault { OnOk result ((R.fault_count input.new ≡ R.fault_count input.old)
-        × (E.fault_count err.new ≡ E.fault_count err.old)) }
-    ensures failed { IfErr result (FailsToAsk (R.fault_count input.old) (R.fault_count input.new)
-        (E.fault_count err.old) (E.fault_count err.new)) }
-{
-    let core = Core::open(alloc, verified, arguments)?;
-    let Ok(mut game) = Logged::open(alloc, core) else {
-        return Err(AskFault::OutOfMemory);
-    };
-    match play(alloc, places, &mut game, input, err) {
-        Ok(()) => Ok(closed(game)),
-        Err(fault) => Err(fault),
-    }
-}
-
-/// Runs a source text's module, main being given as many numbers as it takes, and asks who takes the next steps: at each point at which somebody can step
-/// it is told on `err` who can, and where, and a line of the input names one of them. Who is named takes steps up to one that others see, and that one,
-/// as far as it can take them. So it goes on to the end of the run, or of the input. A question is written before its answer is read, and, where neither
-/// memory nor a device fails, no byte behind the last answer is. Where no origin says the line, a place is told as of a module. Where a device failed or
-/// memory was refused, a beginning of what is said was written.
-pub fn source_ask<R: Source, E: Sink>(
-    alloc: Global,
-    text: &[u8],
-    origins: &[UnitOrigins<'_>],
+    text: &ProgramText<'_>,
     verified: &Verified,
     arguments: &[i64],
     input: &mut R,
@@ -288,14 +252,14 @@ pub fn source_ask<R: Source, E: Sink>(
         r.log.items ≡ played_log verified.now arguments.now bytes)) }
     ensures told { OnOk result (IfSome (R.remaining input.old) (λ bytes.
         Appends (E.contents err.old) (E.contents err.new)
-        (told_text (places_of text.now origins.now) verified.now arguments.now bytes))) }
+        (told_text text.now verified.now arguments.now bytes))) }
     ensures begins { IfSome (R.remaining input.old) (λ bytes.
         AppendsBeginning (E.contents err.old) (E.contents err.new)
-        (told_text (places_of text.now origins.now) verified.now arguments.now bytes)) }
-    ensures by_answers { IfOk result (λ r. IsByAnswers (places_of text.now origins.now)
+        (told_text text.now verified.now arguments.now bytes)) }
+    ensures by_answers { IfOk result (λ r. IsByAnswers text.now
         verified.now arguments.now (R.remaining input.old) r.log.items
         (E.contents err.old) (E.contents err.new)) }
-    ensures begins_by { BeginsByAnswers (places_of text.now origins.now) verified.now arguments.now
+    ensures begins_by { BeginsByAnswers text.now verified.now arguments.now
         (R.remaining input.old) (E.contents err.old) (E.contents err.new) }
     ensures unread { IfOk result (λ r. Leaves (unread verified.now arguments.now r.whole)
         (R.remaining input.old) (R.remaining input.new)) }
@@ -304,11 +268,64 @@ pub fn source_ask<R: Source, E: Sink>(
     ensures failed { IfErr result (FailsToAsk (R.fault_count input.old) (R.fault_count input.new)
         (E.fault_count err.old) (E.fault_count err.new)) }
 {
-    let places = Places::of_source(alloc, text, origins)?;
-    play_whole(alloc, &places, verified, arguments, input, err)
+    let core = Core::open(alloc, verified, arguments)?;
+    let Ok(mut game) = Logged::open(alloc, core) else {
+        return Err(AskFault::OutOfMemory);
+    };
+    match play(alloc, text, &mut game, input, err) {
+        Ok(()) => Ok(closed(game)),
+        Err(fault) => Err(fault),
+    }
 }
 
-/// The same of a module without a text, with units and places of instructions.
+/// Runs a source text's module, main being given as many numbers as it takes, and asks who takes the next steps: at each point at which somebody can step
+/// it is told on `err` how things are, as `where` tells it by names, which numbers were printed, who can step, and before which line of the text; and a line
+/// of the input names one of them. Who is named takes steps up to one that others see, and that one, as far as it can take them. So it goes on to the end of
+/// the run, or of the input, which is told. A question is written before its answer is read, and, where neither memory nor a device fails, no byte behind the
+/// last answer is. Where no origin says the line, a place is told as of a module. Where a device failed or memory was refused, a beginning of what is said
+/// was written.
+pub fn source_ask<R: Source, E: Sink>(
+    alloc: Global,
+    text: &[u8],
+    origins: &[UnitOrigins<'_>],
+    shared: &[&[u8]],
+    verified: &Verified,
+    arguments: &[i64],
+    input: &mut R,
+    err: &mut E,
+) -> Result<Played, AskFault>
+    requires { AreArguments verified.now arguments.now }
+    ensures legal { IfOk result (λ r. IsPlayed verified.now arguments.now
+        r.log.items r.printed.items r.steps r.whole) }
+    ensures played { IfOk result (λ r. IfSome (R.remaining input.old) (λ bytes.
+        r.log.items ≡ played_log verified.now arguments.now bytes)) }
+    ensures told { let t = known_text text.now origins.now (map (λ x. x.now) shared.now) in
+        OnOk result (IfSome (R.remaining input.old) (λ bytes.
+        Appends (E.contents err.old) (E.contents err.new)
+        (told_text t verified.now arguments.now bytes))) }
+    ensures begins { let t = known_text text.now origins.now (map (λ x. x.now) shared.now) in
+        IfSome (R.remaining input.old) (λ bytes.
+        AppendsBeginning (E.contents err.old) (E.contents err.new)
+        (told_text t verified.now arguments.now bytes)) }
+    ensures by_answers { let t = known_text text.now origins.now (map (λ x. x.now) shared.now) in
+        IfOk result (λ r. IsByAnswers t
+        verified.now arguments.now (R.remaining input.old) r.log.items
+        (E.contents err.old) (E.contents err.new)) }
+    ensures begins_by { let t = known_text text.now origins.now (map (λ x. x.now) shared.now) in
+        BeginsByAnswers t verified.now arguments.now
+        (R.remaining input.old) (E.contents err.old) (E.contents err.new) }
+    ensures unread { IfOk result (λ r. Leaves (unread verified.now arguments.now r.whole)
+        (R.remaining input.old) (R.remaining input.new)) }
+    ensures no_fault { OnOk result ((R.fault_count input.new ≡ R.fault_count input.old)
+        × (E.fault_count err.new ≡ E.fault_count err.old)) }
+    ensures failed { IfErr result (FailsToAsk (R.fault_count input.old) (R.fault_count input.new)
+        (E.fault_count err.old) (E.fault_count err.new)) }
+{
+    let known = ProgramText::of_source(alloc, text, origins, shared)?;
+    play_whole(alloc, &known, verified, arguments, input, err)
+}
+
+/// The same of a module without a text, by numbers, and with units and places of instructions.
 pub fn module_ask<R: Source, E: Sink>(
     alloc: Global,
     verified: &Verified,
@@ -323,14 +340,14 @@ pub fn module_ask<R: Source, E: Sink>(
         r.log.items ≡ played_log verified.now arguments.now bytes)) }
     ensures told { OnOk result (IfSome (R.remaining input.old) (λ bytes.
         Appends (E.contents err.old) (E.contents err.new)
-        (told_text no_text verified.now arguments.now bytes))) }
+        (told_text no_source verified.now arguments.now bytes))) }
     ensures begins { IfSome (R.remaining input.old) (λ bytes.
         AppendsBeginning (E.contents err.old) (E.contents err.new)
-        (told_text no_text verified.now arguments.now bytes)) }
-    ensures by_answers { IfOk result (λ r. IsByAnswers no_text
+        (told_text no_source verified.now arguments.now bytes)) }
+    ensures by_answers { IfOk result (λ r. IsByAnswers no_source
         verified.now arguments.now (R.remaining input.old) r.log.items
         (E.contents err.old) (E.contents err.new)) }
-    ensures begins_by { BeginsByAnswers no_text verified.now arguments.now
+    ensures begins_by { BeginsByAnswers no_source verified.now arguments.now
         (R.remaining input.old) (E.contents err.old) (E.contents err.new) }
     ensures unread { IfOk result (λ r. Leaves (unread verified.now arguments.now r.whole)
         (R.remaining input.old) (R.remaining input.new)) }
@@ -339,6 +356,6 @@ pub fn module_ask<R: Source, E: Sink>(
     ensures failed { IfErr result (FailsToAsk (R.fault_count input.old) (R.fault_count input.new)
         (E.fault_count err.old) (E.fault_count err.new)) }
 {
-    let places = Places::of_module(alloc)?;
-    play_whole(alloc, &places, verified, arguments, input, err)
+    let unknown = ProgramText::of_module(alloc)?;
+    play_whole(alloc, &unknown, verified, arguments, input, err)
 }

@@ -5,6 +5,8 @@ mod answers;
 mod fault;
 mod game;
 mod line;
+mod numbers;
+mod program_text;
 mod question;
 mod turn;
 

@@ -25,12 +25,11 @@ use Rattle.xk_program.specs.declared.fault.Fault.TheVariants as fault
 use Rattle.xk_answers.specs.Printed.{whole_status}
 use Rattle.xk_program.specs.Bytes.{FailsRead, kept}
 use Rattle.xk_serve.specs.Devices.{Reports}
-use Rattle.xk_program.specs.Origins.{HaveOrigins}
-use Rattle.xk_answers.specs.Explanation.{places_in}
+use Rattle.xk_program.specs.Origins.{HaveOrigins, HaveSharedNames}
 use Rattle.xk_program.specs.Lines.{device_line, fault_line, status_of}
 use Rattle.xk_program.specs.Programs.{Gives}
 use Rattle.xk_serve.proofs.ReplyLemmas.{appends_none, tells_begins}
-use Rattle.xk_serve_ask.specs.AskedRun.{AreBegun, BeginsAsking, BeginsToAsk, EndsAsking, FailsWhile, IsAskedBy, IsAskedFirst, IsFaultReply, IsHandReply, IsHandRun, IsPlayedByHand, IsUnfitFor, IsWrittenBy, OutBeginsRun, StandsAgainstAsked, last_line}
+use Rattle.xk_serve_ask.specs.AskedRun.{AreBegun, BeginsAsking, BeginsToAsk, EndsAsking, FailsWhile, IsAskedBy, IsAskedFirst, IsFaultReply, IsHandReply, IsHandRun, IsPlayedByHand, IsUnfitFor, IsWrittenBy, OutBeginsRun, StandsAgainstAsked, known_of, last_line}
 
 -- what holds of the bytes kept holds of those kept of the bytes that are known
 of_known : (form : Form) (program : Option (List ℕ)) (bytes : List ℕ) (P : List ℕ → Type 0) → IfSome program (λ k. bytes ≡ kept form k) → P bytes
@@ -123,18 +122,37 @@ nothing_begins form (Some b) args keeps input out log = inl (appends_none out, a
 
 -- ---- what is asked
 
--- by the lines of a source text, or without any
-pub asked_by : (form : Form) (bytes text : List ℕ) (origins : Option (List UnitOrigins)) (m : ModuleValue) (args : List ℤ) (input : Option (List ℕ))
-    (log : List Entry)
-    (old new : Option (List ℕ)) → text ≡ bytes → HaveOrigins form bytes origins → IsByAnswers (places_in text origins) m args input log old new
+-- by the lines and names of a source text, or without any
+pub asked_by : (form : Form) (bytes text : List ℕ) (shared : List (List ℕ)) (origins : Option (List UnitOrigins)) (m : ModuleValue) (args : List ℤ)
+    (input : Option (List ℕ)) (log : List Entry)
+    (old new : Option (List ℕ)) → text ≡ bytes → HaveOrigins form bytes origins → HaveSharedNames form bytes shared
+    → IsByAnswers (known_of text shared origins) m args input log old new
     → (xs : List (Option ℕ)) × AreAnswers input xs × (log ≡ log_by m args xs) × IsWrittenBy (IsAskedBy form bytes m args xs) old new
-asked_by form bytes text origins m args input log old new same have by =
-    (by.0, by.1, by.2, (told_by (places_in text origins) m args by.0, (origins, have, ap (λ t. told_by (places_in t origins) m args by.0) same), by.3))
+asked_by form bytes text shared origins m args input log old new same have names by = (
+  by.0,
+  by.1,
+  by.2,
+  (
+    told_by (known_of text shared origins) m args by.0,
+    (shared, names, (origins, have, ap (λ t. told_by (known_of t shared origins) m args by.0) same)),
+    by.3,
+  ),
+)
 
-pub begun_by : (form : Form) (bytes text : List ℕ) (origins : Option (List UnitOrigins)) (m : ModuleValue) (args : List ℤ) (input old new : Option (List ℕ))
-    → text ≡ bytes → HaveOrigins form bytes origins → BeginsByAnswers (places_in text origins) m args input old new → BeginsToAsk form bytes m args input old new
-begun_by form bytes text origins m args input old new same have by =
-    inr (by.0, by.1, (told_by (places_in text origins) m args by.0, (origins, have, ap (λ t. told_by (places_in t origins) m args by.0) same), by.2))
+pub begun_by : (form : Form) (bytes text : List ℕ) (shared : List (List ℕ)) (origins : Option (List UnitOrigins)) (m : ModuleValue) (args : List ℤ)
+    (input old new : Option (List ℕ))
+    → text ≡ bytes → HaveOrigins form bytes origins → HaveSharedNames form bytes shared
+    → BeginsByAnswers (known_of text shared origins) m args input old new → BeginsToAsk form bytes m args input old new
+begun_by form bytes text shared origins m args input old new same have names by =
+    inr (
+      by.0,
+      by.1,
+      (
+        told_by (known_of text shared origins) m args by.0,
+        (shared, names, (origins, have, ap (λ t. told_by (known_of t shared origins) m args by.0) same)),
+        by.2,
+      ),
+    )
 
 -- the run of a module that the bytes give
 pub played_by_hand : (form : Form) (bytes : List ℕ) (m v : ModuleValue) (args : List ℤ) (in_old in_new old new : Option (List ℕ)) (log : List Entry)

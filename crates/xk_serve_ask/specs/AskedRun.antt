@@ -1,5 +1,5 @@
 -- What the program answers to `run --order ask`: which status and texts the bytes of FILE and of standard input may have. This project's own.
-use Rattle.std.specs.Prelude.{◌≡◌, ℕ, ℤ, ◌⊎◌, Bool, List, [], ◌++◌, codes, decimal, take, Option, IfSome, if◌then◌else◌}
+use Rattle.std.specs.Prelude.{◌≡◌, ℕ, ℤ, ◌⊎◌, Bool, List, [], ◌++◌, codes, decimal, take, Option, Some, None, IfSome, if◌then◌else◌}
 use Rattle.std.specs.Io.KnownBytes.{Appends}
 use Rattle.xk_types.specs.declared.world.Entry.{Entry}
 use Rattle.xk_types.specs.Acceptance.{IsAccepted}
@@ -20,8 +20,9 @@ use Rattle.xk_program.specs.declared.fault.Fault.{Fault}
 use Rattle.xk_program.specs.declared.fault.Fault.TheVariants as fault
 use Rattle.xk_program.specs.Refusals.{IsNotRun}
 use Rattle.xk_answers.specs.Printed.{whole_status}
-use Rattle.xk_program.specs.Origins.{IsByOrigins}
-use Rattle.xk_answers.specs.Explanation.{places_in}
+use Rattle.xk_origins.specs.UnitOrigins.{UnitOrigins}
+use Rattle.xk_ask.specs.ProgramTexts.{ProgramTextValue, known_text, no_source}
+use Rattle.xk_program.specs.Origins.{IsByNames}
 use Rattle.xk_program.specs.Bytes.{kept}
 use Rattle.xk_program.specs.Faults.{GivesNoModule}
 use Rattle.xk_program.specs.Lines.{fault_line, status_of}
@@ -60,9 +61,14 @@ abbrev pub StandsAgainstAsked : Form → List ℕ → List ℤ → ℕ → ℕ �
 StandsAgainstAsked form bytes args in_old in_new err_old err_new old new f =
     FailsWhile in_old in_new err_old err_new f ⊎ (IsUnfitFor form bytes args f × (in_new ≡ in_old) × (err_new ≡ err_old) × Appends old new [])
 
--- this is told of the run by these answers, by the lines of a source text
+-- what is known of a program with these shared numbers, if it is a source text whose units have these origins
+abbrev pub known_of : List ℕ → List (List ℕ) → Option (List UnitOrigins) → ProgramTextValue
+known_of bytes shared None = no_source
+known_of bytes shared (Some origins) = known_text bytes origins shared
+
+-- this is told of the run by these answers, of a source text by its lines and names
 abbrev pub IsAskedBy : Form → List ℕ → ModuleValue → List ℤ → List (Option ℕ) → List ℕ → Type 0
-IsAskedBy form bytes m args xs told = IsByOrigins form bytes (λ origins. told_by (places_in bytes origins) m args xs) told
+IsAskedBy form bytes m args xs told = IsByNames form bytes (λ shared origins. told_by (known_of bytes shared origins) m args xs) told
 
 -- The bytes give a module that is accepted and whose main takes these numbers; by some answers, which are those of the input where its bytes are known, its
 -- run has this log, prints these numbers and takes so many steps, and all have ended or not; and this is told meanwhile.

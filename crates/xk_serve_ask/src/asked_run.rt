@@ -62,22 +62,22 @@ fn played_by<L: Source, E: Sink>(
     alloc: Global,
     from: &Provenance<'_>,
     verified: &Verified,
-    arguments: &[i64],
+    given: &[i64],
     input: &mut L,
     err: &mut E,
 ) -> Result<Played, Fault>
-    requires { AreArguments verified.now arguments.now }
-    ensures played { IfOk result (λ r. IsPlayed verified.now arguments.now
+    requires { AreArguments verified.now given.now }
+    ensures played { IfOk result (λ r. IsPlayed verified.now given.now
         r.log.items r.printed.items r.steps r.whole) }
     ensures answers { (form : FormValue) (bytes : List ℕ) → IsFrom true form bytes from.now
         → IfOk result (λ r. (xs : List (Option ℕ)) × AreAnswers (L.remaining input.old) xs
-        × (r.log.items ≡ log_by verified.now arguments.now xs)
-        × IsWrittenBy (IsAskedBy form bytes verified.now arguments.now xs)
+        × (r.log.items ≡ log_by verified.now given.now xs)
+        × IsWrittenBy (IsAskedBy form bytes verified.now given.now xs)
         (E.contents err.old) (E.contents err.new)) }
     ensures begins { (form : FormValue) (bytes : List ℕ) → IsFrom true form bytes from.now
-        → BeginsToAsk form bytes verified.now arguments.now
+        → BeginsToAsk form bytes verified.now given.now
         (L.remaining input.old) (E.contents err.old) (E.contents err.new) }
-    ensures rest { IfOk result (λ r. Leaves (unread verified.now arguments.now r.whole)
+    ensures rest { IfOk result (λ r. Leaves (unread verified.now given.now r.whole)
         (L.remaining input.old) (L.remaining input.new)) }
     ensures no_fault { OnOk result ((L.fault_count input.new ≡ L.fault_count input.old)
         × (E.fault_count err.new ≡ E.fault_count err.old)) }
@@ -87,12 +87,21 @@ fn played_by<L: Source, E: Sink>(
     match &from.origins {
         Some(origins) => {
             let units = origins.units();
-            match source_ask(alloc, from.text, units, verified, arguments, input, err) {
+            match source_ask(
+                alloc,
+                from.text,
+                units,
+                &from.shared,
+                verified,
+                given,
+                input,
+                err,
+            ) {
                 Ok(played) => Ok(played),
                 Err(fault) => Err(fault_of(fault)),
             }
         }
-        None => match module_ask(alloc, verified, arguments, input, err) {
+        None => match module_ask(alloc, verified, given, input, err) {
             Ok(played) => Ok(played),
             Err(fault) => Err(fault_of(fault)),
         },
@@ -233,8 +242,8 @@ fn print<O: Sink, E: Sink, K: Sink>(
     }
 }
 
-/// Reads the program, and runs it, if it is accepted and main takes as many numbers as it is given: it is told on `err` who can take a step, and where, and
-/// a line of the input names one of them, until all have ended or the input ends. Then the numbers that were printed and a last line are written to `out`,
+/// Reads the program, and runs it, if it is accepted and main takes as many numbers as it is given: it is told on `err` how things are, what was printed,
+/// and who can take a step, and where, and a line of the input names one of them, until all have ended or the input ends, which is told. Then the numbers that were printed and a last line are written to `out`,
 /// and the log of what was played to `log_out`, where that is to be kept. The answer is the exit status: 0 where all have ended, 6 where the input ended
 /// before, 1 where the program is refused or main takes another number of arguments, 4 where memory ran out, 5 where a device failed. At 4 and 5 a beginning
 /// of what is asked stands on `err`, and then the line that tells it; `out` has a beginning of what is written there, and `log_out` has nothing before `out`

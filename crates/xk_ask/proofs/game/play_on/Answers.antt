@@ -3,12 +3,12 @@ use Rattle.std.specs.Prelude.{IfSome}
 use Rattle.xk_types.specs.Schedule.{all_ended}
 use Rattle.xk_ask.specs.Answers.{most_bytes}
 use Rattle.xk_ask.specs.Asking.{TakesAnswer, TakesLine, to_come}
-use Rattle.xk_ask.proofs.PlayLemmas.{playing_starts, playing_on, playing_breaks, playing_breaks_some, playing_some, playing_stops, playing_stops_some, playing_out, using_ends, using_on, using_starts, failed}
+use Rattle.xk_ask.proofs.PlayLemmas.{playing_starts, playing_on, playing_breaks, playing_breaks_some, playing_ends_early, playing_ends_early_some, playing_some, playing_stops, playing_stops_some, playing_out, using_ends, using_on, using_starts, failed}
 use Rattle.xk_ask.proofs.game.play_on.Goals as goal
 
 pub loop-answer-init : goal.loop-answer-init
 loop-answer-init g c = record {
-  playing = playing_starts c.args.places.now c.args.game.now.driver c.args.game.now.log.items (g.E.Sink.contents c.args.err.now)
+  playing = playing_starts c.args.text.now c.args.game.now.driver c.args.game.now.log.items (g.E.Sink.contents c.args.err.now)
       (to_come most_bytes (g.R.Source.remaining c.args.input.now));
   using = using_starts c.args.game.now.driver.module_run c.args.game.now.driver.world (g.R.Source.remaining c.args.input.now);
   no_read_fault = refl;
@@ -77,10 +77,14 @@ returns-in_err-follow-clause-begins_some g c =
     (subst (λ d. all_ended d.world ≡ false) c.core.ensures goes) c.follow.ensures.begins
 
 pub returns-clause-by_some : goal.returns-clause-by_some
-returns-clause-by_some g c = playing_some _ _ _ _ _ _ _ _ _ c.loop-answer.invariant.playing
+returns-clause-by_some g c =
+    playing_some _ _ _ _ _ c.loop-answer.game.driver c.core-say_end.result.now c.loop-answer.game.log.items _ _ _
+    c.loop-answer.invariant.playing c.core-say_end.ensures c.in_ok-say_end.ensures.told
 
 pub returns-clause-begins_some : goal.returns-clause-begins_some
-returns-clause-begins_some g c = playing_stops_some _ _ _ _ _ _ _ _ _ c.loop-answer.invariant.playing
+returns-clause-begins_some g c =
+    playing_ends_early_some _ _ _ _ _ c.loop-answer.game.driver c.core-say_end.result.now c.loop-answer.game.log.items _ _ _
+    c.loop-answer.invariant.playing c.core-say_end.ensures c.say_end.ensures.begins
 
 pub returns-clause-unread : goal.returns-clause-unread
 returns-clause-unread g c =
@@ -89,13 +93,37 @@ returns-clause-unread g c =
 
 pub returns-clause-played : goal.returns-clause-played
 returns-clause-played g c =
-    (playing_out _ _ _ _ _ c.loop-answer.game.driver c.core.result.now c.loop-answer.game.log.items _ _ c.in_ok-answer.field-0 c.loop-answer.invariant.playing
-    c.core.ensures c.in_default.not-Some c.in_ok-answer.ensures.none).0
+    (playing_out _ _ _ _ _ c.loop-answer.game.driver c.core.result.now c.core-say_end.result.now c.loop-answer.game.log.items _ _ _
+    c.in_ok-answer.field-0 c.loop-answer.invariant.playing c.core.ensures c.core-say_end.ensures c.in_default.not-Some
+    c.in_ok-answer.ensures.none c.in_ok-say_end.ensures.told).0
 
 pub returns-clause-told : goal.returns-clause-told
 returns-clause-told g c =
-    (playing_out _ _ _ _ _ c.loop-answer.game.driver c.core.result.now c.loop-answer.game.log.items _ _ c.in_ok-answer.field-0 c.loop-answer.invariant.playing
-    c.core.ensures c.in_default.not-Some c.in_ok-answer.ensures.none).1
+    (playing_out _ _ _ _ _ c.loop-answer.game.driver c.core.result.now c.core-say_end.result.now c.loop-answer.game.log.items _ _ _
+    c.in_ok-answer.field-0 c.loop-answer.invariant.playing c.core.ensures c.core-say_end.ensures c.in_default.not-Some
+    c.in_ok-answer.ensures.none c.in_ok-say_end.ensures.told).1
 
 pub returns-clause-begins : goal.returns-clause-begins
-returns-clause-begins g c = playing_stops _ _ _ _ _ _ _ _ _ c.loop-answer.invariant.playing
+returns-clause-begins g c =
+    playing_ends_early _ _ _ _ _ c.loop-answer.game.driver c.core.result.now c.core-say_end.result.now c.loop-answer.game.log.items _ _ _
+    c.in_ok-answer.field-0 c.loop-answer.invariant.playing c.core.ensures c.core-say_end.ensures c.in_default.not-Some
+    c.in_ok-answer.ensures.none c.say_end.ensures.begins
+
+-- ---- where the last line could not be written
+
+pub returns-in_err-say_end-clause-played : goal.returns-in_err-say_end-clause-played
+returns-in_err-say_end-clause-played g c = failed _ _ c.from_residual-in_err-say_end.ensures.0
+
+pub returns-in_err-say_end-clause-told : goal.returns-in_err-say_end-clause-told
+returns-in_err-say_end-clause-told g c = failed _ _ c.from_residual-in_err-say_end.ensures.0
+
+pub returns-in_err-say_end-clause-begins : goal.returns-in_err-say_end-clause-begins
+returns-in_err-say_end-clause-begins g c =
+    playing_ends_early _ _ _ _ _ c.loop-answer.game.driver c.core.result.now c.core-say_end.result.now c.loop-answer.game.log.items _ _ _
+    c.in_ok-answer.field-0 c.loop-answer.invariant.playing c.core.ensures c.core-say_end.ensures c.in_default.not-Some
+    c.in_ok-answer.ensures.none c.say_end.ensures.begins
+
+pub returns-in_err-say_end-clause-begins_some : goal.returns-in_err-say_end-clause-begins_some
+returns-in_err-say_end-clause-begins_some g c =
+    playing_ends_early_some _ _ _ _ _ c.loop-answer.game.driver c.core-say_end.result.now c.loop-answer.game.log.items _ _ _
+    c.loop-answer.invariant.playing c.core-say_end.ensures c.say_end.ensures.begins

@@ -7,7 +7,7 @@ use Rattle.xk_ask.proofs.game.play_on.Given as goal
 -- some answers were followed, and no device failed
 abbrev pub invariant-loop-answer : goal.invariant-loop-answer
 invariant-loop-answer g l = record {
-  playing : IsPlaying l.places l.fn.game.driver l.fn.game.log.items (g.E.Sink.contents l.fn.err) (to_come most_bytes (g.R.Source.remaining l.fn.input))
+  playing : IsPlaying l.text l.fn.game.driver l.fn.game.log.items (g.E.Sink.contents l.fn.err) (to_come most_bytes (g.R.Source.remaining l.fn.input))
       l.game.driver l.game.log.items (g.E.Sink.contents l.err) (to_come l.left (g.R.Source.remaining l.input));
   using : IsUsing l.fn.game.driver.module_run l.fn.game.driver.world (g.R.Source.remaining l.fn.input)
       l.game.driver.world l.left (g.R.Source.remaining l.input);

@@ -7,7 +7,7 @@ use Rattle.xk_ask.proofs.game.play_whole.Goals as goal
 
 pub returns-in_default-clause-begins : goal.returns-in_default-clause-begins
 returns-in_default-clause-begins g c =
-    nothing_begun (g.E.Sink.contents c.args.err.now) (g.R.Source.remaining c.args.input.now) (told_text c.args.places.now c.args.verified.now c.args.arguments.now)
+    nothing_begun (g.E.Sink.contents c.args.err.now) (g.R.Source.remaining c.args.input.now) (told_text c.args.text.now c.args.verified.now c.args.arguments.now)
 
 pub returns-in-Ok-play-clause-unread : goal.returns-in-Ok-play-clause-unread
 returns-in-Ok-play-clause-unread g c =
@@ -22,42 +22,48 @@ returns-in-Ok-play-clause-played g c =
 
 pub returns-in-Ok-play-clause-told : goal.returns-in-Ok-play-clause-told
 returns-in-Ok-play-clause-told g c =
-    opened_text (Appends (g.E.Sink.contents c.args.err.now) (g.E.Sink.contents c.play.new.err)) c.args.places.now c.args.verified.now c.args.arguments.now c.in-Ok.game.driver
-    (g.R.Source.remaining c.args.input.now) (c.in-Ok.ensures.same ∙ c.in_ok-core.ensures) c.in-Ok-play.ensures.told
+    opened_text (Appends (g.E.Sink.contents c.args.err.now) (g.E.Sink.contents c.play.new.err)) c.args.text.now
+    c.args.verified.now c.args.arguments.now c.in-Ok.game.driver (g.R.Source.remaining c.args.input.now) c.in-Ok.game.log.items
+    (c.in-Ok.ensures.same ∙ c.in_ok-core.ensures) c.in-Ok.ensures.empty c.in-Ok-play.ensures.told
 
 pub returns-in-Ok-play-clause-begins : goal.returns-in-Ok-play-clause-begins
 returns-in-Ok-play-clause-begins g c =
-    opened_text (AppendsBeginning (g.E.Sink.contents c.args.err.now) (g.E.Sink.contents c.play.new.err)) c.args.places.now c.args.verified.now c.args.arguments.now c.in-Ok.game.driver
-    (g.R.Source.remaining c.args.input.now) (c.in-Ok.ensures.same ∙ c.in_ok-core.ensures) c.play.ensures.begins
+    opened_text (AppendsBeginning (g.E.Sink.contents c.args.err.now) (g.E.Sink.contents c.play.new.err)) c.args.text.now
+    c.args.verified.now c.args.arguments.now c.in-Ok.game.driver (g.R.Source.remaining c.args.input.now) c.in-Ok.game.log.items
+    (c.in-Ok.ensures.same ∙ c.in_ok-core.ensures) c.in-Ok.ensures.empty c.play.ensures.begins
 
 pub returns-in-Err-clause-begins : goal.returns-in-Err-clause-begins
 returns-in-Err-clause-begins g c =
-    opened_text (AppendsBeginning (g.E.Sink.contents c.args.err.now) (g.E.Sink.contents c.play.new.err)) c.args.places.now c.args.verified.now c.args.arguments.now c.in-Ok.game.driver
-    (g.R.Source.remaining c.args.input.now) (c.in-Ok.ensures.same ∙ c.in_ok-core.ensures) c.play.ensures.begins
+    opened_text (AppendsBeginning (g.E.Sink.contents c.args.err.now) (g.E.Sink.contents c.play.new.err)) c.args.text.now
+    c.args.verified.now c.args.arguments.now c.in-Ok.game.driver (g.R.Source.remaining c.args.input.now) c.in-Ok.game.log.items
+    (c.in-Ok.ensures.same ∙ c.in_ok-core.ensures) c.in-Ok.ensures.empty c.play.ensures.begins
 
 pub returns-in-Ok-play-clause-by_answers : goal.returns-in-Ok-play-clause-by_answers
 returns-in-Ok-play-clause-by_answers g c =
-    opened_by c.args.places.now c.args.verified.now c.args.arguments.now c.in-Ok.game.driver (g.R.Source.remaining c.args.input.now) c.in-Ok.game.log.items
+    opened_by c.args.text.now c.args.verified.now c.args.arguments.now c.in-Ok.game.driver (g.R.Source.remaining c.args.input.now)
+    c.in-Ok.game.log.items
     c.play.new.game.log.items c.closed.result.log.items (g.E.Sink.contents c.args.err.now) (g.E.Sink.contents c.play.new.err)
     (c.in-Ok.ensures.same ∙ c.in_ok-core.ensures) c.in-Ok.ensures.empty c.closed.ensures.log (returns-in-Ok-play-clause-played g c)
     (returns-in-Ok-play-clause-told g c) c.in-Ok-play.ensures.by_some
 
 pub returns-in-Ok-play-clause-begins_by : goal.returns-in-Ok-play-clause-begins_by
 returns-in-Ok-play-clause-begins_by g c =
-    opened_begins c.args.places.now c.args.verified.now c.args.arguments.now c.in-Ok.game.driver (g.R.Source.remaining c.args.input.now)
-    (g.E.Sink.contents c.args.err.now) (g.E.Sink.contents c.play.new.err) (c.in-Ok.ensures.same ∙ c.in_ok-core.ensures)
+    opened_begins c.args.text.now c.args.verified.now c.args.arguments.now c.in-Ok.game.driver (g.R.Source.remaining c.args.input.now)
+    c.in-Ok.game.log.items (g.E.Sink.contents c.args.err.now) (g.E.Sink.contents c.play.new.err)
+    (c.in-Ok.ensures.same ∙ c.in_ok-core.ensures) c.in-Ok.ensures.empty
     (returns-in-Ok-play-clause-begins g c) c.play.ensures.begins_some
 
 pub returns-in-Err-clause-begins_by : goal.returns-in-Err-clause-begins_by
 returns-in-Err-clause-begins_by g c =
-    opened_begins c.args.places.now c.args.verified.now c.args.arguments.now c.in-Ok.game.driver (g.R.Source.remaining c.args.input.now)
-    (g.E.Sink.contents c.args.err.now) (g.E.Sink.contents c.play.new.err) (c.in-Ok.ensures.same ∙ c.in_ok-core.ensures)
+    opened_begins c.args.text.now c.args.verified.now c.args.arguments.now c.in-Ok.game.driver (g.R.Source.remaining c.args.input.now)
+    c.in-Ok.game.log.items (g.E.Sink.contents c.args.err.now) (g.E.Sink.contents c.play.new.err)
+    (c.in-Ok.ensures.same ∙ c.in_ok-core.ensures) c.in-Ok.ensures.empty
     (returns-in-Err-clause-begins g c) c.play.ensures.begins_some
 
 pub returns-in_default-clause-begins_by : goal.returns-in_default-clause-begins_by
 returns-in_default-clause-begins_by g c =
-    nothing_begun_by c.args.places.now c.args.verified.now c.args.arguments.now (g.R.Source.remaining c.args.input.now) (g.E.Sink.contents c.args.err.now)
+    nothing_begun_by c.args.text.now c.args.verified.now c.args.arguments.now (g.R.Source.remaining c.args.input.now) (g.E.Sink.contents c.args.err.now)
 
 pub returns-in_err-core-clause-begins_by : goal.returns-in_err-core-clause-begins_by
 returns-in_err-core-clause-begins_by g c =
-    nothing_begun_by c.args.places.now c.args.verified.now c.args.arguments.now (g.R.Source.remaining c.args.input.now) (g.E.Sink.contents c.args.err.now)
+    nothing_begun_by c.args.text.now c.args.verified.now c.args.arguments.now (g.R.Source.remaining c.args.input.now) (g.E.Sink.contents c.args.err.now)

@@ -1,6 +1,6 @@
 use Rattle.std.proofs.Common.{subst}
-use Rattle.std.specs.Prelude.{IfOk, IfSome}
-use Rattle.xk_show_events.specs.Events.{PlacesValue, places_of}
+use Rattle.std.specs.Prelude.{IfOk, IfSome, map}
+use Rattle.xk_ask.specs.ProgramTexts.{ProgramTextValue, known_text}
 use Rattle.xk_io.specs.Writing.{AppendsBeginning}
 use Rattle.xk_ask.specs.Asking.{BeginsByAnswers, IsByAnswers}
 use Rattle.xk_ask.specs.Play.{told_text}
@@ -9,21 +9,21 @@ use Rattle.xk_ask.proofs.game.source_ask.Goals as goal
 
 pub returns-clause-begins : goal.returns-clause-begins
 returns-clause-begins g c =
-    subst (λ (p : PlacesValue). IfSome (g.R.Source.remaining c.args.input.now) (λ bytes. AppendsBeginning (g.E.Sink.contents c.args.err.now) (g.E.Sink.contents c.play_whole.new.err)
-    (told_text p c.args.verified.now c.args.arguments.now bytes))) c.in_ok-places.ensures c.play_whole.ensures.begins
+    subst (λ (p : ProgramTextValue). IfSome (g.R.Source.remaining c.args.input.now) (λ bytes. AppendsBeginning (g.E.Sink.contents c.args.err.now) (g.E.Sink.contents c.play_whole.new.err)
+    (told_text p c.args.verified.now c.args.arguments.now bytes))) c.in_ok-known.ensures c.play_whole.ensures.begins
 
 pub returns-clause-by_answers : goal.returns-clause-by_answers
 returns-clause-by_answers g c =
-    subst (λ (p : PlacesValue). IfOk c.play_whole.result (λ r. IsByAnswers p c.args.verified.now c.args.arguments.now
+    subst (λ (p : ProgramTextValue). IfOk c.play_whole.result (λ r. IsByAnswers p c.args.verified.now c.args.arguments.now
     (g.R.Source.remaining c.args.input.now) r.log.items
-    (g.E.Sink.contents c.args.err.now) (g.E.Sink.contents c.play_whole.new.err))) c.in_ok-places.ensures c.play_whole.ensures.by_answers
+    (g.E.Sink.contents c.args.err.now) (g.E.Sink.contents c.play_whole.new.err))) c.in_ok-known.ensures c.play_whole.ensures.by_answers
 
 pub returns-clause-begins_by : goal.returns-clause-begins_by
 returns-clause-begins_by g c =
-    subst (λ (p : PlacesValue). BeginsByAnswers p c.args.verified.now c.args.arguments.now (g.R.Source.remaining c.args.input.now)
-    (g.E.Sink.contents c.args.err.now) (g.E.Sink.contents c.play_whole.new.err)) c.in_ok-places.ensures c.play_whole.ensures.begins_by
+    subst (λ (p : ProgramTextValue). BeginsByAnswers p c.args.verified.now c.args.arguments.now (g.R.Source.remaining c.args.input.now)
+    (g.E.Sink.contents c.args.err.now) (g.E.Sink.contents c.play_whole.new.err)) c.in_ok-known.ensures c.play_whole.ensures.begins_by
 
-pub returns-in_err-places-clause-begins_by : goal.returns-in_err-places-clause-begins_by
-returns-in_err-places-clause-begins_by g c =
-    nothing_begun_by (places_of c.args.text.now c.args.origins.now) c.args.verified.now c.args.arguments.now (g.R.Source.remaining c.args.input.now)
+pub returns-in_err-known-clause-begins_by : goal.returns-in_err-known-clause-begins_by
+returns-in_err-known-clause-begins_by g c =
+    nothing_begun_by (known_text c.args.text.now c.args.origins.now (map (λ x. x.now) c.args.shared.now)) c.args.verified.now c.args.arguments.now (g.R.Source.remaining c.args.input.now)
     (g.E.Sink.contents c.args.err.now)
