@@ -1,9 +1,6 @@
--- The frames of an activity: how many slots they have, and how one goes from each to the one that called it.
-use Rattle.std.specs.Prelude.{flat_map}
-use Rattle.std.proofs.Common.{◌≡◌, ◌∙◌, arith, ℕ, ◌<◌, ◌^◌, Bool, true, false, List, [], ◌∷◌, ◌++◌, length, Option, Some, slice_get, sym, ap, subst}
+-- The frames of an activity have few slots.
+use Rattle.std.proofs.Common.{◌≡◌, arith, ℕ, ◌<◌, ◌^◌, List, [], ◌∷◌, length, Option, Some, slice_get, ap}
 use Rattle.std.specs.Option.{option_map_or}
-use Rattle.std.proofs.lemmas.Bool.{false≢true}
-use Rattle.std.proofs.lemmas.List.{append-nil}
 use Rattle.std.proofs.lemmas.Option.{slice_get-get_or}
 use Rattle.xk_types.specs.declared.world.Status.{Status}
 use Rattle.xk_types.specs.declared.world.Value.{Value}
@@ -13,8 +10,6 @@ use Rattle.xk_types.specs.World.{Frame, World}
 use Rattle.xk_law_schedules.proofs.Invariant.{AreWaiting}
 use Rattle.xk_law_schedules.proofs.ReachabilityLemmas.{reached_sound}
 use Rattle.xk_activity.specs.Activities.{act_at, nobody}
-use Rattle.xk_activity.specs.FrameStack.{outer}
-use Rattle.xk_activity.specs.Local.{FramesValue}
 use Rattle.xk_activity.proofs.FrameStackLemmas.{few_slots}
 use Rattle.xk_core.specs.Core.{IsCore}
 use Rattle.xk_show_locals.specs.Locals.{AreFew}
@@ -41,16 +36,3 @@ few_frames m w a core lt =
       few_of m (act_at w.activities a).frame.unit s.u (act_at w.activities a).frame.slots core.limits s.unit s.frame.slots,
       few_waiting m _ _ _ (act_at w.activities a).frame (act_at w.activities a).callers core.limits s.waiting,
     )
-
--- ---- one frame after another
-
--- there is none
-pub none_called : (f g : FramesValue) (fs : List Frame) (tell : Frame → List ℕ) (xs : List ℕ) → ◌≡◌ {A = Bool × FramesValue} (false, g) (outer f fs)
-    → xs ≡ xs ++ flat_map tell fs
-none_called f g [] tell xs e = sym (append-nil xs)
-none_called f g (h ∷ hs) tell xs e = absurd (false≢true (ap (λ (p : Bool × FramesValue). p.0) e))
-
--- there is one, and it and those that called it are those that waited
-pub one_called : (f g : FramesValue) (fs : List Frame) → ◌≡◌ {A = Bool × FramesValue} (true, g) (outer f fs) → fs ≡ g.frame ∷ g.callers
-one_called f g [] e = absurd (false≢true (sym (ap (λ (p : Bool × FramesValue). p.0) e)))
-one_called f g (h ∷ hs) e = sym (ap (λ (p : Bool × FramesValue). p.1.frame ∷ p.1.callers) e)

@@ -84,12 +84,10 @@ both_known n steps [] ys h k = k
 both_known n steps (x ∷ xs) ys h k = (h.0, h.1, both_known n steps xs ys h.2 k)
 
 -- the first one has the number that is looked for
-same : (n : ℕ) → nat_eq n n ≡ true
-same n = grind (arith, nat_tests)
-
 first_found : (a : Account) (steps : List Account) (s : RunStep) → a.step ≡ s → IsFoundAs (a ∷ steps) s
 first_found a steps s e =
-    (a, ap (λ b. if b then Some a else account_of steps s.number) (ap (λ (x : RunStep). nat_eq s.number x.number) e ∙ same s.number), e)
+    let same : nat_eq s.number s.number ≡ true = grind (arith, nat_tests) in
+    (a, ap (λ b. if b then Some a else account_of steps s.number) (ap (λ (x : RunStep). nat_eq s.number x.number) e ∙ same), e)
 
 all_of_first : (n : ℕ) (a : Account) (steps : List Account) (s : RunStep) (ds : List Deed) → a.step ≡ s → n < s.number → AreOf s ds
     → AreKnown n (a ∷ steps) ds
