@@ -97,7 +97,7 @@ fn only_if(alloc: Global, usual: bool, stack: &[Symbol]) -> Result<Option<Vec<u8
     only_text(alloc, &found)
 }
 
-/// One sign that is missing, or the one token that could stand.
+/// One sign that is missing before a token, or the one that could stand in its place.
 fn sign_repair(
     alloc: Global,
     usual: bool,
@@ -107,6 +107,9 @@ fn sign_repair(
     ensures { IfOk result (λ o. option_map (λ v. v.items) o
         ≡ sign_repair usual stack.now (map token_value next.now)) }
 {
+    if next.is_empty() {
+        return Ok(None);
+    }
     let signs = missing(alloc, stack, first_terminal(next), second_terminal(next))?;
     match missing_text(alloc, &signs)? {
         Some(repair) => Ok(Some(repair)),

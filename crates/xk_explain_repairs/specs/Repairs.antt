@@ -67,11 +67,6 @@ token_advice at rest = if is_foreign rest then advice_at_foreign at rest else ad
 
 -- ---- a token can't stand there, F2
 
--- the text ends there
-unfoldable pub advice_at_end : List ℕ → Advice → Advice
-advice_at_end [] other = advice.TextEnds
-advice_at_end (b ∷ bs) other = other
-
 abbrev pub advice_of_part : Head → Advice → Advice
 advice_of_part head.For other = advice.Times
 advice_of_part head.Shared other = advice.SharedNumber
@@ -238,13 +233,18 @@ advice_there h before rest =
 
 abbrev pub syntax_advice : Head → List ℕ → List ℕ → Advice
 syntax_advice h before rest =
-    advice_at_end rest (advice_of_type h (last_word (to_sign before)) (advice_of_return (last_word (to_sign before)) rest
+    advice_of_type h (last_word (to_sign before)) (advice_of_return (last_word (to_sign before)) rest
     (advice_at_range (last_word (to_sign before)) (first_word rest)
     (advice_behind (last_word (to_sign before)) (advice_behind_habit (last_word (to_sign before))
     (advice_of_reserved (last_word (to_sign before)) (first_word rest) (advice_of_near (last_word (to_sign before))
-    (advice_behind_number before rest (advice_there h (to_sign before) rest)))))))))
+    (advice_behind_number before rest (advice_there h (to_sign before) rest))))))))
 
 -- ---- the same where nothing else calls for a repair
+
+-- the text ends there
+unfoldable pub advice_at_end : List ℕ → Advice → Advice
+advice_at_end [] other = advice.TextEnds
+advice_at_end (b ∷ bs) other = other
 
 unfoldable pub advice_behind_line : List ℕ → Advice → Advice
 advice_behind_line before other =
@@ -392,7 +392,8 @@ further_there h depth before rest =
     (advice_in_def h before rest (advice_of_head h (advice_behind_point before rest (advice_of_lone before rest advice.Usual)))))))))))))
 
 abbrev pub further_syntax_advice : Head → ℕ → List ℕ → List ℕ → Advice
-further_syntax_advice h depth before rest = advice_behind_line before (further_there h depth (to_sign before) rest)
+further_syntax_advice h depth before rest =
+    advice_at_end rest (advice_behind_line before (further_there h depth (to_sign before) rest))
 
 -- ---- no such name is visible there, F5
 

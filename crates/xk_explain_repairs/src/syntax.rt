@@ -1,7 +1,7 @@
 //! What is advised first where a token can't stand.
 
 ghost use Rattle.std.specs.Prelude.{◌≡◌};
-ghost use Rattle.xk_explain_repairs.specs.Repairs.{advice_at_comma, advice_at_comparison, advice_at_digit, advice_at_end, advice_at_minus};
+ghost use Rattle.xk_explain_repairs.specs.Repairs.{advice_at_comma, advice_at_comparison, advice_at_digit, advice_at_minus};
 ghost use Rattle.xk_explain_repairs.specs.Repairs.{advice_at_missing, advice_at_pair, advice_at_sign, advice_at_star, advice_at_value};
 ghost use Rattle.xk_explain_repairs.specs.Repairs.{advice_behind, advice_behind_clock, advice_behind_habit, advice_behind_number};
 ghost use Rattle.xk_explain_repairs.specs.Repairs.{advice_near, advice_of_foreign, advice_of_near, advice_of_part, advice_of_reserved};
@@ -14,17 +14,6 @@ use xk_explain_parts::{
     is_number, is_pair, is_reserved, is_type, is_typed, wants_name, wants_value,
 };
 use xk_explain_words::{Head, begins, ends, first_word, is_near, is_spelled, last_word, to_sign};
-
-/// Where the text ends.
-#[tactic(auto, unfolding(crate::specs::Repairs::advice_at_end))]
-fn advice_at_end(rest: &[u8], other: Advice) -> Advice
-    ensures { result ≡ advice_at_end rest.now other }
-{
-    match rest {
-        [] => Advice::TextEnds,
-        [_, ..] => other,
-    }
-}
 
 /// By the statement that a declaration stands in.
 fn advice_of_part(head: Head, other: Advice) -> Advice
@@ -415,6 +404,5 @@ pub(crate) fn syntax_advice(head: Head, before: &[u8], rest: &[u8]) -> Advice
     let other = advice_of_reserved(word, first_word(rest), advice_of_near(word, other));
     let other = advice_behind(word, advice_behind_habit(word, other));
     let other = advice_at_range(word, first_word(rest), other);
-    let other = advice_of_type(head, word, advice_of_return(word, rest, other));
-    advice_at_end(rest, other)
+    advice_of_type(head, word, advice_of_return(word, rest, other))
 }
