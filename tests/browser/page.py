@@ -38,7 +38,8 @@ PICTURED = ("two-in-step.x10", "last", ())
 PICTURED_STEP, PICTURED_SIZE = 8, (1100, 810)
 # What a page shows.
 SHOWN = """(() => {
-  const lines = id => [...document.querySelectorAll(id + " > li")].map(line => line.textContent);
+  const lines = id => [...document.querySelectorAll(id + " > li")].flatMap((line, who) => [
+    line.firstChild.textContent, ...[...line.querySelectorAll(".own")].map(own => `act ${who} ${own.textContent}`)]);
   const rows = [...document.querySelectorAll("#source > .row")];
   const box = document.querySelectorAll("#picture .now > title");
   return {

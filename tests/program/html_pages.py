@@ -6,8 +6,7 @@ with what the program says of the same run.
 
 Of some runs, one of them of a module, and some of texts that have what HTML takes for something else: the text of the
 element `source` is FILE's; that of `moments` is what `where` prints before the first step and behind each that is asked
-for, but for activities' own numbers, and with shared numbers by their numbers, each after the line of `events` without
-whose write was read, with those of the other steps that printed; that of
+for, each after the line of `events` without whose write was read, with those of the other steps that printed; that of
 `picture` is what `lanes --svg` prints. The policy stands in the head before all that could fetch, no element fetches,
 and all elements are closed, in order. Then a page is made wrong on purpose, in several ways, each of which has to be
 refused.
@@ -59,8 +58,6 @@ RUNS: tuple[tuple[str, str, tuple[int, ...]], ...] = (
 )
 # Whose write was read, in a line of `events`.
 WRITER = re.compile(r" \((?:step \d+|opening)\)$")
-# In what `where` tells of a source text: an activity's own numbers, and a shared number.
-OWN, SHARED = re.compile(r"act \d+ in "), re.compile(r"^\S+ = (-?\d+)$")
 # Elements that have no end, elements that fetch something, and attributes that say what is fetched; `href` is for parts
 # of the page alone.
 WITHOUT_END = {"meta", "input"}
@@ -109,13 +106,6 @@ def answered(words: list[object]) -> str:
     return ended.out.decode()
 
 
-def moment(told: str) -> str:
-    """What a page has of what `where` tells: shared numbers by their numbers, and no activity's own numbers."""
-    numbers = itertools.count()
-    lines = (line for line in told.splitlines() if not OWN.match(line))
-    return "".join(SHARED.sub(lambda found: f"shared {next(numbers)} is {found[1]}", line) + "\n" for line in lines)
-
-
 class Run(NamedTuple):
     """A program, its log, and which steps are asked for."""
 
@@ -144,7 +134,7 @@ class Run(NamedTuple):
         entries = self.log.read_text().splitlines()[1 : steps + 1]
         cut = self.log.with_suffix(".cut")
         cut.write_text("".join(f"{line}\n" for line in ["x10log 1", *entries, f"end {steps}"]))
-        return moment(self.ask("where", cut))
+        return self.ask("where", cut)
 
     def page(self) -> str:
         return self.ask("page", self.log, *self.window)

@@ -76,13 +76,13 @@ def moments(program: Program, played: Played, window: Window) -> Iterator[str]:
     but behind all of these, that it printed, if it did."""
     behind = Played(played.module, played.taken[0].before)
     naming = None if program.is_module else Naming(program, played)
-    yield Place(program, behind, None).moment()
+    yield Place(program, behind, None).text()
     for taken in played.taken:
         behind.taken.append(taken)
         behind.world = taken.step.world
         behind.phases.update({advance.clock: advance.phase for advance in taken.advances})
         if taken.step.event and taken.number in window:
-            yield line(program, naming, taken) + Place(program, behind, None).moment()
+            yield line(program, naming, taken) + Place(program, behind, None).text()
         elif taken.step.printed is not None and taken.number < window.stop:
             yield line(program, naming, taken)
 

@@ -102,15 +102,31 @@ class Place:
         limited = self.limited(frame, slot)
         return f", {naming.cut(names[limited[0]])} up to {min(value, limited[1])}" if limited else ""
 
+    def numbers(self, frame: Frame) -> str:
+        """What a frame's numbers and clocks are."""
+        unit = origins.origins(self.program.data)[frame.unit]
+        return "".join(self.held(frame, unit.slots, slot, value) for slot, value in enumerate(frame.slots))
+
+    def method(self, frame: Frame) -> str:
+        """Whose frame it is."""
+        return naming.cut(origins.origins(self.program.data)[frame.unit].name or "async")
+
+    def calling(self, frame: Frame) -> str:
+        """Of a frame that waits for a call to return, whose it is, where that call is, and the frame's numbers. Frames that
+        wait stand behind their calls here."""
+        at = self.program.position(frame._replace(place=frame.place - 1))
+        return f"called by {self.method(frame)} at {at}{self.numbers(frame)}\n"
+
     def own(self, who: int) -> str:
-        """What an activity's own numbers are in the frame that it stands in, and its clocks, if the text is known."""
+        """What an activity's own numbers are in the frame that it stands in, and its clocks, and those of the frames that
+        wait for it, the nearest first, if the text is known."""
         activity = self.played.world.activities[who]
         if self.program.is_module or activity.status is Status.ENDED:
             return ""
         frame = activity.frames[-1]
-        unit = origins.origins(self.program.data)[frame.unit]
-        held = "".join(self.held(frame, unit.slots, slot, value) for slot, value in enumerate(frame.slots))
-        return f"act {who} in {naming.cut(unit.name or 'async')}{held}\n" if held else ""
+        held = self.numbers(frame)
+        here = f"act {who} in {self.method(frame)}{held}\n" if held else ""
+        return here + "".join(f"act {who} {self.calling(frame)}" for frame in reversed(activity.frames[:-1]))
 
     def told(self, who: int) -> str:
         return self.line(who) + self.own(who)
@@ -138,12 +154,8 @@ class Place:
         return "".join(lines)
 
     def text(self) -> str:
-        """What `where` prints."""
+        """What `where` prints, and what a page has of a moment."""
         return self.standings(self.told, self.named())
-
-    def moment(self) -> str:
-        """The same as a page has it: without names and own numbers."""
-        return self.standings(self.line, self.numbered())
 
 
 def listed(acts: list[int]) -> str:

@@ -2,7 +2,7 @@
 use Rattle.std.specs.Prelude.{reverse, nat_eq, slice_set, max}
 use Rattle.std.specs.List.{refill}
 use Rattle.std.specs.Option.{option_map_or, option_and_then}
-use Rattle.std.proofs.Common.{◌≡◌, Bool, not, replicate, ℕ, zero, suc, ℤ, pos, ◌+◌, ◌-◌, ◌≤◌, ◌<◌, ◌^◌, List, [], ◌∷◌, ◌++◌, length, take, drop, refl, sym, ap, subst, ◌∙◌, arith, Option, Some, None, slice_get, All}
+use Rattle.std.proofs.Common.{◌≡◌, Bool, true, not, replicate, ℕ, zero, suc, ℤ, pos, ◌+◌, ◌-◌, ◌≤◌, ◌<◌, ◌^◌, List, [], ◌∷◌, ◌++◌, length, take, drop, refl, sym, ap, subst, ◌∙◌, arith, Option, Some, None, slice_get, All}
 use Rattle.std.proofs.lemmas.Grind.{common_steps}
 use Rattle.std.proofs.lemmas.List.{reverse-append, length-reverse, length-map, length-drop, drop-take}
 use Rattle.std.proofs.lemmas.Option.{slice_get_within, get_or_from_slice_get}
@@ -19,7 +19,7 @@ use Rattle.xk_activity.specs.declared.caller.Caller.{Caller}
 use Rattle.xk_activity.specs.Local.{FramesValue, Stepped, code_of, begun, called, returning, is_stepped}
 use Rattle.xk_activity.specs.declared.marks.Marks.{Marks}
 use Rattle.xk_activity.specs.Slots.{is_marked, values_of, AreLaid}
-use Rattle.xk_activity.specs.FrameStack.{waiting, frames_on, AreStacked, IsStacked, AreBelow, with_slot, CanCall, value_at, values_at}
+use Rattle.xk_activity.specs.FrameStack.{waiting, frames_on, AreStacked, IsStacked, AreBelow, with_slot, CanCall, outer, value_at, values_at}
 use Rattle.xk_activity.proofs.SlotWordLemmas.{length_by, laid_filled}
 
 -- ---- those who wait see only what lies below
@@ -264,6 +264,20 @@ left_steps m a b unit place marks base stack cut old news c now view h o k =
     ∙ ap (λ ws. Stepped (record { module_run = m; frame = record { unit = c.unit; place = c.place + 1; slots = values_of c.marks (drop c.base (take base stack)) }; callers = ws }))
     (waiting_same m a b stack (take base stack) c.base (reverse news) g.2 (sym (less stack c.base base (let q = g.0 in omega arith))))
     ∙ ap (λ xs. Stepped (frames_on m c.unit (c.place + 1) c.marks c.base xs (reverse news))) (sym k)
+
+-- the frames where the nearest that waits is in place of the present one
+pub up_gives : (m : ModuleValue) (a b unit place : ℕ) (marks : Marks) (base : ℕ) (stack cut : List ℤ) (old news : List Caller) (c : Caller) (now : FramesValue)
+    → frames_on m unit place marks base stack (reverse old) ≡ now → AreStacked m a b base (reverse old) → old ≡ news ++ c ∷ [] → cut ≡ take base stack
+    → ◌≡◌ {A = Bool × FramesValue} (true, frames_on m c.unit c.place c.marks c.base cut (reverse news)) (outer now now.callers)
+up_gives m a b unit place marks base stack cut old news c now view h o k =
+    let e : reverse old ≡ c ∷ reverse news = ap reverse o ∙ reverse-append news (c ∷ []) in
+    let g : AreStacked m a b base (c ∷ reverse news) = subst (λ (cs : List Caller). AreStacked m a b base cs) e h in
+    let v : frames_on m unit place marks base stack (c ∷ reverse news) ≡ now = ap (λ (cs : List Caller). frames_on m unit place marks base stack cs) (sym e) ∙ view in
+    ap {B = Bool × FramesValue} (λ xs. (true, frames_on m c.unit c.place c.marks c.base xs (reverse news))) k
+    ∙ ap {B = Bool × FramesValue}
+    (λ ws. (true, record { module_run = m; frame = record { unit = c.unit; place = c.place; slots = values_of c.marks (drop c.base (take base stack)) }; callers = ws }))
+    (sym (waiting_same m a b stack (take base stack) c.base (reverse news) g.2 (sym (less stack c.base base (let q = g.0 in omega arith)))))
+    ∙ ap {B = Bool × FramesValue} (λ (f : FramesValue). outer f f.callers) v
 
 -- a return comes to something exactly where a frame waits
 pub waits_ok : (m : ModuleValue) (unit place : ℕ) (marks : Marks) (base : ℕ) (stack : List ℤ) (items : List Caller) (now : FramesValue) (e : Bool)

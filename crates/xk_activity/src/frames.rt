@@ -321,17 +321,15 @@ impl<'m> Frames<'m> {
     pub fn up(&mut self) -> bool
         ensures { (result, self.new) ≡ outer self.old self.old.callers }
     {
-        match self.callers.pop() {
-            Some(c) => {
-                self.stack.truncate(self.base);
-                self.unit = c.unit;
-                self.place = c.place as u32;
-                self.marks = c.marks;
-                self.base = c.base;
-                true
-            }
-            None => false,
-        }
+        let Some(caller) = self.callers.pop() else {
+            return false;
+        };
+        self.stack.truncate(self.base);
+        self.unit = caller.unit;
+        self.place = caller.place as u32;
+        self.marks = caller.marks;
+        self.base = caller.base;
+        true
     }
 
     /// Goes back into the nearest frame that waits, behind its `call`, if one does.

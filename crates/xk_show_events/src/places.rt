@@ -52,6 +52,13 @@ impl<'t> Places<'t> {
         Places::of_source(alloc, b"", &[])
     }
 
+    /// Where the units come from; none of a module alone.
+    pub fn origins(&self) -> &'t [UnitOrigins<'t>]
+        ensures { result.now ≡ self.now.origins }
+    {
+        self.origins
+    }
+
     /// Where the instructions of a unit come from; none where no origins are known.
     fn offsets(&self, unit: u16) -> &[usize]
         ensures { result.now ≡ offsets_at self.now.origins unit }

@@ -1,2 +1,1 @@
-pub mod FrameLemmas
 mod LocalsExamples

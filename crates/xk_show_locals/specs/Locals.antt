@@ -1,6 +1,6 @@
--- An activity's own numbers and clocks, in the frame that it stands in, by the names of its source text. What frames and slots are,
--- `xk_types` says in `World.antt`; that they are told so is this project's own.
-use Rattle.std.specs.Prelude.{ℕ, nat_eq, ℤ, int_lt, List, [], ◌∷◌, ◌++◌, length, Option, Some, None, slice_get}
+-- An activity's own numbers and clocks, in the frame that it stands in and in those that called, by the names of its source text. What
+-- frames and slots are, `xk_types` says in `World.antt`; that they are told so is this project's own.
+use Rattle.std.specs.Prelude.{ℕ, nat_eq, ℤ, int_lt, List, [], ◌∷◌, ◌++◌, length, Option, Some, None, slice_get, flat_map}
 use Rattle.std.specs.Prelude.{codes, decimal, if◌then◌else◌}
 use Rattle.std.specs.Fmt.{signed_decimal}
 use Rattle.std.specs.Option.{option_map_or}
@@ -9,11 +9,12 @@ use Rattle.xk_types.specs.declared.instr.Instr.TheVariants as instr
 use Rattle.xk_types.specs.declared.world.Value.{Value}
 use Rattle.xk_types.specs.declared.world.Value.TheVariants as value
 use Rattle.xk_types.specs.Code.{ModuleValue}
-use Rattle.xk_types.specs.World.{Frame, World}
+use Rattle.xk_types.specs.World.{Activity, Frame, World}
 use Rattle.xk_origins.specs.UnitOrigins.{UnitOrigins}
 use Rattle.xk_activity.specs.Activities.{act_at}
 use Rattle.xk_activity.specs.Local.{code_of}
 use Rattle.xk_core.specs.Core.{is_living}
+use Rattle.xk_show_events.specs.Events.{PlacesValue, origin_of, place_words}
 use Rattle.xk_show_events.specs.Worlds.{each_below}
 use Rattle.xk_show_locals.specs.declared.bounds.Bound.{Bound}
 use Rattle.xk_show_names.specs.ClockNames.{is_name}
@@ -94,10 +95,6 @@ unit_word (Some name) = cut_name name
 unfoldable pub front : ℕ → Option (List ℕ) → List ℕ
 front a name = codes "act " ++ (decimal a ++ (codes " in " ++ unit_word name))
 
--- how many slots a unit's frames have
-abbrev pub slots_in : ModuleValue → ℕ → ℕ
-slots_in m unit = option_map_or (λ u. u.slots) (slice_get m.units unit) 0
-
 -- no line where nothing is told
 abbrev pub line_by : List ℕ → List ℕ → List ℕ
 line_by before told = if nat_eq (length told) 0 then [] else before ++ (told ++ codes "\n")
@@ -110,6 +107,28 @@ line_in m a f (Some o) = line_by (front a o.head.name) (frame_words o.slots (cod
 abbrev pub frame_line : List UnitOrigins → ModuleValue → ℕ → Frame → List ℕ
 frame_line origins m a f = line_in m a f (slice_get origins f.unit)
 
--- `act 1 in work, n = 2, t = 5`; nothing of one that has ended
-abbrev pub locals_line : List UnitOrigins → ModuleValue → World → ℕ → List ℕ
-locals_line origins m w a = if is_living w a then frame_line origins m a (act_at w.activities a).frame else []
+-- `act 1 called by main at 12:5`
+unfoldable pub caller_front : ℕ → Option (List ℕ) → List ℕ → List ℕ
+caller_front a name place = codes "act " ++ (decimal a ++ (codes " called by " ++ (unit_word name ++ (codes " " ++ place))))
+
+-- where a frame stands: one that waits, at its `call`
+abbrev pub place_in : PlacesValue → Frame → List ℕ
+place_in p f = place_words f.unit f.place (origin_of p f.unit f.place)
+
+-- there is a line of each frame that waits, whether its numbers are set or not
+abbrev pub caller_line_in : PlacesValue → ModuleValue → ℕ → Frame → Option UnitOrigins → List ℕ
+caller_line_in p m a f None = []
+caller_line_in p m a f (Some o) =
+    (caller_front a o.head.name (place_in p f) ++ frame_words o.slots (code_of m f.unit) f.slots) ++ codes "\n"
+
+-- `act 1 called by main at 12:5, i = 2`
+abbrev pub caller_line : PlacesValue → ModuleValue → ℕ → Frame → List ℕ
+caller_line p m a f = caller_line_in p m a f (slice_get p.origins f.unit)
+
+-- of the frame that an activity stands in, and of those that wait for it to return, the nearest first
+abbrev pub lines_of : PlacesValue → ModuleValue → ℕ → Activity → List ℕ
+lines_of p m a act = frame_line p.origins m a act.frame ++ flat_map (caller_line p m a) act.callers
+
+-- `act 1 in work, n = 2, t = 5`, and those that called; nothing of one that has ended
+abbrev pub locals_lines : PlacesValue → ModuleValue → World → ℕ → List ℕ
+locals_lines p m w a = if is_living w a then lines_of p m a (act_at w.activities a) else []

@@ -1,4 +1,4 @@
-//! An activity's own numbers and clocks, in the frame that it stands in, by the names of its source text.
+//! An activity's own numbers and clocks, in the frame that it stands in and in those that called, by the names of its source text.
 #![tactic(auto)]
 
 mod bounds;

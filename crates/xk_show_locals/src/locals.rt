@@ -1,9 +1,10 @@
-//! The line of an activity's own numbers and clocks.
+//! The lines of an activity's own numbers and clocks.
 
-ghost use Rattle.std.specs.Prelude.{◌≡◌, ◌<◌, ◌++◌, length, map, option_map, Some, IfOk, OnOk};
+ghost use Rattle.std.specs.Prelude.{◌≡◌, ◌<◌, ◌++◌, flat_map, length, map, option_map, string_bytes, Some, IfOk, OnOk};
 ghost use Rattle.xk_activity.specs.Activities.{act_at};
 ghost use Rattle.xk_activity.specs.Local.{code_of};
-ghost use Rattle.xk_show_locals.specs.Locals.{frame_words, front, line_in, locals_line, slot_words, slots_in, unit_word};
+ghost use Rattle.xk_show_locals.specs.Locals.{caller_front, caller_line, caller_line_in, frame_line, frame_words, front, line_in};
+ghost use Rattle.xk_show_locals.specs.Locals.{locals_lines, place_in, slot_words, unit_word};
 
 use crate::slots::{push_held, push_name, push_text};
 use std::alloc::{AllocError, Global};
@@ -11,6 +12,7 @@ use xk_activity::Frames;
 use xk_bounds::Verified;
 use xk_core::Core;
 use xk_origins::UnitOrigins;
+use xk_show_events::{Places, place_words};
 use xk_types::{Act, Instr};
 
 /// Adds what a slot of the present frame holds, if there is such a slot.
@@ -20,14 +22,12 @@ fn push_slot(
     names: &[&[u8]],
     code: &[Instr],
     frames: &Frames<'_>,
-    count: u16,
     slot: usize,
 ) -> Result<(), AllocError>
-    requires { count ≡ length frames.now.frame.slots }
     ensures { OnOk result (out.new.items ≡ out.old.items
         ++ slot_words (map (λ x. x.now) names.now) code.now frames.now.frame.slots slot) }
 {
-    if slot >= count as usize {
+    if slot >= frames.slot_count() {
         return Ok(());
     }
     let slot = slot as u16;
@@ -40,15 +40,13 @@ fn frame_words(
     names: &[&[u8]],
     code: &[Instr],
     frames: &Frames<'_>,
-    count: u16,
 ) -> Result<Vec<u8>, AllocError>
-    requires { count ≡ length frames.now.frame.slots }
     ensures { IfOk result (λ v. v.items
         ≡ frame_words (map (λ x. x.now) names.now) code.now frames.now.frame.slots) }
 {
     let mut out = Vec::new(alloc);
     for slot in 0..names.len() {
-        push_slot(alloc, &mut out, names, code, frames, count, slot)?;
+        push_slot(alloc, &mut out, names, code, frames, slot)?;
     }
     Ok(out)
 }
@@ -61,27 +59,6 @@ fn code_of(verified: &Verified, unit: u16) -> &[Instr]
         Some(unit) => &unit.code,
         None => &[],
     }
-}
-
-/// How many slots a unit's frames have.
-fn slots_in(verified: &Verified, unit: u16) -> u16
-    ensures { result ≡ slots_in verified.now unit }
-{
-    match verified.module().units().get(unit as usize) {
-        Some(unit) => unit.slots,
-        None => 0,
-    }
-}
-
-/// How many slots the present frame of an activity has.
-#[tactic(auto, using(crate::proofs::FrameLemmas::slot_count))]
-fn slot_count(core: &Core<'_>, act: Act) -> u16
-    requires { act < length core.now.world.activities }
-    ensures { result ≡ length (act_at core.now.world.activities act).frame.slots }
-{
-    // Every core is where a legal schedule of an accepted module leads.
-    let _there = core.activities();
-    slots_in(core.module(), core.frames(act).unit())
 }
 
 /// Adds a method's name, or `async`.
@@ -111,22 +88,20 @@ fn push_front(
     push_unit(out, name)
 }
 
-/// Adds the line of an activity that stands in a unit with these origins.
+/// Adds the line of the present frame, of a unit with these origins.
 fn push_line(
     alloc: Global,
     out: &mut Vec<u8>,
     of_unit: &UnitOrigins<'_>,
-    core: &Core<'_>,
+    verified: &Verified,
+    frames: &Frames<'_>,
     act: Act,
 ) -> Result<(), AllocError>
-    requires { act < length core.now.world.activities }
-    ensures { OnOk result (out.new.items ≡ out.old.items ++ line_in core.now.module_run act
-        (act_at core.now.world.activities act).frame (Some of_unit.now)) }
+    ensures { OnOk result (out.new.items ≡ out.old.items
+        ++ line_in verified.now act frames.now.frame (Some of_unit.now)) }
 {
-    let frames = core.frames(act);
-    let code = code_of(core.module(), frames.unit());
-    let count = slot_count(core, act);
-    let words = frame_words(alloc, &of_unit.slots, code, frames, count)?;
+    let code = code_of(verified, frames.unit());
+    let words = frame_words(alloc, &of_unit.slots, code, frames)?;
     if words.len() == 0 {
         return Ok(());
     }
@@ -135,25 +110,123 @@ fn push_line(
     push_text(out, "\n")
 }
 
-/// Adds a line for an activity that hasn't ended, of the numbers and clocks in the frame that it stands in, by the names that these
-/// origins say: `act 1 in work, n = 2, t = 5`. What is unset is left out, and so is a clock without a name; a loop's bound is told
-/// by what the loop counts in, as `i up to 3`. There is no line where nothing is told. Err where memory was refused.
-pub fn push_locals(
+/// Adds the line of the present frame, if the origins of its unit are known.
+fn push_frame(
     alloc: Global,
     out: &mut Vec<u8>,
     origins: &[UnitOrigins<'_>],
+    verified: &Verified,
+    frames: &Frames<'_>,
+    act: Act,
+) -> Result<(), AllocError>
+    ensures { OnOk result (out.new.items ≡ out.old.items
+        ++ frame_line origins.now verified.now act frames.now.frame) }
+{
+    match origins.get(frames.unit() as usize) {
+        Some(of_unit) => push_line(alloc, out, of_unit, verified, frames, act),
+        None => Ok(()),
+    }
+}
+
+/// Adds whose line it is, and where the frame stands.
+#[tactic(auto, unfolding(crate::specs::Locals::caller_front))]
+fn push_caller_front(
+    alloc: Global,
+    out: &mut Vec<u8>,
+    act: Act,
+    name: Option<&[u8]>,
+    place: &str,
+) -> Result<(), AllocError>
+    ensures { OnOk result (out.new.items ≡ out.old.items
+        ++ caller_front act (option_map (λ x. x.now) name.entry) (string_bytes place.now)) }
+{
+    let number = act.0;
+    push_text(out, format!(in alloc; "act {number} called by ")?.as_str())?;
+    push_unit(out, name)?;
+    push_text(out, " ")?;
+    push_text(out, place)
+}
+
+/// Adds the line of a frame that waits, of a unit with these origins.
+fn push_caller_line(
+    alloc: Global,
+    out: &mut Vec<u8>,
+    places: &Places<'_>,
+    of_unit: &UnitOrigins<'_>,
+    verified: &Verified,
+    frames: &Frames<'_>,
+    act: Act,
+) -> Result<(), AllocError>
+    ensures { OnOk result (out.new.items ≡ out.old.items ++ caller_line_in places.now
+        verified.now act frames.now.frame (Some of_unit.now)) }
+{
+    let unit = frames.unit();
+    let place = frames.place();
+    let words = place_words(alloc, unit, place, places.origin(unit, place))?;
+    push_caller_front(alloc, out, act, of_unit.head.name, words.as_str())?;
+    let own = frame_words(alloc, &of_unit.slots, code_of(verified, unit), frames)?;
+    out.extend_from_slice(&own)?;
+    push_text(out, "\n")
+}
+
+/// Adds the line of a frame that waits, if the origins of its unit are known.
+fn push_caller(
+    alloc: Global,
+    out: &mut Vec<u8>,
+    places: &Places<'_>,
+    verified: &Verified,
+    frames: &Frames<'_>,
+    act: Act,
+) -> Result<(), AllocError>
+    ensures { OnOk result (out.new.items ≡ out.old.items
+        ++ caller_line places.now verified.now act frames.now.frame) }
+{
+    match places.origins().get(frames.unit() as usize) {
+        Some(of_unit) => push_caller_line(alloc, out, places, of_unit, verified, frames, act),
+        None => Ok(()),
+    }
+}
+
+/// Adds the lines of the frames that wait, the nearest first.
+fn push_callers(
+    alloc: Global,
+    out: &mut Vec<u8>,
+    places: &Places<'_>,
+    verified: &Verified,
+    frames: &mut Frames<'_>,
+    act: Act,
+) -> Result<(), AllocError>
+    ensures { OnOk result (out.new.items ≡ out.old.items
+        ++ flat_map (caller_line places.now verified.now act) frames.old.callers) }
+{
+    if !frames.up() {
+        return Ok(());
+    }
+    push_caller(alloc, out, places, verified, frames, act)?;
+    push_callers(alloc, out, places, verified, frames, act)
+}
+
+/// Adds the lines of an activity that hasn't ended, of the numbers and clocks in the frame that it stands in, and in those that called it,
+/// the nearest first, by the names that the origins say: `act 1 in work, n = 2, t = 5`, then `act 1 called by main at 12:5, i = 2`.
+/// What is unset is left out, and so is a clock without a name; a loop's bound is told by what the loop counts in, as `i up to 3`.
+/// There is no line of the frame that it stands in where nothing is told of it. Err where memory was refused.
+pub fn push_locals(
+    alloc: Global,
+    out: &mut Vec<u8>,
+    places: &Places<'_>,
     core: &Core<'_>,
     act: Act,
 ) -> Result<(), AllocError>
     requires { act < length core.now.world.activities }
     ensures { OnOk result (out.new.items ≡ out.old.items
-        ++ locals_line origins.now core.now.module_run core.now.world act) }
+        ++ locals_lines places.now core.now.module_run core.now.world act) }
 {
     if !core.is_living(act) {
         return Ok(());
     }
-    match origins.get(core.frames(act).unit() as usize) {
-        Some(of_unit) => push_line(alloc, out, of_unit, core, act),
-        None => Ok(()),
-    }
+    let verified = core.module();
+    let frames = core.frames(act);
+    push_frame(alloc, out, places.origins(), verified, frames, act)?;
+    let mut outer = frames.copy()?;
+    push_callers(alloc, out, places, verified, &mut outer, act)
 }

@@ -275,6 +275,13 @@ impl<'t> Names<'t> {
         Ok(Names { shared, clocks })
     }
 
+    /// What the shared numbers are called.
+    pub fn shared(&self) -> &'t [&'t [u8]]
+        ensures { map (λ x. x.now) result.now ≡ self.now.shared }
+    {
+        self.shared
+    }
+
     /// The same, where these steps made the clocks. Err where memory was refused.
     pub fn by_steps(
         alloc: Global,

@@ -18,7 +18,7 @@ use Rattle.xk_show_names.specs.Events.{account_words, step_words}
 use Rattle.xk_show_lanes.specs.declared.window.Window.{Window}
 use Rattle.xk_show_lanes.specs.Lanes.{is_asked}
 use Rattle.xk_show_picture.specs.Picture.{is_drawn, names_for, picture_text}
-use Rattle.xk_show_where.specs.Where.{standings_text}
+use Rattle.xk_show_where.specs.Where.{named_standings_text, standings_text}
 use Rattle.xk_show_page.specs.declared.furniture.TheConstants.{COLOURS, PLACES, MARKS, CONTROLS, LISTS, READER, SHOWER, MOVER}
 
 -- ---- what stands in each page
@@ -33,9 +33,9 @@ page_top =
     ++ (codes "<meta charset=\"utf-8\">\n"
     ++ (codes "<meta name=\"viewport\" content=\"width=device-width, initial-scale=1\">\n"
     ++ (codes "<meta http-equiv=\"Content-Security-Policy\" content=\"default-src 'none'; "
-    ++ (codes "style-src 'sha256-afzZlw2dFEfRCy2le3IDMk4XNiTfzJCsWiolFL6YS4M=' "
+    ++ (codes "style-src 'sha256-QW0jIMtXTkkfaYlBND2dXOB+8VgibctLm50Yf0JGq0A=' "
     ++ (codes "'sha256-1Mhn6nywKkLaXR5W9I5AIbKxhh5lqmYSXkp8j1iVKwY='; "
-    ++ (codes "script-src 'sha256-QDIBJWpcp8IsOzCFRNUc1zMG8sxp5o545NPIg13SvEQ='\">\n"
+    ++ (codes "script-src 'sha256-cpEXyTxU4mWoKY7iyMS4jrm+JTlIxbb87f72wMe+ovs='\">\n"
     ++ (codes "<title>A run, step by step</title>\n"
     ++ (codes "<style>\n"))))))))))
 
@@ -98,9 +98,14 @@ abbrev pub line_of : PlacesValue → Option NamesValue → Account → List ℕ
 line_of p None a = event_line p a.step
 line_of p (Some n) a = named_line p n a
 
+-- how things stand in world v: of a source text's module by names, and with the activities' own numbers
+abbrev pub standings_by : PlacesValue → Option NamesValue → ModuleValue → World → List ℕ
+standings_by p None m v = standings_text p m v None
+standings_by p (Some n) m v = named_standings_text p n.shared m v None
+
 -- what was done in a step that led to world v, and how things stand there
 abbrev pub moment : PlacesValue → Option NamesValue → ModuleValue → World → Account → List ℕ
-moment p n m v a = line_of p n a ++ standings_text p m v None
+moment p n m v a = line_of p n a ++ standings_by p n m v
 
 -- of a step that isn't told so: that it printed, if it did, and the last step that is asked for isn't behind
 abbrev pub print_by : Window → PlacesValue → Option NamesValue → Account → Event → List ℕ
@@ -113,7 +118,7 @@ told_step window p n m v a = if is_moment window a.step then moment p n m v a el
 -- how things stand before the first step, and what is told of each
 abbrev pub moments : Window → PlacesValue → Option NamesValue → ModuleValue → List Entry → World → List ℕ
 moments window p n m log last =
-    standings_text p m (opening m last.arguments) None ++ told_of_run (recounted_by m (told_step window p n m)) m last.arguments log
+    standings_by p n m (opening m last.arguments) ++ told_of_run (recounted_by m (told_step window p n m)) m last.arguments log
 
 -- ---- the page
 

@@ -17,9 +17,9 @@ pub(crate) fn top() -> &'static str
 <meta charset=\"utf-8\">\n\
 <meta name=\"viewport\" content=\"width=device-width, initial-scale=1\">\n\
 <meta http-equiv=\"Content-Security-Policy\" content=\"default-src 'none'; \
-style-src 'sha256-afzZlw2dFEfRCy2le3IDMk4XNiTfzJCsWiolFL6YS4M=' \
+style-src 'sha256-QW0jIMtXTkkfaYlBND2dXOB+8VgibctLm50Yf0JGq0A=' \
 'sha256-1Mhn6nywKkLaXR5W9I5AIbKxhh5lqmYSXkp8j1iVKwY='; \
-script-src 'sha256-QDIBJWpcp8IsOzCFRNUc1zMG8sxp5o545NPIg13SvEQ='\">\n\
+script-src 'sha256-cpEXyTxU4mWoKY7iyMS4jrm+JTlIxbb87f72wMe+ovs='\">\n\
 <title>A run, step by step</title>\n\
 <style>\n"
 }
@@ -139,6 +139,7 @@ li.can{border-color:var(--can)}
 li.waits{border-left-style:dashed;border-color:var(--waits)}
 li.ended{color:var(--faint)}
 li.moved{font-weight:bold}
+li .own{padding-left:1.5em;font-weight:normal}
 #printed{margin:0;overflow-wrap:anywhere}
 .words{grid-column:1;font-size:.85rem}
 .words summary{cursor:pointer;color:var(--faint)}
@@ -211,20 +212,25 @@ pub(crate) const READER: &str = r##""use strict";
 const byId = id => document.getElementById(id);
 
 // The moments. Each begins at a line "steps 5"; the line "step 5 act 0 at 8:13 print 1" before it says what was done.
-// Of a step outside of the part that was asked for there is at most that line, where it printed.
+// Of a step outside of the part that was asked for there is at most that line, where it printed. Behind the line of an
+// activity are those of its own numbers, "act 1 in work, n = 2" and "act 1 called by main at 12:5"; a shared number is
+// "total = 5", whatever it is called, or "shared 0 is 5".
 const moments = [], printed = [];
 let done = "";
 for (const line of byId("moments").textContent.split("\n")) {
-  const word = line.split(" ")[0];
-  if (word === "step") {
+  const word = line.split(" ")[0], moment = moments[moments.length - 1];
+  if (/^\S+ = -?\d+$/.test(line)) moment.shared.push(line);
+  else if (/^act \d+ (in|called by) /.test(line)) moment.own[moment.act.length - 1].push(line.replace(/^act \d+ /, ""));
+  else if (word === "step") {
     done = line;
     const print = /^step \d+ act \d+ (?:at \S+|unit \d+ place \d+) print (-?\d+)$/.exec(line);
     if (print) printed.push(print[1]);
   } else if (word === "steps") {
-    moments.push({steps: Number(line.split(" ")[1]), done, printed: printed.length, act: [], clock: [], shared: []});
+    moments.push({steps: Number(line.split(" ")[1]), done, printed: printed.length, act: [], own: [], clock: [], shared: []});
     done = "";
   } else if (word) {
-    moments[moments.length - 1][word].push(line);
+    moment[word].push(line);
+    if (word === "act") moment.own.push([]);
   }
 }
 
@@ -332,7 +338,11 @@ function show(k) {
   byId("next").disabled = k === moments.length - 1;
   byId("same").disabled = sameBehind(k) < 0;
   byId("advance").disabled = advanceBehind(k) < 0;
-  byId("activities").replaceChildren(...moment.act.map(line => make("li", doing(line), line)));
+  byId("activities").replaceChildren(...moment.act.map((line, a) => {
+    const told = make("li", doing(line), line);
+    told.append(...moment.own[a].map(own => make("div", "own", own)));
+    return told;
+  }));
   byId("clocks").replaceChildren(...moment.clock.map(line => make("li", "", line)));
   byId("shared").replaceChildren(...moment.shared.map(line => make("li", "", line)));
   byId("printed").textContent = printed.slice(0, moment.printed).join(" ");

@@ -3,8 +3,7 @@
 ghost use Rattle.std.specs.Prelude.{◌≡◌, None, ◌++◌, IfOk, OnOk, string_bytes};
 ghost use Rattle.xk_types.specs.World.{opening};
 ghost use Rattle.xk_show_names.specs.Events.{step_words};
-ghost use Rattle.xk_show_where.specs.Where.{standings_text};
-ghost use Rattle.xk_show_page.specs.Page.{is_moment, line_of, moment, named_line, print_by, told_step};
+ghost use Rattle.xk_show_page.specs.Page.{is_moment, line_of, moment, named_line, print_by, standings_by, told_step};
 
 use crate::texts::put;
 use std::alloc::{AllocError, Global};
@@ -13,7 +12,7 @@ use xk_scheduler::Ended;
 use xk_show_events::{Places, RunStep, event_line, is_seen, place_words};
 use xk_show_lanes::Window;
 use xk_show_names::{Account, Names, Recount, account_words};
-use xk_show_where::standings_text;
+use xk_show_where::{named_standings_text, standings_text};
 use xk_types::Event;
 
 /// Whether others can see a step, and it is asked for.
@@ -82,17 +81,34 @@ fn push_line(
     put(out, line.as_str())
 }
 
+/// How things stand in a core, by names where they are known.
+fn standings_by(
+    alloc: Global,
+    places: &Places<'_>,
+    names: &Option<Names<'_>>,
+    core: &Core<'_>,
+) -> Result<Vec<u8>, AllocError>
+    ensures { IfOk result (λ v. v.items
+        ≡ standings_by places.now names.now core.now.module_run core.now.world) }
+{
+    match names {
+        Some(names) => named_standings_text(alloc, places, names.shared(), core, None),
+        None => standings_text(alloc, places, core, None),
+    }
+}
+
 /// Adds how things stand in a core.
 fn push_standings(
     alloc: Global,
     out: &mut Vec<u8>,
     places: &Places<'_>,
+    names: &Option<Names<'_>>,
     core: &Core<'_>,
 ) -> Result<(), AllocError>
     ensures { OnOk result (out.new.items ≡ out.old.items
-        ++ standings_text places.now core.now.module_run core.now.world None) }
+        ++ standings_by places.now names.now core.now.module_run core.now.world) }
 {
-    let text = standings_text(alloc, places, core, None)?;
+    let text = standings_by(alloc, places, names, core)?;
     out.extend_from_slice(&text)
 }
 
@@ -109,7 +125,7 @@ fn push_moment(
         ++ moment places.now names.now core.now.module_run core.now.world account.now) }
 {
     push_line(alloc, out, places, names, account)?;
-    push_standings(alloc, out, places, core)
+    push_standings(alloc, out, places, names, core)
 }
 
 /// Adds the line of a step, if it printed and isn't behind the last step that is asked for.
@@ -181,12 +197,13 @@ pub(crate) fn push_opening(
     alloc: Global,
     out: &mut Vec<u8>,
     places: &Places<'_>,
+    names: &Option<Names<'_>>,
     ended: &Ended<'_>,
 ) -> Result<(), AllocError>
     ensures { OnOk result (out.new.items ≡ out.old.items
-        ++ standings_text places.now ended.now.module.now
-        (opening ended.now.module.now ended.now.core.world.arguments) None) }
+        ++ standings_by places.now names.now ended.now.module.now
+        (opening ended.now.module.now ended.now.core.world.arguments)) }
 {
     let core = Core::open(alloc, ended.module, ended.core.arguments())?;
-    push_standings(alloc, out, places, &core)
+    push_standings(alloc, out, places, names, &core)
 }

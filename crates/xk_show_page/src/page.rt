@@ -63,7 +63,7 @@ fn push_picture(
         ended.now.module.now ended.now.log.items ended.now.core.world) }
 {
     both.first.plan.push_front(alloc, out)?;
-    push_opening(alloc, told, both.second.places, ended)?;
+    push_opening(alloc, told, both.second.places, both.second.names, ended)?;
     recount_run_by_both(both, alloc, out, told, ended)?;
     both.first.plan.push_end(out)
 }
@@ -138,8 +138,8 @@ fn page(
 }
 
 /// A page of HTML on these steps of a run of a source text's module. It shows the source text, the run's picture, and
-/// for each step that others can see what was done, where each activity stands behind it, who waits for whom, the
-/// phases of the clocks, the shared numbers, and what was printed up to there. What was read, written or added to is told
+/// for each step that others can see what was done, where each activity stands behind it and what its own numbers are, who
+/// waits for whom, the phases of the clocks, the shared numbers by their names, and what was printed up to there. What was read, written or added to is told
 /// by the shared number's name, which is given, with what it was then; and clocks by the names that they were made under.
 /// It fetches nothing. Where the picture would have more than 2,000 rows or 64 activities a line says so in the page's
 /// place, and it isn't whole. Err where memory was refused.

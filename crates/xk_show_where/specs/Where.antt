@@ -15,7 +15,7 @@ use Rattle.xk_core.specs.Core.{is_living, is_waiting}
 use Rattle.xk_show_events.specs.Worlds.{each_below, phase_of, those_below}
 use Rattle.xk_show_events.specs.Events.{PlacesValue, origin_of, place_words}
 use Rattle.xk_show_names.specs.Letters.{cut_name}
-use Rattle.xk_show_locals.specs.Locals.{locals_line}
+use Rattle.xk_show_locals.specs.Locals.{locals_lines}
 use Rattle.xk_show_where.specs.declared.condition.Condition.{Condition}
 use Rattle.xk_show_where.specs.declared.condition.Condition.TheVariants as condition
 use Rattle.xk_show_where.specs.declared.progress.Stop.{Stop}
@@ -152,9 +152,9 @@ named_line_if name s (Some n) = named_line_of name s n
 abbrev pub named_line : List (List ℕ) → List ℤ → ℕ → List ℕ
 named_line shared cells s = named_line_if (slice_get shared s) s (slice_get cells s)
 
--- the line of an activity of a source text, and that of its own numbers
+-- the line of an activity of a source text, and those of its own numbers
 abbrev pub told_act : PlacesValue → ModuleValue → World → ℕ → List ℕ
-told_act p m w a = act_line p m w a ++ locals_line p.origins m w a
+told_act p m w a = act_line p m w a ++ locals_lines p m w a
 
 -- `entry 4 step 9 of 11: act 0 has ended`
 unfoldable pub stop_line : ModuleValue → World → Stop → List ℕ

@@ -12,7 +12,6 @@ use crate::texts::push_text;
 use crate::waits::Waits;
 use std::alloc::{AllocError, Global};
 use xk_core::Core;
-use xk_origins::UnitOrigins;
 use xk_show_events::{Places, place_words};
 use xk_show_locals::push_locals;
 use xk_types::{Act, ClockId, Standing};
@@ -217,24 +216,22 @@ pub(crate) fn push_acts(
     Ok(())
 }
 
-/// Adds the line of an activity, and that of its own numbers.
+/// Adds the line of an activity, and those of its own numbers.
 fn push_told(
     alloc: Global,
     out: &mut Vec<u8>,
     places: &Places<'_>,
-    origins: &[UnitOrigins<'_>],
     core: &Core<'_>,
     waits: &Waits,
     act: Act,
 ) -> Result<(), AllocError>
     requires act { act < length core.now.world.activities }
     requires waits { AreWaitsOf core.now.world waits.now }
-    requires origins { places.now.origins ≡ origins.now }
     ensures { OnOk result (out.new.items ≡ out.old.items
         ++ told_act places.now core.now.module_run core.now.world act) }
 {
     push_act(alloc, out, places, core, waits, act)?;
-    push_locals(alloc, out, origins, core, act)
+    push_locals(alloc, out, places, core, act)
 }
 
 /// Adds the lines of all activities, and of their own numbers.
@@ -242,17 +239,15 @@ pub(crate) fn push_all_told(
     alloc: Global,
     out: &mut Vec<u8>,
     places: &Places<'_>,
-    origins: &[UnitOrigins<'_>],
     core: &Core<'_>,
 ) -> Result<(), AllocError>
-    requires { places.now.origins ≡ origins.now }
     ensures { OnOk result (out.new.items ≡ out.old.items
         ++ each_below (told_act places.now core.now.module_run core.now.world)
         (length core.now.world.activities)) }
 {
     let waits = Waits::of(alloc, core)?;
     for act in 0..core.activities() {
-        push_told(alloc, out, places, origins, core, &waits, Act(act))?;
+        push_told(alloc, out, places, core, &waits, Act(act))?;
     }
     Ok(())
 }

@@ -106,24 +106,22 @@ fn push_all_named(
     Ok(())
 }
 
-/// How things stand in a core of a source text's module, whose units have these origins, and whose shared numbers these names: what
-/// `standings_text` says, with the shared numbers by their names, and behind the line of each activity its own numbers by their
-/// names, as far as they are set. Err where memory was refused.
+/// How things stand in a core of a source text's module, whose shared numbers have these names: what `standings_text` says, with the shared
+/// numbers by their names, and behind the line of each activity its own numbers by their names, as far as they are set, and those of the
+/// methods that called the one that it stands in. Err where memory was refused.
 pub fn named_standings_text(
     alloc: Global,
     places: &Places<'_>,
-    origins: &[UnitOrigins<'_>],
     shared: &[&[u8]],
     core: &Core<'_>,
     stop: Option<Stop>,
 ) -> Result<Vec<u8>, AllocError>
-    requires { places.now.origins ≡ origins.now }
     ensures { IfOk result (λ v. v.items ≡ named_standings_text places.now
         (map (λ x. x.now) shared.now) core.now.module_run core.now.world stop) }
 {
     let mut out = Vec::new(alloc);
     push_steps(alloc, &mut out, core)?;
-    push_all_told(alloc, &mut out, places, origins, core)?;
+    push_all_told(alloc, &mut out, places, core)?;
     push_clocks(alloc, &mut out, core)?;
     push_all_named(alloc, &mut out, shared, core.cells())?;
     push_stop(alloc, &mut out, core, stop)?;
@@ -154,7 +152,7 @@ pub fn named_where(
     let places = Places::of_source(alloc, text, origins)?;
     let progress = take_steps(alloc, verified, arguments, log)?;
     let core = &progress.core;
-    let text = named_standings_text(alloc, &places, origins, shared, core, progress.stop)?;
+    let text = named_standings_text(alloc, &places, shared, core, progress.stop)?;
     let whole = is_none(progress.stop);
     Ok(Whereabouts { text, whole })
 }
