@@ -234,6 +234,8 @@ UNSEEN = {
     "a parameter (a number)": "`{0}` is a parameter of another method: take it as one here, too",
     "a parameter (a clock)": "`{0}` is a parameter of another method: make a clock here by `val {0} = Clock.make();`, "
     "in the innermost `finish`, and drop it before that ends",
+    "a clock": "`{0}` is a clock, and isn't seen here: declare it further out, or in a method take it as a parameter, "
+    "`{0}: Clock`",
 }
 OUTSIDE = (
     "`{0}` isn't seen outside of its block, nor before it is declared: declare it further out, and where an `async` "

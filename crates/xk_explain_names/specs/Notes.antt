@@ -131,13 +131,19 @@ unfoldable pub block_text : List ℕ → List ℕ
 block_text name =
     (codes "`" ++ told_name name) ++ codes "` isn't seen outside of its block, nor before it is declared: declare it further out, and where an `async` writes it as a shared number"
 
+-- the same of a clock: a method sees none of those that call it
+unfoldable pub clock_block_text : List ℕ → List ℕ
+clock_block_text name =
+    (((codes "`" ++ told_name name) ++ codes "` is a clock, and isn't seen here: declare it further out, or in a method take it as a parameter, `") ++ told_name name)
+    ++ codes ": Clock`"
+
 abbrev pub unseen_text : List ℕ → Role → Option (List ℕ)
 unseen_text name role.Loop = Some (loop_alone_text name)
 unseen_text name role.NumberParam = Some (other_param_text name)
 unseen_text name role.ClockParam = Some (other_clock_text name)
 unseen_text name role.Val = Some (block_text name)
 unseen_text name role.Var = Some (block_text name)
-unseen_text name role.Clock = Some (block_text name)
+unseen_text name role.Clock = Some (clock_block_text name)
 unseen_text name role.Shared = None
 unseen_text name (role.Method n) = None
 

@@ -5,7 +5,7 @@ ghost use Rattle.xk_tree.specs.Program.{tree_value};
 ghost use Rattle.xk_tree.specs.Tree.{method_value};
 ghost use Rattle.xk_explain_kinds.specs.Declarations.{declared, declared_here};
 ghost use Rattle.xk_explain_kinds.specs.Kinds.{last_of};
-ghost use Rattle.xk_explain_names.specs.Notes.{block_text, capture_notes, capture_repair, captured_by, count_notes, declared_text};
+ghost use Rattle.xk_explain_names.specs.Notes.{block_text, capture_notes, capture_repair, captured_by, clock_block_text, count_notes, declared_text};
 ghost use Rattle.xk_explain_names.specs.Notes.{front_notes, further_notes, further_text, hand_on_text, is_called, is_meant, is_namesake};
 ghost use Rattle.xk_explain_names.specs.Notes.{is_on_names, keep_apart_text, keep_in_text, keep_text, kind_notes, loop_alone_text};
 ghost use Rattle.xk_explain_names.specs.Notes.{may_be, meant_notes, meant_text};
@@ -414,6 +414,20 @@ fn block_text(alloc: Global, name: &[u8]) -> Result<Vec<u8>, AllocError>
     )
 }
 
+/// A clock of another block, or of a method that calls this one.
+#[tactic(auto, unfolding(crate::specs::Notes::clock_block_text))]
+fn clock_block_text(alloc: Global, name: &[u8]) -> Result<Vec<u8>, AllocError>
+    ensures { IfOk result (λ v. v.items ≡ clock_block_text name.now) }
+{
+    around_twice(
+        alloc,
+        "`",
+        name,
+        "` is a clock, and isn't seen here: declare it further out, or in a method take it as a parameter, `",
+        ": Clock`",
+    )
+}
+
 /// The repair where a name is declared so, and isn't visible.
 fn unseen_text(alloc: Global, name: &[u8], role: Role) -> Result<Option<Vec<u8>>, AllocError>
     ensures { IfOk result
@@ -425,7 +439,7 @@ fn unseen_text(alloc: Global, name: &[u8], role: Role) -> Result<Option<Vec<u8>>
         Role::ClockParam => Ok(Some(other_clock_text(alloc, name)?)),
         Role::Val => Ok(Some(block_text(alloc, name)?)),
         Role::Var => Ok(Some(block_text(alloc, name)?)),
-        Role::Clock => Ok(Some(block_text(alloc, name)?)),
+        Role::Clock => Ok(Some(clock_block_text(alloc, name)?)),
         Role::Shared => Ok(None),
         Role::Method(_) => Ok(None),
     }
