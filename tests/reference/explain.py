@@ -251,8 +251,6 @@ def between(what: str, kept: bytes, rest: bytes, blanked: bytes) -> bool | None:
         and before_word(kept).endswith((b"(", b","))
         and head(blanked) == b"def",
         "`:`, behind a `)` or an `else`": rest.startswith(b":") and (kept.endswith(b")") or last == b"else"),
-        "`;`, behind `resume`, `drop`": rest.startswith(b";") and last in (b"resume", b"drop"),
-        "`;`, behind `make`": rest.startswith(b";") and last == b"make",
         "`def`, at `Long`, `Clock`": last == b"def" and word in (b"Long", b"Clock"),
         "`val`, `var`, at `Clock`": last in (b"val", b"var") and word == b"Clock",
         "`val`, `var`, at `Long`": last in (b"val", b"var") and word == b"Long",

@@ -134,7 +134,9 @@ block_text name =
 -- the same of a clock: a method sees none of those that call it
 unfoldable pub clock_block_text : List ℕ → List ℕ
 clock_block_text name =
-    (((codes "`" ++ told_name name) ++ codes "` is a clock, and isn't seen here: declare it further out, or in a method take it as a parameter, `") ++ told_name name)
+    (((codes "`" ++ told_name name)
+    ++ codes "` is a clock, and isn't seen here: declare it further out, or in a method take it as a parameter, `")
+    ++ told_name name)
     ++ codes ": Clock`"
 
 -- a method is called, and all else isn't

@@ -114,18 +114,19 @@ advice_behind_habit word other =
     else if bytes_eq word (codes "try") || (bytes_eq word (codes "throw") || bytes_eq word (codes "finally")) then advice.NoExceptions
     else other
 
--- a word of the language stands where a name is wanted: a type, or another one
+-- a word of the language stands where a name is wanted: a type, or another word
 abbrev pub advice_of_first_type : List ℕ → List ℕ → Advice
 advice_of_first_type before there =
     if bytes_eq before (codes "def") then advice.MethodHead
-    else if bytes_eq there (codes "Clock") then advice.MadeOrTaken
+    else if bytes_eq there (codes "Clock") then advice.ClockCalls
     else advice.Declaration
 
+abbrev pub advice_of_word : List ℕ → List ℕ → Advice
+advice_of_word before there =
+    if bytes_eq there (codes "Long") || bytes_eq there (codes "Clock") then advice_of_first_type before there else advice.ReservedWord
+
 abbrev pub advice_of_reserved : List ℕ → List ℕ → Advice → Advice
-advice_of_reserved before there other =
-    if wants_name before && is_reserved there
-    then (if bytes_eq there (codes "Long") || bytes_eq there (codes "Clock") then advice_of_first_type before there else advice.ReservedWord)
-    else other
+advice_of_reserved before there other = if wants_name before && is_reserved there then advice_of_word before there else other
 
 -- the word before the fault is near a word that a statement begins with
 unfoldable pub advice_near : List ℕ → Advice → Advice
@@ -373,15 +374,12 @@ advice_before_body before rest other =
     if begins rest (codes ":") && (ends_with nat_eq before (codes ")") || bytes_eq (last_word before) (codes "else")) then advice.BodyBraces
     else other
 
--- a method of a clock is called without parentheses
+-- a method of a clock stands before, without parentheses
 unfoldable pub advice_of_verb : List ℕ → Advice → Advice
 advice_of_verb word other =
     if bytes_eq word (codes "resume") || bytes_eq word (codes "drop") then advice.NamedClock
     else if bytes_eq word (codes "make") then advice.ClockCalls
     else other
-
-abbrev pub advice_of_plain_verb : List ℕ → List ℕ → Advice → Advice
-advice_of_plain_verb before rest other = if begins rest (codes ";") then advice_of_verb (last_word before) other else other
 
 -- by the statement
 abbrev pub advice_of_head : Head → Advice → Advice
@@ -415,7 +413,7 @@ further_there h depth before rest =
     advice_of_outside depth rest (advice_at_word (first_word rest) (advice_at_array h (first_word rest)
     (advice_at_long h (first_word rest) (advice_at_call (first_word rest) (advice_at_method (first_word rest) (advice_of_two before rest
     (advice_at_colon before rest (advice_of_global before (first_word rest) (advice_behind_sign depth before rest
-    (advice_in_def h before rest (advice_before_body before rest (advice_of_plain_verb before rest
+    (advice_in_def h before rest (advice_before_body before rest (advice_of_verb (last_word before)
     (advice_of_head h (advice_behind_point before rest (advice_of_lone before rest advice.Usual)))))))))))))))
 
 abbrev pub further_syntax_advice : Head → ℕ → List ℕ → List ℕ → Advice

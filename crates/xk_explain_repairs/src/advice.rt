@@ -369,8 +369,7 @@ fn statement_text(advice: Advice, other: &'static str) -> &'static str
         Advice::OneName =>
             "write `val n = 2 * m;`: one name, and an expression of `+`, `-` and `*`",
         Advice::MethodHead => "write `def f(n: Long, c: Clock) {`: a method gives nothing back",
-        Advice::BodyBraces =>
-            "a body is one statement, or several in `{` and `}`: write `{` for this `:`, and `}` behind the body",
+        Advice::BodyBraces => "write `{` for this `:`, and `}` behind the body",
         Advice::MethodBrace => "a method gives nothing back: its `{` stands right behind the `)`",
         _ => other,
     }

@@ -6,7 +6,7 @@ ghost use Rattle.xk_explain_repairs.specs.Repairs.{advice_behind_brace, advice_b
 ghost use Rattle.xk_explain_repairs.specs.Repairs.{advice_of_global, advice_of_head, advice_of_lone, advice_of_long, advice_of_member};
 ghost use Rattle.xk_explain_repairs.specs.Repairs.{advice_of_outside, advice_of_pair, advice_of_two, advice_outside, further_syntax_advice};
 ghost use Rattle.xk_explain_repairs.specs.Repairs.{advice_at_array, advice_at_end, advice_at_front, advice_before_body, advice_in_def};
-ghost use Rattle.xk_explain_repairs.specs.Repairs.{advice_of_array, advice_of_plain_verb, advice_of_verb, further_there, is_def};
+ghost use Rattle.xk_explain_repairs.specs.Repairs.{advice_of_array, advice_of_verb, further_there, is_def};
 
 use crate::advice::Advice;
 use xk_explain_parts::{
@@ -339,17 +339,6 @@ fn advice_of_verb(word: &[u8], other: Advice) -> Advice
     }
 }
 
-/// By one that is called without parentheses.
-fn advice_of_plain_verb(before: &[u8], rest: &[u8], other: Advice) -> Advice
-    ensures { result ≡ advice_of_plain_verb before.now rest.now other }
-{
-    if begins(rest, b";") {
-        advice_of_verb(last_word(before), other)
-    } else {
-        other
-    }
-}
-
 /// By the statement.
 fn advice_of_head(head: Head, other: Advice) -> Advice
     ensures { result ≡ advice_of_head head other }
@@ -411,7 +400,7 @@ fn further_there(head: Head, depth: usize, before: &[u8], rest: &[u8]) -> Advice
 {
     let word = first_word(rest);
     let other = advice_behind_point(before, rest, advice_of_lone(before, rest, Advice::Usual));
-    let other = advice_of_plain_verb(before, rest, advice_of_head(head, other));
+    let other = advice_of_verb(last_word(before), advice_of_head(head, other));
     let other = advice_in_def(head, before, rest, advice_before_body(before, rest, other));
     let other = advice_behind_sign(depth, before, rest, other);
     let other = advice_at_colon(before, rest, advice_of_global(before, word, other));

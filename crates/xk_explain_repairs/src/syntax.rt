@@ -4,9 +4,9 @@ ghost use Rattle.std.specs.Prelude.{◌≡◌};
 ghost use Rattle.xk_explain_repairs.specs.Repairs.{advice_at_comma, advice_at_comparison, advice_at_digit, advice_at_minus};
 ghost use Rattle.xk_explain_repairs.specs.Repairs.{advice_at_missing, advice_at_pair, advice_at_sign, advice_at_star, advice_at_value};
 ghost use Rattle.xk_explain_repairs.specs.Repairs.{advice_behind, advice_behind_clock, advice_behind_habit, advice_behind_number};
-ghost use Rattle.xk_explain_repairs.specs.Repairs.{advice_near, advice_of_first_type, advice_of_foreign, advice_of_near, advice_of_part, advice_of_reserved};
+ghost use Rattle.xk_explain_repairs.specs.Repairs.{advice_near, advice_of_foreign, advice_of_near, advice_of_part, advice_of_reserved};
 ghost use Rattle.xk_explain_repairs.specs.Repairs.{advice_of_return, advice_of_type, advice_there, compares, is_atomic, is_bound};
-ghost use Rattle.xk_explain_repairs.specs.Repairs.{advice_at_range, stands_alone, syntax_advice};
+ghost use Rattle.xk_explain_repairs.specs.Repairs.{advice_at_range, advice_of_first_type, advice_of_word, stands_alone, syntax_advice};
 
 use crate::advice::{Advice, Reserved};
 use xk_explain_parts::{
@@ -138,9 +138,20 @@ fn advice_of_first_type(before: &[u8], there: &[u8]) -> Advice
     if is_spelled(before, b"def") {
         Advice::MethodHead
     } else if is_spelled(there, b"Clock") {
-        Advice::MadeOrTaken
+        Advice::ClockCalls
     } else {
         Advice::Declaration
+    }
+}
+
+/// By a word of the language before it.
+fn advice_of_word(before: &[u8], there: &[u8]) -> Advice
+    ensures { result ≡ advice_of_word before.now there.now }
+{
+    if is_spelled(there, b"Long") || is_spelled(there, b"Clock") {
+        advice_of_first_type(before, there)
+    } else {
+        Advice::ReservedWord
     }
 }
 
@@ -149,14 +160,9 @@ fn advice_of_reserved(before: &[u8], there: &[u8], other: Advice) -> Advice
     ensures { result ≡ advice_of_reserved before.now there.now other }
 {
     if wants_name(before) && is_reserved(there) {
-        if is_spelled(there, b"Long") || is_spelled(there, b"Clock") {
-            advice_of_first_type(before, there)
-        } else {
-            Advice::ReservedWord
-        }
-    } else {
-        other
+        return advice_of_word(before, there);
     }
+    other
 }
 
 /// By a word before the fault that is near one that a statement begins with.
