@@ -5,7 +5,8 @@ ghost use Rattle.xk_lexer.specs.Lexing.{lexed};
 ghost use Rattle.xk_lexer.specs.Tokens.{token_value};
 ghost use Rattle.xk_explain_expected.specs.Expected.{is_misplaced, is_single, only_text, stack_at, stack_text, write_text};
 ghost use Rattle.xk_explain_expected.specs.Missing.{tokens_from};
-ghost use Rattle.xk_explain_expected.specs.Notes.{expected_notes, only_if, sign_repair, stack_note, stack_notes, stack_repair, token_repair};
+ghost use Rattle.xk_explain_expected.specs.Notes.{expected_notes, only_if, sign_repair, stack_note, stack_notes, stack_repair};
+ghost use Rattle.xk_explain_expected.specs.Notes.{token_repair};
 
 use crate::choices::{Choice, choices, choices_text};
 use crate::grammar::Symbol;
