@@ -112,14 +112,14 @@ class Place:
         return naming.cut(origins.origins(self.program.data)[frame.unit].name or "async")
 
     def calling(self, frame: Frame) -> str:
-        """Of a frame that waits for a call to return, whose it is, where that call is, and the frame's numbers. Frames that
-        wait stand behind their calls here."""
+        """Of a frame that waits for a call to return, whose it is, where that call is, and the frame's numbers. Frames
+        that wait stand behind their calls here."""
         at = self.program.position(frame._replace(place=frame.place - 1))
         return f"called by {self.method(frame)} at {at}{self.numbers(frame)}\n"
 
     def own(self, who: int) -> str:
-        """What an activity's own numbers are in the frame that it stands in, and its clocks, and those of the frames that
-        wait for it, the nearest first, if the text is known."""
+        """What an activity's own numbers are in the frame that it stands in, and its clocks, and those of the frames
+        that wait for it, the nearest first, if the text is known."""
         activity = self.played.world.activities[who]
         if self.program.is_module or activity.status is Status.ENDED:
             return ""

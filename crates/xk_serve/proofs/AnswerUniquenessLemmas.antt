@@ -69,7 +69,8 @@ Prints (Tally seed runs) m args logged out log = ⊥
 Prints (Outcomes sets limit pick kept) m args logged out log = IsAccepted m × AreArguments m args
 Prints (Expected sets limit) m args logged out log = IsAccepted m × AreArguments m args × (stray_line (list_in logged) ≡ None)
 
-pub prints : (what : Doing) (m : ModuleValue) (args : List ℤ) (logged : List ℕ) (d : Done) → ComesTo what m args logged d → Prints what m args logged (done_text d) (done_log d)
+pub prints : (what : Doing) (m : ModuleValue) (args : List ℤ) (logged : List ℕ) (d : Done) → ComesTo what m args logged d
+    → Prints what m args logged (done_text d) (done_log d)
 prints Compile m args logged (done.Compiled t) h = (ap (λ bytes. bytes ++ codes "\n") h, refl)
 prints Compile m args logged _ h = absurd h
 prints Check m args logged (done.Accepted steps activities clocks) h =
@@ -97,7 +98,8 @@ prints (Expected sets limit) m args logged (done.Held t found) h = (h.0, h.1.0, 
 prints (Expected sets limit) m args logged _ h = absurd h.1
 
 -- what it comes to has the status of what is done, but where outcomes are looked for
-pub done_zero : (what : Doing) (m : ModuleValue) (args : List ℤ) (logged : List ℕ) (d : Done) → HasOneStatus what → ComesTo what m args logged d → done_status d ≡ 0
+pub done_zero : (what : Doing) (m : ModuleValue) (args : List ℤ) (logged : List ℕ) (d : Done) → HasOneStatus what
+    → ComesTo what m args logged d → done_status d ≡ 0
 done_zero Compile m args logged (done.Outcomes t whole log) one h = absurd h
 done_zero Check m args logged (done.Outcomes t whole log) one h = absurd h
 done_zero (Explain json) m args logged (done.Outcomes t whole log) one h = absurd h
@@ -148,7 +150,8 @@ done_zero (Expected sets limit) m args logged (done.Told t whole) one h = absurd
 done_zero what m args logged (done.Ended numbers steps log) one h = refl
 
 -- what asks the verifier prints nothing of another module than one that is accepted
-prints_accepted : (what : Doing) (m : ModuleValue) (args : List ℤ) (logged out log : List ℕ) → asks_verifier what ≡ true → Prints what m args logged out log → IsAccepted m
+prints_accepted : (what : Doing) (m : ModuleValue) (args : List ℤ) (logged out log : List ℕ) → asks_verifier what ≡ true
+    → Prints what m args logged out log → IsAccepted m
 prints_accepted Compile m args logged out log asks h = absurd (false≢true asks)
 prints_accepted Check m args logged out log asks h = h.0
 prints_accepted (Explain json) m args logged out log asks h = absurd h
@@ -165,7 +168,8 @@ prints_accepted (Outcomes sets limit pick kept) m args logged out log asks h = h
 prints_accepted (Expected sets limit) m args logged out log asks h = h.0
 
 -- main of a run takes as many numbers as it is given
-prints_taken : (what : Doing) (m : ModuleValue) (args : List ℤ) (logged out log : List ℕ) → runs what ≡ true → Prints what m args logged out log → AreArguments m args
+prints_taken : (what : Doing) (m : ModuleValue) (args : List ℤ) (logged out log : List ℕ) → runs what ≡ true
+    → Prints what m args logged out log → AreArguments m args
 prints_taken Compile m args logged out log run h = absurd (false≢true run)
 prints_taken Check m args logged out log run h = absurd (false≢true run)
 prints_taken (Explain json) m args logged out log run h = absurd h
@@ -181,11 +185,13 @@ prints_taken (Tally seed runs) m args logged out log run h = absurd h
 prints_taken (Outcomes sets limit pick kept) m args logged out log run h = h.1
 prints_taken (Expected sets limit) m args logged out log run h = h.1
 
-replay_whole : (m : ModuleValue) (args numbers : List ℤ) (steps : ℕ) (es : List Entry) → IsReplay m args es numbers steps → IsWhole m args es
+replay_whole : (m : ModuleValue) (args numbers : List ℤ) (steps : ℕ) (es : List Entry) → IsReplay m args es numbers steps
+    → IsWhole m args es
 replay_whole m args numbers steps es r = record { last = r.last; leads = subst (λ l. Leads m l r.last) r.follows r.leads; given = r.given; over = r.over }
 
 -- the log that is read is that of a whole run
-prints_whole : (what : Doing) (m : ModuleValue) (args : List ℤ) (logged out log : List ℕ) → reads_log what ≡ true → Prints what m args logged out log
+prints_whole : (what : Doing) (m : ModuleValue) (args : List ℤ) (logged out log : List ℕ) → reads_log what ≡ true
+    → Prints what m args logged out log
     → (es : List Entry) × IsLogText logged es × IsWhole m args es
 prints_whole Compile m args logged out log reads h = absurd (false≢true reads)
 prints_whole Check m args logged out log reads h = absurd (false≢true reads)
@@ -201,11 +207,13 @@ prints_whole (Outcomes sets limit pick kept) m args logged out log reads h = abs
 prints_whole (Expected sets limit) m args logged out log reads h = absurd (false≢true reads)
 
 -- the lines of a run
-same_lines : (numbers others : List ℤ) (n k : ℕ) → numbers ≡ others → n ≡ k → number_lines numbers ++ ended_line n ≡ number_lines others ++ ended_line k
+same_lines : (numbers others : List ℤ) (n k : ℕ) → numbers ≡ others → n ≡ k
+    → number_lines numbers ++ ended_line n ≡ number_lines others ++ ended_line k
 same_lines numbers others n k e d = ap (λ xs. number_lines xs ++ ended_line n) e ∙ ap (λ j. number_lines others ++ ended_line j) d
 
 -- one thing is printed, and one log
-pub prints_once : (what : Doing) (m : ModuleValue) (args : List ℤ) (logged out log other kept : List ℕ) → ComesToOne what → Prints what m args logged out log
+pub prints_once : (what : Doing) (m : ModuleValue) (args : List ℤ) (logged out log other kept : List ℕ) → ComesToOne what
+    → Prints what m args logged out log
     → Prints what m args logged other kept → (out ≡ other) × (log ≡ kept)
 prints_once Compile m args logged out log other kept none p q = (p.0 ∙ sym q.0, p.1 ∙ sym q.1)
 prints_once Check m args logged out log other kept none p q = (p.1 ∙ sym q.1, p.2 ∙ sym q.2)
@@ -229,7 +237,8 @@ prints_once (Tally seed runs) m args logged out log other kept none p q = absurd
 prints_once (Outcomes sets limit pick written) m args logged out log other kept none p q = absurd none
 prints_once (Expected sets limit) m args logged out log other kept none p q = absurd none
 
-pub done_once : (what : Doing) (m : ModuleValue) (args : List ℤ) (logged : List ℕ) (d e : Done) → ComesToOne what → ComesTo what m args logged d
+pub done_once : (what : Doing) (m : ModuleValue) (args : List ℤ) (logged : List ℕ) (d e : Done) → ComesToOne what
+    → ComesTo what m args logged d
     → ComesTo what m args logged e → (done_text d ≡ done_text e) × (done_log d ≡ done_log e)
 done_once what m args logged d e none p q =
     prints_once what m args logged (done_text d) (done_log d) (done_text e) (done_log e) none (prints what m args logged d p) (prints what m args logged e q)
@@ -237,7 +246,8 @@ done_once what m args logged d e none p q =
 -- ---- what is said of a fault
 
 -- what is said of a fault
-said_determined : (what : Doing) (kind : Form) (file bytes said : List ℕ) (f : Fault) → IsSaidBy what kind file bytes f said → IsDetermined what → said ≡ []
+said_determined : (what : Doing) (kind : Form) (file bytes said : List ℕ) (f : Fault)
+    → IsSaidBy what kind file bytes f said → IsDetermined what → said ≡ []
 said_determined (Explain json) kind file bytes said f h one = absurd one
 said_determined Check kind file bytes said f h one = h
 said_determined Compile kind file bytes said f h one = h
