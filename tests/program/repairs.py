@@ -347,8 +347,9 @@ def in_words() -> set[str]:
 
 
 WORDED = re.compile(
-    r"add in one step, .*|give a (?:number|clock) in place of .*|`\w+` is (?:a parameter|the number|a clock|seen in).*"
-    r"|`\w+` isn't seen outside .*|read `\w+` first, .* of another name|keep `\w+` in a `val` of another name .*"
+    r"add in one step, .*|give a (?:number|clock) in place of .*"
+    r"|`\w+` is (?:a parameter|the number|a clock|a method|no method|seen in).*|`\w+` isn't seen outside .*"
+    r"|read `\w+` first, .* of another name|keep `\w+` in a `val` of another name .*"
 )
 
 

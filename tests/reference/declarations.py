@@ -234,10 +234,16 @@ UNSEEN = {
     "a parameter (a number)": "`{0}` is a parameter of another method: take it as one here, too",
     "a parameter (a clock)": "`{0}` is a parameter of another method: make a clock here by `val {0} = Clock.make();`, "
     "in the innermost `finish`, and drop it before that ends",
+    "a clock": "`{0}` is a clock, and isn't seen here: declare it further out, or in a method take it as a parameter, "
+    "`{0}: Clock`",
 }
 OUTSIDE = (
     "`{0}` isn't seen outside of its block, nor before it is declared: declare it further out, and where an `async` "
     "writes it as a shared number"
+)
+UNCALLED = "`{0}` is no method: take its parentheses away, or call a method of another name"
+METHOD_ALONE = (
+    "`{0}` is a method, which gives nothing back: call it by `{0}();`, and read the shared number that it writes"
 )
 KEPT = "take a `val {1} = {0};` before the `async`: a `var` as `{0}` isn't seen in it"
 KEPT_APART = "keep `{0}` in a `val` of another name before the `async`: a `var` isn't seen in it"
@@ -292,7 +298,11 @@ def of_unknown(text: bytes, name: str, at: int) -> str | None:
     same = namesakes(text, name, at)
     if same:
         role = same[0][1]
-        return None if role == SHARED or role.startswith(METHOD) else UNSEEN.get(role, OUTSIDE).format(cut(name))
+        if behind(text, at) == "(":
+            return UNCALLED.format(cut(name))
+        if role.startswith(METHOD):
+            return METHOD_ALONE.format(cut(name))
+        return None if role == SHARED else UNSEEN.get(role, OUTSIDE).format(cut(name))
     near = meant(text, name, at)
     if near:
         return f"perhaps `{cut(near[0].text)}` is meant"

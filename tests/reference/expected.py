@@ -95,6 +95,8 @@ def repair(text: bytes, rule: str, at: int, is_advised: bool) -> str | None:
     place = missing_brace(text, at)
     if place is not None:
         return "write `}}` before {}:{}".format(*line_and_column(text, place))
+    if next_tokens(text, at)[0].sort is Sort.END:
+        return None
     signs = missing(text, at)
     if len(signs) == 1:
         return f"write `{signs[0]}` before it"

@@ -250,6 +250,10 @@ def between(what: str, kept: bytes, rest: bytes, blanked: bytes) -> bool | None:
         "a listed word, in a `def`": last != b""
         and before_word(kept).endswith((b"(", b","))
         and head(blanked) == b"def",
+        "`:`, behind a `)` or an `else`": rest.startswith(b":") and (kept.endswith(b")") or last == b"else"),
+        "`def`, at `Long`, `Clock`": last == b"def" and word in (b"Long", b"Clock"),
+        "`val`, `var`, at `Clock`": last in (b"val", b"var") and word == b"Clock",
+        "`val`, `var`, at `Long`": last in (b"val", b"var") and word == b"Long",
         "`return`, at a `;`": last == b"return" and rest.startswith(b";"),
         "`def`, `val`, `var`, at a word of the language": last in (b"def", b"val", b"var") and word in RESERVED,
         "a `-`, in an `atomic`": rest.startswith(b"-")

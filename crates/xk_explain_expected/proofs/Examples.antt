@@ -27,10 +27,10 @@ unfolding
     stack_at stack_text choices_text before_text ends_all name_terminal piece_at comment_at sign_at sign_of_one sign_of_two number_of keyword_of
 no_semicolon = refl
 
--- the text ends in a block, behind an `if` that may have an `else`: the bracket is told that isn't closed
+-- the text ends in a block, behind an `if` that may have an `else`: the bracket is told that isn't closed, and no place for its `}`
 no_brace :
     expected_notes (codes "def m(){if(a==1);") (fault 17)
-    ≡ record { at = None; text = codes "could stand here: a statement, `}`, `else`"; repair = Some (codes "write `}` before it") }
+    ≡ record { at = None; text = codes "could stand here: a statement, `}`, `else`"; repair = None }
     ∷ record { at = Some 7; text = codes "this `{` is not closed"; repair = None } ∷ []
 unfolding
     stack_at stack_text choices_text before_text ends_all name_terminal piece_at comment_at sign_at sign_of_one sign_of_two number_of keyword_of

@@ -20,8 +20,13 @@ use Rattle.xk_explain_expected.specs.Missing.{first_terminal, missing, missing_t
 abbrev pub only_if : Bool → List Symbol → Option (List ℕ)
 only_if usual stack = if usual then only_text (choices stack) else None
 
+abbrev pub token_repair : Bool → List Symbol → List TokenValue → Option (List ℕ)
+token_repair usual stack next = or_else (missing_text (missing stack (first_terminal next) (second_terminal next))) (only_if usual stack)
+
+-- where the text ends, there is no token to write it before
 abbrev pub sign_repair : Bool → List Symbol → List TokenValue → Option (List ℕ)
-sign_repair usual stack next = or_else (missing_text (missing stack (first_terminal next) (second_terminal next))) (only_if usual stack)
+sign_repair usual stack [] = None
+sign_repair usual stack (t ∷ ts) = token_repair usual stack (t ∷ ts)
 
 abbrev pub stack_repair : List ℕ → ℕ → List TokenValue → List Symbol → List TokenValue → Option (List ℕ)
 stack_repair text at ts stack next =

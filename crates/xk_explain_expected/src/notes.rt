@@ -6,6 +6,7 @@ ghost use Rattle.xk_lexer.specs.Tokens.{token_value};
 ghost use Rattle.xk_explain_expected.specs.Expected.{is_misplaced, is_single, only_text, stack_at, stack_text, write_text};
 ghost use Rattle.xk_explain_expected.specs.Missing.{tokens_from};
 ghost use Rattle.xk_explain_expected.specs.Notes.{expected_notes, only_if, sign_repair, stack_note, stack_notes, stack_repair};
+ghost use Rattle.xk_explain_expected.specs.Notes.{token_repair};
 
 use crate::choices::{Choice, choices, choices_text};
 use crate::grammar::Symbol;
@@ -97,7 +98,24 @@ fn only_if(alloc: Global, usual: bool, stack: &[Symbol]) -> Result<Option<Vec<u8
     only_text(alloc, &found)
 }
 
-/// One sign that is missing, or the one token that could stand.
+/// One sign that is missing before a token, or the one token that could stand in its place.
+fn token_repair(
+    alloc: Global,
+    usual: bool,
+    stack: &[Symbol],
+    next: &[Token<'_>],
+) -> Result<Option<Vec<u8>>, AllocError>
+    ensures { IfOk result (λ o. option_map (λ v. v.items) o
+        ≡ token_repair usual stack.now (map token_value next.now)) }
+{
+    let signs = missing(alloc, stack, first_terminal(next), second_terminal(next))?;
+    match missing_text(alloc, &signs)? {
+        Some(repair) => Ok(Some(repair)),
+        None => only_if(alloc, usual, stack),
+    }
+}
+
+/// The same, if the text doesn't end there.
 fn sign_repair(
     alloc: Global,
     usual: bool,
@@ -107,10 +125,9 @@ fn sign_repair(
     ensures { IfOk result (λ o. option_map (λ v. v.items) o
         ≡ sign_repair usual stack.now (map token_value next.now)) }
 {
-    let signs = missing(alloc, stack, first_terminal(next), second_terminal(next))?;
-    match missing_text(alloc, &signs)? {
-        Some(repair) => Ok(Some(repair)),
-        None => only_if(alloc, usual, stack),
+    match next {
+        [] => Ok(None),
+        [_, ..] => token_repair(alloc, usual, stack, next),
     }
 }
 

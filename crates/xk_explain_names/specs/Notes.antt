@@ -131,23 +131,45 @@ unfoldable pub block_text : List ℕ → List ℕ
 block_text name =
     (codes "`" ++ told_name name) ++ codes "` isn't seen outside of its block, nor before it is declared: declare it further out, and where an `async` writes it as a shared number"
 
+-- the same of a clock: a method sees none of those that call it
+unfoldable pub clock_block_text : List ℕ → List ℕ
+clock_block_text name =
+    (((codes "`" ++ told_name name)
+    ++ codes "` is a clock, and isn't seen here: declare it further out, or in a method take it as a parameter, `")
+    ++ told_name name)
+    ++ codes ": Clock`"
+
+-- a method is called, and all else isn't
+unfoldable pub method_alone_text : List ℕ → List ℕ
+method_alone_text name =
+    (((codes "`" ++ told_name name) ++ codes "` is a method, which gives nothing back: call it by `") ++ told_name name)
+    ++ codes "();`, and read the shared number that it writes"
+
+unfoldable pub uncalled_text : List ℕ → List ℕ
+uncalled_text name = (codes "`" ++ told_name name) ++ codes "` is no method: take its parentheses away, or call a method of another name"
+
 abbrev pub unseen_text : List ℕ → Role → Option (List ℕ)
 unseen_text name role.Loop = Some (loop_alone_text name)
 unseen_text name role.NumberParam = Some (other_param_text name)
 unseen_text name role.ClockParam = Some (other_clock_text name)
 unseen_text name role.Val = Some (block_text name)
 unseen_text name role.Var = Some (block_text name)
-unseen_text name role.Clock = Some (block_text name)
+unseen_text name role.Clock = Some (clock_block_text name)
 unseen_text name role.Shared = None
-unseen_text name (role.Method n) = None
+unseen_text name (role.Method n) = Some (method_alone_text name)
 
-abbrev pub unseen_by : Declared → Option (List ℕ)
-unseen_by d = unseen_text d.name.text d.role
+-- where it is called, or isn't
+abbrev pub unseen_as : Bool → List ℕ → Role → Option (List ℕ)
+unseen_as true name r = Some (uncalled_text name)
+unseen_as false name r = unseen_text name r
+
+abbrev pub unseen_by : Bool → Declared → Option (List ℕ)
+unseen_by called d = unseen_as called d.name.text d.role
 
 -- of these that have the name, or where none has it, the last that may be meant
 abbrev pub unknown_by : List ℕ → List ℕ → ℕ → List Declared → List Declared → List NoteValue
 unknown_by name rest at [] ds = meant_notes (is_called name rest) name (last_of (is_meant (is_called name rest) name at) None ds)
-unknown_by name rest at (d ∷ same) ds = notes_on (unseen_by d) name (d ∷ same)
+unknown_by name rest at (d ∷ same) ds = notes_on (unseen_by (is_called name rest) d) name (d ∷ same)
 
 abbrev pub unknown_notes : List ℕ → List ℕ → ℕ → List Declared → List NoteValue
 unknown_notes name rest at ds = unknown_by name rest at (namesakes name at ds) ds

@@ -5,14 +5,14 @@ ghost use Rattle.xk_tree.specs.Program.{tree_value};
 ghost use Rattle.xk_tree.specs.Tree.{method_value};
 ghost use Rattle.xk_explain_kinds.specs.Declarations.{declared, declared_here};
 ghost use Rattle.xk_explain_kinds.specs.Kinds.{last_of};
-ghost use Rattle.xk_explain_names.specs.Notes.{block_text, capture_notes, capture_repair, captured_by, count_notes, declared_text};
+ghost use Rattle.xk_explain_names.specs.Notes.{block_text, capture_notes, capture_repair, captured_by, clock_block_text};
 ghost use Rattle.xk_explain_names.specs.Notes.{front_notes, further_notes, further_text, hand_on_text, is_called, is_meant, is_namesake};
 ghost use Rattle.xk_explain_names.specs.Notes.{is_on_names, keep_apart_text, keep_in_text, keep_text, kind_notes, loop_alone_text};
-ghost use Rattle.xk_explain_names.specs.Notes.{may_be, meant_notes, meant_text};
+ghost use Rattle.xk_explain_names.specs.Notes.{count_notes, declared_text, may_be, meant_notes, meant_text, method_alone_text};
 ghost use Rattle.xk_explain_names.specs.Notes.{named_notes, namesakes, new_method_text, new_number_text, new_text, note_of, notes_on};
 ghost use Rattle.xk_explain_names.specs.Notes.{nowhere_note, nowhere_text, other_clock_text, other_param_text, parameters_text};
-ghost use Rattle.xk_explain_names.specs.Notes.{repair_of_kind, role_text};
-ghost use Rattle.xk_explain_names.specs.Notes.{share_text, unknown_by, unknown_notes, unseen_text, var_text, word_at};
+ghost use Rattle.xk_explain_names.specs.Notes.{repair_of_kind, role_text, uncalled_text, unseen_as, unseen_text};
+ghost use Rattle.xk_explain_names.specs.Notes.{share_text, unknown_by, unknown_notes, var_text, word_at};
 
 use crate::lent_clocks::lent_notes;
 use std::alloc::{AllocError, Global};
@@ -414,6 +414,47 @@ fn block_text(alloc: Global, name: &[u8]) -> Result<Vec<u8>, AllocError>
     )
 }
 
+/// A clock of another block, or of a method that calls this one.
+#[tactic(auto, unfolding(crate::specs::Notes::clock_block_text))]
+fn clock_block_text(alloc: Global, name: &[u8]) -> Result<Vec<u8>, AllocError>
+    ensures { IfOk result (λ v. v.items ≡ clock_block_text name.now) }
+{
+    around_twice(
+        alloc,
+        "`",
+        name,
+        "` is a clock, and isn't seen here: declare it further out, or in a method take it as a parameter, `",
+        ": Clock`",
+    )
+}
+
+/// A method that isn't called.
+#[tactic(auto, unfolding(crate::specs::Notes::method_alone_text))]
+fn method_alone_text(alloc: Global, name: &[u8]) -> Result<Vec<u8>, AllocError>
+    ensures { IfOk result (λ v. v.items ≡ method_alone_text name.now) }
+{
+    around_twice(
+        alloc,
+        "`",
+        name,
+        "` is a method, which gives nothing back: call it by `",
+        "();`, and read the shared number that it writes",
+    )
+}
+
+/// A name that is called, and is no method's.
+#[tactic(auto, unfolding(crate::specs::Notes::uncalled_text))]
+fn uncalled_text(alloc: Global, name: &[u8]) -> Result<Vec<u8>, AllocError>
+    ensures { IfOk result (λ v. v.items ≡ uncalled_text name.now) }
+{
+    around_name(
+        alloc,
+        "`",
+        name,
+        "` is no method: take its parentheses away, or call a method of another name",
+    )
+}
+
 /// The repair where a name is declared so, and isn't visible.
 fn unseen_text(alloc: Global, name: &[u8], role: Role) -> Result<Option<Vec<u8>>, AllocError>
     ensures { IfOk result
@@ -425,10 +466,26 @@ fn unseen_text(alloc: Global, name: &[u8], role: Role) -> Result<Option<Vec<u8>>
         Role::ClockParam => Ok(Some(other_clock_text(alloc, name)?)),
         Role::Val => Ok(Some(block_text(alloc, name)?)),
         Role::Var => Ok(Some(block_text(alloc, name)?)),
-        Role::Clock => Ok(Some(block_text(alloc, name)?)),
+        Role::Clock => Ok(Some(clock_block_text(alloc, name)?)),
         Role::Shared => Ok(None),
-        Role::Method(_) => Ok(None),
+        Role::Method(_) => Ok(Some(method_alone_text(alloc, name)?)),
     }
+}
+
+/// The same where it is called, or isn't.
+fn unseen_as(
+    alloc: Global,
+    called: bool,
+    name: &[u8],
+    role: Role,
+) -> Result<Option<Vec<u8>>, AllocError>
+    ensures { IfOk result
+        (λ o. option_map (λ v. v.items) o ≡ unseen_as called name.now role) }
+{
+    if called {
+        return Ok(Some(uncalled_text(alloc, name)?));
+    }
+    unseen_text(alloc, name, role)
 }
 
 /// Beside a name that isn't visible, of which these are declared elsewhere.
@@ -449,7 +506,8 @@ fn unknown_by(
             meant_notes(alloc, called, name, meant(called, name, at, all))
         }
         [first, ..] => {
-            let repair = unseen_text(alloc, first.name.text, first.role)?;
+            let called = is_called(name, rest);
+            let repair = unseen_as(alloc, called, first.name.text, first.role)?;
             repair_notes(alloc, repair, name, same)
         }
     }

@@ -91,6 +91,7 @@ statement_text advice.Range other = codes "write `for (i in 0..2)` for 0, 1 and 
 statement_text advice.Locked other = codes "write `atomic n = n + 1;`: it adds to a shared number in one step"
 statement_text advice.OneName other = codes "write `val n = 2 * m;`: one name, and an expression of `+`, `-` and `*`"
 statement_text advice.MethodHead other = codes "write `def f(n: Long, c: Clock) {`: a method gives nothing back"
+statement_text advice.BodyBraces other = codes "write `{` for this `:`, and `}` behind the body"
 statement_text advice.MethodBrace other = codes "a method gives nothing back: its `{` stands right behind the `)`"
 statement_text _ other = other
 

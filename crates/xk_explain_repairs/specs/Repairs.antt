@@ -67,11 +67,6 @@ token_advice at rest = if is_foreign rest then advice_at_foreign at rest else ad
 
 -- ---- a token can't stand there, F2
 
--- the text ends there
-unfoldable pub advice_at_end : List ℕ → Advice → Advice
-advice_at_end [] other = advice.TextEnds
-advice_at_end (b ∷ bs) other = other
-
 abbrev pub advice_of_part : Head → Advice → Advice
 advice_of_part head.For other = advice.Times
 advice_of_part head.Shared other = advice.SharedNumber
@@ -119,8 +114,19 @@ advice_behind_habit word other =
     else if bytes_eq word (codes "try") || (bytes_eq word (codes "throw") || bytes_eq word (codes "finally")) then advice.NoExceptions
     else other
 
+-- a word of the language stands where a name is wanted: a type, or another word
+abbrev pub advice_of_first_type : List ℕ → List ℕ → Advice
+advice_of_first_type before there =
+    if bytes_eq before (codes "def") then advice.MethodHead
+    else if bytes_eq there (codes "Clock") then advice.ClockCalls
+    else advice.Declaration
+
+abbrev pub advice_of_word : List ℕ → List ℕ → Advice
+advice_of_word before there =
+    if bytes_eq there (codes "Long") || bytes_eq there (codes "Clock") then advice_of_first_type before there else advice.ReservedWord
+
 abbrev pub advice_of_reserved : List ℕ → List ℕ → Advice → Advice
-advice_of_reserved before there other = if wants_name before && is_reserved there then advice.ReservedWord else other
+advice_of_reserved before there other = if wants_name before && is_reserved there then advice_of_word before there else other
 
 -- the word before the fault is near a word that a statement begins with
 unfoldable pub advice_near : List ℕ → Advice → Advice
@@ -238,13 +244,18 @@ advice_there h before rest =
 
 abbrev pub syntax_advice : Head → List ℕ → List ℕ → Advice
 syntax_advice h before rest =
-    advice_at_end rest (advice_of_type h (last_word (to_sign before)) (advice_of_return (last_word (to_sign before)) rest
+    advice_of_type h (last_word (to_sign before)) (advice_of_return (last_word (to_sign before)) rest
     (advice_at_range (last_word (to_sign before)) (first_word rest)
     (advice_behind (last_word (to_sign before)) (advice_behind_habit (last_word (to_sign before))
     (advice_of_reserved (last_word (to_sign before)) (first_word rest) (advice_of_near (last_word (to_sign before))
-    (advice_behind_number before rest (advice_there h (to_sign before) rest)))))))))
+    (advice_behind_number before rest (advice_there h (to_sign before) rest))))))))
 
 -- ---- the same where nothing else calls for a repair
+
+-- the text ends there
+unfoldable pub advice_at_end : List ℕ → Advice → Advice
+advice_at_end [] other = advice.TextEnds
+advice_at_end (b ∷ bs) other = other
 
 unfoldable pub advice_behind_line : List ℕ → Advice → Advice
 advice_behind_line before other =
@@ -357,6 +368,19 @@ advice_in_def h before rest other =
     else if is_def h && is_listed before then advice.Parameter
     else other
 
+-- a `:` stands before the body of a statement
+unfoldable pub advice_before_body : List ℕ → List ℕ → Advice → Advice
+advice_before_body before rest other =
+    if begins rest (codes ":") && (ends_with nat_eq before (codes ")") || bytes_eq (last_word before) (codes "else")) then advice.BodyBraces
+    else other
+
+-- a method of a clock stands before, without parentheses
+unfoldable pub advice_of_verb : List ℕ → Advice → Advice
+advice_of_verb word other =
+    if bytes_eq word (codes "resume") || bytes_eq word (codes "drop") then advice.NamedClock
+    else if bytes_eq word (codes "make") then advice.ClockCalls
+    else other
+
 -- by the statement
 abbrev pub advice_of_head : Head → Advice → Advice
 advice_of_head head.For other = advice.Bounds
@@ -389,10 +413,12 @@ further_there h depth before rest =
     advice_of_outside depth rest (advice_at_word (first_word rest) (advice_at_array h (first_word rest)
     (advice_at_long h (first_word rest) (advice_at_call (first_word rest) (advice_at_method (first_word rest) (advice_of_two before rest
     (advice_at_colon before rest (advice_of_global before (first_word rest) (advice_behind_sign depth before rest
-    (advice_in_def h before rest (advice_of_head h (advice_behind_point before rest (advice_of_lone before rest advice.Usual)))))))))))))
+    (advice_in_def h before rest (advice_before_body before rest (advice_of_verb (last_word before)
+    (advice_of_head h (advice_behind_point before rest (advice_of_lone before rest advice.Usual)))))))))))))))
 
 abbrev pub further_syntax_advice : Head → ℕ → List ℕ → List ℕ → Advice
-further_syntax_advice h depth before rest = advice_behind_line before (further_there h depth (to_sign before) rest)
+further_syntax_advice h depth before rest =
+    advice_at_end rest (advice_behind_line before (further_there h depth (to_sign before) rest))
 
 -- ---- no such name is visible there, F5
 
@@ -413,6 +439,7 @@ name_advice_of_activities word other =
     else if bytes_eq word (codes "lock") || (bytes_eq word (codes "unlock") || (bytes_eq word (codes "acquire") || bytes_eq word (codes "release"))) then advice.Locked
     else if bytes_eq word (codes "while") || bytes_eq word (codes "until") then advice.Loop
     else if bytes_eq word (codes "return") then advice.NothingBack
+    else if bytes_eq word (codes "resume") || bytes_eq word (codes "drop") then advice.NamedClock
     else if bytes_eq word (codes "input") || (bytes_eq word (codes "scanf") || bytes_eq word (codes "read")) then advice.MainNumbers
     else other
 

@@ -75,6 +75,8 @@ pub enum Advice {
     AsciiNames,
     /// The text's end.
     TextEnds,
+    /// The braces of a body.
+    BodyBraces,
     /// The `{` of a method.
     MethodBrace,
     /// A method that gives something back.
@@ -367,6 +369,7 @@ fn statement_text(advice: Advice, other: &'static str) -> &'static str
         Advice::OneName =>
             "write `val n = 2 * m;`: one name, and an expression of `+`, `-` and `*`",
         Advice::MethodHead => "write `def f(n: Long, c: Clock) {`: a method gives nothing back",
+        Advice::BodyBraces => "write `{` for this `:`, and `}` behind the body",
         Advice::MethodBrace => "a method gives nothing back: its `{` stands right behind the `)`",
         _ => other,
     }

@@ -5,7 +5,8 @@ ghost use Rattle.xk_explain_repairs.specs.Repairs.{advice_at_call, advice_at_col
 ghost use Rattle.xk_explain_repairs.specs.Repairs.{advice_behind_brace, advice_behind_line, advice_behind_point, advice_behind_sign};
 ghost use Rattle.xk_explain_repairs.specs.Repairs.{advice_of_global, advice_of_head, advice_of_lone, advice_of_long, advice_of_member};
 ghost use Rattle.xk_explain_repairs.specs.Repairs.{advice_of_outside, advice_of_pair, advice_of_two, advice_outside, further_syntax_advice};
-ghost use Rattle.xk_explain_repairs.specs.Repairs.{advice_at_array, advice_at_front, advice_in_def, advice_of_array, further_there, is_def};
+ghost use Rattle.xk_explain_repairs.specs.Repairs.{advice_at_array, advice_at_end, advice_at_front, advice_before_body, advice_in_def};
+ghost use Rattle.xk_explain_repairs.specs.Repairs.{advice_of_array, advice_of_verb, further_there, is_def};
 
 use crate::advice::Advice;
 use xk_explain_parts::{
@@ -13,6 +14,17 @@ use xk_explain_parts::{
     is_listed, is_method_head, is_number_head, is_outside, is_pair, is_word,
 };
 use xk_explain_words::{Head, begins, ends, first_word, is_spelled, last_word, to_sign};
+
+/// Where the text ends.
+#[tactic(auto, unfolding(crate::specs::Repairs::advice_at_end))]
+fn advice_at_end(rest: &[u8], other: Advice) -> Advice
+    ensures { result ≡ advice_at_end rest.now other }
+{
+    match rest {
+        [] => Advice::TextEnds,
+        [_, ..] => other,
+    }
+}
 
 /// By what ends on a line before.
 #[tactic(auto, unfolding(crate::specs::Repairs::advice_behind_line))]
@@ -301,6 +313,32 @@ fn advice_in_def(head: Head, before: &[u8], rest: &[u8], other: Advice) -> Advic
     }
 }
 
+/// By a `:` before the body of a statement.
+#[tactic(auto, unfolding(crate::specs::Repairs::advice_before_body))]
+fn advice_before_body(before: &[u8], rest: &[u8], other: Advice) -> Advice
+    ensures { result ≡ advice_before_body before.now rest.now other }
+{
+    if begins(rest, b":") && (ends(before, b")") || is_spelled(last_word(before), b"else")) {
+        Advice::BodyBraces
+    } else {
+        other
+    }
+}
+
+/// By a method of a clock.
+#[tactic(auto, unfolding(crate::specs::Repairs::advice_of_verb))]
+fn advice_of_verb(word: &[u8], other: Advice) -> Advice
+    ensures { result ≡ advice_of_verb word.now other }
+{
+    if is_spelled(word, b"resume") || is_spelled(word, b"drop") {
+        Advice::NamedClock
+    } else if is_spelled(word, b"make") {
+        Advice::ClockCalls
+    } else {
+        other
+    }
+}
+
 /// By the statement.
 fn advice_of_head(head: Head, other: Advice) -> Advice
     ensures { result ≡ advice_of_head head other }
@@ -362,7 +400,8 @@ fn further_there(head: Head, depth: usize, before: &[u8], rest: &[u8]) -> Advice
 {
     let word = first_word(rest);
     let other = advice_behind_point(before, rest, advice_of_lone(before, rest, Advice::Usual));
-    let other = advice_in_def(head, before, rest, advice_of_head(head, other));
+    let other = advice_of_verb(last_word(before), advice_of_head(head, other));
+    let other = advice_in_def(head, before, rest, advice_before_body(before, rest, other));
     let other = advice_behind_sign(depth, before, rest, other);
     let other = advice_at_colon(before, rest, advice_of_global(before, word, other));
     let other = advice_at_method(word, advice_of_two(before, rest, other));
@@ -375,5 +414,6 @@ fn further_there(head: Head, depth: usize, before: &[u8], rest: &[u8]) -> Advice
 pub(crate) fn further_syntax_advice(head: Head, depth: usize, before: &[u8], rest: &[u8]) -> Advice
     ensures { result ≡ further_syntax_advice head depth before.now rest.now }
 {
-    advice_behind_line(before, further_there(head, depth, to_sign(before), rest))
+    let other = further_there(head, depth, to_sign(before), rest);
+    advice_at_end(rest, advice_behind_line(before, other))
 }

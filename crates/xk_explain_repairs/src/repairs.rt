@@ -75,6 +75,8 @@ fn name_advice_of_activities(word: &[u8], other: Advice) -> Advice
         Advice::Loop
     } else if is_spelled(word, b"return") {
         Advice::NothingBack
+    } else if is_spelled(word, b"resume") || is_spelled(word, b"drop") {
+        Advice::NamedClock
     } else if is_spelled(word, b"input")
         || is_spelled(word, b"scanf")
         || is_spelled(word, b"read")

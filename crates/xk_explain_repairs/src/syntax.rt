@@ -1,12 +1,12 @@
 //! What is advised first where a token can't stand.
 
 ghost use Rattle.std.specs.Prelude.{◌≡◌};
-ghost use Rattle.xk_explain_repairs.specs.Repairs.{advice_at_comma, advice_at_comparison, advice_at_digit, advice_at_end, advice_at_minus};
+ghost use Rattle.xk_explain_repairs.specs.Repairs.{advice_at_comma, advice_at_comparison, advice_at_digit, advice_at_minus};
 ghost use Rattle.xk_explain_repairs.specs.Repairs.{advice_at_missing, advice_at_pair, advice_at_sign, advice_at_star, advice_at_value};
 ghost use Rattle.xk_explain_repairs.specs.Repairs.{advice_behind, advice_behind_clock, advice_behind_habit, advice_behind_number};
 ghost use Rattle.xk_explain_repairs.specs.Repairs.{advice_near, advice_of_foreign, advice_of_near, advice_of_part, advice_of_reserved};
 ghost use Rattle.xk_explain_repairs.specs.Repairs.{advice_of_return, advice_of_type, advice_there, compares, is_atomic, is_bound};
-ghost use Rattle.xk_explain_repairs.specs.Repairs.{advice_at_range, stands_alone, syntax_advice};
+ghost use Rattle.xk_explain_repairs.specs.Repairs.{advice_at_range, advice_of_first_type, advice_of_word, stands_alone, syntax_advice};
 
 use crate::advice::{Advice, Reserved};
 use xk_explain_parts::{
@@ -14,17 +14,6 @@ use xk_explain_parts::{
     is_number, is_pair, is_reserved, is_type, is_typed, wants_name, wants_value,
 };
 use xk_explain_words::{Head, begins, ends, first_word, is_near, is_spelled, last_word, to_sign};
-
-/// Where the text ends.
-#[tactic(auto, unfolding(crate::specs::Repairs::advice_at_end))]
-fn advice_at_end(rest: &[u8], other: Advice) -> Advice
-    ensures { result ≡ advice_at_end rest.now other }
-{
-    match rest {
-        [] => Advice::TextEnds,
-        [_, ..] => other,
-    }
-}
 
 /// By the statement that a declaration stands in.
 fn advice_of_part(head: Head, other: Advice) -> Advice
@@ -142,12 +131,36 @@ fn advice_behind_habit(word: &[u8], other: Advice) -> Advice
     }
 }
 
+/// By a type before the name that is declared.
+fn advice_of_first_type(before: &[u8], there: &[u8]) -> Advice
+    ensures { result ≡ advice_of_first_type before.now there.now }
+{
+    if is_spelled(before, b"def") {
+        Advice::MethodHead
+    } else if is_spelled(there, b"Clock") {
+        Advice::ClockCalls
+    } else {
+        Advice::Declaration
+    }
+}
+
+/// By a word of the language before it.
+fn advice_of_word(before: &[u8], there: &[u8]) -> Advice
+    ensures { result ≡ advice_of_word before.now there.now }
+{
+    if is_spelled(there, b"Long") || is_spelled(there, b"Clock") {
+        advice_of_first_type(before, there)
+    } else {
+        Advice::ReservedWord
+    }
+}
+
 /// By a word of the language where a name is wanted.
 fn advice_of_reserved(before: &[u8], there: &[u8], other: Advice) -> Advice
     ensures { result ≡ advice_of_reserved before.now there.now other }
 {
     if wants_name(before) && is_reserved(there) {
-        return Advice::ReservedWord;
+        return advice_of_word(before, there);
     }
     other
 }
@@ -415,6 +428,5 @@ pub(crate) fn syntax_advice(head: Head, before: &[u8], rest: &[u8]) -> Advice
     let other = advice_of_reserved(word, first_word(rest), advice_of_near(word, other));
     let other = advice_behind(word, advice_behind_habit(word, other));
     let other = advice_at_range(word, first_word(rest), other);
-    let other = advice_of_type(head, word, advice_of_return(word, rest, other));
-    advice_at_end(rest, other)
+    advice_of_type(head, word, advice_of_return(word, rest, other))
 }

@@ -1,0 +1,10 @@
+def work() {
+    c.resume();
+    Clock.advanceAll();
+}
+
+def main() {
+    val c = Clock.make();
+    async clocked (c) work();
+    c.drop();
+}
