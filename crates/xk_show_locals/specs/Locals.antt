@@ -1,6 +1,6 @@
 -- An activity's own numbers and clocks, in the frame that it stands in and in those that called, by the names of its source text. What
 -- frames and slots are, `xk_types` says in `World.antt`; that they are told so is this project's own.
-use Rattle.std.specs.Prelude.{ℕ, nat_eq, ℤ, int_lt, List, [], ◌∷◌, ◌++◌, length, Option, Some, None, slice_get, flat_map}
+use Rattle.std.specs.Prelude.{⊤, ◌<◌, ◌^◌, ℕ, nat_eq, ℤ, int_lt, List, [], ◌∷◌, ◌++◌, length, Option, Some, None, slice_get, flat_map}
 use Rattle.std.specs.Prelude.{codes, decimal, if◌then◌else◌}
 use Rattle.std.specs.Fmt.{signed_decimal}
 use Rattle.std.specs.Option.{option_map_or}
@@ -124,6 +124,11 @@ caller_line_in p m a f (Some o) =
 -- `act 1 called by main at 12:5, i = 2`
 abbrev pub caller_line : PlacesValue → ModuleValue → ℕ → Frame → List ℕ
 caller_line p m a f = caller_line_in p m a f (slice_get p.origins f.unit)
+
+-- each of these frames has fewer slots than 16 bits number
+abbrev pub AreFew : List Frame → Type 0
+AreFew [] = ⊤
+AreFew (f ∷ fs) = (length f.slots < 2 ^ 16) × AreFew fs
 
 -- of the frame that an activity stands in, and of those that wait for it to return, the nearest first
 abbrev pub lines_of : PlacesValue → ModuleValue → ℕ → Activity → List ℕ

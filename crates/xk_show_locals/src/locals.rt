@@ -1,9 +1,9 @@
 //! The lines of an activity's own numbers and clocks.
 
-ghost use Rattle.std.specs.Prelude.{◌≡◌, ◌<◌, ◌++◌, flat_map, length, map, option_map, string_bytes, Some, IfOk, OnOk};
+ghost use Rattle.std.specs.Prelude.{◌≡◌, ◌<◌, ◌^◌, ◌++◌, flat_map, length, map, option_map, Some, IfOk, OnOk};
 ghost use Rattle.xk_activity.specs.Activities.{act_at};
 ghost use Rattle.xk_activity.specs.Local.{code_of};
-ghost use Rattle.xk_show_locals.specs.Locals.{caller_front, caller_line, caller_line_in, frame_line, frame_words, front, line_in};
+ghost use Rattle.xk_show_locals.specs.Locals.{AreFew, caller_front, caller_line, caller_line_in, frame_line, frame_words, front, line_in};
 ghost use Rattle.xk_show_locals.specs.Locals.{locals_lines, place_in, slot_words, unit_word};
 
 use crate::slots::{push_held, push_name, push_text};
@@ -24,6 +24,7 @@ fn push_slot(
     frames: &Frames<'_>,
     slot: usize,
 ) -> Result<(), AllocError>
+    requires { length frames.now.frame.slots < 2 ^ 16 }
     ensures { OnOk result (out.new.items ≡ out.old.items
         ++ slot_words (map (λ x. x.now) names.now) code.now frames.now.frame.slots slot) }
 {
@@ -41,6 +42,7 @@ fn frame_words(
     code: &[Instr],
     frames: &Frames<'_>,
 ) -> Result<Vec<u8>, AllocError>
+    requires { length frames.now.frame.slots < 2 ^ 16 }
     ensures { IfOk result (λ v. v.items
         ≡ frame_words (map (λ x. x.now) names.now) code.now frames.now.frame.slots) }
 {
@@ -97,6 +99,7 @@ fn push_line(
     frames: &Frames<'_>,
     act: Act,
 ) -> Result<(), AllocError>
+    requires { length frames.now.frame.slots < 2 ^ 16 }
     ensures { OnOk result (out.new.items ≡ out.old.items
         ++ line_in verified.now act frames.now.frame (Some of_unit.now)) }
 {
@@ -119,6 +122,7 @@ fn push_frame(
     frames: &Frames<'_>,
     act: Act,
 ) -> Result<(), AllocError>
+    requires { length frames.now.frame.slots < 2 ^ 16 }
     ensures { OnOk result (out.new.items ≡ out.old.items
         ++ frame_line origins.now verified.now act frames.now.frame) }
 {
@@ -138,7 +142,7 @@ fn push_caller_front(
     place: &str,
 ) -> Result<(), AllocError>
     ensures { OnOk result (out.new.items ≡ out.old.items
-        ++ caller_front act (option_map (λ x. x.now) name.entry) (string_bytes place.now)) }
+        ++ caller_front act (option_map (λ x. x.now) name.entry) place.now) }
 {
     let number = act.0;
     push_text(out, format!(in alloc; "act {number} called by ")?.as_str())?;
@@ -157,6 +161,7 @@ fn push_caller_line(
     frames: &Frames<'_>,
     act: Act,
 ) -> Result<(), AllocError>
+    requires { length frames.now.frame.slots < 2 ^ 16 }
     ensures { OnOk result (out.new.items ≡ out.old.items ++ caller_line_in places.now
         verified.now act frames.now.frame (Some of_unit.now)) }
 {
@@ -178,6 +183,7 @@ fn push_caller(
     frames: &Frames<'_>,
     act: Act,
 ) -> Result<(), AllocError>
+    requires { length frames.now.frame.slots < 2 ^ 16 }
     ensures { OnOk result (out.new.items ≡ out.old.items
         ++ caller_line places.now verified.now act frames.now.frame) }
 {
@@ -196,6 +202,7 @@ fn push_callers(
     frames: &mut Frames<'_>,
     act: Act,
 ) -> Result<(), AllocError>
+    requires { AreFew frames.old.callers }
     ensures { OnOk result (out.new.items ≡ out.old.items
         ++ flat_map (caller_line places.now verified.now act) frames.old.callers) }
 {
@@ -206,10 +213,47 @@ fn push_callers(
     push_callers(alloc, out, places, verified, frames, act)
 }
 
+/// Adds the lines of the frames that wait for these to return.
+fn push_outer(
+    alloc: Global,
+    out: &mut Vec<u8>,
+    places: &Places<'_>,
+    verified: &Verified,
+    frames: &Frames<'_>,
+    act: Act,
+) -> Result<(), AllocError>
+    requires { AreFew frames.now.callers }
+    ensures { OnOk result (out.new.items ≡ out.old.items
+        ++ flat_map (caller_line places.now verified.now act) frames.now.callers) }
+{
+    let mut outer = frames.copy()?;
+    push_callers(alloc, out, places, verified, &mut outer, act)
+}
+
+/// Adds the lines of the present frame and of those that wait.
+fn push_all(
+    alloc: Global,
+    out: &mut Vec<u8>,
+    places: &Places<'_>,
+    verified: &Verified,
+    frames: &Frames<'_>,
+    act: Act,
+) -> Result<(), AllocError>
+    requires few { length frames.now.frame.slots < 2 ^ 16 }
+    requires few_outside { AreFew frames.now.callers }
+    ensures { OnOk result (out.new.items ≡ out.old.items
+        ++ (frame_line places.now.origins verified.now act frames.now.frame
+        ++ flat_map (caller_line places.now verified.now act) frames.now.callers)) }
+{
+    push_frame(alloc, out, places.origins(), verified, frames, act)?;
+    push_outer(alloc, out, places, verified, frames, act)
+}
+
 /// Adds the lines of an activity that hasn't ended, of the numbers and clocks in the frame that it stands in, and in those that called it,
 /// the nearest first, by the names that the origins say: `act 1 in work, n = 2, t = 5`, then `act 1 called by main at 12:5, i = 2`.
 /// What is unset is left out, and so is a clock without a name; a loop's bound is told by what the loop counts in, as `i up to 3`.
 /// There is no line of the frame that it stands in where nothing is told of it. Err where memory was refused.
+#[tactic(auto, using(crate::proofs::FrameLemmas::few_frames))]
 pub fn push_locals(
     alloc: Global,
     out: &mut Vec<u8>,
@@ -224,9 +268,7 @@ pub fn push_locals(
     if !core.is_living(act) {
         return Ok(());
     }
-    let verified = core.module();
-    let frames = core.frames(act);
-    push_frame(alloc, out, places.origins(), verified, frames, act)?;
-    let mut outer = frames.copy()?;
-    push_callers(alloc, out, places, verified, &mut outer, act)
+    // Every core is where a legal schedule of an accepted module leads.
+    let _there = core.activities();
+    push_all(alloc, out, places, core.module(), core.frames(act), act)
 }

@@ -1,11 +1,12 @@
 -- What is told of the races of a run of a source text's module: by the names of shared numbers, by the lines of the text, and with what
 -- was read and written in this run. This project's own.
-use Rattle.std.specs.Prelude.{ℕ, ℤ, min, nat_eq, List, [], ◌++◌, length, take, flat_map, Option, Some, None, slice_get, codes, decimal}
+use Rattle.std.specs.Prelude.{◌≡◌, ℕ, ℤ, min, nat_eq, List, [], ◌++◌, length, take, flat_map, Option, Some, None, slice_get, codes, decimal}
 use Rattle.std.specs.List.{find}
 use Rattle.xk_types.specs.declared.world.Entry.{Entry}
 use Rattle.xk_types.specs.Code.{ModuleValue}
 use Rattle.xk_lines.specs.Excerpts.{excerpt}
 use Rattle.xk_origins.specs.UnitOrigins.{offsets_at}
+use Rattle.xk_show_events.specs.declared.steps.RunStep.{RunStep}
 use Rattle.xk_show_events.specs.Events.{PlacesValue, origin_of, place_words}
 use Rattle.xk_show_names.specs.declared.accounts.Account.{Account}
 use Rattle.xk_show_names.specs.Accounts.{seen_accounts}
@@ -64,3 +65,17 @@ abbrev pub named_races_text : PlacesValue → List (List ℕ) → ModuleValue �
 named_races_text p shared m args log =
     flat_map (race_lines p (names_by p shared []) (seen_accounts m args log)) (take most_shown (races_in (sights_of_run m args log)))
     ++ closing_text p (races_in (sights_of_run m args log)) (gap_in (sights_of_run m args log))
+
+-- ---- what holds of it
+
+-- the step is found by its number among these
+abbrev pub IsFoundAs : List Account → RunStep → Type 0
+IsFoundAs steps s = (a : Account) × (account_of steps s.number ≡ Some a) × (a.step ≡ s)
+
+-- both accesses of a race are
+abbrev pub AreFound : List Account → Race → Type 0
+AreFound steps r = IsFoundAs steps r.first × IsFoundAs steps r.second
+
+-- Each race of the run that a log stands for has its lines: both of its accesses are found among the steps that others see.
+abbrev pub HasItsLines : ModuleValue → List ℤ → List Entry → Type 0
+HasItsLines m args log = (i : ℕ) (r : Race) → slice_get (races_in (sights_of_run m args log)) i ≡ Some r → AreFound (seen_accounts m args log) r

@@ -2,6 +2,7 @@
 #![tactic(auto)]
 
 mod accounts;
+pub mod laws;
 mod report;
 mod source_lines;
 mod text;
