@@ -203,7 +203,8 @@ fn play<R: Source, E: Sink>(
         AppendsBeginning (E.contents err.old) (E.contents err.new)
         (said_from text.now game.old.driver game.old.log.items (answers bytes))) }
     ensures by_some { OnOk result (FollowsSome game.old.driver.module_run game.old.driver.world
-        game.old.log.items game.new.log.items (said_from text.now game.old.driver game.old.log.items)
+        game.old.log.items game.new.log.items
+        (said_from text.now game.old.driver game.old.log.items)
         (E.contents err.old) (E.contents err.new)) }
     ensures begins_some { BeginsSome (said_from text.now game.old.driver game.old.log.items)
         (E.contents err.old) (E.contents err.new) }

@@ -69,11 +69,10 @@ fn played_by<L: Source, E: Sink>(
     requires { AreArguments verified.now given.now }
     ensures played { IfOk result (λ r. IsPlayed verified.now given.now
         r.log.items r.printed.items r.steps r.whole) }
-    ensures answers { (form : FormValue) (bytes : List ℕ) → IsFrom true form bytes from.now
+    ensures answers { (form : FormValue) (text : List ℕ) → IsFrom true form text from.now
         → IfOk result (λ r. (xs : List (Option ℕ)) × AreAnswers (L.remaining input.old) xs
-        × (r.log.items ≡ log_by verified.now given.now xs)
-        × IsWrittenBy (IsAskedBy form bytes verified.now given.now xs)
-        (E.contents err.old) (E.contents err.new)) }
+        × (r.log.items ≡ log_by verified.now given.now xs) × IsWrittenBy
+        (IsAskedBy form text verified.now given.now xs) (E.contents err.old) (E.contents err.new)) }
     ensures begins { (form : FormValue) (bytes : List ℕ) → IsFrom true form bytes from.now
         → BeginsToAsk form bytes verified.now given.now
         (L.remaining input.old) (E.contents err.old) (E.contents err.new) }
@@ -87,16 +86,8 @@ fn played_by<L: Source, E: Sink>(
     match &from.origins {
         Some(origins) => {
             let units = origins.units();
-            match source_ask(
-                alloc,
-                from.text,
-                units,
-                &from.shared,
-                verified,
-                given,
-                input,
-                err,
-            ) {
+            let shared = &from.shared;
+            match source_ask(alloc, from.text, units, shared, verified, given, input, err) {
                 Ok(played) => Ok(played),
                 Err(fault) => Err(fault_of(fault)),
             }
