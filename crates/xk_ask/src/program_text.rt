@@ -17,7 +17,6 @@ const SHOWN: usize = 60;
 pub(crate) struct ProgramText<'t> {
     text: &'t [u8],
     lines: LineStarts<'t>,
-    origins: &'t [UnitOrigins<'t>],
     places: Places<'t>,
     shared: &'t [&'t [u8]],
     is_known: bool,
@@ -25,19 +24,17 @@ pub(crate) struct ProgramText<'t> {
 
 impl<'t> Model for ProgramText<'t> {
     ghost use Rattle.std.specs.Prelude.{◌≡◌, map};
-    ghost use Rattle.xk_show_events.specs.Events.{places_of};
     ghost use Rattle.xk_ask.specs.ProgramTexts.{ProgramTextValue};
 
     ghost Value = { ProgramTextValue };
 
     ghost view = { λ s. record {
-      places = places_of s.text.now s.origins.now;
+      places = s.places;
       shared = map (λ x. x.now) s.shared.now;
       is_known = s.is_known;
     } };
 
-    ghost invariant = { λ s. (s.lines ≡ s.text.now)
-        × (s.places ≡ places_of s.text.now s.origins.now) };
+    ghost invariant = { λ s. (s.lines ≡ s.text.now) × (s.places.text ≡ s.text.now) };
 }
 
 impl<'t> ProgramText<'t> {
@@ -60,7 +57,6 @@ impl<'t> ProgramText<'t> {
         Ok(ProgramText {
             text,
             lines,
-            origins,
             places,
             shared,
             is_known: true,
@@ -76,7 +72,6 @@ impl<'t> ProgramText<'t> {
         Ok(ProgramText {
             text: b"",
             lines,
-            origins: &[],
             places,
             shared: &[],
             is_known: false,
@@ -98,14 +93,14 @@ impl<'t> ProgramText<'t> {
         if !self.is_known {
             return standings_text(alloc, &self.places, core, None);
         }
-        named_standings_text(alloc, &self.places, self.origins, self.shared, core, None)
+        named_standings_text(alloc, &self.places, self.shared, core, None)
     }
 
     /// The offset that an instruction comes from, if the origins say it.
     fn offset(&self, unit: u16, place: u32) -> Option<usize>
         ensures { result ≡ slice_get (offsets_at self.now.places.origins unit) place }
     {
-        match self.origins.get(unit as usize) {
+        match self.places.origins().get(unit as usize) {
             Some(of_unit) => of_unit.offsets.get(place as usize).copied(),
             None => None,
         }
