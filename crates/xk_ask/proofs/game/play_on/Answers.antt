@@ -78,13 +78,13 @@ returns-in_err-follow-clause-begins_some g c =
 
 pub returns-clause-by_some : goal.returns-clause-by_some
 returns-clause-by_some g c =
-    playing_some _ _ _ _ _ c.loop-answer.game.driver c.core-say_end.result.now c.loop-answer.game.log.items _ _ _
-    c.loop-answer.invariant.playing c.core-say_end.ensures c.in_ok-say_end.ensures.told
+    playing_some _ _ _ _ _ c.loop-answer.game.driver c.core-2.result.now c.loop-answer.game.log.items _ _ _
+    c.loop-answer.invariant.playing c.core-2.ensures c.in_ok-say_end.ensures.told
 
 pub returns-clause-begins_some : goal.returns-clause-begins_some
 returns-clause-begins_some g c =
-    playing_ends_early_some _ _ _ _ _ c.loop-answer.game.driver c.core-say_end.result.now c.loop-answer.game.log.items _ _ _
-    c.loop-answer.invariant.playing c.core-say_end.ensures c.say_end.ensures.begins
+    playing_ends_early_some _ _ _ _ _ c.loop-answer.game.driver c.core-2.result.now c.loop-answer.game.log.items _ _ _
+    c.loop-answer.invariant.playing c.core-2.ensures c.say_end.ensures.begins
 
 pub returns-clause-unread : goal.returns-clause-unread
 returns-clause-unread g c =
@@ -93,20 +93,20 @@ returns-clause-unread g c =
 
 pub returns-clause-played : goal.returns-clause-played
 returns-clause-played g c =
-    (playing_out _ _ _ _ _ c.loop-answer.game.driver c.core.result.now c.core-say_end.result.now c.loop-answer.game.log.items _ _ _
-    c.in_ok-answer.field-0 c.loop-answer.invariant.playing c.core.ensures c.core-say_end.ensures c.in_default.not-Some
+    (playing_out _ _ _ _ _ c.loop-answer.game.driver c.core.result.now c.core-2.result.now c.loop-answer.game.log.items _ _ _
+    c.in_ok-answer.field-0 c.loop-answer.invariant.playing c.core.ensures c.core-2.ensures c.in_default.not-Some
     c.in_ok-answer.ensures.none c.in_ok-say_end.ensures.told).0
 
 pub returns-clause-told : goal.returns-clause-told
 returns-clause-told g c =
-    (playing_out _ _ _ _ _ c.loop-answer.game.driver c.core.result.now c.core-say_end.result.now c.loop-answer.game.log.items _ _ _
-    c.in_ok-answer.field-0 c.loop-answer.invariant.playing c.core.ensures c.core-say_end.ensures c.in_default.not-Some
+    (playing_out _ _ _ _ _ c.loop-answer.game.driver c.core.result.now c.core-2.result.now c.loop-answer.game.log.items _ _ _
+    c.in_ok-answer.field-0 c.loop-answer.invariant.playing c.core.ensures c.core-2.ensures c.in_default.not-Some
     c.in_ok-answer.ensures.none c.in_ok-say_end.ensures.told).1
 
 pub returns-clause-begins : goal.returns-clause-begins
 returns-clause-begins g c =
-    playing_ends_early _ _ _ _ _ c.loop-answer.game.driver c.core.result.now c.core-say_end.result.now c.loop-answer.game.log.items _ _ _
-    c.in_ok-answer.field-0 c.loop-answer.invariant.playing c.core.ensures c.core-say_end.ensures c.in_default.not-Some
+    playing_ends_early _ _ _ _ _ c.loop-answer.game.driver c.core.result.now c.core-2.result.now c.loop-answer.game.log.items _ _ _
+    c.in_ok-answer.field-0 c.loop-answer.invariant.playing c.core.ensures c.core-2.ensures c.in_default.not-Some
     c.in_ok-answer.ensures.none c.say_end.ensures.begins
 
 -- ---- where the last line could not be written
@@ -119,11 +119,11 @@ returns-in_err-say_end-clause-told g c = failed _ _ c.from_residual-in_err-say_e
 
 pub returns-in_err-say_end-clause-begins : goal.returns-in_err-say_end-clause-begins
 returns-in_err-say_end-clause-begins g c =
-    playing_ends_early _ _ _ _ _ c.loop-answer.game.driver c.core.result.now c.core-say_end.result.now c.loop-answer.game.log.items _ _ _
-    c.in_ok-answer.field-0 c.loop-answer.invariant.playing c.core.ensures c.core-say_end.ensures c.in_default.not-Some
+    playing_ends_early _ _ _ _ _ c.loop-answer.game.driver c.core.result.now c.core-2.result.now c.loop-answer.game.log.items _ _ _
+    c.in_ok-answer.field-0 c.loop-answer.invariant.playing c.core.ensures c.core-2.ensures c.in_default.not-Some
     c.in_ok-answer.ensures.none c.say_end.ensures.begins
 
 pub returns-in_err-say_end-clause-begins_some : goal.returns-in_err-say_end-clause-begins_some
 returns-in_err-say_end-clause-begins_some g c =
-    playing_ends_early_some _ _ _ _ _ c.loop-answer.game.driver c.core-say_end.result.now c.loop-answer.game.log.items _ _ _
-    c.loop-answer.invariant.playing c.core-say_end.ensures c.say_end.ensures.begins
+    playing_ends_early_some _ _ _ _ _ c.loop-answer.game.driver c.core-2.result.now c.loop-answer.game.log.items _ _ _
+    c.loop-answer.invariant.playing c.core-2.ensures c.say_end.ensures.begins
