@@ -13,3 +13,8 @@ returns-clause-by_some g c memory device =
     rw c.in-ByHand.is
     (rw (c.new-source.ensures.inner, c.as_slice-arguments.ensures.value, c.is_some-keeps_log.ensures) at (c.serve_asked.ensures.by_some
     memory device))
+
+pub returns-clause-out_begins : goal.returns-clause-out_begins
+returns-clause-out_begins g c =
+    rw c.in-ByHand.is
+    (rw (c.new-source.ensures.inner, c.as_slice-arguments.ensures.value, c.is_some-keeps_log.ensures) at c.serve_asked.ensures.out_begins)
