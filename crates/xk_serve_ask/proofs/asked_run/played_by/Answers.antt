@@ -8,7 +8,7 @@ returns-in-Ok-clause-answers g c = λ form bytes given.
     c.args.verified.now c.args.given.now (g.L.Source.remaining c.args.input.now) c.in-Ok.played.log.items
     (g.E.Sink.contents c.args.err.now) (g.E.Sink.contents c.source_ask.new.err) given.0
     (rw c.in-Some.is at (given.1 refl).0) (given.1 refl).1
-    (rw c.units-units.ensures at c.in-Ok.ensures.by_answers)
+    (rw c.deref.ensures.value at (rw c.units-units.ensures at c.in-Ok.ensures.by_answers))
 
 pub returns-in-Ok-clause-begins : goal.returns-in-Ok-clause-begins
 returns-in-Ok-clause-begins g c = λ form bytes given.
@@ -16,7 +16,7 @@ returns-in-Ok-clause-begins g c = λ form bytes given.
     c.args.verified.now c.args.given.now (g.L.Source.remaining c.args.input.now)
     (g.E.Sink.contents c.args.err.now) (g.E.Sink.contents c.source_ask.new.err) given.0
     (rw c.in-Some.is at (given.1 refl).0) (given.1 refl).1
-    (rw c.units-units.ensures at c.source_ask.ensures.begins_by)
+    (rw c.deref.ensures.value at (rw c.units-units.ensures at c.source_ask.ensures.begins_by))
 
 pub returns-in-Err-clause-begins : goal.returns-in-Err-clause-begins
 returns-in-Err-clause-begins g c = λ form bytes given.
@@ -24,7 +24,7 @@ returns-in-Err-clause-begins g c = λ form bytes given.
     c.args.verified.now c.args.given.now (g.L.Source.remaining c.args.input.now)
     (g.E.Sink.contents c.args.err.now) (g.E.Sink.contents c.source_ask.new.err) given.0
     (rw c.in-Some.is at (given.1 refl).0) (given.1 refl).1
-    (rw c.units-units.ensures at c.source_ask.ensures.begins_by)
+    (rw c.deref.ensures.value at (rw c.units-units.ensures at c.source_ask.ensures.begins_by))
 
 pub returns-in-Ok-module_ask-clause-answers : goal.returns-in-Ok-module_ask-clause-answers
 returns-in-Ok-module_ask-clause-answers g c = λ form bytes given.
