@@ -1,0 +1,3 @@
+pub mod MemberLemmas
+pub mod SliceLaw
+pub mod BackLemmas
