@@ -1,3 +1,4 @@
 pub mod MemberLemmas
 pub mod SliceLaw
 pub mod BackLemmas
+pub mod RestLaw

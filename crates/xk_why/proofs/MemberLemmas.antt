@@ -11,15 +11,15 @@ use Rattle.xk_why.specs.Exactness.{IsAmong, Uses}
 
 -- ---- locations
 
-numbers_same : (a b : ℕ) → nat_eq a b ≡ true → a ≡ b
-numbers_same a b h = grind (arith, h)
+pub same_numbers : (a b : ℕ) → nat_eq a b ≡ true → a ≡ b
+same_numbers a b h = grind (arith, h)
 
 -- those that are told to be one are one
 is_one : (k l : Location) → same_location k l ≡ true → k ≡ l
 is_one (location.Slot s) (location.Slot t) h = grind (arith, h)
-is_one (location.Shared s) (location.Shared t) h = ap (λ n. location.Shared n) (numbers_same s t h)
+is_one (location.Shared s) (location.Shared t) h = ap (λ n. location.Shared n) (same_numbers s t h)
 is_one (location.Signals r) (location.Signals s) h = grind (arith, h)
-is_one (location.End a) (location.End b) h = ap (λ n. location.End n) (numbers_same a b h)
+is_one (location.End a) (location.End b) h = ap (λ n. location.End n) (same_numbers a b h)
 is_one (location.Slot s) (location.Shared t) h = cc
 is_one (location.Slot s) (location.Signals t) h = cc
 is_one (location.Slot s) (location.End t) h = cc
@@ -33,16 +33,16 @@ is_one (location.End s) (location.Slot t) h = cc
 is_one (location.End s) (location.Shared t) h = cc
 is_one (location.End s) (location.Signals t) h = cc
 
-same_number : (a : ℕ) → nat_eq a a ≡ true
-same_number a = eq-eqb a a refl
+pub number_itself : (a : ℕ) → nat_eq a a ≡ true
+number_itself a = eq-eqb a a refl
 
 -- each is told to be itself
 is_itself : (l : Location) → same_location l l ≡ true
 is_itself (location.Slot s) =
-    ap₂ (λ x y. x && y && nat_eq s.number s.number) (same_number s.act) (same_number s.depth) ∙ same_number s.number
-is_itself (location.Shared s) = same_number s
-is_itself (location.Signals r) = ap (λ x. x && nat_eq r.phase r.phase) (same_number r.clock) ∙ same_number r.phase
-is_itself (location.End a) = same_number a
+    ap₂ (λ x y. x && y && nat_eq s.number s.number) (number_itself s.act) (number_itself s.depth) ∙ number_itself s.number
+is_itself (location.Shared s) = number_itself s
+is_itself (location.Signals r) = ap (λ x. x && nat_eq r.phase r.phase) (number_itself r.clock) ∙ number_itself r.phase
+is_itself (location.End a) = number_itself a
 
 -- ---- what a flow makes
 
@@ -114,16 +114,16 @@ was_kept p (y ∷ ys) x in_it = of (p y) refl in_it (λ more. was_kept p ys x mo
 
 -- ---- one more
 
-front : {X : Type 0} (xs ys : List X) (x : X) → IsAmong x xs → IsAmong x (xs ++ ys)
+pub front : {X : Type 0} (xs ys : List X) (x : X) → IsAmong x xs → IsAmong x (xs ++ ys)
 front [] ys x in_it = absurd in_it
 front (z ∷ xs) ys x (inl is) = inl is
 front (z ∷ xs) ys x (inr more) = inr (front xs ys x more)
 
-last : {X : Type 0} (xs : List X) (x : X) → IsAmong x (xs ++ x ∷ [])
+pub last : {X : Type 0} (xs : List X) (x : X) → IsAmong x (xs ++ x ∷ [])
 last [] x = inl refl
 last (z ∷ xs) x = inr (last xs x)
 
-either : {X : Type 0} (xs : List X) (y x : X) → IsAmong x (xs ++ y ∷ []) → IsAmong x xs ⊎ (y ≡ x)
+pub either : {X : Type 0} (xs : List X) (y x : X) → IsAmong x (xs ++ y ∷ []) → IsAmong x xs ⊎ (y ≡ x)
 either [] y x (inl is) = inr is
 either [] y x (inr none) = absurd none
 either (z ∷ xs) y x (inl is) = inl (inl is)
@@ -133,7 +133,7 @@ either (z ∷ xs) y x (inr more) = of (either xs y x more)
     of (inl in_it) = inl (inr in_it)
     of (inr is) = inr is
 
-with_old : (wanted : List Location) (o : Option Location) (l : Location) → IsAmong l wanted → IsAmong l (with_any wanted o)
+pub with_old : (wanted : List Location) (o : Option Location) (l : Location) → IsAmong l wanted → IsAmong l (with_any wanted o)
 with_old wanted None l in_it = in_it
 with_old wanted (Some k) l in_it = of (list_any (same_location k) wanted)
   where
@@ -141,7 +141,7 @@ with_old wanted (Some k) l in_it = of (list_any (same_location k) wanted)
     of true = in_it
     of false = front wanted (k ∷ []) l in_it
 
-with_new : (wanted : List Location) (o : Option Location) (l : Location) → o ≡ Some l → IsAmong l (with_any wanted o)
+pub with_new : (wanted : List Location) (o : Option Location) (l : Location) → o ≡ Some l → IsAmong l (with_any wanted o)
 with_new wanted None l h = cc
 with_new wanted (Some k) l h = of (list_any (same_location k) wanted) refl
   where
@@ -153,7 +153,7 @@ with_new wanted (Some k) l h = of (list_any (same_location k) wanted) refl
     of true e = there (found (same_location k) wanted e)
     of false e = subst (λ x. IsAmong x (wanted ++ k ∷ [])) is (last wanted k)
 
-with_either : (wanted : List Location) (o : Option Location) (l : Location) → IsAmong l (with_any wanted o) → IsAmong l wanted ⊎ (o ≡ Some l)
+pub with_either : (wanted : List Location) (o : Option Location) (l : Location) → IsAmong l (with_any wanted o) → IsAmong l wanted ⊎ (o ≡ Some l)
 with_either wanted None l in_it = inl in_it
 with_either wanted (Some k) l in_it = of (list_any (same_location k) wanted) in_it
   where

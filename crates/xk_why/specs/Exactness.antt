@@ -1,8 +1,10 @@
 -- What something that was made rests on: the dependence of data between the steps of one run.
 use Rattle.std.specs.Prelude.{◌≡◌, ◌↔◌, ◌⊎◌, ℕ, ◌<◌, false, List, [], ◌∷◌, length, Some, slice_get}
+use Rattle.xk_types.specs.Schedule.{is_local}
 use Rattle.xk_why.specs.declared.flows.Flow.{Flow}
 use Rattle.xk_why.specs.declared.flows.Location.{Location}
 use Rattle.xk_why.specs.Slices.{slice_of}
+use Rattle.xk_why.specs.Rest.{earlier, rest_of, wanted_by}
 
 -- one of these
 abbrev pub IsAmong : {X : Type 0} → X → List X → Type 0
@@ -56,3 +58,21 @@ pub record IsNeeded (fs : List Flow) (n : ℕ) (wanted : List Location) (i : ℕ
 -- the slice has those, and no others
 abbrev pub SliceIsExact : List Flow → List Location → Type 0
 SliceIsExact fs wanted = (i : ℕ) → IsAmong i (slice_of fs wanted) ↔ IsNeeded fs (length fs) wanted i
+
+-- step number k, which others can see, made what step number n uses, or what that rests on
+pub record IsBehind (n : ℕ) (fs : List Flow) (k : ℕ) : Type 0 where
+  pub place : ℕ
+  pub flow : Flow
+  pub here : IsAt (earlier n fs) place flow
+  pub needed : IsNeeded (earlier n fs) (length (earlier n fs)) (wanted_by n fs) place
+  pub step : flow.step.number ≡ k
+  pub seen : is_local flow.step.event ≡ false
+
+-- step number n, among those that made these, uses what stands at location l
+abbrev pub IsUsedBy : ℕ → List Flow → Location → Type 0
+IsUsedBy n fs l = (f : Flow) × IsAmong f fs × (f.step.number ≡ n) × Uses f l
+
+-- what is told of step number n has the steps behind it, and no others, by what it uses and nothing else
+pub record RestIsExact (n : ℕ) (fs : List Flow) : Type 0 where
+  pub used : (l : Location) → IsAmong l (wanted_by n fs) ↔ IsUsedBy n fs l
+  pub steps : (k : ℕ) → IsAmong k (rest_of n fs) ↔ IsBehind n fs k
