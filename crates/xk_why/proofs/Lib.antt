@@ -2,3 +2,4 @@ pub mod MemberLemmas
 pub mod SliceLaw
 pub mod BackLemmas
 pub mod RestLaw
+mod WhyExamples
