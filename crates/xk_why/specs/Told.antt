@@ -1,6 +1,5 @@
 -- What the steps of a run make, and of what. This project's own.
 use Rattle.std.specs.Prelude.{ℕ, ℤ, List, ◌++◌, length, flat_map, slice_get}
-use Rattle.std.specs.Option.{option_map_or}
 use Rattle.xk_types.specs.declared.world.Entry.{Entry}
 use Rattle.xk_types.specs.Code.{ModuleValue}
 use Rattle.xk_types.specs.World.{World}
@@ -19,8 +18,8 @@ use Rattle.xk_why.specs.Waits.{awaited_at, closing, deed_flows}
 abbrev pub spot : World → RunStep → Spot
 spot v s = record {
   step = s;
-  depth = option_map_or (λ x. length x.callers) (slice_get v.activities s.act) 0;
-  place = option_map_or (λ x. x.frame.place) (slice_get v.activities s.act) 0;
+  depth = length (act_at v.activities s.act).callers;
+  place = (act_at v.activities s.act).frame.place;
 }
 
 -- those whom the next step of activity a waits for, if it closes a finish

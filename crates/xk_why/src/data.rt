@@ -23,7 +23,7 @@ fn shared(number: u16) -> Option<Location>
 }
 
 /// A step makes something anew of two others, or of one, or of none.
-fn flow(
+pub(crate) fn flow(
     step: &RunStep,
     to: Option<Location>,
     first: Option<Location>,

@@ -1,6 +1,6 @@
 //! What the steps of a run made, and of what.
 
-ghost use Rattle.std.specs.Prelude.{◌≡◌, ◌<◌, true, ◌++◌, length, option_map, slice_get, IfOk, OnOk};
+ghost use Rattle.std.specs.Prelude.{◌≡◌, ◌+◌, ◌<◌, true, ◌++◌, length, option_map, slice_get, IfOk, OnOk};
 ghost use Rattle.xk_types.specs.Schedule.{is_enabled};
 ghost use Rattle.xk_activity.specs.Activities.{act_at};
 ghost use Rattle.xk_activity.specs.Local.{code_of};
@@ -30,20 +30,30 @@ fn code_of(program: &Module, unit: u16) -> &[Instr]
     }
 }
 
+/// This many, and one more for each frame that waits for the present one to return.
+#[tactic(auto, using(crate::proofs::DepthLemmas::none_waits, crate::proofs::DepthLemmas::one_less))]
+fn depth_from(frames: &mut Frames<'_>, n: usize) -> Result<usize, AllocError>
+    ensures { IfOk result (λ depth. depth ≡ n + length frames.old.callers) }
+{
+    if !frames.up() {
+        return Ok(n);
+    }
+    match n.checked_add(1) {
+        Some(more) => depth_from(frames, more),
+        None => Err(AllocError),
+    }
+}
+
 /// How many frames wait for the present one to return. Err where memory was refused.
 fn depth_of(frames: &Frames<'_>) -> Result<usize, AllocError>
     ensures { IfOk result (λ n. n ≡ length frames.now.callers) }
 {
     let mut above = frames.copy()?;
-    for depth in 0..usize::MAX {
-        if !above.up() {
-            return Ok(depth);
-        }
-    }
-    Err(AllocError)
+    depth_from(&mut above, 0)
 }
 
 /// Where the activity of a step stands behind it. Err where memory was refused.
+#[tactic(auto, using(crate::proofs::DepthLemmas::nobody_stands))]
 fn spot(core: &Core<'_>, step: &RunStep) -> Result<Spot, AllocError>
     ensures { IfOk result (λ f. f ≡ spot core.now.world step.now) }
 {
@@ -72,7 +82,7 @@ fn awaited_at(
 ) -> Result<Vec<u32>, AllocError>
     requires { act < length core.now.world.activities }
     ensures { IfOk result (λ v. v.items ≡ awaited_at core.now.world act
-        (option_map (λ i. i.now) instr)) }
+        (option_map (λ i. i.now) instr.entry)) }
 {
     match instr {
         Some(instr) => match instr {
