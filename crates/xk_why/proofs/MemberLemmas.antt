@@ -147,8 +147,10 @@ with_new wanted (Some k) l h = of (list_any (same_location k) wanted) refl
   where
     is : k ≡ l
     is = cc h
+
     there : (x : Location) × IsAmong x wanted × (same_location k x ≡ true) → IsAmong l wanted
     there r = subst (λ x. IsAmong x wanted) (sym (is_one k r.0 r.2) ∙ is) r.1
+
     of : (b : Bool) → list_any (same_location k) wanted ≡ b → IsAmong l (if b then wanted else wanted ++ k ∷ [])
     of true e = there (found (same_location k) wanted e)
     of false e = subst (λ x. IsAmong x (wanted ++ k ∷ [])) is (last wanted k)
@@ -160,6 +162,7 @@ with_either wanted (Some k) l in_it = of (list_any (same_location k) wanted) in_
     last_one : IsAmong l wanted ⊎ (k ≡ l) → IsAmong l wanted ⊎ (Some k ≡ Some l)
     last_one (inl old) = inl old
     last_one (inr is) = inr (ap (λ x. Some x) is)
+
     of : (b : Bool) → IsAmong l (if b then wanted else wanted ++ k ∷ []) → IsAmong l wanted ⊎ (Some k ≡ Some l)
     of true old = inl old
     of false more = last_one (either wanted k l more)
@@ -188,9 +191,11 @@ was_wanted f wanted l in_it = by (with_either (with_any rest f.first) f.second l
   where
     rest : List Location
     rest = filter (λ x. not (overwrites f x)) wanted
+
     first : IsAmong l rest ⊎ (f.first ≡ Some l) → (IsAmong l wanted × (not (overwrites f l) ≡ true)) ⊎ Uses f l
     first (inl old) = inl (was_kept (λ x. not (overwrites f x)) wanted l old)
     first (inr is) = inr (inl is)
+
     by : IsAmong l (with_any rest f.first) ⊎ (f.second ≡ Some l) → (IsAmong l wanted × (not (overwrites f l) ≡ true)) ⊎ Uses f l
     by (inl old) = first (with_either rest f.first l old)
     by (inr is) = inr (inr is)

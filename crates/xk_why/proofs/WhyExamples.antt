@@ -19,7 +19,7 @@ entry a n some = record { act = a; steps = n; at_least_one = some }
 abbrev shared_numbers : ModuleValue
 shared_numbers = record (module_with (
     main_with 4 (instr.Lit 0 (pos 5) ∷ instr.Put 0 0 ∷ instr.Finish 4 ∷ instr.Spawn 1 (0 ∷ []) ∷ instr.EndFinish 2 ∷ instr.Get 1 0 ∷ instr.Get 2 1
-        ∷ instr.Add 3 1 2 ∷ instr.Print 3 ∷ instr.Ret ∷ [])
+    ∷ instr.Add 3 1 2 ∷ instr.Print 3 ∷ instr.Ret ∷ [])
     ∷ body_with (param.Number ∷ []) 2 (instr.Lit 1 (pos 3) ∷ instr.AddTo 0 1 ∷ instr.Put 1 0 ∷ instr.Ret ∷ [])
     ∷ [])) { shared = pos 0 ∷ pos 7 ∷ [] }
 

@@ -218,11 +218,7 @@ fn push_instr_flows(
 }
 
 /// What a step made at the place of this code where its activity stood.
-pub(crate) fn push_data(
-    list: &mut Vec<Flow>,
-    code: &[Instr],
-    spot: &Spot,
-) -> Result<(), AllocError>
+pub(crate) fn push_data(list: &mut Vec<Flow>, code: &[Instr], spot: &Spot) -> Result<(), AllocError>
     ensures { OnOk result (list.new.items ≡ list.old.items
         ++ instr_flows_if code.now spot.now (slice_get code.now spot.now.step.place)) }
 {

@@ -33,7 +33,10 @@ fn want(wanted: &mut Vec<Location>, location: Location) -> Result<(), AllocError
 }
 
 /// The same, if it is any.
-pub(crate) fn want_any(wanted: &mut Vec<Location>, location: Option<Location>) -> Result<(), AllocError>
+pub(crate) fn want_any(
+    wanted: &mut Vec<Location>,
+    location: Option<Location>,
+) -> Result<(), AllocError>
     ensures { OnOk result (wanted.new.items ≡ with_any wanted.old.items location) }
 {
     match location {
@@ -43,11 +46,7 @@ pub(crate) fn want_any(wanted: &mut Vec<Location>, location: Option<Location>) -
 }
 
 /// These, without those that a step overwrites.
-fn left_by(
-    alloc: Global,
-    flow: &Flow,
-    wanted: &[Location],
-) -> Result<Vec<Location>, AllocError>
+fn left_by(alloc: Global, flow: &Flow, wanted: &[Location]) -> Result<Vec<Location>, AllocError>
     ensures { IfOk result (λ v. v.items
         ≡ filter (λ l. not (overwrites flow.now l)) wanted.now) }
 {
