@@ -1,0 +1,6 @@
+pub mod MemberLemmas
+pub mod SliceLaw
+pub mod BackLemmas
+pub mod RestLaw
+pub mod DepthLemmas
+mod WhyExamples
