@@ -33,16 +33,15 @@ is_one (location.End s) (location.Slot t) h = cc
 is_one (location.End s) (location.Shared t) h = cc
 is_one (location.End s) (location.Signals t) h = cc
 
-pub number_itself : (a : ℕ) → nat_eq a a ≡ true
-number_itself a = eq-eqb a a refl
-
 -- each is told to be itself
 is_itself : (l : Location) → same_location l l ≡ true
 is_itself (location.Slot s) =
-    ap₂ (λ x y. x && y && nat_eq s.number s.number) (number_itself s.act) (number_itself s.depth) ∙ number_itself s.number
-is_itself (location.Shared s) = number_itself s
-is_itself (location.Signals r) = ap (λ x. x && nat_eq r.phase r.phase) (number_itself r.clock) ∙ number_itself r.phase
-is_itself (location.End a) = number_itself a
+    ap₂ (λ x y. x && y && nat_eq s.number s.number) (eq-eqb s.act s.act refl) (eq-eqb s.depth s.depth refl)
+    ∙ eq-eqb s.number s.number refl
+is_itself (location.Shared s) = eq-eqb s s refl
+is_itself (location.Signals r) =
+    ap (λ x. x && nat_eq r.phase r.phase) (eq-eqb r.clock r.clock refl) ∙ eq-eqb r.phase r.phase refl
+is_itself (location.End a) = eq-eqb a a refl
 
 -- ---- what a flow makes
 
@@ -155,7 +154,8 @@ with_new wanted (Some k) l h = of (list_any (same_location k) wanted) refl
     of true e = there (found (same_location k) wanted e)
     of false e = subst (λ x. IsAmong x (wanted ++ k ∷ [])) is (last wanted k)
 
-pub with_either : (wanted : List Location) (o : Option Location) (l : Location) → IsAmong l (with_any wanted o) → IsAmong l wanted ⊎ (o ≡ Some l)
+pub with_either : (wanted : List Location) (o : Option Location) (l : Location) → IsAmong l (with_any wanted o)
+    → IsAmong l wanted ⊎ (o ≡ Some l)
 with_either wanted None l in_it = inl in_it
 with_either wanted (Some k) l in_it = of (list_any (same_location k) wanted) in_it
   where

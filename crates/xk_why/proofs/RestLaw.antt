@@ -1,14 +1,16 @@
 -- The steps that are told are those behind a step, and no others.
-use Rattle.std.proofs.Common.{◌≡◌, ◌∙◌, ℕ, zero, suc, ◌-◌, Bool, true, false, not, ◌&&◌, nat_eq, List, [], ◌∷◌, ◌++◌, length, ◌⊎◌, ◌↔◌, inl, inr}
-use Rattle.std.proofs.Common.{Option, Some, None, slice_get, refl, sym, ap, subst, arith, if◌then◌else◌, true≢false}
+use Rattle.std.proofs.Common.{◌≡◌, ◌∙◌, ℕ, zero, suc, ◌-◌, Bool, true, false, not, ◌&&◌, nat_eq, List, [], ◌∷◌, ◌++◌, length}
+use Rattle.std.proofs.Common.{◌⊎◌, ◌↔◌, inl, inr}
+use Rattle.std.proofs.Common.{Option, Some, None, slice_get, refl, sym, ap, subst, arith, if◌then◌else◌, eq-eqb, true≢false}
 use Rattle.std.specs.Option.{option_map_or}
 use Rattle.xk_types.specs.Schedule.{is_local}
 use Rattle.xk_why.specs.declared.flows.Flow.{Flow}
 use Rattle.xk_why.specs.declared.flows.Location.{Location}
 use Rattle.xk_why.specs.Slices.{slice_of, with_any}
-use Rattle.xk_why.specs.Rest.{earlier, is_last, rest_of, steps_from, wanted_by, wanted_from, wanted_with, with_step, with_step_if, with_step_of}
+use Rattle.xk_why.specs.Rest.{earlier, is_last, rest_of, steps_from, wanted_by, wanted_from, wanted_with}
+use Rattle.xk_why.specs.Rest.{with_step, with_step_if, with_step_of}
 use Rattle.xk_why.specs.Exactness.{IsAmong, IsAt, IsBehind, IsUsedBy, RestIsExact, Uses}
-use Rattle.xk_why.proofs.MemberLemmas.{either, front, last, same_numbers, number_itself, with_either, with_new, with_old}
+use Rattle.xk_why.proofs.MemberLemmas.{either, front, last, same_numbers, with_either, with_new, with_old}
 use Rattle.xk_why.proofs.SliceLaw.{slice_is_exact}
 
 -- ---- what a step uses
@@ -44,7 +46,7 @@ still_used n f wanted l in_it = of (nat_eq f.step.number n)
 too_used : (n : ℕ) (f : Flow) (wanted : List Location) (l : Location) → f.step.number ≡ n → Uses f l → IsAmong l (wanted_with n f wanted)
 too_used n f wanted l is used =
     subst (λ b. IsAmong l (if b then with_any (with_any wanted f.first) f.second else wanted))
-    (sym (ap (λ k. nat_eq k n) is ∙ number_itself n)) (of used)
+    (sym (ap (λ k. nat_eq k n) is ∙ eq-eqb n n refl)) (of used)
   where
     of : Uses f l → IsAmong l (with_any (with_any wanted f.first) f.second)
     of (inl first) = with_old (with_any wanted f.first) f.second l (with_new wanted f.first l first)

@@ -1,20 +1,14 @@
 -- The slice has what is needed, and nothing else.
 use Rattle.std.proofs.Common.{◌≡◌, ◌∙◌, ℕ, zero, suc, ◌+◌, ◌<◌, Bool, true, false, not, List, [], ◌∷◌, length, ◌⊎◌, inl, inr}
-use Rattle.std.proofs.Common.{Option, Some, None, slice_get, refl, sym, ap, subst, arith, if◌then◌else◌, nat_lt, ltb-true, ltb-false, true≢false}
+use Rattle.std.proofs.Common.{Option, Some, None, slice_get, refl, sym, ap, subst, arith, if◌then◌else◌, true≢false}
 use Rattle.std.specs.List.{list_any}
+use Rattle.xk_races.proofs.KnowledgeLemmas.{at_last}
 use Rattle.xk_why.specs.declared.flows.Flow.{Flow}
 use Rattle.xk_why.specs.declared.flows.Location.{Location}
 use Rattle.xk_why.specs.Flows.{makes, overwrites}
 use Rattle.xk_why.specs.Slices.{slice_from, slice_of, slice_over, wanted_before}
 use Rattle.xk_why.specs.Exactness.{IsAmong, IsAt, IsMadeOf, IsNeeded, Leads, Reaches, Renews, RestsOn, SliceIsExact, Uses}
 use Rattle.xk_why.proofs.MemberLemmas.{found, finds, made_there, makes_there, not_renewed, stays, wanted_still, wanted_too, was_wanted}
-
-last_or_earlier : (i n : ℕ) → i < suc n → (i < n) ⊎ (i ≡ n)
-last_or_earlier i n h = of (nat_lt i n) refl
-  where
-    of : (b : Bool) → nat_lt i n ≡ b → (i < n) ⊎ (i ≡ n)
-    of true e = inl (ltb-true i n e)
-    of false e = inr (omega (arith, h, ltb-false i n e))
 
 -- ---- one flow further on
 
@@ -25,7 +19,7 @@ reaches_on fs n l i none r =
     record { earlier = omega (arith, e); flow = r.flow; here = r.here; made = r.made; stays = stay }
   where
     stay : (k : ℕ) → i < k → k < suc n → Renews fs k l → ⊥
-    stay k lo hi anew = by (last_or_earlier k n hi)
+    stay k lo hi anew = by (at_last k n hi)
       where
         by : (k < n) ⊎ (k ≡ n) → ⊥
         by (inl lt) = r.stays k lo lt anew
@@ -97,7 +91,8 @@ needed_before fs n f wanted i here some r = by (was_wanted f wanted r.location r
       rests = r.rests;
     }
     by (inr used) = needed_by fs n f wanted i here some
-        (inr (rests_more fs n r.maker i (record { flow = f; here = here; location = r.location; used = used; reached = r.reached }) r.rests))
+        (inr (rests_more fs n r.maker i
+        (record { flow = f; here = here; location = r.location; used = used; reached = r.reached }) r.rests))
 
 found_is_needed : (fs : List Flow) (n : ℕ) (wanted : List Location) (i : ℕ) → Found fs n wanted i
 found_is_needed fs zero wanted i in_it = absurd in_it
@@ -140,7 +135,8 @@ needed_is_found fs (suc n) wanted i r = of (λ w. needed_is_found fs n w i) (sli
     used : (f : Flow) → IsAt fs n f → (k : ℕ) → IsMadeOf fs n k → (k ≡ i) ⊎ RestsOn fs k i → IsNeeded fs n (wanted_before f wanted) i
     used f here k made rests = record {
       location = made.location;
-      is_wanted = wanted_too f wanted made.location (subst (λ (g : Flow). Uses g made.location) (same_flow fs n made.flow f made.here here) made.used);
+      is_wanted = wanted_too f wanted made.location
+          (subst (λ (g : Flow). Uses g made.location) (same_flow fs n made.flow f made.here here) made.used);
       maker = k;
       reached = made.reached;
       rests = rests;
@@ -167,7 +163,8 @@ needed_is_found fs (suc n) wanted i r = of (λ w. needed_is_found fs n w i) (sli
         let g = r.reached.flow in
         subst (λ (x : Flow). x.to ≡ Some r.location) (same_flow fs n g f (subst (λ x. IsAt fs x g) is r.reached.here) here) r.reached.made
 
-    by : ((w : List Location) → Finds fs n w i) → (f : Flow) → IsAt fs n f → (b : Bool) → list_any (makes f) wanted ≡ b → (r.maker < n) ⊎ (r.maker ≡ n)
+    by : ((w : List Location) → Finds fs n w i) → (f : Flow) → IsAt fs n f → (b : Bool) → list_any (makes f) wanted ≡ b
+        → (r.maker < n) ⊎ (r.maker ≡ n)
         → IsAmong i (if b then n ∷ slice_from fs n (wanted_before f wanted) else slice_from fs n wanted)
     by rest f here true some (inl lt) = inr (rest (wanted_before f wanted) (still f here lt))
     by rest f here true some (inr is) = last_one rest f here (subst (λ x. (x ≡ i) ⊎ RestsOn fs x i) is r.rests)
@@ -175,13 +172,15 @@ needed_is_found fs (suc n) wanted i r = of (λ w. needed_is_found fs n w i) (sli
     by rest f here false none (inr is) = absurd (true≢false
         (sym (finds (makes f) wanted r.location r.is_wanted (makes_there f r.location (made_by f here is))) ∙ none))
 
-    alone : ((w : List Location) → Finds fs n w i) → slice_get fs n ≡ None → (r.maker < n) ⊎ (r.maker ≡ n) → IsAmong i (slice_from fs n wanted)
+    alone : ((w : List Location) → Finds fs n w i) → slice_get fs n ≡ None → (r.maker < n) ⊎ (r.maker ≡ n)
+        → IsAmong i (slice_from fs n wanted)
     alone rest e (inl lt) = rest wanted (earlier lt)
     alone rest e (inr is) = let here = subst (λ x. IsAt fs x r.reached.flow) is r.reached.here in cc (e, here)
 
-    of : ((w : List Location) → Finds fs n w i) → (o : Option Flow) → slice_get fs n ≡ o → IsAmong i (slice_over n wanted o (slice_from fs n))
-    of rest None e = alone rest e (last_or_earlier r.maker n r.reached.earlier)
-    of rest (Some f) e = by rest f e (list_any (makes f) wanted) refl (last_or_earlier r.maker n r.reached.earlier)
+    of : ((w : List Location) → Finds fs n w i) → (o : Option Flow) → slice_get fs n ≡ o
+        → IsAmong i (slice_over n wanted o (slice_from fs n))
+    of rest None e = alone rest e (at_last r.maker n r.reached.earlier)
+    of rest (Some f) e = by rest f e (list_any (makes f) wanted) refl (at_last r.maker n r.reached.earlier)
 
 pub slice_is_exact : (fs : List Flow) (wanted : List Location) → SliceIsExact fs wanted
 slice_is_exact fs wanted i = (found_is_needed fs (length fs) wanted i, needed_is_found fs (length fs) wanted i)

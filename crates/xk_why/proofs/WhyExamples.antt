@@ -14,19 +14,20 @@ entry a n some = record { act = a; steps = n; at_least_one = some }
 
 -- ---- numbers
 
--- Main writes 5 to the first of two shared numbers and gives it to an activity, which adds 3 there and writes what it was given to the other one.
--- Behind that main prints the sum of both.
+-- Main writes 5 to the first of two shared numbers and gives it to an activity, which adds 3 there and writes what it was given to the
+-- other one. Behind that main prints the sum of both.
 abbrev shared_numbers : ModuleValue
 shared_numbers = record (module_with (
-    main_with 4 (instr.Lit 0 (pos 5) ∷ instr.Put 0 0 ∷ instr.Finish 4 ∷ instr.Spawn 1 (0 ∷ []) ∷ instr.EndFinish 2 ∷ instr.Get 1 0 ∷ instr.Get 2 1
-    ∷ instr.Add 3 1 2 ∷ instr.Print 3 ∷ instr.Ret ∷ [])
+    main_with 4 (instr.Lit 0 (pos 5) ∷ instr.Put 0 0 ∷ instr.Finish 4 ∷ instr.Spawn 1 (0 ∷ []) ∷ instr.EndFinish 2
+    ∷ instr.Get 1 0 ∷ instr.Get 2 1 ∷ instr.Add 3 1 2 ∷ instr.Print 3 ∷ instr.Ret ∷ [])
     ∷ body_with (param.Number ∷ []) 2 (instr.Lit 1 (pos 3) ∷ instr.AddTo 0 1 ∷ instr.Put 1 0 ∷ instr.Ret ∷ [])
     ∷ [])) { shared = pos 0 ∷ pos 7 ∷ [] }
 
 abbrev shared_log : List Entry
 shared_log = entry 0 4 (lit< tt) ∷ entry 1 4 (lit< tt) ∷ entry 0 6 (lit< tt) ∷ []
 
--- the print: both reads, the write and the addition that they saw, the start by which the number was given, and the write before the addition
+-- the print: both reads, the write and the addition that they saw, the start by which the number was given, and the write before the
+-- addition
 of_the_print : rest_of 13 (flows_of_run shared_numbers [] shared_log) ≡ 11 ∷ 10 ∷ 7 ∷ 6 ∷ 4 ∷ 2 ∷ []
 unfolding under_within
 of_the_print = refl

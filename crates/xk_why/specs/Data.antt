@@ -1,7 +1,8 @@
--- What a step makes of numbers, by the instruction that it carries out, and of what: which slots and shared numbers an instruction reads and
--- writes, `xk_types` says in `Step.antt`. A slot is told with its frame: the activity, and how many frames wait for that one to return. The
--- slots of a frame are unset before they are written, so that what stands in one was written for this frame and for none that had its place
--- before. The turns of a loop, and which way is taken at an `unless`, rest on numbers too; that isn't told here: it isn't of their making.
+-- What a step makes of numbers, by the instruction that it carries out, and of what: which slots and shared numbers an instruction reads
+-- and writes, `xk_types` says in `Step.antt`. A slot is told with its frame: the activity, and how many frames wait for that one to return.
+-- The slots of a frame are unset before they are written, so that what stands in one was written for this frame and for none that had its
+-- place before. The turns of a loop, and which way is taken at an `unless`, rest on numbers too; that isn't told here: it isn't of their
+-- making.
 use Rattle.std.specs.Prelude.{ℕ, zero, suc, ◌+◌, ◌-◌, nat_eq, false, List, [], ◌∷◌, Option, Some, None, slice_get, if◌then◌else◌}
 use Rattle.xk_types.specs.declared.instr.Instr.{Instr}
 use Rattle.xk_types.specs.declared.instr.Instr.TheVariants as instr

@@ -1,5 +1,6 @@
 -- What is told of the steps that a step rests on: the lines that these have among those of the run. This project's own.
-use Rattle.std.specs.Prelude.{ℕ, ℤ, nat_eq, nat_lt, Bool, false, List, [], ◌∷◌, ◌++◌, length, take, flat_map, Option, codes, decimal, slice_get, if◌then◌else◌}
+use Rattle.std.specs.Prelude.{ℕ, ℤ, nat_eq, nat_lt, Bool, false, List, [], ◌∷◌, ◌++◌, length, take, flat_map}
+use Rattle.std.specs.Prelude.{Option, codes, decimal, slice_get, if◌then◌else◌}
 use Rattle.std.specs.Option.{option_map_or}
 use Rattle.xk_types.specs.declared.world.Entry.{Entry}
 use Rattle.xk_types.specs.Code.{ModuleValue}

@@ -1,5 +1,6 @@
--- What a step does for those who wait, and whom it waited for. Who waits for whom, `xk_types` says in `Step.antt`: a clock goes on to its next phase
--- once nobody is registered on it who has neither resumed nor left it, and an `endfinish` is taken once all activities under its finish have ended.
+-- What a step does for those who wait, and whom it waited for. Who waits for whom, `xk_types` says in `Step.antt`: a clock goes on to its
+-- next phase once nobody is registered on it who has neither resumed nor left it, and an `endfinish` is taken once all activities under its
+-- finish have ended.
 use Rattle.std.specs.Prelude.{ℕ, ◌-◌, true, List, [], ◌∷◌, length, Option, Some, None, if◌then◌else◌}
 use Rattle.std.specs.Option.{option_to_list}
 use Rattle.xk_types.specs.declared.instr.Instr.{Instr}
@@ -32,8 +33,8 @@ added s to = record { step = s; to = to; adds = true; first = None; second = Non
 abbrev pub used : RunStep → Option Location → Flow
 used s first = flow s None first None
 
--- In world v, to which step s led: it is one by which clock c ceased to await its activity, in the phase in which the clock was before the step; or
--- it passes clock c, which waited for those of the phase before the present one; or its activity ends.
+-- In world v, to which step s led: it is one by which clock c ceased to await its activity, in the phase in which the clock was before the
+-- step; or it passes clock c, which waited for those of the phase before the present one; or its activity ends.
 abbrev pub part_flow : World → RunStep → Part → Option Flow
 part_flow v s (part.Signal c) = Some (added s (signals c (phase_of v c - (if has_advanced v c then 1 else 0))))
 part_flow v s (part.Pass c) = Some (used s (signals c (phase_of v c - 1)))

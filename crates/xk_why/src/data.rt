@@ -1,7 +1,8 @@
 //! What a step made of numbers, by the instruction that it carried out.
 
 ghost use Rattle.std.specs.Prelude.{◌≡◌, ◌++◌, Some, IfOk, OnOk, option_map, slice_get};
-ghost use Rattle.xk_why.specs.Data.{adding, alone, begun, calling, computed, copied, counted, flow, handed_from, instr_flows, instr_flows_if, loop_slot, printing, putting, reading, shared, slot, starting};
+ghost use Rattle.xk_why.specs.Data.{adding, alone, begun, calling, computed, copied, counted, flow, handed_from};
+ghost use Rattle.xk_why.specs.Data.{instr_flows, instr_flows_if, loop_slot, printing, putting, reading, shared, slot};
 
 use crate::flows::{Flow, Location, Slot};
 use std::alloc::AllocError;
@@ -51,18 +52,12 @@ pub(crate) struct Spot {
     pub(crate) place: u32,
 }
 
-/// A slot of the frame.
-fn own(spot: &Spot, number: u16) -> Option<Location>
-    ensures { result ≡ slot spot.now.step.act spot.now.depth number }
-{
-    slot(spot.step.act, spot.depth, number as usize)
-}
-
 /// A slot becomes a number that comes of no other.
 fn push_alone(list: &mut Vec<Flow>, spot: &Spot, d: u16) -> Result<(), AllocError>
     ensures { OnOk result (list.new.items ≡ list.old.items ++ alone spot.now d) }
 {
-    list.push(flow(&spot.step, own(spot, d), None, None))?;
+    let to = slot(spot.step.act, spot.depth, d as usize);
+    list.push(flow(&spot.step, to, None, None))?;
     Ok(())
 }
 
@@ -70,7 +65,9 @@ fn push_alone(list: &mut Vec<Flow>, spot: &Spot, d: u16) -> Result<(), AllocErro
 fn push_copied(list: &mut Vec<Flow>, spot: &Spot, d: u16, x: u16) -> Result<(), AllocError>
     ensures { OnOk result (list.new.items ≡ list.old.items ++ copied spot.now d x) }
 {
-    list.push(flow(&spot.step, own(spot, d), own(spot, x), None))?;
+    let to = slot(spot.step.act, spot.depth, d as usize);
+    let first = slot(spot.step.act, spot.depth, x as usize);
+    list.push(flow(&spot.step, to, first, None))?;
     Ok(())
 }
 
@@ -84,7 +81,10 @@ fn push_computed(
 ) -> Result<(), AllocError>
     ensures { OnOk result (list.new.items ≡ list.old.items ++ computed spot.now d x y) }
 {
-    list.push(flow(&spot.step, own(spot, d), own(spot, x), own(spot, y)))?;
+    let to = slot(spot.step.act, spot.depth, d as usize);
+    let first = slot(spot.step.act, spot.depth, x as usize);
+    let second = slot(spot.step.act, spot.depth, y as usize);
+    list.push(flow(&spot.step, to, first, second))?;
     Ok(())
 }
 
@@ -126,7 +126,8 @@ fn push_counted(list: &mut Vec<Flow>, spot: &Spot, k: Option<u16>) -> Result<(),
 fn push_reading(list: &mut Vec<Flow>, spot: &Spot, d: u16, s: u16) -> Result<(), AllocError>
     ensures { OnOk result (list.new.items ≡ list.old.items ++ reading spot.now d s) }
 {
-    list.push(flow(&spot.step, own(spot, d), shared(s), None))?;
+    let to = slot(spot.step.act, spot.depth, d as usize);
+    list.push(flow(&spot.step, to, shared(s), None))?;
     Ok(())
 }
 
@@ -134,7 +135,8 @@ fn push_reading(list: &mut Vec<Flow>, spot: &Spot, d: u16, s: u16) -> Result<(),
 fn push_putting(list: &mut Vec<Flow>, spot: &Spot, s: u16, x: u16) -> Result<(), AllocError>
     ensures { OnOk result (list.new.items ≡ list.old.items ++ putting spot.now s x) }
 {
-    list.push(flow(&spot.step, shared(s), own(spot, x), None))?;
+    let first = slot(spot.step.act, spot.depth, x as usize);
+    list.push(flow(&spot.step, shared(s), first, None))?;
     Ok(())
 }
 
@@ -142,7 +144,8 @@ fn push_putting(list: &mut Vec<Flow>, spot: &Spot, s: u16, x: u16) -> Result<(),
 fn push_adding(list: &mut Vec<Flow>, spot: &Spot, s: u16, x: u16) -> Result<(), AllocError>
     ensures { OnOk result (list.new.items ≡ list.old.items ++ adding spot.now s x) }
 {
-    list.push(flow(&spot.step, shared(s), shared(s), own(spot, x)))?;
+    let second = slot(spot.step.act, spot.depth, x as usize);
+    list.push(flow(&spot.step, shared(s), shared(s), second))?;
     Ok(())
 }
 
@@ -150,7 +153,8 @@ fn push_adding(list: &mut Vec<Flow>, spot: &Spot, s: u16, x: u16) -> Result<(), 
 fn push_printing(list: &mut Vec<Flow>, spot: &Spot, x: u16) -> Result<(), AllocError>
     ensures { OnOk result (list.new.items ≡ list.old.items ++ printing spot.now x) }
 {
-    list.push(flow(&spot.step, None, own(spot, x), None))?;
+    let first = slot(spot.step.act, spot.depth, x as usize);
+    list.push(flow(&spot.step, None, first, None))?;
     Ok(())
 }
 
@@ -181,13 +185,6 @@ fn push_calling(list: &mut Vec<Flow>, spot: &Spot, args: &[u16]) -> Result<(), A
     push_handed(list, &spot.step, spot.step.act, spot.depth, from, args)
 }
 
-/// An activity is started: it takes the next number.
-fn push_starting(list: &mut Vec<Flow>, spot: &Spot, args: &[u16]) -> Result<(), AllocError>
-    ensures { OnOk result (list.new.items ≡ list.old.items ++ starting spot.now args.now) }
-{
-    push_handed(list, &spot.step, spot.step.activities, 0, spot.depth, args)
-}
-
 /// What a step made by an instruction of this code.
 fn push_instr_flows(
     list: &mut Vec<Flow>,
@@ -212,7 +209,11 @@ fn push_instr_flows(
         Instr::AddTo { s, a } => push_adding(list, spot, *s, *a),
         Instr::Print(a) => push_printing(list, spot, *a),
         Instr::Call { args, .. } => push_calling(list, spot, args.slots()),
-        Instr::Spawn { args, .. } => push_starting(list, spot, args.slots()),
+        // the activity that is started takes the next number
+        Instr::Spawn { args, .. } => {
+            let next = spot.step.activities;
+            push_handed(list, &spot.step, next, 0, spot.depth, args.slots())
+        }
         _ => Ok(()),
     }
 }

@@ -34,7 +34,8 @@ impl Recount<Account> for SeenAccounts {
     }
 }
 
-/// The steps of a run that other activities can see, and what they were about. The log is played again for it. Err where memory was refused.
+/// The steps of a run that other activities can see, and what they were about. The log is played again for it.
+/// Err where memory was refused.
 pub(crate) fn seen_accounts(alloc: Global, ended: &Ended<'_>) -> Result<Vec<Account>, AllocError>
     ensures { IfOk result (λ v. v.items ≡ seen_accounts
         ended.now.module.now ended.now.core.world.arguments ended.now.log.items) }

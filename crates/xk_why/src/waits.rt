@@ -6,7 +6,7 @@ ghost use Rattle.xk_activity.specs.Activities.{act_at};
 ghost use Rattle.xk_core.specs.Core.{has_advanced};
 ghost use Rattle.xk_show_events.specs.Worlds.{phase_of};
 ghost use Rattle.xk_why.specs.Data.{flow};
-ghost use Rattle.xk_why.specs.Waits.{added, closing, deed_flows, ended, part_flow, signals, under, used};
+ghost use Rattle.xk_why.specs.Waits.{added, closing, deed_flows, ended, part_flow, signals, under};
 
 use crate::data::flow;
 use crate::flows::{Flow, Location, Round};
@@ -76,13 +76,6 @@ fn added(step: &RunStep, to: Option<Location>) -> Flow
     }
 }
 
-/// A step waited for these.
-fn used(step: &RunStep, first: Option<Location>) -> Flow
-    ensures { result ≡ used step.now first }
-{
-    flow(step, None, first, None)
-}
-
 /// What a step did for those who wait, or whom it waited for, by what it had to do with the order of the run.
 fn deed_flow(core: &Core<'_>, deed: &Deed) -> Option<Flow>
     ensures { result ≡ part_flow core.now.world deed.now.step deed.now.part }
@@ -92,7 +85,7 @@ fn deed_flow(core: &Core<'_>, deed: &Deed) -> Option<Flow>
         Part::Signal(clock) => Some(added(step, signals(clock, phase_before(core, clock)))),
         Part::Pass(clock) => {
             let phase = phase_of(core, clock).saturating_sub(1);
-            Some(used(step, signals(clock, phase)))
+            Some(flow(step, None, signals(clock, phase), None))
         }
         Part::End => Some(flow(step, ended(step.act), None, None)),
         _ => None,
@@ -168,7 +161,7 @@ pub(crate) fn push_closing(
         ++ flat_map (closing step.now) acts.now) }
 {
     for act in acts {
-        list.push(used(step, ended(*act)))?;
+        list.push(flow(step, None, ended(*act), None))?;
     }
     Ok(())
 }

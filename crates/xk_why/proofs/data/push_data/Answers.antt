@@ -9,5 +9,6 @@ pub returns-in-None : goal.returns-in-None
 returns-in-None c =
     let list = c.args.list.now.items in
     let code = c.args.code.now in
-    let none : slice_get code c.args.spot.now.step.place ≡ None = slice_get_past code c.args.spot.now.step.place c.in-None.ensures.lookup.3 in
+    let place = c.args.spot.now.step.place in
+    let none : slice_get code place ≡ None = slice_get_past code place c.in-None.ensures.lookup.3 in
     sym (append-nil list) ∙ ap (λ o. list ++ instr_flows_if code c.args.spot.now o) (sym none)
