@@ -3,4 +3,5 @@ pub mod SliceLaw
 pub mod BackLemmas
 pub mod RestLaw
 pub mod DepthLemmas
+pub mod LineLemmas
 mod WhyExamples

@@ -218,6 +218,7 @@ fn put_line_for(
 }
 
 /// So many lines are shown at most.
+#[tactic(auto, unfolding(crate::specs::Lines::most_shown))]
 fn most_shown() -> usize
     ensures { result ≡ most_shown }
 {
