@@ -4,7 +4,8 @@
     tests/prover/kept_ci.py EARLIER LOG [EARLIER LOG ..] [--leave 'NAME ..']
 
 EARLIER is another checkout in which `rt ci` ran, with its `out/` folders, and LOG what that run printed; it may itself
-have been such a run, and may have been stopped. The checkout of this script is proved by the kit's own functions. Kept
+have been such a run, may have been stopped, and may still be running: what it proves before this one comes to a crate
+is kept, too. The checkout of this script is proved by the kit's own functions. Kept
 are the proof and the tests of each crate whose files, and those of all below, are the same as there, and that was
 proved there; and its edits, where these are the same too and each was refused. Of several runs the first that has a
 crate counts. All else is done from nothing, and so are the runs of programs. The first lines say what is kept, the last
@@ -72,9 +73,15 @@ def edits_in(top: pathlib.Path, name: str) -> dict[str, str]:
 class Earlier:
     """What an earlier run did."""
 
-    def __init__(self, rtlib: ModuleType, top: pathlib.Path, log: str) -> None:
+    def __init__(self, rtlib: ModuleType, top: pathlib.Path, log: pathlib.Path) -> None:
         self.top = top
+        self.log = log
         self.crates = crates_in(rtlib, top)
+        self.read()
+
+    def read(self) -> None:
+        """Reads what the run has printed so far."""
+        log = self.log.read_text("utf-8", "replace")
         self.proofs = set(re.findall(r"rt: (\w+) proved$", log, re.MULTILINE))
         self.tests = set(re.findall(r"rt: (\w+): its tests are proved$", log, re.MULTILINE))
         self.edits = set(re.findall(r"^rt: must-fail (\w+/\S+): refused", log, re.MULTILINE))
@@ -104,17 +111,24 @@ class Earlier:
             subprocess.run(["cp", "-al", str(part), str(out)], check=True)
 
 
+def run_that_has(crate: Any, runs: list[Earlier], kept: dict[str, Earlier]) -> Earlier | None:
+    """The first run that has the crate, built over the libraries that are kept of those below, if these are kept."""
+    below = [it.name for it in crate.below()]
+    if not all(it in kept for it in below):
+        return None
+    for run in runs:
+        if run.has(crate) and all(run.library(it) == kept[it].library(it) for it in below):
+            return run
+    return None
+
+
 def runs_that_have(mine: dict[str, Any], runs: list[Earlier]) -> dict[str, Earlier]:
     """For each crate that is kept, the first run that has it, built over the libraries that are kept of those below."""
     kept: dict[str, Earlier] = {}
     for name, crate in sorted(mine.items(), key=lambda row: len(row[1].below())):
-        below = [it.name for it in crate.below()]
-        if not all(it in kept for it in below):
-            continue
-        for run in runs:
-            if run.has(crate) and all(run.library(it) == kept[it].library(it) for it in below):
-                kept[name] = run
-                break
+        run = run_that_has(crate, runs, kept)
+        if run:
+            kept[name] = run
     return kept
 
 
@@ -128,10 +142,19 @@ def keep(rt: ModuleType, runs: list[Earlier], kept: dict[str, Earlier], left: se
             run.take(name)
         return found
 
+    def keep_late(crate: Any) -> bool:
+        for run in runs:
+            run.read()
+        run = run_that_has(crate, runs, kept)
+        if run:
+            run.take(crate.name)
+            kept[crate.name] = run
+        return run is not None
+
     def ci(crate: Any, flags: list[str], tests: bool) -> int:
         if crate.name in left:
             return 1
-        if crate.name not in kept:
+        if crate.name not in kept and not keep_late(crate):
             return prove(crate, flags, tests)
         print(f"kept: {crate.name}{', its tests' if tests else ''}", flush=True)
         return 0
@@ -156,7 +179,7 @@ def main() -> int:
     pairs = [(top.resolve(), log.resolve()) for top, log in zip(given.runs[::2], given.runs[1::2])]
     rt, rtlib = kit()
     rt.Crate.allowed = rt.handles_of(str(TOP))
-    runs = [Earlier(rtlib, top, log.read_text("utf-8", "replace")) for top, log in pairs]
+    runs = [Earlier(rtlib, top, log) for top, log in pairs]
     mine = crates_in(rtlib, TOP)
     left = set(given.leave.split())
     kept = {name: run for name, run in runs_that_have(mine, runs).items() if name not in left}
