@@ -80,11 +80,11 @@ class Earlier:
         self.read()
 
     def read(self) -> None:
-        """Reads what the run has printed so far."""
+        """Reads what the run has printed so far. Its threads print at once: what one says may stand right behind another."""
         log = self.log.read_text("utf-8", "replace")
-        self.proofs = set(re.findall(r"rt: (\w+) proved$", log, re.MULTILINE))
-        self.tests = set(re.findall(r"rt: (\w+): its tests are proved$", log, re.MULTILINE))
-        self.edits = set(re.findall(r"^rt: must-fail (\w+/\S+): refused", log, re.MULTILINE))
+        self.proofs = set(re.findall(r"rt: (\w+) proved(?![ ,:])", log))
+        self.tests = set(re.findall(r"rt: (\w+): its tests are proved(?![ ,:])", log))
+        self.edits = set(re.findall(r"rt: must-fail (\w+/\S+): refused", log))
 
     def has(self, crate: Any) -> bool:
         """Whether the crate is the same there, and was proved with its tests."""
