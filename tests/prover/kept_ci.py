@@ -80,7 +80,8 @@ class Earlier:
         self.read()
 
     def read(self) -> None:
-        """Reads what the run has printed so far. Its threads print at once: what one says may stand right behind another."""
+        """Reads what the run has printed so far. Its threads print at once: so what one says may stand right behind
+        another's, on the same line."""
         log = self.log.read_text("utf-8", "replace")
         self.proofs = set(re.findall(r"rt: (\w+) proved(?![ ,:])", log))
         self.tests = set(re.findall(r"rt: (\w+): its tests are proved(?![ ,:])", log))
