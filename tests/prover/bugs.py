@@ -301,6 +301,12 @@ class Said:
         return ("not tried", self.without_proof[0]) if self.without_proof else ("passes", "")
 
 
+def is_own(words: list[str], own_path: list[str]) -> bool:
+    """Whether a function that the prover names so is the one with this path. An `impl` of a trait with types, as
+    `Recount<u8>`, has these behind its name there."""
+    return len(words) == len(own_path) and all(map(str.startswith, words, own_path)) and words[-1] == own_path[-1]
+
+
 def said(crate: Crate, bug: Bug, lines: list[str]) -> Said:
     """What is said of places in the bug's functions, or in the proofs that belong to them; of any, where it changes no
     function."""
@@ -319,7 +325,7 @@ def said(crate: Crate, bug: Bug, lines: list[str]) -> Said:
                 elif not name or m[1] == file and first <= int(m[2]) <= last:
                     found.add_source_line(m[3])
             elif m := re.match(r"fn \w+::(\S+): (?:no proof: |not proved(?:; |$))(.*)", line):
-                if name and [word.lower() for word in m[1].split("::")] == own_path:
+                if name and is_own([word.lower() for word in m[1].split("::")], own_path):
                     found.without_proof.append(m[2] or "another function of its cycle is refused")
     return found
 
