@@ -38,6 +38,7 @@ SEED_ALONE = "x10clock: --seed goes with --order random"
 RUNS_MISPLACED = "x10clock: --runs goes with --order random, and not with --log"
 LIST_MISPLACED = "x10clock: --expect goes without --log and --pick"
 PICK_ALONE = "x10clock: --pick goes with --log"
+PAGE_TORN = "x10clock: page goes with either LOG or --outcome"
 OVER_FILE = "x10clock: --log would write over FILE"
 OVER_ANSWERS = "x10clock: --log would write over FILE or standard input"
 ASKED_INPUT = "x10clock: --order ask reads standard input, so FILE can't be -"
@@ -99,10 +100,13 @@ OPTIONS = {
     "from": Option("--from <STEP>", COUNTS),
     "to": Option("--to <STEP>", COUNTS),
     "at": Option("--at <STEP>", UNSIGNED),
+    "outcome": Option("--outcome <K>", COUNTS),
     "log": Option("--log <PATH>"),
     "expect": Option("--expect <FILE2>"),
     "arg": Option("--arg <N>", SIGNED, is_list=True),
 }
+# A place that takes a number.
+NUMBERS = {"STEP": Option("<STEP>", COUNTS)}
 # A place that may stay empty.
 MAYBE = "?"
 # For each command its options, those that take no value, and its places.
@@ -118,9 +122,10 @@ COMMANDS: dict[str, tuple[set[str], set[str], list[str]]] = {
     "chart": ({"arg"}, {"module"}, ["FILE", "LOG"]),
     "events": ({"arg"}, {"module"}, ["FILE", "LOG"]),
     "lanes": ({"from", "to", "arg"}, {"module", "svg"}, ["FILE", "LOG"]),
-    "page": ({"from", "to", "arg"}, {"module"}, ["FILE", "LOG"]),
+    "page": ({"from", "to", "outcome", "arg"}, {"module"}, ["FILE", "LOG" + MAYBE]),
     "where": ({"at", "arg"}, {"module"}, ["FILE", "LOG"]),
     "span": ({"arg"}, {"module"}, ["FILE", "LOG"]),
+    "why": ({"arg"}, {"module"}, ["FILE", "LOG", "STEP"]),
 }
 
 
@@ -264,6 +269,8 @@ class Reader:
         if name is None:
             return
         if name not in OPTIONS:
+            if name in NUMBERS:
+                looked_at(NUMBERS[name], value)
             self.job.values[name] = value
             return
         if value is None:
@@ -304,6 +311,8 @@ def read(words: list[str]) -> Job:
             raise Mistake(LIST_MISPLACED)
         if "pick" in job.values and "log" not in job.values:
             raise Mistake(PICK_ALONE)
+        if first == "page" and ("LOG" in job.values) == ("outcome" in job.values):
+            raise Mistake(PAGE_TORN)
         return job
     if first == "help":
         raise helped(rest)
@@ -492,6 +501,19 @@ def first_log(judged: Accepted, arguments: Arguments) -> bytes:
     return logs.text_of(logs.log_of(judged.module, way, arguments))
 
 
+def log_given(job: Job, judged: Accepted, log_in: BinaryIO | None) -> bytes | None:
+    """The log of the run that is told of: the one that is given, that of a run with an outcome, if there is one, or that
+    of the run in the order `first`."""
+    if "LOG" in job.values:
+        return contents(log_in)
+    if "outcome" not in job.values:
+        return first_log(judged, tuple(job.numbers))
+    walk = outcomes.walked(judged.module, tuple(job.numbers))
+    if walk is None:
+        raise TooLong
+    return outcomes.answer(walk, outcomes.Asked(outcomes.USUAL_LIMIT, int(job.values["outcome"]), False)).log or None
+
+
 def answered(job: Job, data: bytes, given: BinaryIO, log_in: BinaryIO | None, log_out: BinaryIO | None) -> Told:
     """What is said of a program's bytes, with this standard input."""
     if job.command in ("compile", "listing"):
@@ -510,18 +532,20 @@ def answered(job: Job, data: bytes, given: BinaryIO, log_in: BinaryIO | None, lo
         return held(job, judged, log_in)
     if job.command in ("run", "outcomes"):
         return ran(job, judged, log_out) if job.command == "run" else searched(job, judged, log_out)
-    log = contents(log_in) if "LOG" in job.values else first_log(judged, tuple(job.numbers))
+    log = log_given(job, judged, log_in)
+    if log is None:
+        return searched(job, judged, None)
     window = range(int(job.values.get("from", "0")), int(job.values.get("to", str(2**64 - 1))) + 1)
     status, out, err = runs.answer(
         job.command,
         judged,
-        data,
-        "module" in job.flags,
+        Program(data, "module" in job.flags, job.values["FILE"]),
         log,
         tuple(job.numbers),
         window,
         "svg" in job.flags,
         int(job.values["at"]) if "at" in job.values else None,
+        int(job.values.get("STEP", "1")),
     )
     return Told(status, out, err.removesuffix("\n"))
 

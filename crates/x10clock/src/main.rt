@@ -533,8 +533,10 @@ fn is_left_open(command: &Command<'_>) -> bool
         | Command::Events { .. }
         | Command::Lanes { .. }
         | Command::Page { .. }
+        | Command::PageOf { .. }
         | Command::Where { .. }
         | Command::Span { .. }
+        | Command::Why { .. }
         | Command::Races { .. }
         | Command::Outcomes { .. }
         | Command::Expected { .. } => true,

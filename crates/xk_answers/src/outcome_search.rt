@@ -1,9 +1,9 @@
 //! What a module can print.
 
-ghost use Rattle.std.specs.Prelude.{◌≡◌, ◌≢◌, ℕ, List, IfOk, IfErr, None, OnOk, option_map, unwrap_or};
+ghost use Rattle.std.specs.Prelude.{◌≡◌, ◌≢◌, ℕ, List, IfOk, IfErr, None, OnOk, false, option_map, true, unwrap_or};
 ghost use Rattle.xk_log.specs.SomeBytes.{OfSome};
 ghost use Rattle.xk_types.specs.World.{AreArguments};
-ghost use Rattle.xk_answers.specs.Results.{ComesTo, Expected, IsFoundOut, IsHeldOut, Outcomes, kept_log, longest_list};
+ghost use Rattle.xk_answers.specs.Results.{AreOutcomes, ComesTo, Expected, IsFoundOut, IsHeldOut, Outcomes, kept_log, longest_list};
 ghost use Rattle.xk_program.specs.Refusals.{IsNotRun};
 ghost use Rattle.xk_program.specs.Bytes.{LosesAtMost};
 ghost use Rattle.xk_cli.specs.Status.{status_program};
@@ -41,6 +41,33 @@ pub fn searched(
     let limit = Limit::of(limit, verified.activities());
     let pick = pick.unwrap_or(1) as usize;
     Ok(found_out(alloc, sets, limit, pick, keeps_log, &verified, arguments)?)
+}
+
+/// What a module can print, as a text, and the log of the outcome that is asked for, if it is among those that were found.
+#[derive(Drop)]
+pub(crate) struct Picked {
+    pub(crate) text: Vec<u8>,
+    pub(crate) whole: bool,
+    pub(crate) log: Option<Vec<Entry>>,
+}
+
+/// All that an accepted module can print, and the log of the outcome of this number.
+pub(crate) fn picked(
+    alloc: Global,
+    limit: Limit,
+    pick: usize,
+    verified: &Verified,
+    arguments: &[i64],
+) -> Result<Picked, AllocError>
+    requires { AreArguments verified.now arguments.now }
+    ensures { IfOk result (λ p. AreOutcomes verified.now arguments.now false limit pick true
+        p.text.items p.whole (option_map (λ es. es.items) p.log)) }
+{
+    let found = outcomes_as(alloc, false, verified, arguments, limit)?;
+    let text = outcomes_text(alloc, &found.list, found.complete)?;
+    let log = kept_log(alloc, true, pick, &found.list)?;
+    let whole = is_whole(found.complete, true, log.is_some());
+    Ok(Picked { text, whole, log })
 }
 
 /// The same of an accepted module.

@@ -56,6 +56,10 @@ module_flag = flag (codes "module")
 abbrev pub log_place : Rule
 log_place = place (codes "LOG")
 
+-- STEP, which has to be there: a whole number of 64 bits but 0
+abbrev pub step_place : Rule
+step_place = record (place (codes "STEP")) { parser = Some (parser.Unsigned 1 most_count) }
+
 -- LOG, which needn't be there
 abbrev pub log_choice : Rule
 log_choice = record (new_rule (codes "LOG")) { action = Some action.Set }
@@ -96,6 +100,10 @@ from_option = record (count_option (codes "FROM") (codes "from")) { value_names 
 -- `--to STEP`
 abbrev pub to_option : Rule
 to_option = record (count_option (codes "TO") (codes "to")) { value_names = 1 }
+
+-- `--outcome K`
+abbrev pub outcome_option : Rule
+outcome_option = record (count_option (codes "OUTCOME") (codes "outcome")) { value_names = 1 }
 
 -- `--at STEP`
 abbrev pub at_option : Rule
@@ -151,13 +159,17 @@ on_run name = on_file name (module_flag ∷ log_place ∷ arg_option ∷ [])
 abbrev pub lanes_line : App
 lanes_line = on_file (codes "lanes") (module_flag ∷ log_place ∷ arg_option ∷ from_option ∷ to_option ∷ flag (codes "svg") ∷ [])
 
--- makes a page, maybe from a step on and up to one
+-- makes a page, of the run that a log has or of one with an outcome, maybe from a step on and up to one
 abbrev pub page_line : App
-page_line = on_file (codes "page") (module_flag ∷ log_place ∷ arg_option ∷ from_option ∷ to_option ∷ [])
+page_line = on_file (codes "page") (module_flag ∷ log_choice ∷ arg_option ∷ from_option ∷ to_option ∷ outcome_option ∷ [])
 
 -- tells how things stand, maybe after a step
 abbrev pub where_line : App
 where_line = on_file (codes "where") (module_flag ∷ log_place ∷ arg_option ∷ at_option ∷ [])
+
+-- tells what a step rests on
+abbrev pub why_line : App
+why_line = on_file (codes "why") (module_flag ∷ log_place ∷ step_place ∷ arg_option ∷ [])
 
 -- the program with a command that has to be there, and a version that it tells, in short and at length
 abbrev pub program : App
@@ -175,7 +187,7 @@ abbrev pub command_line : Names → App
 command_line names = with_commands program
     (check_line ∷ explain_line ∷ compile_line ∷ listing_line ∷ run_line names ∷ outcomes_line ∷ races_line
     ∷ on_run (codes "replay") ∷ on_run (codes "chart") ∷ on_run (codes "events") ∷ lanes_line ∷ page_line ∷ where_line
-    ∷ on_run (codes "span") ∷ [])
+    ∷ on_run (codes "span") ∷ why_line ∷ [])
 
 -- none of the arguments is one of subcommands too
 abbrev pub AreLocal : List Arg → Type 0
@@ -217,7 +229,7 @@ way_value (drive.Workers w) = By w.count
 -- A command without where its texts lie in memory. What is explained may be a JSON value. A run has who takes its steps, and the log's path, where
 -- they were given; one by hand, whose order a person is asked for, has the log's path; a tally has the first seed, and how many runs there are. Lanes have
 -- the log's path, the first step and the last, where they were given, and may be a picture; a page has the same steps. How things stand is told by the log's path,
--- and after a step, where that was given; races have the log's path, where it was given; the others on a log have its path. Outcomes have how many there are at most, which is picked, and the path of its log; numbers of them may
+-- and after a step, where that was given; what a step rests on has both; races have the log's path, where it was given; the others on a log have its path. Outcomes have how many there are at most, which is picked, and the path of its log; numbers of them may
 -- have no order. Where they are held against a list they have its path, how many there are at most, and whether numbers of them have no order.
 pub data Task : Type 0 where
   Check : Task
@@ -232,8 +244,10 @@ pub data Task : Type 0 where
   Events : Text → Task
   Lanes : Text → Option ℕ → Option ℕ → Bool → Task
   Page : Text → Option ℕ → Option ℕ → Task
+  PageOf : ℕ → Option ℕ → Option ℕ → Task
   Where : Text → Option ℕ → Task
   Span : Text → Task
+  Why : Text → ℕ → Task
   Races : Option Text → Task
   Outcomes : Option ℕ → Option ℕ → Option Text → Bool → Task
   Expected : Text → Option ℕ → Bool → Task
@@ -250,8 +264,10 @@ task_value (command.Chart log) = Chart log.now
 task_value (command.Events log) = Events log.now
 task_value (command.Lanes log from to svg) = Lanes log.now from to svg
 task_value (command.Page log from to) = Page log.now from to
+task_value (command.PageOf outcome from to) = PageOf outcome from to
 task_value (command.Where log at) = Where log.now at
 task_value (command.Span log) = Span log.now
+task_value (command.Why log step) = Why log.now step
 task_value (command.Races log) = Races (option_map (λ s. s.now) log)
 task_value (command.Outcomes limit pick log sets) = Outcomes limit pick (option_map (λ s. s.now) log) sets
 task_value (command.Expected list limit sets) = Expected list.now limit sets
@@ -399,6 +415,10 @@ page_on log given = Page log (count_in (codes "FROM") given) (count_in (codes "T
 abbrev pub where_on : Text → List Row → Task
 where_on log given = Where log (count_in (codes "AT") given)
 
+-- `why` on a log, with the step that was given to it
+abbrev pub why_on : Text → List Row → Option Task
+why_on log given = option_map (λ step. Why log step) (count_in (codes "STEP") given)
+
 -- the command of a name on a log, with what else was given to it
 abbrev pub command_on : Text → Text → List Row → Option Task
 command_on name log given =
@@ -406,13 +426,37 @@ command_on name log given =
     else (if bytes_eq name (codes "chart") then Some (Chart log)
     else (if bytes_eq name (codes "events") then Some (Events log)
     else (if bytes_eq name (codes "lanes") then Some (lanes_on log given)
-    else (if bytes_eq name (codes "page") then Some (page_on log given)
     else (if bytes_eq name (codes "where") then Some (where_on log given)
-    else (if bytes_eq name (codes "span") then Some (Span log) else None))))))
+    else (if bytes_eq name (codes "span") then Some (Span log)
+    else (if bytes_eq name (codes "why") then why_on log given else None))))))
 
 -- the command of a name that wants a log
 abbrev pub command_by_log : Text → List Row → Option Task
 command_by_log name given = option_and_then (λ log. command_on name log given) (first_of (codes "LOG") given)
+
+-- `page` of a run with this outcome, with what else was given to it
+abbrev pub page_of : ℕ → List Row → Task
+page_of outcome given = PageOf outcome (count_in (codes "FROM") given) (count_in (codes "TO") given)
+
+-- of a log or of an outcome, and not of both
+abbrev pub page_with : Option Text → Option ℕ → List Row → Option Task
+page_with (Some log) (Some outcome) given = None
+page_with (Some log) None given = Some (page_on log given)
+page_with None (Some outcome) given = Some (page_of outcome given)
+page_with None None given = None
+
+-- `page` with what was given to it
+abbrev pub page_by : List Row → Option Task
+page_by given = page_with (first_of (codes "LOG") given) (count_in (codes "OUTCOME") given) given
+
+-- both were given, or neither
+abbrev pub are_alike : Bool → Bool → Bool
+are_alike a b = (a && b) || (not a && not b)
+
+-- a log and an outcome were given to `page`, or neither
+abbrev pub is_page_torn : Text → List Row → Bool
+is_page_torn name given =
+    bytes_eq name (codes "page") && are_alike (is_some (first_of (codes "LOG") given)) (is_some (first_of (codes "OUTCOME") given))
 
 -- the command of a name other than `run`, with what else was given to it
 abbrev pub command_by : Text → List Row → Option Task
@@ -422,7 +466,8 @@ command_by name given =
     else (if bytes_eq name (codes "explain") then Some (Explain (is_flagged (codes "json") given))
     else (if bytes_eq name (codes "listing") then Some Listing
     else (if bytes_eq name (codes "outcomes") then outcomes_by given
-    else (if bytes_eq name (codes "races") then Some (Races (first_of (codes "LOG") given)) else command_by_log name given)))))
+    else (if bytes_eq name (codes "page") then page_by given
+    else (if bytes_eq name (codes "races") then Some (Races (first_of (codes "LOG") given)) else command_by_log name given))))))
 
 -- what the command of a name does, with what else was given to it
 abbrev pub task_by : Text → List Row → Option Task
@@ -483,6 +528,14 @@ picks_by found = option_map_or (λ p. is_pick_alone p.1) found false
 unfoldable pub picks_in : Names → List Text → Bool
 picks_in names words = picks_by (subcommand_of (command_line names) words)
 
+-- a log and an outcome were given to `page`, or neither
+abbrev pub tears_by : Option (Text × List Row) → Bool
+tears_by found = option_map_or (λ p. is_page_torn p.0 p.1) found false
+
+-- the words have `page` with a log and an outcome, or with neither, as `clap` takes them apart
+unfoldable pub tears_in : Names → List Text → Bool
+tears_in names words = tears_by (subcommand_of (command_line names) words)
+
 -- ---- why words are refused
 
 -- the fault fits the kind of `clap`'s error
@@ -494,6 +547,7 @@ FitsKind k fault.SeedAlone = ⊥
 FitsKind k fault.MisplacedRuns = ⊥
 FitsKind k fault.MisplacedList = ⊥
 FitsKind k fault.PickAlone = ⊥
+FitsKind k fault.PageTorn = ⊥
 FitsKind k fault.OutOfMemory = ⊤
 
 -- a mistake is among the kinds: one that is no request for help or for the version
@@ -502,18 +556,19 @@ HasMistake kinds = (k : ErrorKind) × IsAmong k kinds × (k ≢ kind.DisplayHelp
 
 -- Help is told only where it was asked for, words are called not understood only where `clap` finds a mistake in them, or where it finds
 -- nothing wrong and no job. The order and the workers are called to exclude each other only where both were given, a seed to stand alone only where
--- it does, a number of runs or a list to be misplaced only where it is, and an outcome to be picked for no log only where that is so, and nothing
--- is wrong else.
-abbrev pub IsRefused : Kinds → Option Asked → Bool → Bool → Bool → Bool → Bool → WordsFault → Type 0
-IsRefused kinds asked both alone misplaced crowded unlogged (fault.Help text) = IsAmong kind.DisplayHelp kinds ⊎ IsAmong kind.DisplayVersion kinds
-IsRefused kinds asked both alone misplaced crowded unlogged (fault.NotUnderstood text) =
-    HasMistake kinds ⊎ ((kinds ≡ []) × (asked ≡ None) × (both ≡ false) × (alone ≡ false) × (misplaced ≡ false) × (crowded ≡ false) × (unlogged ≡ false))
-IsRefused kinds asked both alone misplaced crowded unlogged fault.OrderAndWorkers = (kinds ≡ []) × (both ≡ true)
-IsRefused kinds asked both alone misplaced crowded unlogged fault.SeedAlone = (kinds ≡ []) × (alone ≡ true)
-IsRefused kinds asked both alone misplaced crowded unlogged fault.MisplacedRuns = (kinds ≡ []) × (misplaced ≡ true)
-IsRefused kinds asked both alone misplaced crowded unlogged fault.MisplacedList = (kinds ≡ []) × (crowded ≡ true)
-IsRefused kinds asked both alone misplaced crowded unlogged fault.PickAlone = (kinds ≡ []) × (unlogged ≡ true)
-IsRefused kinds asked both alone misplaced crowded unlogged fault.OutOfMemory = ⊤
+-- it does, a number of runs or a list to be misplaced only where it is, an outcome to be picked for no log, and a page to be of a log and an
+-- outcome or of neither, only where that is so, and nothing is wrong else.
+abbrev pub IsRefused : Kinds → Option Asked → Bool → Bool → Bool → Bool → Bool → Bool → WordsFault → Type 0
+IsRefused kinds asked both alone misplaced crowded unlogged torn (fault.Help text) = IsAmong kind.DisplayHelp kinds ⊎ IsAmong kind.DisplayVersion kinds
+IsRefused kinds asked both alone misplaced crowded unlogged torn (fault.NotUnderstood text) =
+    HasMistake kinds ⊎ ((kinds ≡ []) × (asked ≡ None) × (both ≡ false) × (alone ≡ false) × (misplaced ≡ false) × (crowded ≡ false) × (unlogged ≡ false) × (torn ≡ false))
+IsRefused kinds asked both alone misplaced crowded unlogged torn fault.OrderAndWorkers = (kinds ≡ []) × (both ≡ true)
+IsRefused kinds asked both alone misplaced crowded unlogged torn fault.SeedAlone = (kinds ≡ []) × (alone ≡ true)
+IsRefused kinds asked both alone misplaced crowded unlogged torn fault.MisplacedRuns = (kinds ≡ []) × (misplaced ≡ true)
+IsRefused kinds asked both alone misplaced crowded unlogged torn fault.MisplacedList = (kinds ≡ []) × (crowded ≡ true)
+IsRefused kinds asked both alone misplaced crowded unlogged torn fault.PickAlone = (kinds ≡ []) × (unlogged ≡ true)
+IsRefused kinds asked both alone misplaced crowded unlogged torn fault.PageTorn = (kinds ≡ []) × (torn ≡ true)
+IsRefused kinds asked both alone misplaced crowded unlogged torn fault.OutOfMemory = ⊤
 
 -- the status that the program ends with
 abbrev pub status_of : WordsFault → ℕ
@@ -524,4 +579,5 @@ status_of fault.SeedAlone = status_words
 status_of fault.MisplacedRuns = status_words
 status_of fault.MisplacedList = status_words
 status_of fault.PickAlone = status_words
+status_of fault.PageTorn = status_words
 status_of fault.OutOfMemory = status_memory

@@ -3,7 +3,7 @@
 ghost use Rattle.std.specs.Prelude.{◌≡◌, IfOk, option_map};
 ghost use Rattle.clap.specs.Words.{first_of, found_of, rows_of};
 ghost use Rattle.xk_cli.specs.CommandLine.{are_runs_misplaced, arguments_in, count_in, drive_in, form_in, is_both};
-ghost use Rattle.xk_cli.specs.CommandLine.{is_flagged, is_list_misplaced, is_order, is_pick_alone, is_seed_alone, order_in};
+ghost use Rattle.xk_cli.specs.CommandLine.{is_flagged, is_list_misplaced, is_order, is_page_torn, is_pick_alone, is_seed_alone, order_in};
 ghost use Rattle.xk_cli.specs.CommandLine.{order_named, seed_in, way_value, workers_in, workers_named};
 
 use crate::job::{Drive, Form, Order, Workers};
@@ -38,6 +38,15 @@ pub(crate) fn is_pick_alone(given: &ArgMatches<'_>) -> bool
     ensures { result ≡ is_pick_alone (rows_of (found_of given.now)) }
 {
     given_in(given, "K").is_some() && !given_in(given, "PATH").is_some()
+}
+
+/// Whether a log and an outcome were given to the command of this name, if it is `page`, or neither.
+pub(crate) fn is_page_torn(name: &str, given: &ArgMatches<'_>) -> bool
+    ensures { result ≡ is_page_torn name.now (rows_of (found_of given.now)) }
+{
+    let log = given_in(given, "LOG").is_some();
+    let outcome = given_in(given, "OUTCOME").is_some();
+    name == "page" && (log && outcome || !log && !outcome)
 }
 
 /// Whether both an order and workers were given.

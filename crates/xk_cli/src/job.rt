@@ -66,6 +66,15 @@ pub enum Command<'a> {
         /// `--to`, as for `lanes`.
         to: Option<u64>,
     },
+    /// `page --outcome`: make such a page of a run that prints an outcome of FILE.
+    PageOf {
+        /// The outcome, as `outcomes` counts them, from 1.
+        outcome: u64,
+        /// `--from`, as for `lanes`.
+        from: Option<u64>,
+        /// `--to`, as for `lanes`.
+        to: Option<u64>,
+    },
     /// `where`: print where in FILE each activity stands behind the steps that a log has.
     Where {
         /// The log's path.
@@ -77,6 +86,13 @@ pub enum Command<'a> {
     Span {
         /// The log's path.
         log: &'a str,
+    },
+    /// `why`: print what a step of the run of FILE that a log has rests on.
+    Why {
+        /// The log's path.
+        log: &'a str,
+        /// The step, counted from 1.
+        step: u64,
     },
     /// `races`: print which steps of a run of FILE race with one another.
     Races {
@@ -120,7 +136,8 @@ impl<'a> Command<'a> {
             | Command::Lanes { log, .. }
             | Command::Page { log, .. }
             | Command::Where { log, .. }
-            | Command::Span { log } => Some(log),
+            | Command::Span { log }
+            | Command::Why { log, .. } => Some(log),
             Command::Expected { list, .. } => Some(list),
             Command::Races { log } => log,
             Command::Check
@@ -129,6 +146,7 @@ impl<'a> Command<'a> {
             | Command::Listing
             | Command::Run { .. }
             | Command::Tally { .. }
+            | Command::PageOf { .. }
             | Command::Outcomes { .. } => None,
         }
     }
@@ -149,8 +167,10 @@ impl<'a> Command<'a> {
             | Command::Events { .. }
             | Command::Lanes { .. }
             | Command::Page { .. }
+            | Command::PageOf { .. }
             | Command::Where { .. }
             | Command::Span { .. }
+            | Command::Why { .. }
             | Command::Races { .. }
             | Command::Expected { .. } => None,
         }
@@ -172,8 +192,10 @@ impl<'a> Command<'a> {
             | Command::Events { .. }
             | Command::Lanes { .. }
             | Command::Page { .. }
+            | Command::PageOf { .. }
             | Command::Where { .. }
             | Command::Span { .. }
+            | Command::Why { .. }
             | Command::Races { .. }
             | Command::Outcomes { .. }
             | Command::Expected { .. } => None,
@@ -190,8 +212,10 @@ impl<'a> Command<'a> {
             | Command::Events { .. }
             | Command::Lanes { .. }
             | Command::Page { .. }
+            | Command::PageOf { .. }
             | Command::Where { .. }
             | Command::Span { .. }
+            | Command::Why { .. }
             | Command::Races { .. } => true,
             Command::Check
             | Command::Compile

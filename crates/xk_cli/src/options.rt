@@ -3,8 +3,8 @@
 ghost use Rattle.std.specs.Prelude.{◌≡◌, false};
 ghost use Rattle.clap.specs.Words.{rule_of};
 ghost use Rattle.xk_cli.specs.CommandLine.{WithOrders, arg_option, at_option, count_option, flag, from_option, log_choice};
-ghost use Rattle.xk_cli.specs.CommandLine.{log_option, log_place, module_flag, option, order_option, place};
-ghost use Rattle.xk_cli.specs.CommandLine.{seed_option, to_option, workers_option};
+ghost use Rattle.xk_cli.specs.CommandLine.{log_option, log_place, module_flag, option, order_option, outcome_option, place};
+ghost use Rattle.xk_cli.specs.CommandLine.{seed_option, step_place, to_option, workers_option};
 
 use crate::job::MOST_WORKERS;
 use clap::builder::ValueParser;
@@ -61,6 +61,20 @@ pub(crate) fn to_option<'a>(alloc: Global) -> Arg<'a>
 {
     let to = count_option(alloc, "TO", "to", "The last step that is drawn");
     to.value_name("STEP")
+}
+
+/// `--outcome K`.
+pub(crate) fn outcome_option<'a>(alloc: Global) -> Arg<'a>
+    ensures rule { rule_of result ≡ outcome_option }
+    ensures local { result.global ≡ false }
+{
+    let outcome = count_option(
+        alloc,
+        "OUTCOME",
+        "outcome",
+        "The outcome of FILE of which a run is shown, as outcomes counts them, where no LOG is given",
+    );
+    outcome.value_name("K")
 }
 
 /// `--at STEP`.
@@ -165,12 +179,12 @@ pub(crate) fn option<'a>(alloc: Global, name: &'a str, long: &'a str, help: &'a 
 }
 
 /// LOG, which needn't be there.
-pub(crate) fn log_choice<'a>(alloc: Global) -> Arg<'a>
+pub(crate) fn log_choice<'a>(alloc: Global, help: &'a str) -> Arg<'a>
     ensures rule { rule_of result ≡ log_choice }
     ensures local { result.global ≡ false }
 {
     Arg::new(alloc, "LOG")
-        .help("The log of a run of FILE: the run in the order first where nothing is said")
+        .help(help)
         .action(ArgAction::Set)
 }
 
@@ -180,6 +194,15 @@ pub(crate) fn log_place<'a>(alloc: Global) -> Arg<'a>
     ensures local { result.global ≡ false }
 {
     place(alloc, "LOG", "The log of a run of FILE")
+}
+
+/// STEP, which has to be there: a whole number from 1 on.
+pub(crate) fn step_place<'a>(alloc: Global) -> Arg<'a>
+    ensures rule { rule_of result ≡ step_place }
+    ensures local { result.global ≡ false }
+{
+    let step = place(alloc, "STEP", "The step of that run, counted from 1");
+    step.value_parser(ValueParser::unsigned(1, u64::MAX))
 }
 
 /// An argument without a long name, which has to be there.

@@ -21,6 +21,9 @@ pub const LIST_LINE: &str = "x10clock: --expect goes without --log and --pick\n"
 /// The line of words that have an outcome to pick, and no log.
 pub const PICK_LINE: &str = "x10clock: --pick goes with --log\n";
 
+/// The line of words that have a page of a log and of an outcome, or of neither.
+pub const PAGE_LINE: &str = "x10clock: page goes with either LOG or --outcome\n";
+
 /// The words are no job.
 #[derive(Debug, Drop, Error)]
 pub enum WordsFault {
@@ -45,6 +48,9 @@ pub enum WordsFault {
     /// `--pick` stands without `--log`.
     #[error("{line}", line = PICK_LINE)]
     PickAlone,
+    /// `page` stands with LOG and `--outcome`, or with neither.
+    #[error("{line}", line = PAGE_LINE)]
+    PageTorn,
     /// Memory ran out.
     #[error("out of memory")]
     OutOfMemory,
@@ -64,7 +70,8 @@ impl WordsFault {
             | WordsFault::SeedAlone
             | WordsFault::MisplacedRuns
             | WordsFault::MisplacedList
-            | WordsFault::PickAlone => status::WORDS,
+            | WordsFault::PickAlone
+            | WordsFault::PageTorn => status::WORDS,
             WordsFault::OutOfMemory => status::MEMORY,
         }
     }

@@ -10,7 +10,7 @@ use Rattle.xk_types.specs.Acceptance.{IsAccepted}
 use Rattle.xk_types.specs.Bound.{steps_bound, activities_bound, clocks_bound}
 use Rattle.xk_types.specs.Code.{ModuleValue, IsWithinLimits}
 use Rattle.xk_types.specs.Logs.{schedule_of}
-use Rattle.xk_types.specs.Schedule.{Leads}
+use Rattle.xk_types.specs.Schedule.{Leads, all_ended}
 use Rattle.xk_types.specs.World.{AreArguments}
 use Rattle.xk_bounds.specs.declared.refusal.Refusal.{Refusal}
 use Rattle.xk_bounds.specs.declared.refusal.Refusal.TheVariants as refusal
@@ -20,7 +20,8 @@ use Rattle.xk_module.specs.declared.fault.ModuleFault.{ModuleFault}
 use Rattle.xk_module.specs.declared.fault.ModuleFault.TheVariants as text
 use Rattle.xk_module.specs.ModuleText.{IsJson, IsModuleText, module_value}
 use Rattle.xk_module.proofs.TextLemmas.{one_module}
-use Rattle.xk_replay.specs.Replay.{IsWhole}
+use Rattle.xk_replay.specs.Replay.{IsLegal, IsStoppedAt, IsWhole}
+use Rattle.xk_replay.proofs.VerdictLemmas.{legal_not_stopped}
 use Rattle.xk_tree.specs.declared.fault.FrontFault.{FrontFault}
 use Rattle.xk_cli.specs.declared.job.Form.{Form}
 use Rattle.xk_cli.specs.declared.job.Form.TheVariants as form
@@ -29,8 +30,8 @@ use Rattle.xk_answers.specs.declared.job_result.Done.{Done}
 use Rattle.xk_answers.specs.declared.job_result.Done.TheVariants as done
 use Rattle.xk_program.specs.declared.fault.Fault.{Fault}
 use Rattle.xk_program.specs.declared.fault.Fault.TheVariants as fault
-use Rattle.xk_serve.specs.Answer.{Answers, IsSaidBy, Reply, Task, asks_verifier, done_reply, fault_reply, reads_list, reads_log, runs, wants_whole}
-use Rattle.xk_answers.specs.Results.{Check, ComesTo, Compile, Doing, Draw, Expected, Explain, IsLogText, IsNoRun, IsTelling, IsText, Listing, Outcomes, Races, Replay, Run, Tally, Where, list_in}
+use Rattle.xk_serve.specs.Answer.{Answers, IsSaidBy, Reply, Task, asks_verifier, done_reply, fault_reply, reads_list, reads_log, runs}
+use Rattle.xk_answers.specs.Results.{Check, ComesTo, Compile, Doing, Draw, Expected, Explain, IsLogText, IsNoRun, IsTelling, IsText, Listing, Outcomes, PageOf, Races, Replay, Run, Tally, Where, is_of_whole, list_in}
 use Rattle.xk_program.specs.Refusals.{IsMisfit}
 use Rattle.xk_answers.specs.Printed.{done_status, whole_status, done_log, done_text}
 use Rattle.xk_answers.specs.Explanation.{Tale}
@@ -44,6 +45,7 @@ use Rattle.xk_program.specs.Programs.{Gives, IsCompiledTo, IsNoModule, IsNoSourc
 use Rattle.xk_serve.proofs.LogUniquenessLemmas.{no_run_once, text_not_cut, text_not_wrong, text_once, whole_not_refused}
 use Rattle.xk_serve.proofs.RefusalUniquenessLemmas.{not_accepted, refusal_once, refused_status}
 use Rattle.xk_serve.proofs.RunUniquenessLemmas.{list_once, logged_once, ordered_once, run_taken}
+use Rattle.xk_serve.proofs.TaskLemmas.{MayStand}
 use Rattle.xk_serve.proofs.TellingUniquenessLemmas.{telling_once}
 use Rattle.xk_serve.proofs.TextUniquenessLemmas.{one_text, unfit_none, unfit_once}
 
@@ -66,6 +68,7 @@ Prints (Draw picture) m args logged out log = ⊥
 Prints (Where at) m args logged out log = ⊥
 Prints Races m args logged out log = ⊥
 Prints (Tally seed runs) m args logged out log = ⊥
+Prints (PageOf pick window) m args logged out log = ⊥
 Prints (Outcomes sets limit pick kept) m args logged out log = IsAccepted m × AreArguments m args
 Prints (Expected sets limit) m args logged out log = IsAccepted m × AreArguments m args × (stray_line (list_in logged) ≡ None)
 
@@ -92,6 +95,7 @@ prints (Draw picture) m args logged d h = absurd h
 prints (Where at) m args logged d h = absurd h
 prints Races m args logged d h = absurd h
 prints (Tally seed runs) m args logged d h = absurd h
+prints (PageOf pick window) m args logged d h = absurd h
 prints (Outcomes sets limit pick kept) m args logged (done.Outcomes t whole log) h = (h.0, h.1.taken)
 prints (Outcomes sets limit pick kept) m args logged _ h = absurd h.1
 prints (Expected sets limit) m args logged (done.Held t found) h = (h.0, h.1.0, h.1.1.may_stand)
@@ -113,6 +117,7 @@ done_zero (Draw picture) m args logged (done.Outcomes t whole log) one h = absur
 done_zero (Where at) m args logged (done.Outcomes t whole log) one h = absurd h
 done_zero Races m args logged (done.Outcomes t whole log) one h = absurd h
 done_zero (Tally seed runs) m args logged (done.Outcomes t whole log) one h = absurd h
+done_zero (PageOf pick window) m args logged (done.Outcomes t whole log) one h = absurd h
 done_zero (Outcomes sets limit pick kept) m args logged (done.Outcomes t whole log) one h = absurd one
 done_zero (Expected sets limit) m args logged (done.Outcomes t whole log) one h = absurd one
 done_zero Compile m args logged (done.Held t found) one h = absurd h
@@ -128,6 +133,7 @@ done_zero (Draw picture) m args logged (done.Held t found) one h = absurd h
 done_zero (Where at) m args logged (done.Held t found) one h = absurd h
 done_zero Races m args logged (done.Held t found) one h = absurd h
 done_zero (Tally seed runs) m args logged (done.Held t found) one h = absurd h
+done_zero (PageOf pick window) m args logged (done.Held t found) one h = absurd h
 done_zero (Outcomes sets limit pick kept) m args logged (done.Held t found) one h = absurd one
 done_zero (Expected sets limit) m args logged (done.Held t found) one h = absurd one
 done_zero what m args logged (done.Compiled t) one h = refl
@@ -145,6 +151,7 @@ done_zero (Draw picture) m args logged (done.Told t whole) one h = absurd h
 done_zero (Where at) m args logged (done.Told t whole) one h = absurd h
 done_zero Races m args logged (done.Told t whole) one h = absurd h
 done_zero (Tally seed runs) m args logged (done.Told t whole) one h = absurd h
+done_zero (PageOf pick window) m args logged (done.Told t whole) one h = absurd h
 done_zero (Outcomes sets limit pick kept) m args logged (done.Told t whole) one h = absurd h.1
 done_zero (Expected sets limit) m args logged (done.Told t whole) one h = absurd h.1
 done_zero what m args logged (done.Ended numbers steps log) one h = refl
@@ -164,6 +171,7 @@ prints_accepted (Draw picture) m args logged out log asks h = absurd h
 prints_accepted (Where at) m args logged out log asks h = absurd h
 prints_accepted Races m args logged out log asks h = absurd h
 prints_accepted (Tally seed runs) m args logged out log asks h = absurd h
+prints_accepted (PageOf pick window) m args logged out log asks h = absurd h
 prints_accepted (Outcomes sets limit pick kept) m args logged out log asks h = h.0
 prints_accepted (Expected sets limit) m args logged out log asks h = h.0
 
@@ -182,6 +190,7 @@ prints_taken (Draw picture) m args logged out log run h = absurd h
 prints_taken (Where at) m args logged out log run h = absurd h
 prints_taken Races m args logged out log run h = absurd h
 prints_taken (Tally seed runs) m args logged out log run h = absurd h
+prints_taken (PageOf pick window) m args logged out log run h = absurd h
 prints_taken (Outcomes sets limit pick kept) m args logged out log run h = h.1
 prints_taken (Expected sets limit) m args logged out log run h = h.1
 
@@ -203,6 +212,7 @@ prints_whole (Draw picture) m args logged out log reads h = absurd h
 prints_whole (Where at) m args logged out log reads h = absurd h
 prints_whole Races m args logged out log reads h = absurd h
 prints_whole (Tally seed runs) m args logged out log reads h = absurd h
+prints_whole (PageOf pick window) m args logged out log reads h = absurd h
 prints_whole (Outcomes sets limit pick kept) m args logged out log reads h = absurd (false≢true reads)
 prints_whole (Expected sets limit) m args logged out log reads h = absurd (false≢true reads)
 
@@ -234,6 +244,7 @@ prints_once (Draw picture) m args logged out log other kept none p q = absurd p
 prints_once (Where at) m args logged out log other kept none p q = absurd p
 prints_once Races m args logged out log other kept none p q = absurd p
 prints_once (Tally seed runs) m args logged out log other kept none p q = absurd p
+prints_once (PageOf pick window) m args logged out log other kept none p q = absurd p
 prints_once (Outcomes sets limit pick written) m args logged out log other kept none p q = absurd none
 prints_once (Expected sets limit) m args logged out log other kept none p q = absurd none
 
@@ -258,22 +269,31 @@ said_determined (Draw picture) kind file bytes said f h one = h
 said_determined (Where at) kind file bytes said f h one = h
 said_determined Races kind file bytes said f h one = h
 said_determined (Tally seed runs) kind file bytes said f h one = h
+said_determined (PageOf pick window) kind file bytes said f h one = h
 said_determined (Outcomes sets limit pick kept) kind file bytes said f h one = h
 said_determined (Expected sets limit) kind file bytes said f h one = h
 
 -- ---- what is told of it
 
--- a fault of the run that a log has is told where the log is to be that of a whole one
-abbrev pub MayStand : Doing → Fault → Type 0
-MayStand what (fault.NotEnabled i) = wants_whole what ≡ true
-MayStand what fault.NotEnded = wants_whole what ≡ true
-MayStand what _ = ⊤
-
--- the log that is read is that of a whole run, of whose module something is told
-telling_whole : (picture : Picture) (kind : Form) (file bytes : List ℕ) (m : ModuleValue) (args : List ℤ) (logged : List ℕ) (told : Tale)
-    → IsTelling (Draw picture) kind file bytes m args logged told → (es : List Entry) × IsLogText logged es × IsWhole m args es
-telling_whole picture kind file bytes m args logged told h =
-    let r = h.1.2 in (h.1.0, h.1.1, record { last = r.last; leads = r.leads; given = r.given; over = r.over })
+-- a legal log of which a picture is drawn isn't refused; where that is one of whole runs, all have ended behind it
+picture_stands : (p : Picture) (m : ModuleValue) (args : List ℤ) (logged : List ℕ) (es : List Entry) (f : Fault) → IsLogText logged es
+    → (legal : IsLegal m args es) → (is_of_whole p ≡ true → all_ended legal.last ≡ true) → IsNoRun m args logged f → MayStand (Draw p) f
+    → status_of f ≢ 4 → ⊥
+picture_stands p m args logged es (fault.Text f) text legal over told_by may not4 = told_by
+picture_stands p m args logged es (fault.Front f) text legal over told_by may not4 = told_by
+picture_stands p m args logged es (fault.Refused r) text legal over told_by may not4 = told_by
+picture_stands p m args logged es (fault.Arguments wants has) text legal over told_by may not4 = told_by
+picture_stands p m args logged es (fault.Grammar line) text legal over told_by may not4 = text_not_wrong logged line es text told_by
+picture_stands p m args logged es fault.Truncated text legal over told_by may not4 = text_not_cut logged es text told_by
+picture_stands p m args logged es (fault.NotEnabled i) text legal over told_by may not4 =
+    let same = text_once logged told_by.0 es told_by.1 text in
+    legal_not_stopped m args es i legal (subst (λ xs. IsStoppedAt m args xs i) same told_by.2)
+picture_stands p m args logged es fault.NotEnded text legal over told_by may not4 =
+    whole_not_refused m args logged fault.NotEnded es told_by not4 text
+    (record { last = legal.last; leads = legal.leads; given = legal.given; over = over may })
+picture_stands p m args logged es (fault.NoOutcome line) text legal over told_by may not4 = told_by
+picture_stands p m args logged es fault.OutOfMemory text legal over told_by may not4 = not4 refl
+picture_stands p m args logged es fault.Device text legal over told_by may not4 = told_by
 
 -- a text of a log that need not be that of a whole run isn't refused
 text_stands : (at : Option ℕ) (m : ModuleValue) (args : List ℤ) (logged : List ℕ) (es : List Entry) (f : Fault) → IsLogText logged es → IsNoRun m args logged f → MayStand (Where at) f
@@ -294,10 +314,11 @@ text_stands at m args logged es fault.Device text told_by may not4 = told_by
 telling_stands : (what : Doing) (kind : Form) (file bytes : List ℕ) (m : ModuleValue) (args : List ℤ) (logged : List ℕ) (told : Tale) (f : Fault) → reads_log what ≡ true
     → IsTelling what kind file bytes m args logged told → IsNoRun m args logged f → MayStand what f → status_of f ≢ 4 → ⊥
 telling_stands (Draw picture) kind file bytes m args logged told f reads h told_by may not4 =
-    let whole = telling_whole picture kind file bytes m args logged told h in whole_not_refused m args logged f whole.0 told_by not4 whole.1 whole.2
+    let of = h.1 in picture_stands picture m args logged of.0 f of.1 of.2 of.3 told_by may not4
 telling_stands (Where at) kind file bytes m args logged told f reads h told_by may not4 = text_stands at m args logged h.1.1.0 f h.1.1.1 told_by may not4
 telling_stands Races kind file bytes m args logged told f reads h told_by may not4 = false≢true reads
 telling_stands (Tally seed count) kind file bytes m args logged told f reads h told_by may not4 = false≢true reads
+telling_stands (PageOf pick window) kind file bytes m args logged told f reads h told_by may not4 = false≢true reads
 telling_stands (Explain json) kind file bytes m args logged told f reads h told_by may not4 = false≢true reads
 telling_stands Listing kind file bytes m args logged told f reads h told_by may not4 = false≢true reads
 telling_stands Check kind file bytes m args logged told f reads h told_by may not4 = h
@@ -314,6 +335,7 @@ telling_taken (Draw picture) kind file bytes m args logged told run h = subst (A
 telling_taken (Where at) kind file bytes m args logged told run h = h.1.0
 telling_taken Races kind file bytes m args logged told run h = run_taken _ m args h.1.0 h.1.1 h.1.3
 telling_taken (Tally seed runs) kind file bytes m args logged told run h = h.1
+telling_taken (PageOf pick window) kind file bytes m args logged told run h = h.1.found.taken
 telling_taken (Explain json) kind file bytes m args logged told run h = absurd (false≢true run)
 telling_taken Listing kind file bytes m args logged told run h = absurd (false≢true run)
 telling_taken Check kind file bytes m args logged told run h = absurd h
@@ -332,6 +354,7 @@ telling_unprinted (Draw picture) kind file bytes m args logged told out log h p 
 telling_unprinted (Where at) kind file bytes m args logged told out log h p = p
 telling_unprinted Races kind file bytes m args logged told out log h p = p
 telling_unprinted (Tally seed runs) kind file bytes m args logged told out log h p = p
+telling_unprinted (PageOf pick window) kind file bytes m args logged told out log h p = p
 telling_unprinted Check kind file bytes m args logged told out log h p = h
 telling_unprinted Compile kind file bytes m args logged told out log h p = h
 telling_unprinted (Run way kept) kind file bytes m args logged told out log h p = h
@@ -346,6 +369,7 @@ telling_accepted (Draw picture) kind file bytes m args logged told asks h = h.0
 telling_accepted (Where at) kind file bytes m args logged told asks h = h.0
 telling_accepted Races kind file bytes m args logged told asks h = h.0
 telling_accepted (Tally seed runs) kind file bytes m args logged told asks h = h.0
+telling_accepted (PageOf pick window) kind file bytes m args logged told asks h = h.0
 telling_accepted Listing kind file bytes m args logged told asks h = absurd (false≢true asks)
 telling_accepted Check kind file bytes m args logged told asks h = absurd h
 telling_accepted Compile kind file bytes m args logged told asks h = absurd h
@@ -390,6 +414,7 @@ lists_alone (Draw picture) lists = absurd (false≢true lists)
 lists_alone (Where at) lists = absurd (false≢true lists)
 lists_alone Races lists = absurd (false≢true lists)
 lists_alone (Tally seed runs) lists = absurd (false≢true lists)
+lists_alone (PageOf pick window) lists = absurd (false≢true lists)
 
 -- and reads no log
 list_or_log : (what : Doing) → reads_list what ≡ true → reads_log what ≡ true → ⊥
@@ -459,6 +484,7 @@ determined (Draw picture) one = tt
 determined (Where at) one = tt
 determined Races one = tt
 determined (Tally seed runs) one = tt
+determined (PageOf pick window) one = absurd one
 determined (Outcomes sets limit pick kept) one = absurd one
 determined (Expected sets limit) one = absurd one
 

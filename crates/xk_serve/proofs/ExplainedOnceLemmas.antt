@@ -23,7 +23,7 @@ use Rattle.xk_answers.specs.declared.job_result.Done.{Done}
 use Rattle.xk_answers.specs.declared.job_result.Done.TheVariants as done
 use Rattle.xk_answers.specs.Explanation.{IsExplanation, Tale, fault_said, refusal_said}
 use Rattle.xk_answers.specs.Printed.{done_status, done_text, whole_status}
-use Rattle.xk_answers.specs.Results.{Check, ComesTo, Compile, Doing, Draw, Expected, Explain, IsTelling, IsText, Listing, Outcomes, Races, Replay, Run, Tally, Where}
+use Rattle.xk_answers.specs.Results.{Check, ComesTo, Compile, Doing, Draw, Expected, Explain, IsTelling, IsText, Listing, Outcomes, PageOf, Races, Replay, Run, Tally, Where}
 use Rattle.xk_serve.specs.Answer.{Answers, FailsBy, IsSaidBy, IsSaidOf, Reply, Task, done_reply, fault_reply, reads_list, reads_log, runs}
 use Rattle.xk_serve.specs.OneAnswer.{AreWalks, ExplainFaults, IsLeftOpen, IsReplyOf, MayCheck, checking}
 use Rattle.xk_serve.proofs.AnswerUniquenessLemmas.{Case, Does, Misfit, NoRun, Astray, Prints, Read, Refusing, Said, Telling, Unfit, Unread, case_of, given_once, given_source, given_text, no_source, said_of, text_told, unread_none, unread_once}
@@ -81,6 +81,7 @@ said_by_once (Draw picture) kind file bytes f a b h k = h ∙ sym k
 said_by_once (Where at) kind file bytes f a b h k = h ∙ sym k
 said_by_once Races kind file bytes f a b h k = h ∙ sym k
 said_by_once (Tally seed count) kind file bytes f a b h k = h ∙ sym k
+said_by_once (PageOf pick window) kind file bytes f a b h k = h ∙ sym k
 said_by_once (Outcomes sets limit pick kept) kind file bytes f a b h k = h ∙ sym k
 said_by_once (Expected sets limit) kind file bytes f a b h k = h ∙ sym k
 

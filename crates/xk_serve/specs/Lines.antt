@@ -20,3 +20,7 @@ list_line = codes "x10clock: --expect goes without --log and --pick\n"
 -- they have an outcome to pick, and no log
 abbrev pub pick_line : List ℕ
 pick_line = codes "x10clock: --pick goes with --log\n"
+
+-- where a page is to be of a log and of an outcome, or of neither
+abbrev pub page_line : List ℕ
+page_line = codes "x10clock: page goes with either LOG or --outcome\n"

@@ -18,7 +18,7 @@ use Rattle.xk_program.specs.declared.fault.Fault.TheVariants as fault
 use Rattle.xk_bounds.specs.declared.refusal.Refusal.{Refusal}
 use Rattle.xk_bounds.specs.declared.refusal.Refusal.TheVariants as refusal
 use Rattle.xk_serve.specs.Answer.{Answers, IsSaidOf, Reply, Task, done_reply, fault_reply}
-use Rattle.xk_answers.specs.Results.{Check, Doing, Draw, Expected, Explain, IsLogText, Outcomes, Replay, Run}
+use Rattle.xk_answers.specs.Results.{Check, Doing, Draw, Expected, Explain, IsLogText, Outcomes, PageOf, Replay, Run}
 use Rattle.xk_messages.specs.Lines.{kind_text, line}
 use Rattle.xk_program.specs.Programs.{Gives, IsSource, SpellsNone}
 
@@ -59,6 +59,7 @@ ComesToOne _ = ⊤
 abbrev pub IsDetermined : Doing → Type 0
 IsDetermined (Run (By n) kept) = ⊥
 IsDetermined (Outcomes sets limit pick kept) = ⊥
+IsDetermined (PageOf pick window) = ⊥
 IsDetermined (Expected sets limit) = ⊥
 IsDetermined (Explain json) = ⊥
 IsDetermined _ = ⊤
@@ -66,6 +67,7 @@ IsDetermined _ = ⊤
 -- the status is one: no outcomes are looked for, which may be all or not
 abbrev pub HasOneStatus : Doing → Type 0
 HasOneStatus (Outcomes sets limit pick kept) = ⊥
+HasOneStatus (PageOf pick window) = ⊥
 HasOneStatus (Expected sets limit) = ⊥
 HasOneStatus _ = ⊤
 
