@@ -1,0 +1,4 @@
+pub mod StillLemmas
+pub mod StepLemmas
+pub mod RoundLemmas
+pub mod GreedyLemmas
