@@ -47,6 +47,7 @@ LOST = (
     "`atomic` adds in one step"
 )
 RESUMED = "the advanceAll behind this resumes all clocks, and waits for all: to resume `{}` first gains nothing"
+UNORDERED = "is {} here, and {} in an `async` before this one: only the schedule orders the two"
 
 
 # What statements hold, and which names they use.
@@ -182,6 +183,70 @@ def turns(stmt: Loop) -> int:
     return stmt.high - stmt.low + 1 if stmt.limit is None else 0
 
 
+# Activities beside one another.
+
+
+@dataclass(frozen=True)
+class Access:
+    """What is done with a number: it is read, written or added to."""
+
+    name: Name
+    done: str
+
+    def meets(self, other: Access) -> bool:
+        """Whether it counts which comes first."""
+        return self.name.text == other.name.text and {self.done, other.done} not in ({"read"}, {"added to"})
+
+
+def may_wait(stmt: Stmt) -> bool:
+    """Whether the activity that runs it may wait there."""
+    match stmt:
+        case Finish() | Call() | AdvanceAll():
+            return True
+        case Async():
+            return False
+    return any(map(may_wait, held(stmt)))
+
+
+def up_to_a_wait(stmts: list[Stmt]) -> list[Stmt]:
+    """Those that are come to before the activity may wait."""
+    waiting = [at for at, stmt in enumerate(stmts, start=1) if may_wait(stmt)]
+    return stmts[: waiting[0]] if waiting else stmts
+
+
+def accesses(stmt: Stmt) -> Iterator[Access]:
+    """What the activity does for sure before it may wait."""
+    match stmt:
+        case Declaration(right=Name() as read):
+            yield Access(read, "read")
+        case Assignment(name, right):
+            yield Access(name, "written")
+            if isinstance(right, Name):
+                yield Access(right, "read")
+        case Addition(name):
+            yield Access(name, "added to")
+        case Block(stmts):
+            for inner in up_to_a_wait(stmts):
+                yield from accesses(inner)
+        case Finish():
+            yield from accesses(stmt.body)
+        case Loop() if turns(stmt) >= 1:
+            yield from accesses(stmt.body)
+
+
+def meetings(stmts: list[Stmt]) -> Iterator[tuple[Access, Access]]:
+    """For each `async` of a block what it does, and what one before it does that may come later."""
+    for at, later in enumerate(stmts):
+        if not isinstance(later, Async):
+            continue
+        since = next((n for n in range(at, 0, -1) if may_wait(stmts[n - 1])), 0)
+        before = [access for stmt in stmts[since:at] if isinstance(stmt, Async) for access in accesses(stmt.body)]
+        for access in accesses(later.body):
+            met = next(filter(access.meets, before), None)
+            if met is not None:
+                yield access, met
+
+
 @dataclass(frozen=True)
 class Activity:
     """What is known of the activity at a place: that it is never on a clock; that the place is in a `clocked finish`
@@ -213,6 +278,17 @@ class Hints:
                 yield name.at, f"`{cut(name.text)}` is read, and never written"
         for method in self.tree.methods:
             yield from self.of_method(method)
+        yield from self.of_meetings()
+
+    def of_meetings(self) -> Iterator[Hint]:
+        """Of each shared number the first place in the text."""
+        blocks = [stmt.statements for stmt in within(self.bodies) if isinstance(stmt, Block)]
+        found = sorted((pair for stmts in blocks for pair in meetings(stmts)), key=lambda pair: pair[0].name.at)
+        first = {access.name.text: (access, met) for access, met in reversed(found)}
+        for access, met in first.values():
+            if access.name.text in self.shared:
+                words = UNORDERED.format(access.done, met.done)
+                yield access.name.at, f"`{cut(access.name.text)}` {words}"
 
     def of_method(self, method: Method) -> Iterator[Hint]:
         is_main = method.name.text == "main"

@@ -6,10 +6,12 @@ use Rattle.xk_tree.specs.declared.tree.Number.{Number}
 use Rattle.xk_tree.specs.declared.tree.Verb.{Verb}
 use Rattle.xk_tree.specs.declared.tree.Written.TheVariants as written
 use Rattle.xk_tree.specs.Tree.{Word, Clocks, Literal, Named, Make, Value, UpTo, MethodValue, SharedValue, TreeValue}
-use Rattle.xk_tree.specs.Tree.{Statements, Done, More, Block, Declare, Assign, For, Async, Finish, Drop, AdvanceAll, Print}
+use Rattle.xk_tree.specs.Tree.{Statement, Statements, Done, More, Block, Declare, Assign, For, Async, Finish, Drop, AdvanceAll, Print}
+use Rattle.xk_hints.specs.declared.access.Act.TheVariants as act
 use Rattle.xk_hints.specs.declared.remark.Matter.TheVariants as matter
 use Rattle.xk_hints.specs.Deeds.{some_in_method}
 use Rattle.xk_hints.specs.Hints.{here, method_remarks, on, remarks, shared_remarks}
+use Rattle.xk_hints.specs.Meetings.{method_meetings}
 use Rattle.xk_hints.specs.Words.{hints, words}
 
 abbrev verb : Verb
@@ -71,7 +73,7 @@ unread = refl
 
 -- `shared x = 1;`
 never : remarks (program (record { name = x; start = number 1 } ∷ []) Done) ≡ on matter.Unused x ∷ []
-unfolding shared_remarks method_remarks some_in_method
+unfolding shared_remarks method_remarks some_in_method method_meetings
 never = refl
 
 -- ---- `for (y in 3..1) Console.OUT.println(y);`, and `for (y in 3..3)`
@@ -89,3 +91,28 @@ turnless = refl
 one_turn : remarks (counted 3) ≡ []
 unfolding method_remarks
 one_turn = refl
+
+-- ---- `shared x = 0;`, and two activities: `async x = 1;` or `finish async x = 1;`, and then `async { val t = x; }`
+
+abbrev t : Word
+t = named 60 (codes "t")
+
+abbrev x_at : ℕ → Word
+x_at at = named at (codes "x")
+
+abbrev writer : Statement
+writer = Async 30 None (Assign (x_at 36) (Literal (number 1)))
+
+abbrev reader : Statement
+reader = Async 50 None (Block 70 (More (Declare binding.Val t None (Value (Named (x_at 64)))) Done))
+
+abbrev behind : Statement → TreeValue
+behind s = program (record { name = x; start = number 0 } ∷ []) (More s (More reader Done))
+
+beside : remarks (behind writer) ≡ on matter.Unused t ∷ on (matter.Unordered act.Read act.Write) (x_at 64) ∷ []
+unfolding shared_remarks method_remarks some_in_method method_meetings
+beside = refl
+
+waited_for : remarks (behind (Finish 24 writer)) ≡ on matter.Unused t ∷ []
+unfolding shared_remarks method_remarks some_in_method method_meetings
+waited_for = refl

@@ -1,3 +1,4 @@
+mod AccessLemmas
 mod Examples
 mod NameLemmas
 mod RemarkLemmas

@@ -1,8 +1,8 @@
 -- Hints: what is so in a program, and is seldom meant. This project's own.
-use Rattle.std.specs.Prelude.{ℕ, nat_lt, int_le, int_lt, pos, Bool, true, false, not, ◌&&◌, ◌||◌, List, [], ◌∷◌, ◌++◌, map, flat_map}
+use Rattle.std.specs.Prelude.{ℕ, nat_lt, int_lt, pos, Bool, true, false, not, ◌&&◌, ◌||◌, List, [], ◌∷◌, ◌++◌, map, flat_map}
 use Rattle.std.specs.Prelude.{codes, Option, is_none}
 use Rattle.std.specs.Prelude.{if◌then◌else◌}
-use Rattle.std.specs.List.{list_any}
+use Rattle.std.specs.List.{list_any, prefix_len}
 use Rattle.std.specs.Ordering.{int_eq}
 use Rattle.std.specs.Str.{bytes_eq}
 use Rattle.xk_types.specs.declared.unit.ParamKind.{ParamKind}
@@ -18,7 +18,9 @@ use Rattle.xk_hints.specs.declared.remark.Matter.{Matter}
 use Rattle.xk_hints.specs.declared.remark.Matter.TheVariants as matter
 use Rattle.xk_hints.specs.declared.remark.Place as place
 use Rattle.xk_hints.specs.declared.remark.Remark.{Remark}
+use Rattle.xk_hints.specs.Accesses.{surely_turns}
 use Rattle.xk_hints.specs.Deeds.{advance_first, does, is_named, some_among, some_of_methods, makes_clock, make_clock}
+use Rattle.xk_hints.specs.Meetings.{MeetingValue, all_meetings, first_in}
 use Rattle.xk_hints.specs.SharedNumbers.{is_shared_number, is_written_back, left_by}
 
 -- what is so, and of which name, or at which place
@@ -77,11 +79,7 @@ pub record PlaceValue : Type 0 where
 abbrev pub place_value : place.Place → PlaceValue
 place_value p = record { is_clockless = p.is_clockless; is_shared = p.is_shared; is_turned = p.is_turned; is_many = p.is_many }
 
--- a loop with these bounds has a turn, or more than one, whatever an expression comes to
-abbrev pub surely_turns : Number → Bound → Bool
-surely_turns lo (UpTo n) = int_le lo.value n.value
-surely_turns lo (Least x v e n) = false
-
+-- a loop with these bounds has more than one turn, whatever an expression comes to
 abbrev pub turns_again : Number → Bound → Bool
 turns_again lo (UpTo n) = int_lt lo.value n.value
 turns_again lo (Least x v e n) = false
@@ -208,9 +206,27 @@ unfoldable pub shared_remarks : List MethodValue → SharedValue → List Remark
 shared_remarks ms s =
     shared_number_remarks s (some_of_methods (does deed.Use s.name.text) ms) (some_of_methods (does deed.Write s.name.text) ms)
 
--- of shared numbers and methods, in the order of the text
+-- of a number in which two activities meet
+abbrev pub meeting_remark : MeetingValue → RemarkValue
+meeting_remark m = on (matter.Unordered m.here.act m.there) m.here.name
+
+-- how many stand before the first one that is further on in the text than this place
+abbrev pub place_among : ℕ → List Remark → ℕ
+place_among at rs = prefix_len (λ r. not (nat_lt at r.name.at)) rs
+
+-- among remarks, before the first one that is further on
+abbrev pub placed : RemarkValue → List RemarkValue → List RemarkValue
+placed r [] = r ∷ []
+placed r (q ∷ rs) = if nat_lt r.name.at q.name.at then r ∷ (q ∷ rs) else q ∷ placed r rs
+
+abbrev pub all_placed : List MeetingValue → List RemarkValue → List RemarkValue
+all_placed [] rs = rs
+all_placed (m ∷ ms) rs = all_placed ms (placed (meeting_remark m) rs)
+
+-- of shared numbers and methods, in the order of the text; of each shared number the first meeting is told
 abbrev pub all_remarks : List SharedValue → List MethodValue → List RemarkValue
-all_remarks ss ms = flat_map (shared_remarks ms) ss ++ flat_map (method_remarks ss ms) ms
+all_remarks ss ms =
+    all_placed (flat_map (first_in (all_meetings ms)) ss) (flat_map (shared_remarks ms) ss ++ flat_map (method_remarks ss ms) ms)
 
 -- a method ends behind so many bytes: each name is looked for in all that sees it, and a text that people write is shorter
 abbrev pub ends_late : MethodValue → Bool

@@ -2,6 +2,8 @@
 use Rattle.std.specs.Prelude.{ℕ, List, ◌++◌, map, codes}
 use Rattle.xk_tree.specs.Tree.{TreeValue}
 use Rattle.xk_explain_words.specs.Names.{told_name}
+use Rattle.xk_hints.specs.declared.access.Act.{Act}
+use Rattle.xk_hints.specs.declared.access.Act.TheVariants as act
 use Rattle.xk_hints.specs.declared.remark.Matter.{Matter}
 use Rattle.xk_hints.specs.declared.remark.Matter.TheVariants as matter
 use Rattle.xk_hints.specs.Hints.{RemarkValue, remarks}
@@ -21,6 +23,18 @@ opening matter.Clockless = codes "hint: this advanceAll waits for nobody: its ac
 opening matter.Resumed = codes "hint: the advanceAll behind this resumes all clocks, and waits for all: to resume `"
 opening _ = codes "hint: `"
 
+-- what is done with a number
+abbrev pub done : Act → List ℕ
+done act.Read = codes "read"
+done act.Write = codes "written"
+done act.Add = codes "added to"
+
+-- of what the schedule alone orders
+abbrev pub unordered : Act → Act → List ℕ
+unordered here there =
+    (((codes "` is " ++ done here) ++ codes " here, and ") ++ done there)
+    ++ codes " in an `async` before this one: only the schedule orders the two"
+
 -- behind it
 abbrev pub closing : Matter → List ℕ
 closing matter.Unused = codes "` is never used"
@@ -31,6 +45,7 @@ closing matter.Unjoined = codes "` is given to no activity and to no method: nob
 closing matter.Unawaited = codes "` is read here, and nothing has waited for the end of the `async` that writes it"
 closing matter.Overwritten =
     codes "` is read here, and written back later: what the `async` of another turn writes in between is lost; `atomic` adds in one step"
+closing (matter.Unordered here there) = unordered here there
 closing matter.Resumed = codes "` first gains nothing"
 closing _ = codes ""
 

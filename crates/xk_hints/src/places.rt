@@ -3,8 +3,9 @@
 ghost use Rattle.std.specs.Prelude.{◌≡◌, option_map};
 ghost use Rattle.xk_tree.specs.Tree.{bound, clock_list, method_value, statement, statements};
 ghost use Rattle.xk_hints.specs.Hints.{behind, behind_declared, in_body, in_branch, in_finish, in_loop, in_method, is_main, place_value};
-ghost use Rattle.xk_hints.specs.Hints.{surely_turns, turns_again};
+ghost use Rattle.xk_hints.specs.Hints.{turns_again};
 
+use crate::accesses::surely_turns;
 use crate::deeds::{Deed, make_clock, makes_clock, some_among};
 use crate::remark::Place;
 use xk_tree::{Binding, Bound, ClockList, Method, Number, Stmt};
@@ -28,17 +29,7 @@ pub(crate) fn in_method(method: &Method<'_>) -> Place
     }
 }
 
-/// Whether a loop with these bounds has a turn, whatever an expression comes to.
-fn surely_turns(lo: Number, limit: &Bound<'_>) -> bool
-    ensures { result ≡ surely_turns lo (bound limit.now) }
-{
-    match limit {
-        Bound::UpTo(n) => lo.value <= n.value,
-        Bound::Least(..) => false,
-    }
-}
-
-/// Whether it has more than one.
+/// Whether a loop with these bounds has more than one turn, whatever an expression comes to.
 fn turns_again(lo: Number, limit: &Bound<'_>) -> bool
     ensures { result ≡ turns_again lo (bound limit.now) }
 {

@@ -1,5 +1,6 @@
 //! What is told, and what is known at a place.
 
+use crate::access::Act;
 use xk_tree::Name;
 
 /// What is so.
@@ -27,6 +28,8 @@ pub enum Matter {
     Unawaited,
     /// The shared number is read and written back, by activities that are there at the same time.
     Overwritten,
+    /// This is done with the shared number, and that by an activity that was started beside this one: the schedule alone orders the two.
+    Unordered(Act, Act),
     /// The clock of this name is resumed, and then all clocks are.
     Resumed,
 }

@@ -4,12 +4,16 @@ ghost use Rattle.std.specs.Prelude.{◌≡◌, [], ◌++◌, flat_map, map, IfOk
 ghost use Rattle.std.specs.List.{list_any};
 ghost use Rattle.xk_tree.specs.Program.{tree_value};
 ghost use Rattle.xk_tree.specs.Tree.{expression, method_value, param_value, shared_value, source, statement, statements, word, words};
+ghost use Rattle.xk_hints.specs.Hints.{all_placed, meeting_remark, place_among, placed, remark_value};
 ghost use Rattle.xk_hints.specs.Hints.{all_remarks, declared_remarks, ends_late, here, is_used, is_waited_at, method_remarks};
 ghost use Rattle.xk_hints.specs.Hints.{name_read_remarks, number_remarks, on, param_remarks, place_value, read_remarks, remarks};
 ghost use Rattle.xk_hints.specs.Hints.{remarks_among, remarks_here, remarks_in, shared_number_remarks, shared_read_remarks};
+ghost use Rattle.xk_hints.specs.Meetings.{meeting_value, meetings_here};
 ghost use Rattle.xk_hints.specs.Hints.{shared_remarks, source_remarks, unjoined, when};
 
 use crate::deeds::{Deed, advance_first, is_among, some_among, some_of_methods};
+use crate::meeting::Meeting;
+use crate::meetings::{all_meetings, first_meetings};
 use crate::places::{behind, in_body, in_branch, in_finish, in_loop, in_method, is_main};
 use crate::remark::{Matter, Place, Remark};
 use crate::shared_numbers::{add_left, is_shared_number, is_written_back};
@@ -409,6 +413,47 @@ fn is_long(methods: &[Method<'_>]) -> bool
     false
 }
 
+/// What is told of a number in which two activities meet.
+fn meeting_remark(meeting: Meeting<'_>) -> Remark<'_>
+    ensures { remark_value result ≡ meeting_remark (meeting_value meeting.entry) }
+{
+    Remark {
+        matter: Matter::Unordered(meeting.here.act, meeting.there),
+        name: meeting.here.name,
+    }
+}
+
+/// How many remarks stand before the first one that is further on in the text than this place.
+fn place_among(at: usize, remarks: &[Remark<'_>]) -> usize
+    ensures { result ≡ place_among at remarks.now }
+{
+    remarks.iter().take_while(|r| !(at < r.name.at)).count()
+}
+
+/// Adds a remark where it belongs by its place in the text.
+#[tactic(auto, using(crate::proofs::RemarkLemmas::remarks_insert))]
+fn place<'t>(out: &mut Vec<Remark<'t>>, remark: Remark<'t>) -> Result<(), AllocError>
+    ensures { OnOk result (remarks_here out.new.items
+        ≡ placed (remark_value remark.entry) (remarks_here out.old.items)) }
+{
+    let i = place_among(remark.name.at, out);
+    match out.insert(i, remark) {
+        Ok(()) => Ok(()),
+        Err(_) => Err(AllocError),
+    }
+}
+
+/// Adds what is told of meetings, each where it belongs.
+fn place_all<'t>(out: &mut Vec<Remark<'t>>, meetings: &[Meeting<'t>]) -> Result<(), AllocError>
+    ensures { OnOk result (remarks_here out.new.items
+        ≡ all_placed (meetings_here meetings.now) (remarks_here out.old.items)) }
+{
+    for meeting in meetings {
+        place(out, meeting_remark(*meeting))?;
+    }
+    Ok(())
+}
+
 /// All that is told of shared numbers and methods, in the order of the text.
 fn all_remarks<'t>(
     alloc: Global,
@@ -421,6 +466,9 @@ fn all_remarks<'t>(
     let mut out = Vec::new(alloc);
     add_all_shared(&mut out, methods, shared)?;
     add_methods(&mut out, shared, methods)?;
+    let found = all_meetings(alloc, methods)?;
+    let told = first_meetings(alloc, &found, shared)?;
+    place_all(&mut out, &told)?;
     Ok(out)
 }
 

@@ -3,8 +3,9 @@
 ghost use Rattle.std.specs.Prelude.{◌≡◌, [], ◌∷◌, ◌++◌, map, IfOk, OnOk};
 ghost use Rattle.xk_tree.specs.Program.{tree_value};
 ghost use Rattle.xk_hints.specs.Hints.{remark_value, remarks_here};
-ghost use Rattle.xk_hints.specs.Words.{closing, hint, hints, opening, words};
+ghost use Rattle.xk_hints.specs.Words.{closing, done, hint, hints, opening, unordered, words};
 
+use crate::access::Act;
 use crate::remark::{Matter, Remark};
 use crate::remarks::remarks;
 use std::alloc::{AllocError, Global};
@@ -52,35 +53,10 @@ fn opening(matter: Matter) -> &'static str
         Matter::Unjoined => "hint: `",
         Matter::Unawaited => "hint: `",
         Matter::Overwritten => "hint: `",
+        Matter::Unordered(..) => "hint: `",
         Matter::Resumed => {
             "hint: the advanceAll behind this resumes all clocks, and waits for all: to resume `"
         }
-    }
-}
-
-/// What stands behind it.
-fn closing(matter: Matter) -> &'static str
-    ensures { result.now ≡ closing matter }
-{
-    match matter {
-        Matter::Unused => "` is never used",
-        Matter::Unread => "` is written, and never read",
-        Matter::Unwritten => "` is read, and never written",
-        Matter::Uncalled => "` is never called",
-        Matter::Unjoined => {
-            "` is given to no activity and to no method: nobody is on it but its maker"
-        }
-        Matter::Unawaited => {
-            "` is read here, and nothing has waited for the end of the `async` that writes it"
-        }
-        Matter::Overwritten => {
-            "` is read here, and written back later: what the `async` of another turn writes in between is lost; `atomic` adds in one step"
-        }
-        Matter::Resumed => "` first gains nothing",
-        Matter::Turnless => "",
-        Matter::UnjoinedFinish => "",
-        Matter::Beside => "",
-        Matter::Clockless => "",
     }
 }
 
@@ -91,6 +67,61 @@ fn push_text(out: &mut Vec<u8>, text: &str) -> Result<(), AllocError>
     out.extend_from_slice(text.as_bytes())
 }
 
+/// What is done with a number, in a word.
+fn done(act: Act) -> &'static str
+    ensures { result.now ≡ done act }
+{
+    match act {
+        Act::Read => "read",
+        Act::Write => "written",
+        Act::Add => "added to",
+    }
+}
+
+/// Adds what is said of what the schedule alone orders.
+fn push_unordered(out: &mut Vec<u8>, here: Act, there: Act) -> Result<(), AllocError>
+    ensures { OnOk result (out.new.items ≡ out.old.items ++ unordered here there) }
+{
+    push_text(out, "` is ")?;
+    push_text(out, done(here))?;
+    push_text(out, " here, and ")?;
+    push_text(out, done(there))?;
+    push_text(
+        out,
+        " in an `async` before this one: only the schedule orders the two",
+    )
+}
+
+/// Adds what stands behind a name.
+fn push_closing(out: &mut Vec<u8>, matter: Matter) -> Result<(), AllocError>
+    ensures { OnOk result (out.new.items ≡ out.old.items ++ closing matter) }
+{
+    match matter {
+        Matter::Unordered(here, there) => push_unordered(out, here, there),
+        Matter::Unused => push_text(out, "` is never used"),
+        Matter::Unread => push_text(out, "` is written, and never read"),
+        Matter::Unwritten => push_text(out, "` is read, and never written"),
+        Matter::Uncalled => push_text(out, "` is never called"),
+        Matter::Unjoined => push_text(
+            out,
+            "` is given to no activity and to no method: nobody is on it but its maker",
+        ),
+        Matter::Unawaited => push_text(
+            out,
+            "` is read here, and nothing has waited for the end of the `async` that writes it",
+        ),
+        Matter::Overwritten => push_text(
+            out,
+            "` is read here, and written back later: what the `async` of another turn writes in between is lost; `atomic` adds in one step",
+        ),
+        Matter::Resumed => push_text(out, "` first gains nothing"),
+        Matter::Turnless => Ok(()),
+        Matter::UnjoinedFinish => Ok(()),
+        Matter::Beside => Ok(()),
+        Matter::Clockless => Ok(()),
+    }
+}
+
 /// The words of a remark, with no more than 60 letters of its name.
 #[tactic(auto, unfolding(crate::specs::Words::words))]
 fn words(alloc: Global, remark: Remark<'_>) -> Result<Vec<u8>, AllocError>
@@ -99,7 +130,7 @@ fn words(alloc: Global, remark: Remark<'_>) -> Result<Vec<u8>, AllocError>
     let mut out = Vec::new(alloc);
     push_text(&mut out, opening(remark.matter))?;
     push_name(&mut out, remark.name.text)?;
-    push_text(&mut out, closing(remark.matter))?;
+    push_closing(&mut out, remark.matter)?;
     Ok(out)
 }
 
@@ -127,8 +158,9 @@ fn hints_of(alloc: Global, remarks: &[Remark<'_>]) -> Result<Vec<Hint>, AllocErr
 
 /// The hints on a tree, in the order of the text: names, shared numbers and methods that are never used, loops without a turn, clocks
 /// that nobody joins, activities beside the clock of a `clocked finish`, each `advanceAll` of an activity on no clock, clocks that are
-/// resumed right before one, and shared numbers that are read before anything has waited for who writes them, or are read and written back
-/// by the activities of a loop. A tree with a method that ends behind 65,536 bytes has none. Err where memory was refused.
+/// resumed right before one, and shared numbers that are read before anything has waited for who writes them, that the activities of a
+/// loop read and write back, or in which activities meet that the schedule alone orders. A tree with a method that ends behind 65,536
+/// bytes has none. Err where memory was refused.
 pub fn hints(alloc: Global, tree: &Tree<'_>) -> Result<Vec<Hint>, AllocError>
     ensures { IfOk result (λ v. v.items ≡ hints (tree_value tree.now)) }
 {

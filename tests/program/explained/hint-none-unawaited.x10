@@ -1,5 +1,5 @@
-// What is read is written by nobody who may go on: a finish has waited for him, or he comes later, or he wrote another number. What an
-// activity reads itself isn't told, nor what an activity on a clock writes.
+// What is read is written by nobody who may go on: a finish has waited for him, or he comes later, or he wrote another number. Nor is it told
+// what an activity on a clock writes. (Of c in the last finish another hint is: two activities meet there that the schedule alone orders.)
 shared a = 0;
 shared b = 0;
 shared c = 0;
