@@ -163,7 +163,7 @@ def compare(shown: dict[str, Any], run: Run, events: dict[int, str], steps: int)
 
 def try_moments(browser: Browser, run: Run, page: pathlib.Path) -> int:
     """Goes through all moments by the address, and then by keys and buttons; how many there are."""
-    events, asked = run.events(), run.asked()
+    events, asked = run.shown(), run.asked()
     browser.look("light", *SIZES["wide"])
     browser.open(page)
     for place, steps in enumerate(asked):

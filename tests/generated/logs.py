@@ -32,7 +32,7 @@ from dataclasses import dataclass, replace
 from tests import harness
 from tests.generated import generated, generated_source, tally
 from tests.harness import TOP
-from tests.reference import logs, modules, runs, source
+from tests.reference import events, logs, modules, runs, source
 from tests.reference.logs import Answer, Entry, Fault, Log
 from tests.reference.modules import Accepted, Arguments, ByChance, Order, Refused, Way
 
@@ -73,6 +73,10 @@ class Text:
     def judged(self) -> Accepted | Refused:
         return modules.judge(self.data) if self.is_module else source.judge(self.data)
 
+    def read(self) -> events.Program:
+        """It as it is read from standard input."""
+        return events.Program(self.data, self.is_module)
+
     def words(self) -> list[str]:
         return [*(["--module"] if self.is_module else []), *(f"--arg={number}" for number in self.arguments)]
 
@@ -97,7 +101,7 @@ class Told:
         return (0, modules.run(module, way, text.arguments).text(), ""), logs.text_of(log)
 
     def answer(self, text: Text, log: bytes, command: str) -> Answer:
-        return runs.answer(command, text.judged(), text.data, text.is_module, log, text.arguments)
+        return runs.answer(command, text.judged(), text.read(), log, text.arguments)
 
 
 class Program:
@@ -107,8 +111,8 @@ class Program:
         self.program, self.folder = program, pathlib.Path(folder)
         self.answers: collections.Counter[str] = collections.Counter()
 
-    def call(self, *words: object) -> Answer:
-        answer = harness.call([self.program, *words]).texts()
+    def call(self, *words: object, given: bytes = b"") -> Answer:
+        answer = harness.call([self.program, *words], given).texts()
         self.answers[tally.label(answer[0], answer[2])] += 1
         return answer
 
@@ -124,10 +128,9 @@ class Program:
         return answer, log.read_bytes()
 
     def answer(self, text: Text, log: bytes, command: str) -> Answer:
-        file, given, text = self.folder / "text", self.folder / "log", self.form(text)
-        file.write_bytes(text.data)
+        given, text = self.folder / "log", self.form(text)
         given.write_bytes(log)
-        return self.call(command, *text.words(), file, given)
+        return self.call(command, *text.words(), "-", given, given=text.data)
 
 
 class ProgramOnModules(Program):
@@ -369,7 +372,7 @@ def against_itself(rng: random.Random, text: Text, written: bytes, way: Way) -> 
         yield f"another run: {written!r}"
     again = logs.replay(module, joined(rng, log), text.arguments)
     for command in runs.OF_RUNS:
-        tell = runs.teller(command, text.data, text.is_module)
+        tell = runs.teller(command, text.read())
         if tell(again) != tell(played):
             yield f"joined entries give another run, by {command}: {written!r}"
     yield from where_against_itself(rng, text, log)

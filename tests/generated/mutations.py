@@ -42,7 +42,8 @@ from functools import cached_property
 from tests import harness
 from tests.generated import generated, generated_source, tally
 from tests.harness import TOP
-from tests.reference import explain, explain_json, listing, logs, meaning, modules, outcomes, runs, source
+from tests.reference import events, explain, explain_json, listing, logs, meaning, modules, outcomes, runs, source
+from tests.reference.events import Program
 from tests.reference.modules import Accepted, Arguments, ByChance, Order, Refused, Way
 from tests.reference.outcomes import Asked
 
@@ -244,9 +245,9 @@ class Comparer:
     source: bool
     answers: collections.Counter = field(default_factory=collections.Counter)
 
-    def ask(self, text: bytes, command: str, *more: str, log: str | None = None) -> Answer:
+    def ask(self, text: bytes, command: str, *more: str, behind: tuple[str, ...] = ()) -> Answer:
         form = [] if self.source else ["--module"]
-        words = [self.program, command, *more, *form, "-", *([log] if log else [])]
+        words = [self.program, command, *more, *form, "-", *behind]
         answer = Answer(*harness.call(words, text).texts())
         self.answers[tally.label(answer.status, answer.err)] += 1
         return answer
@@ -396,8 +397,8 @@ class Comparer:
             self.draws(text, judged, outcome)
 
     def draws(self, text: bytes, judged: Accepted, outcome: Outcome) -> None:
-        """`events`, `lanes`, its picture, `page`, `races`, `span` and `where` tell of a run by its log, unless it is a
-        large one."""
+        """`events`, `lanes`, its picture, `page`, `races`, `span`, `where` and `why` tell of a run by its log, unless
+        it is a large one."""
         way, given = random.Random(text).choice(ways(text, judged))
         log = logs.log_of(judged.module, way, given)
         if len(log) * judged.bounds.activities > MOST_DRAWN:
@@ -407,6 +408,8 @@ class Comparer:
         with tempfile.NamedTemporaryFile() as file:
             pathlib.Path(file.name).write_bytes(logs.text_of(log))
             step = random.Random(text).randrange(sum(entry.steps for entry in log) + 2)
+            seen = [taken.number for taken in events.seen(logs.replay(judged.module, log, given))]
+            of = random.Random(text).choice([*seen, max(step, 1)])
             for command, *flags in (
                 ["events"],
                 ["lanes"],
@@ -416,20 +419,22 @@ class Comparer:
                 ["span"],
                 ["where"],
                 ["where", f"--at={step}"],
+                ["why"],
             ):
                 told = Answer(
                     *runs.answer(
                         command,
                         judged,
-                        text,
-                        not self.source,
+                        Program(text, not self.source),
                         logs.text_of(log),
                         given,
                         is_picture=flags == ["--svg"],
                         at=step if flags and command == "where" else None,
+                        step=of,
                     )
                 )
-                answer = self.ask(text, command, *flags, *words_of(given), log=file.name)
+                behind = (file.name, str(of)) if command == "why" else (file.name,)
+                answer = self.ask(text, command, *flags, *words_of(given), behind=behind)
                 if answer != told:
                     outcome.differ(f"{' '.join([command, *flags])}, run {' '.join(way.words())}", told, answer)
 

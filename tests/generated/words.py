@@ -12,7 +12,8 @@ the status, standard output, the first line of standard error and what is in the
 run by workers prints is compared in any order, and its log is played again; outcomes, which the program tells in an
 order of its own, have to be right (tests/reference/outcomes.py), and so has their log, and what is said of them where
 they are held against a list. `--tally` tells how often each answer was given; `--only` prints the words of one case. It
-fails where something is answered otherwise, and where of 500 calls or more none told outcomes, events, lanes or a page.
+fails where something is answered otherwise, and where of 500 calls or more none told outcomes, events, lanes, a page or
+what a step rests on.
 """
 
 from __future__ import annotations
@@ -38,7 +39,7 @@ from tests.reference.modules import Order
 from tests.reference.outcomes import Answer
 
 # Of so many calls some have to tell what each of these commands tells.
-MANY, ANSWERED = 500, ("outcomes", "events", "lanes", "page")
+MANY, ANSWERED = 500, ("outcomes", "events", "lanes", "page", "why")
 CHUNK = 50
 SHOWN = 5
 IN_STEP, AS_MANY = ((TOP / f"tests/program/rows/{name}.x10").read_bytes() for name in ("in-step", "as-many"))
@@ -139,7 +140,11 @@ def meant(rng: random.Random, given: str) -> list[str]:
         at = parts.index([file])
         fitting = f"{(given if file == '-' else file)[:4]}.log"
         log = fitting if rng.random() < 0.6 else rng.choice(["cut.log", "waits.log", *NAMES])
-        parts.insert(rng.randrange(at + 1, len(parts) + 1), [log])
+        behind = rng.randrange(at + 1, len(parts) + 1)
+        parts.insert(behind, [log])
+        if command == "why":
+            step = str(rng.randrange(1, 15)) if rng.random() < 0.8 else rng.choice(NUMBERS)
+            parts.insert(rng.randrange(behind + 1, len(parts) + 1), [step])
     return [command, *(word for part in parts for word in part)]
 
 

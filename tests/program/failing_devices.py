@@ -94,6 +94,8 @@ CALLS = [
     ),
     *(Call(f"{command} --module - SECOND", MODULE, LOG) for command in ("replay", "chart")),
     Call("where --at 99 - SECOND", IN_STEP, LOG, status=6),
+    Call("why - SECOND 4", IN_STEP, LOG),
+    Call("why - SECOND 99", IN_STEP, LOG, status=6),
     Call("explain V9", b""),
     Call("outcomes --limit 1 --pick 2 --log LOG -", IN_STEP, status=6),
     Call("outcomes --expect SECOND -", IN_STEP, OUTCOMES),

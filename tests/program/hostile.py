@@ -126,6 +126,7 @@ def full_devices(tried: Tried) -> None:
     tried.answers("exec $x events in-step.x10 log > /dev/full", 5, err=DEVICE)
     for command in ("lanes", "lanes --svg", "page", "where", "races", "span"):
         tried.answers(f"exec $x {command} in-step.x10 log > /dev/full", 5, err=DEVICE)
+    tried.answers("exec $x why in-step.x10 log 4 > /dev/full", 5, err=DEVICE)
     tried.answers("exec $x races in-step.x10 > /dev/full", 5, err=DEVICE)
     tried.answers("exec $x run --order random --runs 3 in-step.x10 > /dev/full", 5, err=DEVICE)
     tried.answers("exec $x explain --json in-step.x10 > /dev/full", 5, err=DEVICE)
@@ -250,12 +251,13 @@ def strange_files(tried: Tried) -> None:
     tried.answers("exec $x listing --module /dev/zero", 1, err="x10clock: M3 Limit\n")
     tried.answers("exec $x listing /dev/null", 1, err="x10clock: F9 NoMain at 0\n")
     for command in (
-        "replay", "chart", "events", "lanes", "lanes --svg", "page", "where", "where --at 2", "races", "span"
+        "replay", "chart", "events", "lanes", "lanes --svg", "page", "where", "where --at 2", "races", "span", "why"
     ):  # fmt: skip
-        tried.answers(f"exec $x {command} in-step.x10 .", 5, err=unopened(command, ".", FOLDER))
-        tried.answers(f"exec $x {command} in-step.x10 no", 5, err=unopened(command, "no", MISSING))
-        tried.answers(f"exec $x {command} in-step.x10 /dev/zero", 3, err="x10clock: L1 Grammar line 1\n")
-        tried.answers(f"exec $x {command} in-step.x10 /dev/null", 3, err="x10clock: L2 Truncated\n")
+        step = " 4" if command == "why" else ""
+        tried.answers(f"exec $x {command} in-step.x10 .{step}", 5, err=unopened(command, ".", FOLDER))
+        tried.answers(f"exec $x {command} in-step.x10 no{step}", 5, err=unopened(command, "no", MISSING))
+        tried.answers(f"exec $x {command} in-step.x10 /dev/zero{step}", 3, err="x10clock: L1 Grammar line 1\n")
+        tried.answers(f"exec $x {command} in-step.x10 /dev/null{step}", 3, err="x10clock: L2 Truncated\n")
 
 
 def strange_names(tried: Tried) -> None:

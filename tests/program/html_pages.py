@@ -57,7 +57,7 @@ RUNS: tuple[tuple[str, str, tuple[int, ...]], ...] = (
     ("tags.x10", "first", ()),
 )
 # Whose write was read, in a line of `events`.
-WRITER = re.compile(r" \((?:step \d+|opening)\)$")
+WRITER = re.compile(r" \((?:step (\d+)|opening)\)$")
 # Elements that have no end, elements that fetch something, and attributes that say what is fetched; `href` is for parts
 # of the page alone.
 WITHOUT_END = {"meta", "input"}
@@ -151,6 +151,14 @@ class Run(NamedTuple):
         write was read."""
         lines = (WRITER.sub("", line) for line in self.ask("events", self.log).splitlines())
         return {int(line.split()[1]): line for line in lines}
+
+    def shown(self) -> dict[int, str]:
+        """The same as the script shows them: a read with the step whose write it saw, where that is one of the page."""
+        first = self.part[0] if self.part else 0
+        lines = {int(line.split()[1]): line for line in self.ask("events", self.log).splitlines()}
+        writers = {step: WRITER.search(line) for step, line in lines.items()}
+        told = {step: found[1] and int(found[1]) >= first for step, found in writers.items() if found}
+        return {step: line if told.get(step, True) else WRITER.sub("", line) for step, line in lines.items()}
 
     def asked(self) -> list[int]:
         """The steps behind which the page shows how things stand; 0 is before the first."""
@@ -273,6 +281,12 @@ def behind_first_line(element: Element, text: str) -> str:
     return text[1:]
 
 
+def try_title(page: Page, run: Run) -> None:
+    """The file's name stands in the title and in the heading."""
+    for name in ("title", "h1"):
+        same(name, [element.text for element in page.named(name)], [f"A run of {run.file}, step by step"])
+
+
 def try_source(page: Page, run: Run) -> None:
     """The source text stands in an element of its own. Behind `<pre>` HTML leaves out a line's end."""
     source = page.by_id("source")
@@ -334,6 +348,7 @@ def try_fetches(page: Page) -> None:
 def compare(text: str, run: Run) -> None:
     """Whether a page says what the program says of its run."""
     page = Page(text)
+    try_title(page, run)
     try_source(page, run)
     try_picture(page, run)
     try_moments(page, run)

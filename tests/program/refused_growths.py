@@ -289,12 +289,22 @@ def each_log(calls: Calls, folder: str) -> None:
                 raise Wrong(f"{name}, {command}: {told}")
             if not told.out:
                 raise Wrong(f"{name}, {command}: {told}")
+        for step, status in ((last.split()[-1].decode(), 0), ("999999", 6)):
+            told = calls.ask(f"{name}, why {step}", ["why", *words, "-", str(kept), step], text)
+            if told.status != status or not told.out:
+                raise Wrong(f"{name}, why {step}: {told}")
     text = (ROWS / "in-step.x10").read_bytes()
     for log, line in (("zero-steps", "L1 Grammar line 2"), ("no-end", "L2 Truncated"),
                       ("waits", "L4 NotEnabled entry 3"), ("stops", "L5 NotEnded")):
-        for command in ("replay", "chart", "events", "lanes", "page", "races", "span"):
+        so_far = () if log == "stops" else ("events", "lanes", "page")
+        for command in ("replay", "chart", *so_far, "races", "span"):
             err = f"x10clock: {line}\n".encode()
             calls.need(f"{command}, {log}", [command, "-", str(LOGS / f"{log}.log")], text, 3, b"", err)
+        calls.need(f"why, {log}", ["why", "-", str(LOGS / f"{log}.log"), "1"], text, 3, b"", err)
+    for command in ("events", "lanes", "lanes --svg", "page"):
+        told = calls.ask(f"{command}, stops", [*command.split(), "-", str(LOGS / "stops.log")], text)
+        if told.status != 6 or b"the log ends after step 11, before the run does" not in told.out:
+            raise Wrong(f"{command}, stops: {told}")
     for log, status in (("zero-steps", 3), ("no-end", 3), ("waits", 6), ("stops", 0)):
         stood = calls.ask(f"where, {log}", ["where", "-", str(LOGS / f"{log}.log")], text)
         if stood.status != status:

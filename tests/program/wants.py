@@ -112,6 +112,11 @@ def to_stand(activities: int) -> int:
     return 90 * activities
 
 
+def to_reason(makings: int, steps: int) -> int:
+    """What each step makes of what, also those that nobody else sees, and the steps that others see."""
+    return 900 * makings + 220 * steps
+
+
 def to_tally(lists: int, numbers: int) -> int:
     """A list has its numbers, their length and room, a seed, and how often it was printed."""
     return 160 * lists + to_print(numbers)
@@ -344,6 +349,25 @@ class Calls:
             (self.folder / "log").write_text(log)
             yield self.on_log(["where"], name, text, to_stand(judged(text).bounds.activities))
 
+    def of_reasons(self) -> Iterator[Call]:
+        """Somewhat more makings than a power of two, of a step that rests on nearly all, and of one that rests on none;
+        many places that are wanted at once."""
+        adds = "shared s=0;def main(){for(i in 1..133000)atomic s=s+1;val r=s;Console.OUT.println(r);}"
+        sums = "def main(){for(i in 1..133000);Console.OUT.println(1);}"
+        ends = "def main(){finish for(i in 1..3000)async;}"
+        for name, text, step, makings, seen in (
+            ("133,000 additions", adds, 2, 266_003, 133_003),
+            ("133,000 additions", adds, -1, 266_003, 133_003),
+            ("133,000 turns", sums, -1, 133_003, 2),
+            ("3,000 ends", ends, -1, 9_002, 6_003),
+        ):
+            yield self.logged(name, text, 1)
+            # The print, or the end of the finish, is the last step but one; an addition is the second.
+            path, entries = self.file(text), to_log(judged(text).bounds.steps)
+            asked = step if step > 0 else judged(text).bounds.steps - 1
+            most = self.small(text) + entries + to_reason(makings, seen)
+            yield Call(f"why {asked}, {name}", ["why", path, self.folder / "log", asked], most, 4)
+
     def of_tallies(self) -> Iterator[Call]:
         """One long list, a list again and again, and many lists."""
         for runs, lists, numbers, body in (
@@ -436,6 +460,7 @@ def main() -> int:
             calls.of_runs,
             calls.of_logs,
             calls.of_where,
+            calls.of_reasons,
             calls.of_tallies,
             calls.of_pictures,
             calls.of_races,

@@ -33,7 +33,7 @@ MOST = {
     "twice": 30,
     "pub": 82,
     "clauses": 0,
-    "code": 235,
+    "code": 234,
     "proofs": 6668,
     "docs": 80,
     "scripts": 0,

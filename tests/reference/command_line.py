@@ -103,6 +103,8 @@ OPTIONS = {
     "expect": Option("--expect <FILE2>"),
     "arg": Option("--arg <N>", SIGNED, is_list=True),
 }
+# A place that takes a number.
+NUMBERS = {"STEP": Option("<STEP>", COUNTS)}
 # A place that may stay empty.
 MAYBE = "?"
 # For each command its options, those that take no value, and its places.
@@ -121,6 +123,7 @@ COMMANDS: dict[str, tuple[set[str], set[str], list[str]]] = {
     "page": ({"from", "to", "arg"}, {"module"}, ["FILE", "LOG"]),
     "where": ({"at", "arg"}, {"module"}, ["FILE", "LOG"]),
     "span": ({"arg"}, {"module"}, ["FILE", "LOG"]),
+    "why": ({"arg"}, {"module"}, ["FILE", "LOG", "STEP"]),
 }
 
 
@@ -264,6 +267,8 @@ class Reader:
         if name is None:
             return
         if name not in OPTIONS:
+            if name in NUMBERS:
+                looked_at(NUMBERS[name], value)
             self.job.values[name] = value
             return
         if value is None:
@@ -515,13 +520,13 @@ def answered(job: Job, data: bytes, given: BinaryIO, log_in: BinaryIO | None, lo
     status, out, err = runs.answer(
         job.command,
         judged,
-        data,
-        "module" in job.flags,
+        Program(data, "module" in job.flags, job.values["FILE"]),
         log,
         tuple(job.numbers),
         window,
         "svg" in job.flags,
         int(job.values["at"]) if "at" in job.values else None,
+        int(job.values.get("STEP", "1")),
     )
     return Told(status, out, err.removesuffix("\n"))
 

@@ -29,10 +29,11 @@ WORDS = {
 
 @dataclass(frozen=True)
 class Program:
-    """The bytes of a program that is accepted: a source text or a module."""
+    """The bytes of a program that is accepted: a source text or a module, and the name of its file."""
 
     data: bytes
     is_module: bool
+    name: str = "-"
 
     def position(self, frame: Frame) -> str | None:
         """The line and column that a frame's next instruction comes from; a module alone has none."""

@@ -160,14 +160,26 @@ class Played:
     def chart(self) -> str:
         return "".join(advance.line() for advance in self.advances)
 
+    def ending(self) -> str:
+        """What is told behind the last step where not all have ended."""
+        left = sum(act.status is not modules.Status.ENDED for act in self.world.activities)
+        words = f"the log ends after step {self.steps}, before the run does; activities not ended: {left}"
+        return words if left else ""
 
-def replay(module: modules.Module, log: Iterable[Entry], arguments: Arguments = ()) -> Played:
-    """The run of a log, with these numbers given, which has to come to the end of all activities; raises Fault."""
+
+def carry_out(module: modules.Module, log: Iterable[Entry], arguments: Arguments = ()) -> Played:
+    """The run of a log, with these numbers given, as far as the log goes; raises Fault."""
     played = Played.opening(module, arguments)
     for number, entry in enumerate(log):
         for _ in range(entry.steps):
             if not played.step(entry.activity):
                 raise Fault(f"L4 NotEnabled entry {number}")
+    return played
+
+
+def replay(module: modules.Module, log: Iterable[Entry], arguments: Arguments = ()) -> Played:
+    """The same, which has to come to the end of all activities."""
+    played = carry_out(module, log, arguments)
     if not played.world.has_ended:
         raise Fault("L5 NotEnded")
     return played
@@ -189,18 +201,24 @@ def log_of(module: modules.Module, way: Way, arguments: Arguments = ()) -> Log:
 # Answers: the status, standard output and standard error of the program.
 
 Answer = tuple[int, str, str]
-# What is told of a run that came to its end, and whether that is all; where nothing is said of that, it is.
+# What is told of a run, and whether that is all; where nothing is said of that, it is.
 Teller = Callable[[Played], "str | tuple[str, bool]"]
 
 
-def answer(judged: modules.Accepted | modules.Refused, data: bytes, tell: Teller, arguments: Arguments = ()) -> Answer:
+def answer(
+    judged: modules.Accepted | modules.Refused,
+    data: bytes,
+    tell: Teller,
+    arguments: Arguments = (),
+    played_by: Callable[[modules.Module, Log, Arguments], Played] = replay,
+) -> Answer:
     """Of a command on a log: the program is judged, and the numbers that are given are counted, before the log is
-    read."""
+    read. It is that of a whole run, or of one that goes so far."""
     line = modules.refusal("replay", judged, arguments)
     if line:
         return 1, "", f"x10clock: {line}\n"
     try:
-        played = replay(judged.module, read(data), arguments)
+        played = played_by(judged.module, read(data), arguments)
     except Fault as fault:
         return 3, "", f"x10clock: {fault}\n"
     told = tell(played)

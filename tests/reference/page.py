@@ -41,8 +41,15 @@ def allowed(text: str) -> str:
     return f"'sha256-{base64.b64encode(hashlib.sha256(text.encode()).digest()).decode()}'"
 
 
-def head() -> str:
-    """What stands before the source text: a policy by which nothing is fetched, and one script and two styles count."""
+def escaped(text: str) -> str:
+    """A text as HTML has it."""
+    return text.replace("&", "&amp;").replace("<", "&lt;").replace("\r", "&#13;")
+
+
+def head(program: Program) -> str:
+    """What stands before the source text: a policy by which nothing is fetched, and one script and two styles count;
+    and in title and heading the name of the file, but that of standard input."""
+    title = f"A run{f' of {escaped(program.name)}' if program.name != '-' else ''}"
     styles = (f"\n{piece(STYLE)}", picture.STYLE.removeprefix("<style>").removesuffix("</style>\n"))
     policy = (
         f"default-src 'none'; style-src {' '.join(map(allowed, styles))}; script-src {allowed(chr(10) + piece(SCRIPT))}"
@@ -53,17 +60,19 @@ def head() -> str:
 <meta charset="utf-8">
 <meta name="viewport" content="width=device-width, initial-scale=1">
 <meta http-equiv="Content-Security-Policy" content="{policy}">
-<title>A run, step by step</title>
+<title>{title}, step by step</title>
 <style>
 {piece(STYLE)}</style>
 </head>
-{piece(("CONTROLS",))}{SOURCE}"""
+<body class="still">
+<header>
+<h1>{title}{piece(("CONTROLS",))}{SOURCE}"""
 
 
 def source(program: Program) -> str:
     """The source text, as HTML has it; a module has none."""
     text = "" if program.is_module else program.data.decode("utf-8")
-    return text.replace("&", "&amp;").replace("<", "&lt;").replace("\r", "&#13;")
+    return escaped(text)
 
 
 def line(program: Program, naming: Naming | None, taken: Taken) -> str:
@@ -74,7 +83,7 @@ def line(program: Program, naming: Naming | None, taken: Taken) -> str:
 def moments(program: Program, played: Played, window: Window) -> Iterator[str]:
     """How things stand before the first step, and behind each that is asked for and that others see; of another one,
     but behind all of these, that it printed, if it did."""
-    behind = Played(played.module, played.taken[0].before)
+    behind = Played(played.module, played.taken[0].before if played.taken else played.world)
     naming = None if program.is_module else Naming(program, played)
     yield Place(program, behind, None).text()
     for taken in played.taken:
@@ -88,14 +97,14 @@ def moments(program: Program, played: Played, window: Window) -> Iterator[str]:
 
 
 def drawing(program: Program, played: Played, window: Window = WHOLE) -> tuple[str, bool]:
-    """The page, and whether its picture isn't too large; the line that stands in the picture's place stands in the
-    page's, too."""
-    drawn, is_drawn = picture.drawing(program, played, window)
-    if not is_drawn:
+    """The page, and whether its picture is whole; the line that stands in the place of one that is too large stands in
+    the page's, too."""
+    drawn, is_whole = picture.drawing(program, played, window)
+    if not drawn.startswith("<svg"):
         return drawn, False
     told = "".join(moments(program, played, window))
     return (
-        f"{head()}{source(program)}</pre>\n{piece(('LISTS',))}{PICTURE}{drawn}</div>\n</section>\n</main>\n"
+        f"{head(program)}{source(program)}</pre>\n{piece(('LISTS',))}{PICTURE}{drawn}</div>\n</section>\n</main>\n"
         f"{MOMENTS}{told}</script>\n<script>\n{piece(SCRIPT)}</script>\n</body>\n</html>\n",
-        True,
+        is_whole,
     )

@@ -232,7 +232,7 @@ def phases_behind(played: Played, number: int) -> dict[int, int]:
 
 
 def drawing(program: Program, played: Played, window: Window = WHOLE) -> tuple[str, bool]:
-    """The picture, and whether it isn't too large."""
+    """The picture, and whether it isn't too large, and is one of a whole run."""
     sheet = Sheet(program, played, window)
     if not sheet.fits():
         most = f"at most {MOST_ROWS} and {MOST_LANES} are drawn, and --from and --to ask for fewer rows"
@@ -241,4 +241,6 @@ def drawing(program: Program, played: Played, window: Window = WHOLE) -> tuple[s
     for taken in sheet.steps:
         rows += Drawn(program, played.module, sheet, taken, row, phases_behind(played, taken.number)).draw()
         row += 1 + len(taken.advances)
-    return sheet.head() + STYLE + SHAPES + LEGEND + sheet.titles() + rows + "</svg>\n", True
+    ending = played.ending()
+    below = f"<text x='8' y='{TOP + ROW * sheet.rows + 10}'>{ending}</text>\n" if ending else ""
+    return sheet.head() + STYLE + SHAPES + LEGEND + sheet.titles() + rows + below + "</svg>\n", not ending

@@ -1,9 +1,10 @@
 #!/usr/bin/env python3
-"""The reference for commands on a log: `replay`, `chart`, `events`, `lanes`, `page`, `races` and `span` of a whole run,
-and `where` of any.
+"""The reference for commands on a log: `replay`, `chart`, `races`, `span` and `why` of a whole run, `events`, `lanes`
+and `page` of one that may go on, too, and `where` of any log.
 
     python3 -m tests.reference.runs events [--module] FILE LOG [--arg=N]..
     python3 -m tests.reference.runs lanes [--module] [--svg] FILE LOG [--arg=N]..
+    python3 -m tests.reference.runs why [--module] --step=STEP FILE LOG [--arg=N]..
 """
 
 from __future__ import annotations
@@ -12,14 +13,15 @@ import pathlib
 import sys
 from functools import partial
 
-from tests.reference import lanes, logs, modules, naming, page, picture, races, source, span, where
+from tests.reference import lanes, logs, modules, naming, page, picture, races, source, span, where, why
 from tests.reference.events import Program
 from tests.reference.lanes import WHOLE
 from tests.reference.logs import Answer, Played, Teller
 from tests.reference.modules import Accepted, Arguments, Refused
 
-# The commands on the log of a whole run, and the one on any log.
-OF_RUNS, WHERE = ("replay", "chart", "events", "lanes", "page", "races", "span"), "where"
+# The commands on the log of a run, those of them that take one that goes on, and the one on any log.
+OF_RUNS, WHERE = ("replay", "chart", "events", "lanes", "page", "races", "span", "why"), "where"
+SO_FAR = ("events", "lanes", "page")
 COMMANDS = (*OF_RUNS, WHERE)
 
 
@@ -35,42 +37,63 @@ def span_of(program: Program, played: Played) -> tuple[str, bool]:
     return text, text.endswith("every schedule has this work\n")
 
 
-def teller(command: str, data: bytes, is_module: bool, window: range = WHOLE, is_picture: bool = False) -> Teller:
+def with_ending(told: str | tuple[str, bool], played: Played) -> tuple[str, bool]:
+    """A text, and whether it is whole: of a run that goes on it isn't, and a line says so."""
+    text, is_whole = told if isinstance(told, tuple) else (told, True)
+    ending = played.ending()
+    return (f"{text}{ending}\n", False) if ending else (text, is_whole)
+
+
+def teller(
+    command: str, program: Program, window: range = WHOLE, is_picture: bool = False, step: int = 1
+) -> Teller:
     """What a command prints of a run of this program, whose bytes are looked at where there is one."""
     if command in ("lanes", "page"):
-        draw = page.drawing if command == "page" else picture.drawing if is_picture else lanes.drawing
-        return lambda played: draw(Program(data, is_module), played, window)
-    of_program = {"events": naming.text, "races": races_of, "span": span_of}
+        if command == "lanes" and not is_picture:
+            return lambda played: with_ending(lanes.drawing(program, played, window), played)
+        draw = page.drawing if command == "page" else picture.drawing
+        return lambda played: draw(program, played, window)
+    if command == "events":
+        return lambda played: with_ending(naming.text(program, played), played)
+    of_program = {"races": races_of, "span": span_of, "why": partial(why.why, step=step)}
     if command in of_program:
-        return partial(of_program[command], Program(data, is_module))
+        return partial(of_program[command], program)
     return {"replay": Played.output, "chart": Played.chart}[command]
 
 
 def answer(
     command: str,
     judged: Accepted | Refused,
-    data: bytes,
-    is_module: bool,
+    program: Program,
     log: bytes,
     arguments: Arguments = (),
     window: range = WHOLE,
     is_picture: bool = False,
     at: int | None = None,
+    step: int = 1,
 ) -> Answer:
     """What a command answers of a log and this program."""
     if command == WHERE:
-        return where.answer(Program(data, is_module), judged, log, arguments, at)
-    return logs.answer(judged, log, teller(command, data, is_module, window, is_picture), arguments)
+        return where.answer(program, judged, log, arguments, at)
+    played_by = logs.carry_out if command in SO_FAR else logs.replay
+    return logs.answer(judged, log, teller(command, program, window, is_picture, step), arguments, played_by)
 
 
 def main(words: list[str]) -> int:
     """Answers as the program does."""
     more, arguments = modules.parted(words)
     command, *flags, file, log = more
-    data, is_module = pathlib.Path(file).read_bytes(), "--module" in flags
-    judged = modules.judge(data) if is_module else source.judge(data)
+    program = Program(pathlib.Path(file).read_bytes(), "--module" in flags, file)
+    judged = modules.judge(program.data) if program.is_module else source.judge(program.data)
+    steps = [int(flag.removeprefix("--step=")) for flag in flags if flag.startswith("--step=")]
     status, out, err = answer(
-        command, judged, data, is_module, pathlib.Path(log).read_bytes(), arguments, WHOLE, "--svg" in flags
+        command,
+        judged,
+        program,
+        pathlib.Path(log).read_bytes(),
+        arguments,
+        is_picture="--svg" in flags,
+        step=steps[-1] if steps else 1,
     )
     sys.stdout.write(out)
     sys.stderr.write(err)

@@ -535,6 +535,7 @@ fn is_left_open(command: &Command<'_>) -> bool
         | Command::Page { .. }
         | Command::Where { .. }
         | Command::Span { .. }
+        | Command::Why { .. }
         | Command::Races { .. }
         | Command::Outcomes { .. }
         | Command::Expected { .. } => true,

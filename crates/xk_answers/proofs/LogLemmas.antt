@@ -1,5 +1,6 @@
 -- Logs and lists whose bytes may be known, and what stands against reading them.
-use Rattle.std.proofs.Common.{◌≡◌, ◌≤◌, ℕ, ℤ, List, [], length, take, Option, Some, None, Result, Ok, Err, IfErr, inr, subst, sym}
+use Rattle.std.proofs.Common.{◌≡◌, ◌≢◌, ◌≤◌, true}
+use Rattle.std.proofs.Common.{ℕ, ℤ, List, [], length, take, Option, Some, None, Result, Ok, Err, IfErr, inr, subst, sym}
 use Rattle.std.specs.Prelude.{IfSome}
 use Rattle.std.proofs.lemmas.List.{take_all}
 use Rattle.xk_log.specs.Reading.{CountsDevice, Tells}
@@ -12,12 +13,15 @@ use Rattle.xk_types.specs.Code.{ModuleValue}
 use Rattle.xk_types.specs.World.{AreArguments}
 use Rattle.xk_replay.specs.declared.fault.ReplayFault.{ReplayFault}
 use Rattle.xk_replay.specs.declared.fault.ReplayFault.TheVariants as replay
-use Rattle.xk_replay.specs.Replay.{IsFaultOf}
+use Rattle.xk_replay.specs.Replay.{IsFaultOf, IsStop}
 use Rattle.xk_answers.specs.declared.job_result.Done.{Done}
 use Rattle.xk_program.specs.declared.fault.Fault.{Fault}
-use Rattle.xk_answers.specs.Results.{IsLogText}
+use Rattle.xk_program.specs.declared.fault.Fault.TheVariants as fault
+use Rattle.xk_answers.specs.declared.picture.Picture.{Picture}
+use Rattle.xk_answers.specs.Results.{IsLogText, is_of_whole}
 use Rattle.xk_program.specs.Faults.{of_log, of_replay}
-use Rattle.xk_answers.specs.Refusals.{AgainstExpected, AgainstList, AgainstModule, AgainstReading, AgainstRun, AgainstText}
+use Rattle.xk_program.specs.Refusals.{IsNotRun}
+use Rattle.xk_answers.specs.Refusals.{AgainstExpected, AgainstList, AgainstModule, AgainstReading, AgainstRun, AgainstText, MayStand}
 
 -- ---- logs that may be known
 
@@ -73,6 +77,35 @@ pub replay_stands : (m : ModuleValue) (args : List ℤ) (known : Option (List �
 replay_stands m args known old new es (replay.NotEnabled i) e text h = (e, some_each _ _ known (λ logged t. (es, t, h)) text)
 replay_stands m args known old new es replay.NotEnded e text h = (e, some_each _ _ known (λ logged t. (es, t, h)) text)
 replay_stands m args known old new es replay.OutOfMemory e text h = (e, some_any _ known (λ logged. tt))
+
+-- ---- logs that stop before the run does
+
+-- nothing of what stops a log, or stands against its text or the module, is that
+pub stop_goes_on : (m : ModuleValue) (args : List ℤ) (es : List Entry) (f : ReplayFault) → IsStop m args es f → of_replay f ≢ fault.NotEnded
+stop_goes_on m args es (replay.NotEnabled i) stop e = cc
+stop_goes_on m args es replay.NotEnded stop e = stop
+stop_goes_on m args es replay.OutOfMemory stop e = cc
+
+pub text_goes_on : (f : LogFault) → of_log f ≢ fault.NotEnded
+text_goes_on (log.Grammar line) e = cc
+text_goes_on log.Truncated e = cc
+text_goes_on log.Device e = cc
+text_goes_on log.OutOfMemory e = cc
+
+pub module_goes_on : (m : ModuleValue) (args : List ℤ) (f : Fault) → IsNotRun m args f → f ≢ fault.NotEnded
+module_goes_on m args f is e = subst (IsNotRun m args) e is
+
+-- whatever stands against a log may stand against a picture of whole runs
+pub any_stands : (p : Picture) (r : Result Done Fault) → is_of_whole p ≡ true → IfErr r (MayStand p)
+any_stands p (Ok d) whole = tt
+any_stands p (Err f) whole = λ stops. whole
+
+-- and against any what isn't that it stops before the run does
+pub going_stands : (p : Picture) (f : Fault) → f ≢ fault.NotEnded → MayStand p f
+going_stands p f goes stops = absurd (goes stops)
+
+pub memory_stands : (p : Picture) → MayStand p fault.OutOfMemory
+memory_stands p stops = cc
 
 -- bytes that are the text of no log
 pub reading_stands : (known : Option (List ℕ)) (old new : ℕ) (f : LogFault) → CountsDevice old new (Err f) → OfSome known (λ text. Tells text (Err f))

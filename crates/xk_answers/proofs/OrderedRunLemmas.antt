@@ -22,9 +22,10 @@ use Rattle.xk_answers.specs.declared.picture.Picture.{Picture}
 use Rattle.xk_answers.specs.declared.picture.Picture.TheVariants as picture
 use Rattle.xk_program.specs.declared.program_loader.Provenance.{Provenance}
 use Rattle.xk_program.specs.Origins.{IsFrom}
-use Rattle.xk_answers.specs.Results.{ComesTo, Draw, IsLogText, IsPicture, IsTelling, Run, picture_told, shows_origins, way_given}
-use Rattle.xk_answers.specs.Explanation.{Tale, events_told, image_told, lanes_told, page_told, races_told, span_told}
-use Rattle.xk_answers.specs.OrderedRun.{IsFinished, IsFinishedBy, IsReplay, IsWholeRun}
+use Rattle.xk_answers.specs.Results.{ComesTo, Draw, IsLogText, IsPicture, IsTelling, Run, is_of_whole, picture_told, shows_origins, way_given}
+use Rattle.xk_answers.specs.Explanation.{Tale, events_so_far, image_so_far, lanes_so_far, page_so_far, races_told, span_told, why_told}
+use Rattle.xk_answers.specs.OrderedRun.{IsFinished, IsFinishedBy, IsReplay}
+use Rattle.xk_replay.specs.Replay.{IsLegal}
 
 -- ---- choosers without a state
 
@@ -86,34 +87,40 @@ worked_run m n args log numbers c steps same given run over counted =
     }
 
 -- what is told by the origins and names of the bytes is a picture
-pub is_picture : (p : Picture) (kind : Form) (bytes : List ℕ) (from : Provenance) (m : ModuleValue) (args : List ℤ) (es : List Entry) (last : World) (told : Tale)
+pub is_picture : (p : Picture) (kind : Form) (file bytes : List ℕ) (from : Provenance) (m : ModuleValue) (args : List ℤ) (es : List Entry) (last : World) (told : Tale)
     → IsFrom (shows_origins p) kind bytes from
-    → told ≡ picture_told p from.text.now (map (λ x. x.now) from.shared.items) m args es last from.origins
-    → IsPicture p kind bytes m args es last told
-is_picture picture.Chart kind bytes from m args es last told is h = h
-is_picture picture.Events kind bytes from m args es last told is h =
+    → told ≡ picture_told p file from.text.now (map (λ x. x.now) from.shared.items) m args es last from.origins
+    → IsPicture p kind file bytes m args es last told
+is_picture picture.Chart kind file bytes from m args es last told is h = h
+is_picture picture.Events kind file bytes from m args es last told is h =
     let shared = map (λ x. x.now) from.shared.items in
-    (shared, (is.1 refl).1, (from.origins, (is.1 refl).0, h ∙ ap (λ t. events_told t m args es shared from.origins) is.0))
-is_picture (picture.Lanes window) kind bytes from m args es last told is h =
+    (shared, (is.1 refl).1, (from.origins, (is.1 refl).0, h ∙ ap (λ t. events_so_far t m args es last shared from.origins) is.0))
+is_picture (picture.Lanes window) kind file bytes from m args es last told is h =
     let shared = map (λ x. x.now) from.shared.items in
-    (shared, (is.1 refl).1, (from.origins, (is.1 refl).0, h ∙ ap (λ t. lanes_told t window m es last shared from.origins) is.0))
-is_picture (picture.Image window) kind bytes from m args es last told is h =
+    (shared, (is.1 refl).1, (from.origins, (is.1 refl).0, h ∙ ap (λ t. lanes_so_far t window m es last shared from.origins) is.0))
+is_picture (picture.Image window) kind file bytes from m args es last told is h =
     let shared = map (λ x. x.now) from.shared.items in
-    (shared, (is.1 refl).1, (from.origins, (is.1 refl).0, h ∙ ap (λ t. image_told t window m es last shared from.origins) is.0))
-is_picture (picture.Page window) kind bytes from m args es last told is h =
+    (shared, (is.1 refl).1, (from.origins, (is.1 refl).0, h ∙ ap (λ t. image_so_far t window m es last shared from.origins) is.0))
+is_picture (picture.Page window) kind file bytes from m args es last told is h =
     let shared = map (λ x. x.now) from.shared.items in
-    (shared, (is.1 refl).1, (from.origins, (is.1 refl).0, h ∙ ap (λ t. page_told t window m es last shared from.origins) is.0))
-is_picture picture.Races kind bytes from m args es last told is h =
+    (shared, (is.1 refl).1, (from.origins, (is.1 refl).0, h ∙ ap (λ t. page_so_far file t window m es last shared from.origins) is.0))
+is_picture picture.Races kind file bytes from m args es last told is h =
     let shared = map (λ x. x.now) from.shared.items in
     (shared, (is.1 refl).1, (from.origins, (is.1 refl).0, h ∙ ap (λ t. races_told t m args es shared from.origins) is.0))
-is_picture picture.Span kind bytes from m args es last told is h =
+is_picture picture.Span kind file bytes from m args es last told is h =
     (from.origins, (is.1 refl).0, h ∙ ap (λ t. span_told t m args es from.origins) is.0)
+is_picture (picture.Why step) kind file bytes from m args es last told is h =
+    let shared = map (λ x. x.now) from.shared.items in
+    (shared, (is.1 refl).1, (from.origins, (is.1 refl).0, h ∙ ap (λ t. why_told t step m args es shared from.origins) is.0))
 
--- the log of such a run is that of a whole run, and its picture is told of it
+-- the log of such a run is legal, and its picture is told of it
 pub pictured : (p : Picture) (kind : Form) (file bytes : List ℕ) (n m : ModuleValue) (args : List ℤ) (log : List Entry) (logged : List ℕ) (told : Tale) (c : CoreValue) {numbers : List ℤ}
-    → n ≡ m → c.world.arguments ≡ args → IsAccepted m → IsLogText logged log → IsRunOf n log numbers c → all_ended c.world ≡ true
-    → IsPicture p kind bytes n c.world.arguments log c.world told → IsTelling (Draw p) kind file bytes m args logged told
+    → n ≡ m → c.world.arguments ≡ args → IsAccepted m → IsLogText logged log → IsRunOf n log numbers c
+    → (is_of_whole p ≡ true → all_ended c.world ≡ true)
+    → IsPicture p kind file bytes n c.world.arguments log c.world told → IsTelling (Draw p) kind file bytes m args logged told
 pictured p kind file bytes n m args log logged told c {numbers} same given accepted text run over is =
     let run_of = subst (λ k. IsRunOf k log numbers c) same run in
-    let whole : IsWholeRun m args log = record { last = c.world; leads = run_of.leads; given = given; over = over } in
-    (accepted, (log, text, whole, subst (λ xs. IsPicture p kind bytes m xs log c.world told) given (subst (λ k. IsPicture p kind bytes k c.world.arguments log c.world told) same is)))
+    let legal : IsLegal m args log = record { last = c.world; leads = run_of.leads; given = given } in
+    let told_of : IsPicture p kind file bytes m c.world.arguments log c.world told =
+    subst (λ k. IsPicture p kind file bytes k c.world.arguments log c.world told) same is in
+    (accepted, (log, text, legal, over, subst (λ xs. IsPicture p kind file bytes m xs log c.world told) given told_of))

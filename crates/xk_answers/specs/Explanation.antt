@@ -1,6 +1,6 @@
 -- What is told of a program by its lines and names: what `explain` says of what stands against it and of one that is accepted, and its listing. This
 -- project's own.
-use Rattle.std.specs.Prelude.{◌≡◌, ℕ, ℤ, nat_lt, Bool, true, false, List, [], ◌++◌, map, Option, Some, None, if◌then◌else◌}
+use Rattle.std.specs.Prelude.{◌≡◌, ℕ, ℤ, nat_lt, Bool, true, false, ◌&&◌, List, [], ◌++◌, map, Option, Some, None, codes, if◌then◌else◌}
 use Rattle.std.specs.Option.{option_map_or}
 use Rattle.xk_types.specs.Code.{ModuleValue}
 use Rattle.xk_types.specs.World.{World}
@@ -21,6 +21,8 @@ use Rattle.xk_explain_expected.specs.Notes.{expected_notes}
 use Rattle.xk_explain_bounds.specs.Notes.{accepted_notes, module_notes, refusal_notes}
 use Rattle.xk_hints.specs.Words.{HintValue, hints}
 use Rattle.xk_listing.specs.Listing.{IsListing}
+use Rattle.xk_types.specs.Schedule.{all_ended}
+use Rattle.xk_show_events.specs.Endings.{ending_words}
 use Rattle.xk_show_events.specs.Events.{PlacesValue, events_text, no_text}
 use Rattle.xk_show_names.specs.Events.{named_events_text}
 use Rattle.xk_show_lanes.specs.Lanes.{are_lanes_whole, lanes_text}
@@ -33,13 +35,15 @@ use Rattle.xk_races.specs.Text.{races_text}
 use Rattle.xk_show_races.specs.Text.{named_races_text}
 use Rattle.xk_show_span.specs.Text.{span_text}
 use Rattle.xk_show_where.specs.Where.{are_steps_legal, named_where_text, where_text}
+use Rattle.xk_why.specs.Lines.{why_text}
+use Rattle.xk_why.specs.ModuleLines.{is_told, module_why_text}
 use Rattle.xk_answers.specs.Beginnings.{first_steps, steps_in}
 use Rattle.xk_types.specs.declared.world.Entry.{Entry}
 use Rattle.xk_cli.specs.declared.job.Form.{Form}
 use Rattle.xk_cli.specs.declared.job.Form.TheVariants as form
 use Rattle.xk_program.specs.declared.fault.Fault.{Fault}
 use Rattle.xk_program.specs.declared.fault.Fault.TheVariants as fault
-use Rattle.xk_messages.specs.Lines.{accepted_line, log_end_line}
+use Rattle.xk_messages.specs.Lines.{accepted_line, local_line, log_end_line}
 use Rattle.xk_program.specs.Origins.{HaveOrigins, Program, IsByProgram, IsByTree}
 use Rattle.xk_program.specs.Programs.{IsSource}
 
@@ -144,6 +148,14 @@ abbrev pub places_in : List ℕ → Option (List UnitOrigins) → PlacesValue
 places_in text None = no_text
 places_in text (Some origins) = record { text = text; origins = origins }
 
+-- of a run which ends in this world: where not all have ended a line says so, and the answer isn't whole
+abbrev pub told_so_far : World → Tale → Tale
+told_so_far last told = if all_ended last then told else (told.0 ++ (ending_words last ++ codes "\n"), false)
+
+-- the same of what says so itself
+abbrev pub drawn_so_far : World → Tale → Tale
+drawn_so_far last told = (told.0, told.1 && all_ended last)
+
 -- what others see of the run of a log; of a source text by names, where its shared numbers have these, and with values
 abbrev pub events_of : List ℕ → List (List ℕ) → ModuleValue → List ℤ → List Entry → Option (List UnitOrigins) → List ℕ
 events_of text shared m args log None = events_text no_text m args log
@@ -151,6 +163,9 @@ events_of text shared m args log (Some origins) = named_events_text (places_in t
 
 abbrev pub events_told : List ℕ → ModuleValue → List ℤ → List Entry → List (List ℕ) → Option (List UnitOrigins) → Tale
 events_told text m args log shared origins = all_told (events_of text shared m args log origins)
+
+abbrev pub events_so_far : List ℕ → ModuleValue → List ℤ → List Entry → World → List (List ℕ) → Option (List UnitOrigins) → Tale
+events_so_far text m args log last shared origins = told_so_far last (events_told text m args log shared origins)
 
 -- the same, with a lane for each activity, of the steps in this window; the run ends in this world
 abbrev pub lanes_of : List ℕ → List (List ℕ) → Window → ModuleValue → List Entry → World → Option (List UnitOrigins) → List ℕ
@@ -160,6 +175,9 @@ lanes_of text shared window m log last (Some origins) = named_lanes_text (places
 abbrev pub lanes_told : List ℕ → Window → ModuleValue → List Entry → World → List (List ℕ) → Option (List UnitOrigins) → Tale
 lanes_told text window m log last shared origins = (lanes_of text shared window m log last origins, are_lanes_whole last)
 
+abbrev pub lanes_so_far : List ℕ → Window → ModuleValue → List Entry → World → List (List ℕ) → Option (List UnitOrigins) → Tale
+lanes_so_far text window m log last shared origins = told_so_far last (lanes_told text window m log last shared origins)
+
 -- the same as an image
 abbrev pub image_of : List ℕ → List (List ℕ) → Window → ModuleValue → List Entry → World → Option (List UnitOrigins) → List ℕ
 image_of text shared window m log last None = picture_text no_text None window m log last
@@ -168,17 +186,41 @@ image_of text shared window m log last (Some origins) = named_picture_text (plac
 abbrev pub image_told : List ℕ → Window → ModuleValue → List Entry → World → List (List ℕ) → Option (List UnitOrigins) → Tale
 image_told text window m log last shared origins = (image_of text shared window m log last origins, is_drawn window m log last)
 
--- the same as a page
-abbrev pub page_of : List ℕ → List (List ℕ) → Window → ModuleValue → List Entry → World → Option (List UnitOrigins) → List ℕ
-page_of text shared window m log last None = page_text no_text None window m log last
-page_of text shared window m log last (Some origins) = named_page_text (places_in text (Some origins)) shared window m log last
+abbrev pub image_so_far : List ℕ → Window → ModuleValue → List Entry → World → List (List ℕ) → Option (List UnitOrigins) → Tale
+image_so_far text window m log last shared origins = drawn_so_far last (image_told text window m log last shared origins)
 
-abbrev pub page_told : List ℕ → Window → ModuleValue → List Entry → World → List (List ℕ) → Option (List UnitOrigins) → Tale
-page_told text window m log last shared origins = (page_of text shared window m log last origins, is_drawn window m log last)
+-- the same as a page of the file
+abbrev pub page_of : List ℕ → List ℕ → List (List ℕ) → Window → ModuleValue → List Entry → World → Option (List UnitOrigins) → List ℕ
+page_of file text shared window m log last None = page_text file no_text None window m log last
+page_of file text shared window m log last (Some origins) = named_page_text file (places_in text (Some origins)) shared window m log last
+
+abbrev pub page_told : List ℕ → List ℕ → Window → ModuleValue → List Entry → World → List (List ℕ) → Option (List UnitOrigins) → Tale
+page_told file text window m log last shared origins = (page_of file text shared window m log last origins, is_drawn window m log last)
+
+abbrev pub page_so_far : List ℕ → List ℕ → Window → ModuleValue → List Entry → World → List (List ℕ) → Option (List UnitOrigins) → Tale
+page_so_far file text window m log last shared origins = drawn_so_far last (page_told file text window m log last shared origins)
 
 -- how long it had to take, and what takes longest
 abbrev pub span_told : List ℕ → ModuleValue → List ℤ → List Entry → Option (List UnitOrigins) → Tale
 span_told text m args log origins = (span_text (places_in text origins) m args log, is_race_free m args log)
+
+-- what a step of it rests on; of a source text by names, where its shared numbers have these, and with values
+abbrev pub why_of : List ℕ → ℕ → List (List ℕ) → ModuleValue → List ℤ → List Entry → Option (List UnitOrigins) → List ℕ
+why_of text step shared m args log None = module_why_text m args log step
+why_of text step shared m args log (Some origins) = why_text (places_in text (Some origins)) shared m args log step
+
+-- a step without a line among those of the run: there are fewer, or others can't see that one
+abbrev pub untold_line : ℕ → List Entry → List ℕ
+untold_line step log = if nat_lt (steps_in log) step then log_end_line (steps_in log) else local_line step
+
+-- of which only that is said, and the answer isn't whole
+abbrev pub untold : ℕ → List Entry → Tale
+untold step log = (untold_line step log, false)
+
+-- a step with a line is told, and what it rests on
+abbrev pub why_told : List ℕ → ℕ → ModuleValue → List ℤ → List Entry → List (List ℕ) → Option (List UnitOrigins) → Tale
+why_told text step m args log shared origins =
+    if is_told m args log step then all_told (why_of text step shared m args log origins) else untold step log
 
 -- its races; of a source text by names, where its shared numbers have these, and with values
 abbrev pub races_of : List ℕ → List (List ℕ) → ModuleValue → List ℤ → List Entry → Option (List UnitOrigins) → List ℕ

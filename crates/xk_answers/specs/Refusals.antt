@@ -1,5 +1,5 @@
 -- What stands against a run of a module by a log, or against a list of outcomes that is read. This project's own.
-use Rattle.std.specs.Prelude.{◌≡◌, ℕ, ℤ, ◌⊎◌, List, Option, Some}
+use Rattle.std.specs.Prelude.{◌≡◌, ℕ, ℤ, ◌⊎◌, true, List, Option, Some}
 use Rattle.xk_types.specs.Acceptance.{IsAccepted}
 use Rattle.xk_types.specs.Code.{ModuleValue}
 use Rattle.xk_types.specs.Device.{Rose}
@@ -9,7 +9,8 @@ use Rattle.xk_program.specs.declared.fault.Fault.TheVariants as fault
 use Rattle.xk_log.specs.SomeBytes.{OfSome}
 use Rattle.xk_log.specs.Verdicts.{IsTruncated, IsWrongAt}
 use Rattle.xk_outcomes.specs.Expected.{stray_line}
-use Rattle.xk_answers.specs.Results.{IsNoRun, list_in}
+use Rattle.xk_answers.specs.declared.picture.Picture.{Picture}
+use Rattle.xk_answers.specs.Results.{IsNoRun, is_of_whole, list_in}
 use Rattle.xk_program.specs.Refusals.{IsNotRun, IsRefusal}
 use Rattle.xk_program.specs.Faults.{GivesNoModule}
 use Rattle.xk_program.specs.Programs.{Gives}
@@ -29,6 +30,10 @@ AgainstRun m args known old new f = (new ≡ old) × OfSome known (λ logged. Is
 abbrev pub AgainstModule : ModuleValue → List ℤ → Option (List ℕ) → ℕ → ℕ → Fault → Type 0
 AgainstModule m args known old new f =
     ((new ≡ old) × IsNotRun m args f) ⊎ (IsAccepted m × AreArguments m args × AgainstRun m args known old new f)
+
+-- a log that stops before the run does stands against no picture but those of whole runs
+abbrev pub MayStand : Picture → Fault → Type 0
+MayStand p f = f ≡ fault.NotEnded → is_of_whole p ≡ true
 
 -- bytes that are read as the text of a log, and are none; of want of memory nothing is claimed
 abbrev pub AgainstReading : Option (List ℕ) → ℕ → ℕ → Fault → Type 0

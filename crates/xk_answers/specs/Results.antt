@@ -4,6 +4,7 @@ use Rattle.serde_json.specs.Written.{compact_text}
 use Rattle.xk_types.specs.Code.{ModuleValue}
 use Rattle.xk_origins.specs.UnitOrigins.{UnitOrigins}
 use Rattle.xk_types.specs.World.{World, AreArguments}
+use Rattle.xk_types.specs.Schedule.{all_ended}
 use Rattle.xk_types.specs.Bound.{steps_bound, activities_bound, clocks_bound}
 use Rattle.xk_types.specs.Acceptance.{IsAccepted}
 use Rattle.xk_cli.specs.declared.job.Drive.{Drive}
@@ -31,12 +32,12 @@ use Rattle.xk_outcomes.specs.declared.all_outcomes.Limit.{Limit}
 use Rattle.xk_outcomes.specs.Limits.{GoesFar, limit_of}
 use Rattle.xk_outcomes.specs.Expected.{AreExpected}
 use Rattle.xk_random.specs.Runs.{IsTallyText}
-use Rattle.xk_replay.specs.Replay.{IsStoppedAt, IsUnfinished}
-use Rattle.xk_answers.specs.OrderedRun.{IsLoggedRun, IsOrderedRun, IsReplay, IsSomeRun, IsWholeRun}
+use Rattle.xk_replay.specs.Replay.{IsLegal, IsStoppedAt, IsUnfinished}
+use Rattle.xk_answers.specs.OrderedRun.{IsLoggedRun, IsOrderedRun, IsReplay, IsSomeRun}
 use Rattle.xk_program.specs.Origins.{IsByNames, IsByOrigins}
 use Rattle.xk_hints.specs.Words.{HintValue}
-use Rattle.xk_answers.specs.Explanation.{HaveHints, IsProgramListed, Tale, acceptance_told, all_told, events_told, image_told, lanes_told}
-use Rattle.xk_answers.specs.Explanation.{page_told, races_told, span_told, where_told}
+use Rattle.xk_answers.specs.Explanation.{HaveHints, IsProgramListed, Tale, acceptance_told, all_told, events_so_far, image_so_far}
+use Rattle.xk_answers.specs.Explanation.{lanes_so_far, page_so_far, races_told, span_told, where_told, why_told}
 
 -- what is to be done with a module; what is explained is a JSON value or not; a run is in an order, or by workers, and has its log kept or not; some
 -- picture is drawn of one; it is told how things stand behind a log, or behind so many of its steps, which races the run in the order `first` has, or how often so many runs by chance,
@@ -76,9 +77,11 @@ IsLogText bytes es = Says (Whole es) bytes
 abbrev pub Replays : ModuleValue → List ℤ → List ℕ → List ℤ → ℕ → Type 0
 Replays m args logged numbers steps = (es : List Entry) × IsLogText logged es × IsReplay m args es numbers steps
 
--- this holds of a whole run with these arguments, by the log in these bytes, and of the world in which it ends
-abbrev pub OfRun : ModuleValue → List ℤ → List ℕ → (List Entry → World → Type 0) → Type 0
-OfRun m args logged P = (es : List Entry) × IsLogText logged es × (whole : IsWholeRun m args es) × P es whole.last
+-- This holds of a legal run with these arguments, by the log in these bytes, and of the world in which it ends. Where it has to be whole,
+-- all have ended there.
+abbrev pub OfRun : Bool → ModuleValue → List ℤ → List ℕ → (List Entry → World → Type 0) → Type 0
+OfRun whole m args logged P =
+    (es : List Entry) × IsLogText logged es × (legal : IsLegal m args es) × (whole ≡ true → all_ended legal.last ≡ true) × P es legal.last
 
 -- the outcome whose log is kept, counted from 1
 abbrev pub outcome_at : ℕ → List Outcome → Option Outcome
@@ -145,31 +148,42 @@ ComesTo (Expected sets limit) m args logged d = IsAccepted m × IsHeldOut m args
 ComesTo _ m args logged _ = ⊥
 
 -- What is told of a run of the module that the bytes give, by their lines where they are a source text: its chart; by their names, too,
--- what others see of its steps, the same with a lane for each activity, also as an image or as a page, and its races; or how long it had
--- to take.
-abbrev pub IsPicture : Picture → Form → List ℕ → ModuleValue → List ℤ → List Entry → World → Tale → Type 0
-IsPicture picture.Chart kind bytes m args es last told = told ≡ all_told (chart_text m args es)
-IsPicture picture.Events kind bytes m args es last told = IsByNames kind bytes (events_told bytes m args es) told
-IsPicture (picture.Lanes window) kind bytes m args es last told = IsByNames kind bytes (lanes_told bytes window m es last) told
-IsPicture (picture.Image window) kind bytes m args es last told = IsByNames kind bytes (image_told bytes window m es last) told
-IsPicture (picture.Page window) kind bytes m args es last told = IsByNames kind bytes (page_told bytes window m es last) told
-IsPicture picture.Races kind bytes m args es last told = IsByNames kind bytes (races_told bytes m args es) told
-IsPicture picture.Span kind bytes m args es last told = IsByOrigins kind bytes (span_told bytes m args es) told
+-- what others see of its steps, the same with a lane for each activity, also as an image or as a page, its races, and what a step
+-- rests on; or how long it had to take.
+abbrev pub IsPicture : Picture → Form → List ℕ → List ℕ → ModuleValue → List ℤ → List Entry → World → Tale → Type 0
+IsPicture picture.Chart kind file bytes m args es last told = told ≡ all_told (chart_text m args es)
+IsPicture picture.Events kind file bytes m args es last told = IsByNames kind bytes (events_so_far bytes m args es last) told
+IsPicture (picture.Lanes window) kind file bytes m args es last told = IsByNames kind bytes (lanes_so_far bytes window m es last) told
+IsPicture (picture.Image window) kind file bytes m args es last told = IsByNames kind bytes (image_so_far bytes window m es last) told
+IsPicture (picture.Page window) kind file bytes m args es last told = IsByNames kind bytes (page_so_far file bytes window m es last) told
+IsPicture picture.Races kind file bytes m args es last told = IsByNames kind bytes (races_told bytes m args es) told
+IsPicture picture.Span kind file bytes m args es last told = IsByOrigins kind bytes (span_told bytes m args es) told
+IsPicture (picture.Why step) kind file bytes m args es last told = IsByNames kind bytes (why_told bytes step m args es) told
 
 -- whether it is told by the lines of a source text
 abbrev pub shows_origins : Picture → Bool
 shows_origins picture.Chart = false
 shows_origins _ = true
 
--- what is told, where the instructions have these origins in the text, and shared numbers these names
-abbrev pub picture_told : Picture → List ℕ → List (List ℕ) → ModuleValue → List ℤ → List Entry → World → Option (List UnitOrigins) → Tale
-picture_told picture.Chart bytes shared m args es last origins = all_told (chart_text m args es)
-picture_told picture.Events bytes shared m args es last origins = events_told bytes m args es shared origins
-picture_told (picture.Lanes window) bytes shared m args es last origins = lanes_told bytes window m es last shared origins
-picture_told (picture.Image window) bytes shared m args es last origins = image_told bytes window m es last shared origins
-picture_told (picture.Page window) bytes shared m args es last origins = page_told bytes window m es last shared origins
-picture_told picture.Races bytes shared m args es last origins = races_told bytes m args es shared origins
-picture_told picture.Span bytes shared m args es last origins = span_told bytes m args es origins
+-- whether it is one of whole runs alone; others are drawn of a run, too, in which not all have ended
+abbrev pub is_of_whole : Picture → Bool
+is_of_whole picture.Events = false
+is_of_whole (picture.Lanes window) = false
+is_of_whole (picture.Image window) = false
+is_of_whole (picture.Page window) = false
+is_of_whole _ = true
+
+-- what is told, where the instructions have these origins in the file's text, and shared numbers these names
+abbrev pub picture_told : Picture → List ℕ → List ℕ → List (List ℕ) → ModuleValue → List ℤ → List Entry → World
+    → Option (List UnitOrigins) → Tale
+picture_told picture.Chart file bytes shared m args es last origins = all_told (chart_text m args es)
+picture_told picture.Events file bytes shared m args es last origins = events_so_far bytes m args es last shared origins
+picture_told (picture.Lanes window) file bytes shared m args es last origins = lanes_so_far bytes window m es last shared origins
+picture_told (picture.Image window) file bytes shared m args es last origins = image_so_far bytes window m es last shared origins
+picture_told (picture.Page window) file bytes shared m args es last origins = page_so_far file bytes window m es last shared origins
+picture_told picture.Races file bytes shared m args es last origins = races_told bytes m args es shared origins
+picture_told picture.Span file bytes shared m args es last origins = span_told bytes m args es origins
+picture_told (picture.Why step) file bytes shared m args es last origins = why_told bytes step m args es shared origins
 
 -- Where things stand behind the steps of a log, or behind so many, is told by the lines and names of a source text. The log need not be
 -- that of a whole run.
@@ -192,7 +206,8 @@ abbrev pub IsTelling : Doing → Form → List ℕ → List ℕ → ModuleValue 
 IsTelling (Explain json) kind file bytes m args logged told =
     IsAccepted m × ((hs : List HintValue) × HaveHints kind bytes hs × IsByOrigins kind bytes (acceptance_told json file bytes m hs) told)
 IsTelling Listing kind file bytes m args logged told = IsProgramListed kind bytes m told.0 × (told.1 ≡ true)
-IsTelling (Draw picture) kind file bytes m args logged told = IsAccepted m × OfRun m args logged (λ es last. IsPicture picture kind bytes m args es last told)
+IsTelling (Draw picture) kind file bytes m args logged told =
+    IsAccepted m × OfRun (is_of_whole picture) m args logged (λ es last. IsPicture picture kind file bytes m args es last told)
 IsTelling (Where at) kind file bytes m args logged told = IsAccepted m × IsWhereabouts at kind bytes m args logged told
 IsTelling Races kind file bytes m args logged told = IsAccepted m × AreFirstRaces kind bytes m args told
 IsTelling (Tally seed runs) kind file bytes m args logged told = IsAccepted m × AreArguments m args × IsTallied m args seed runs told

@@ -30,11 +30,11 @@ pub enum Done {
         activities: u32,
         clocks: u32,
     },
-    /// `explain`, `listing`: this is told of the module; `chart`, `events`, `lanes`, `page`, `where`, `races`: of the run that the log has; `run --runs`: of
-    /// many runs.
+    /// `explain`, `listing`: this is told of the module; `chart`, `events`, `lanes`, `page`, `where`, `races`, `span`, `why`: of the
+    /// run that the log has; `run --runs`: of many runs.
     Told {
         text: Vec<u8>,
-        /// Whether that is a whole answer: nothing is left out, and a run has no races.
+        /// Whether that is a whole answer: nothing is left out, a run has no races, and a step that is asked for has a line.
         whole: bool,
     },
     /// `run`, `replay`: the module ran to its end, and printed these numbers.

@@ -1,19 +1,21 @@
 //! What is told of the run that a log has.
 
-ghost use Rattle.std.specs.Prelude.{◌≡◌, ◌≢◌, ℕ, List, true, map, None, Some, IfOk, IfErr, OnOk};
+ghost use Rattle.std.specs.Prelude.{◌≡◌, ◌≢◌, ℕ, List, true, false, map, None, Some, IfOk, IfErr, OnOk};
 ghost use Rattle.xk_log.specs.SomeBytes.{OfSome};
 ghost use Rattle.xk_types.specs.Acceptance.{IsAccepted};
 ghost use Rattle.xk_types.specs.World.{AreArguments};
 ghost use Rattle.xk_cli.specs.Status.{status_program};
 ghost use Rattle.xk_cli.specs.declared.job.Form.{Form as FormValue};
-ghost use Rattle.xk_answers.specs.Results.{Draw, IsTelling, IsText, lanes_given, picture_told, shows_origins, window_given};
-ghost use Rattle.xk_answers.specs.Refusals.{AgainstModule, AgainstRun};
+ghost use Rattle.xk_answers.specs.Results.{Draw, IsTelling, IsText, is_of_whole, lanes_given, picture_told, shows_origins, window_given};
+ghost use Rattle.xk_answers.specs.Refusals.{AgainstModule, AgainstRun, MayStand};
 ghost use Rattle.xk_program.specs.Origins.{IsFrom};
 ghost use Rattle.xk_answers.specs.Explanation.{events_told, image_told, lanes_told, page_told, races_told, span_told};
 ghost use Rattle.xk_program.specs.Lines.{status_of};
 
 use crate::job_result::Done;
-use crate::replay::run_again;
+use crate::reasons::reasons_of;
+use crate::replay::{run_again, run_so_far};
+use crate::so_far::{events_so_far, image_so_far, lanes_so_far, page_so_far};
 use std::alloc::{AllocError, Global};
 use xk_bounds::Verified;
 use xk_origins::UnitOrigins;
@@ -21,7 +23,7 @@ use xk_program::{Fault, Program, Provenance, runnable};
 use xk_races::module_races;
 use xk_replay::chart;
 use xk_scheduler::Ended;
-use xk_show_events::module_events;
+use xk_show_events::{LegalRun, module_events};
 use xk_show_lanes::{Window, lanes_with_names, module_lanes};
 use xk_show_names::named_events;
 use xk_show_page::{module_page, source_page};
@@ -47,6 +49,20 @@ pub enum Picture {
     Races,
     /// How long it had to take.
     Span,
+    /// What this step of it rests on.
+    Why(u64),
+}
+
+impl Picture {
+    /// Whether it is one of whole runs alone. Others are drawn of a run, too, in which not all have ended.
+    fn is_of_whole(self) -> bool
+        ensures { result ≡ is_of_whole self }
+    {
+        match self {
+            Picture::Events | Picture::Lanes(_) | Picture::Image(_) | Picture::Page(_) => false,
+            Picture::Chart | Picture::Races | Picture::Span | Picture::Why(_) => true,
+        }
+    }
 }
 
 /// What is told, and whether that is a whole answer.
@@ -78,66 +94,109 @@ pub fn lanes_given(from: Option<u64>, to: Option<u64>, svg: bool) -> Picture
     Picture::Lanes(window)
 }
 
-/// This picture of the run of the program with these arguments that the log has, if it is accepted and main takes as many. Where it isn't run, no
+/// This picture of the run of the file's program with these arguments that the log has, if it is accepted and main takes as many. Where it isn't run, no
 /// log is read.
 pub fn drawn<L: Source>(
     alloc: Global,
     picture: Picture,
+    file: &str,
     program: Program<'_>,
     arguments: &[i64],
     log_in: &mut L,
 ) -> Result<Done, Fault>
-    ensures done { (form : FormValue) (file bytes : List ℕ)
+    ensures done { (form : FormValue) (bytes : List ℕ)
         → IsFrom (shows_origins picture) form bytes program.entry.from
-        → IfOk result (λ d. OfSome (L.remaining log_in.old) (λ logged. IsText
-        (IsTelling (Draw picture) form file bytes program.entry.module arguments.now logged) d)) }
+        → IfOk result (λ d. OfSome (L.remaining log_in.old) (λ logged. IsText (IsTelling
+        (Draw picture) form file.now bytes program.entry.module arguments.now logged) d)) }
     ensures no_fault { OnOk result (L.fault_count log_in.new ≡ L.fault_count log_in.old) }
     ensures fault { IfErr result (AgainstModule program.entry.module arguments.now
         (L.remaining log_in.old) (L.fault_count log_in.old) (L.fault_count log_in.new)) }
+    ensures stands { IfErr result (MayStand picture) }
     ensures refused { IfErr result
         (λ f. status_of f ≡ status_program → log_in.new ≡ log_in.old) }
 {
     let verified = runnable(alloc, program.module, arguments)?;
-    drawn_by(alloc, picture, &program.from, &verified, arguments, log_in)
+    let from = &program.from;
+    if picture.is_of_whole() {
+        return drawn_whole(alloc, picture, file, from, &verified, arguments, log_in);
+    }
+    drawn_so_far(alloc, picture, file, from, &verified, arguments, log_in)
 }
 
-/// The same of an accepted module.
-fn drawn_by<L: Source>(
+/// The same of an accepted module, where the picture is one of whole runs.
+fn drawn_whole<L: Source>(
     alloc: Global,
     picture: Picture,
+    file: &str,
     from: &Provenance<'_>,
     verified: &Verified,
     arguments: &[i64],
     log_in: &mut L,
 ) -> Result<Done, Fault>
+    requires whole { is_of_whole picture ≡ true }
     requires accepted { IsAccepted verified.now }
     requires taken { AreArguments verified.now arguments.now }
-    ensures done { (form : FormValue) (file bytes : List ℕ)
+    ensures done { (form : FormValue) (bytes : List ℕ)
         → IsFrom (shows_origins picture) form bytes from.now
         → IfOk result (λ d. OfSome (L.remaining log_in.old) (λ logged. IsText
-        (IsTelling (Draw picture) form file bytes verified.now arguments.now logged) d)) }
+        (IsTelling (Draw picture) form file.now bytes verified.now arguments.now logged) d)) }
     ensures no_fault { OnOk result (L.fault_count log_in.new ≡ L.fault_count log_in.old) }
     ensures fault { IfErr result (AgainstRun verified.now arguments.now (L.remaining log_in.old)
         (L.fault_count log_in.old) (L.fault_count log_in.new)) }
     ensures of_log { IfErr result (λ f. status_of f ≢ status_program) }
 {
     let ended = run_again(alloc, verified, arguments, log_in)?;
-    let tale = picture_of(alloc, picture, from, &ended)?;
+    let tale = whole_told(alloc, picture, file, from, &ended)?;
     Ok(Done::Told {
         text: tale.text,
         whole: tale.whole,
     })
 }
 
-/// This picture of a run that came to its end.
-fn picture_of(
+/// The same, where it is one of runs in which not all may have ended.
+#[tactic(auto, using(crate::proofs::LogLemmas::going_stands, crate::proofs::LogLemmas::memory_stands))]
+fn drawn_so_far<L: Source>(
     alloc: Global,
     picture: Picture,
+    file: &str,
+    from: &Provenance<'_>,
+    verified: &Verified,
+    arguments: &[i64],
+    log_in: &mut L,
+) -> Result<Done, Fault>
+    requires part { is_of_whole picture ≡ false }
+    requires accepted { IsAccepted verified.now }
+    requires taken { AreArguments verified.now arguments.now }
+    ensures done { (form : FormValue) (bytes : List ℕ)
+        → IsFrom (shows_origins picture) form bytes from.now
+        → IfOk result (λ d. OfSome (L.remaining log_in.old) (λ logged. IsText
+        (IsTelling (Draw picture) form file.now bytes verified.now arguments.now logged) d)) }
+    ensures no_fault { OnOk result (L.fault_count log_in.new ≡ L.fault_count log_in.old) }
+    ensures fault { IfErr result (AgainstRun verified.now arguments.now (L.remaining log_in.old)
+        (L.fault_count log_in.old) (L.fault_count log_in.new)) }
+    ensures stands { IfErr result (MayStand picture) }
+    ensures of_log { IfErr result (λ f. status_of f ≢ status_program) }
+{
+    let partial = run_so_far(alloc, verified, arguments, log_in)?;
+    let tale = so_far_told(alloc, picture, file, from, &LegalRun::of_partial(&partial))?;
+    Ok(Done::Told {
+        text: tale.text,
+        whole: tale.whole,
+    })
+}
+
+/// This picture of a run that came to its end, as one of whole runs.
+fn whole_told(
+    alloc: Global,
+    picture: Picture,
+    file: &str,
     from: &Provenance<'_>,
     ended: &Ended<'_>,
 ) -> Result<Tale, AllocError>
+    requires { is_of_whole picture ≡ true }
     ensures { IfOk result (λ tale. (tale.text.items, tale.whole)
-        ≡ picture_told picture from.now.text.now (map (λ x. x.now) from.now.shared.items)
+        ≡ picture_told picture file.now from.now.text.now
+        (map (λ x. x.now) from.now.shared.items)
         ended.now.module.now ended.now.core.world.arguments ended.now.log.items
         ended.now.core.world from.now.origins) }
 {
@@ -146,26 +205,58 @@ fn picture_of(
             text: chart(alloc, ended)?.into_bytes(),
             whole: true,
         }),
-        Picture::Events => events_of(alloc, from, ended),
-        Picture::Lanes(window) => lanes_of(alloc, from, ended, window),
-        Picture::Image(window) => image_of(alloc, from, ended, window),
-        Picture::Page(window) => page_of(alloc, from, ended, window),
         Picture::Races => races_of(alloc, from, ended),
         Picture::Span => span_of(alloc, from, ended),
+        Picture::Why(step) => reasons_of(alloc, from, ended, step),
+        Picture::Events => unreachable!(),
+        Picture::Lanes(_) => unreachable!(),
+        Picture::Image(_) => unreachable!(),
+        Picture::Page(_) => unreachable!(),
+    }
+}
+
+/// This picture of a run in which not all may have ended.
+fn so_far_told(
+    alloc: Global,
+    picture: Picture,
+    file: &str,
+    from: &Provenance<'_>,
+    legal: &LegalRun<'_, '_>,
+) -> Result<Tale, AllocError>
+    requires { is_of_whole picture ≡ false }
+    ensures { IfOk result (λ tale. (tale.text.items, tale.whole)
+        ≡ picture_told picture file.now from.now.text.now
+        (map (λ x. x.now) from.now.shared.items)
+        legal.now.module.now legal.now.core.now.world.arguments legal.now.log.now
+        legal.now.core.now.world from.now.origins) }
+{
+    match picture {
+        Picture::Events => events_so_far(alloc, from, legal),
+        Picture::Lanes(window) => lanes_so_far(alloc, from, legal, window),
+        Picture::Image(window) => image_so_far(alloc, from, legal, window),
+        Picture::Page(window) => page_so_far(alloc, file, from, legal, window),
+        Picture::Chart => unreachable!(),
+        Picture::Races => unreachable!(),
+        Picture::Span => unreachable!(),
+        Picture::Why(_) => unreachable!(),
     }
 }
 
 /// What others see of its steps; of a source text by names, and with values.
-fn events_of(alloc: Global, from: &Provenance<'_>, ended: &Ended<'_>) -> Result<Tale, AllocError>
+pub(crate) fn events_of(
+    alloc: Global,
+    from: &Provenance<'_>,
+    legal: &LegalRun<'_, '_>,
+) -> Result<Tale, AllocError>
     ensures { IfOk result (λ tale. (tale.text.items, tale.whole)
-        ≡ events_told from.now.text.now ended.now.module.now
-        ended.now.core.world.arguments ended.now.log.items
+        ≡ events_told from.now.text.now legal.now.module.now
+        legal.now.core.now.world.arguments legal.now.log.now
         (map (λ x. x.now) from.now.shared.items) from.now.origins) }
 {
     match &from.origins {
-        Some(origins) => named_events_of(alloc, from, origins.units(), ended),
+        Some(origins) => named_events_of(alloc, from, origins.units(), legal),
         None => Ok(Tale {
-            text: module_events(alloc, ended)?.into_bytes(),
+            text: module_events(alloc, legal)?.into_bytes(),
             whole: true,
         }),
     }
@@ -176,14 +267,14 @@ fn named_events_of(
     alloc: Global,
     from: &Provenance<'_>,
     units: &[UnitOrigins<'_>],
-    ended: &Ended<'_>,
+    legal: &LegalRun<'_, '_>,
 ) -> Result<Tale, AllocError>
     ensures { IfOk result (λ tale. (tale.text.items, tale.whole)
-        ≡ events_told from.now.text.now ended.now.module.now
-        ended.now.core.world.arguments ended.now.log.items
+        ≡ events_told from.now.text.now legal.now.module.now
+        legal.now.core.now.world.arguments legal.now.log.now
         (map (λ x. x.now) from.now.shared.items) (Some units.now)) }
 {
-    let text = named_events(alloc, from.text, units, &from.shared, ended)?;
+    let text = named_events(alloc, from.text, units, &from.shared, legal)?;
     Ok(Tale {
         text: text.into_bytes(),
         whole: true,
@@ -191,20 +282,20 @@ fn named_events_of(
 }
 
 /// The same, with a lane for each activity, of the steps in this window.
-fn lanes_of(
+pub(crate) fn lanes_of(
     alloc: Global,
     from: &Provenance<'_>,
-    ended: &Ended<'_>,
+    legal: &LegalRun<'_, '_>,
     window: Window,
 ) -> Result<Tale, AllocError>
     ensures { IfOk result (λ tale. (tale.text.items, tale.whole)
-        ≡ lanes_told from.now.text.now window ended.now.module.now ended.now.log.items
-        ended.now.core.world (map (λ x. x.now) from.now.shared.items) from.now.origins) }
+        ≡ lanes_told from.now.text.now window legal.now.module.now legal.now.log.now
+        legal.now.core.now.world (map (λ x. x.now) from.now.shared.items) from.now.origins) }
 {
     match &from.origins {
-        Some(origins) => named_lanes_of(alloc, from, origins.units(), ended, window),
+        Some(origins) => named_lanes_of(alloc, from, origins.units(), legal, window),
         None => {
-            let drawing = module_lanes(alloc, ended, window)?;
+            let drawing = module_lanes(alloc, legal, window)?;
             Ok(Tale {
                 text: drawing.text,
                 whole: drawing.whole,
@@ -218,14 +309,14 @@ fn named_lanes_of(
     alloc: Global,
     from: &Provenance<'_>,
     units: &[UnitOrigins<'_>],
-    ended: &Ended<'_>,
+    legal: &LegalRun<'_, '_>,
     window: Window,
 ) -> Result<Tale, AllocError>
     ensures { IfOk result (λ tale. (tale.text.items, tale.whole)
-        ≡ lanes_told from.now.text.now window ended.now.module.now ended.now.log.items
-        ended.now.core.world (map (λ x. x.now) from.now.shared.items) (Some units.now)) }
+        ≡ lanes_told from.now.text.now window legal.now.module.now legal.now.log.now
+        legal.now.core.now.world (map (λ x. x.now) from.now.shared.items) (Some units.now)) }
 {
-    let drawing = lanes_with_names(alloc, from.text, units, &from.shared, ended, window)?;
+    let drawing = lanes_with_names(alloc, from.text, units, &from.shared, legal, window)?;
     Ok(Tale {
         text: drawing.text,
         whole: drawing.whole,
@@ -233,20 +324,20 @@ fn named_lanes_of(
 }
 
 /// The same as an image.
-fn image_of(
+pub(crate) fn image_of(
     alloc: Global,
     from: &Provenance<'_>,
-    ended: &Ended<'_>,
+    legal: &LegalRun<'_, '_>,
     window: Window,
 ) -> Result<Tale, AllocError>
     ensures { IfOk result (λ tale. (tale.text.items, tale.whole)
-        ≡ image_told from.now.text.now window ended.now.module.now ended.now.log.items
-        ended.now.core.world (map (λ x. x.now) from.now.shared.items) from.now.origins) }
+        ≡ image_told from.now.text.now window legal.now.module.now legal.now.log.now
+        legal.now.core.now.world (map (λ x. x.now) from.now.shared.items) from.now.origins) }
 {
     match &from.origins {
-        Some(origins) => named_image_of(alloc, from, origins.units(), ended, window),
+        Some(origins) => named_image_of(alloc, from, origins.units(), legal, window),
         None => {
-            let drawing = module_picture(alloc, ended, window)?;
+            let drawing = module_picture(alloc, legal, window)?;
             Ok(Tale {
                 text: drawing.text,
                 whole: drawing.whole,
@@ -260,14 +351,14 @@ fn named_image_of(
     alloc: Global,
     from: &Provenance<'_>,
     units: &[UnitOrigins<'_>],
-    ended: &Ended<'_>,
+    legal: &LegalRun<'_, '_>,
     window: Window,
 ) -> Result<Tale, AllocError>
     ensures { IfOk result (λ tale. (tale.text.items, tale.whole)
-        ≡ image_told from.now.text.now window ended.now.module.now ended.now.log.items
-        ended.now.core.world (map (λ x. x.now) from.now.shared.items) (Some units.now)) }
+        ≡ image_told from.now.text.now window legal.now.module.now legal.now.log.now
+        legal.now.core.now.world (map (λ x. x.now) from.now.shared.items) (Some units.now)) }
 {
-    let drawing = source_picture(alloc, from.text, units, &from.shared, ended, window)?;
+    let drawing = source_picture(alloc, from.text, units, &from.shared, legal, window)?;
     Ok(Tale {
         text: drawing.text,
         whole: drawing.whole,
@@ -275,20 +366,21 @@ fn named_image_of(
 }
 
 /// The same as a page.
-fn page_of(
+pub(crate) fn page_of(
     alloc: Global,
+    file: &str,
     from: &Provenance<'_>,
-    ended: &Ended<'_>,
+    legal: &LegalRun<'_, '_>,
     window: Window,
 ) -> Result<Tale, AllocError>
     ensures { IfOk result (λ tale. (tale.text.items, tale.whole)
-        ≡ page_told from.now.text.now window ended.now.module.now ended.now.log.items
-        ended.now.core.world (map (λ x. x.now) from.now.shared.items) from.now.origins) }
+        ≡ page_told file.now from.now.text.now window legal.now.module.now legal.now.log.now
+        legal.now.core.now.world (map (λ x. x.now) from.now.shared.items) from.now.origins) }
 {
     match &from.origins {
-        Some(origins) => named_page_of(alloc, from, origins.units(), ended, window),
+        Some(origins) => named_page_of(alloc, file, from, origins.units(), legal, window),
         None => {
-            let drawing = module_page(alloc, ended, window)?;
+            let drawing = module_page(alloc, file, legal, window)?;
             Ok(Tale {
                 text: drawing.text,
                 whole: drawing.whole,
@@ -300,16 +392,17 @@ fn page_of(
 /// The same of a source text whose units have these origins.
 fn named_page_of(
     alloc: Global,
+    file: &str,
     from: &Provenance<'_>,
     units: &[UnitOrigins<'_>],
-    ended: &Ended<'_>,
+    legal: &LegalRun<'_, '_>,
     window: Window,
 ) -> Result<Tale, AllocError>
     ensures { IfOk result (λ tale. (tale.text.items, tale.whole)
-        ≡ page_told from.now.text.now window ended.now.module.now ended.now.log.items
-        ended.now.core.world (map (λ x. x.now) from.now.shared.items) (Some units.now)) }
+        ≡ page_told file.now from.now.text.now window legal.now.module.now legal.now.log.now
+        legal.now.core.now.world (map (λ x. x.now) from.now.shared.items) (Some units.now)) }
 {
-    let drawing = source_page(alloc, from.text, units, &from.shared, ended, window)?;
+    let drawing = source_page(alloc, file, from.text, units, &from.shared, legal, window)?;
     Ok(Tale {
         text: drawing.text,
         whole: drawing.whole,

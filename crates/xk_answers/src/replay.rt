@@ -8,6 +8,7 @@ ghost use Rattle.xk_answers.specs.Results.{ComesTo, IsLogText, Replay};
 ghost use Rattle.xk_answers.specs.Refusals.{AgainstModule, AgainstRun};
 ghost use Rattle.xk_cli.specs.Status.{status_program};
 ghost use Rattle.xk_program.specs.Lines.{status_of};
+ghost use Rattle.xk_program.specs.declared.fault.Fault.TheVariants as fault;
 
 use crate::job_result::Done;
 use crate::runs::finish;
@@ -15,8 +16,8 @@ use std::alloc::Global;
 use xk_bounds::Verified;
 use xk_log::read_log;
 use xk_program::{Fault, runnable};
-use xk_replay::replay;
-use xk_scheduler::Ended;
+use xk_replay::{replay, replay_so_far};
+use xk_scheduler::{Ended, Partial};
 use xk_types::{Module, Source};
 
 /// What a module prints in the run with these arguments that the log has, if the module is accepted and main takes as many. Where it isn't
@@ -88,4 +89,27 @@ pub(crate) fn run_again<'m, L: Source>(
 {
     let log = read_log(alloc, log_in)?;
     Ok(replay(alloc, verified, arguments, log)?)
+}
+
+/// The run again with these arguments that the log has, as far as the log goes.
+#[tactic(auto, using(crate::proofs::LogLemmas::log_stands, crate::proofs::LogLemmas::text_goes_on))]
+pub(crate) fn run_so_far<'m, L: Source>(
+    alloc: Global,
+    verified: &'m Verified,
+    arguments: &[i64],
+    log_in: &mut L,
+) -> Result<Partial<'m>, Fault>
+    requires { AreArguments verified.now arguments.now }
+    ensures same_module { IfOk result (λ p. p.module.now ≡ verified.now) }
+    ensures same_arguments { IfOk result (λ p. p.core.world.arguments ≡ arguments.now) }
+    ensures log { IfOk result (λ p. OfSome (L.remaining log_in.old)
+        (λ logged. IsLogText logged p.log.items)) }
+    ensures no_fault { OnOk result (L.fault_count log_in.new ≡ L.fault_count log_in.old) }
+    ensures fault { IfErr result (AgainstRun verified.now arguments.now (L.remaining log_in.old)
+        (L.fault_count log_in.old) (L.fault_count log_in.new)) }
+    ensures goes_on { IfErr result (λ f. f ≢ fault.NotEnded) }
+    ensures of_log { IfErr result (λ f. status_of f ≢ status_program) }
+{
+    let log = read_log(alloc, log_in)?;
+    Ok(replay_so_far(alloc, verified, arguments, log)?)
 }

@@ -17,5 +17,6 @@ shows_origins (command.Lanes log from to svg) = true
 shows_origins (command.Page log from to) = true
 shows_origins (command.Where log at) = true
 shows_origins (command.Span log) = true
+shows_origins (command.Why log step) = true
 shows_origins (command.Races path) = true
 shows_origins _ = false

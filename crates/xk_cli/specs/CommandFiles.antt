@@ -12,6 +12,7 @@ read_path (command.Lanes log from to svg) = Some log.now
 read_path (command.Page log from to) = Some log.now
 read_path (command.Where log at) = Some log.now
 read_path (command.Span log) = Some log.now
+read_path (command.Why log step) = Some log.now
 read_path (command.Races log) = option_map (λ path. path.now) log
 read_path (command.Expected list limit sets) = Some list.now
 read_path _ = None

@@ -56,6 +56,10 @@ module_flag = flag (codes "module")
 abbrev pub log_place : Rule
 log_place = place (codes "LOG")
 
+-- STEP, which has to be there: a whole number of 64 bits but 0
+abbrev pub step_place : Rule
+step_place = record (place (codes "STEP")) { parser = Some (parser.Unsigned 1 most_count) }
+
 -- LOG, which needn't be there
 abbrev pub log_choice : Rule
 log_choice = record (new_rule (codes "LOG")) { action = Some action.Set }
@@ -159,6 +163,10 @@ page_line = on_file (codes "page") (module_flag ∷ log_place ∷ arg_option ∷
 abbrev pub where_line : App
 where_line = on_file (codes "where") (module_flag ∷ log_place ∷ arg_option ∷ at_option ∷ [])
 
+-- tells what a step rests on
+abbrev pub why_line : App
+why_line = on_file (codes "why") (module_flag ∷ log_place ∷ step_place ∷ arg_option ∷ [])
+
 -- the program with a command that has to be there, and a version that it tells, in short and at length
 abbrev pub program : App
 program = record (new_app (codes "x10clock")) {
@@ -175,7 +183,7 @@ abbrev pub command_line : Names → App
 command_line names = with_commands program
     (check_line ∷ explain_line ∷ compile_line ∷ listing_line ∷ run_line names ∷ outcomes_line ∷ races_line
     ∷ on_run (codes "replay") ∷ on_run (codes "chart") ∷ on_run (codes "events") ∷ lanes_line ∷ page_line ∷ where_line
-    ∷ on_run (codes "span") ∷ [])
+    ∷ on_run (codes "span") ∷ why_line ∷ [])
 
 -- none of the arguments is one of subcommands too
 abbrev pub AreLocal : List Arg → Type 0
@@ -217,7 +225,7 @@ way_value (drive.Workers w) = By w.count
 -- A command without where its texts lie in memory. What is explained may be a JSON value. A run has who takes its steps, and the log's path, where
 -- they were given; one by hand, whose order a person is asked for, has the log's path; a tally has the first seed, and how many runs there are. Lanes have
 -- the log's path, the first step and the last, where they were given, and may be a picture; a page has the same steps. How things stand is told by the log's path,
--- and after a step, where that was given; races have the log's path, where it was given; the others on a log have its path. Outcomes have how many there are at most, which is picked, and the path of its log; numbers of them may
+-- and after a step, where that was given; what a step rests on has both; races have the log's path, where it was given; the others on a log have its path. Outcomes have how many there are at most, which is picked, and the path of its log; numbers of them may
 -- have no order. Where they are held against a list they have its path, how many there are at most, and whether numbers of them have no order.
 pub data Task : Type 0 where
   Check : Task
@@ -234,6 +242,7 @@ pub data Task : Type 0 where
   Page : Text → Option ℕ → Option ℕ → Task
   Where : Text → Option ℕ → Task
   Span : Text → Task
+  Why : Text → ℕ → Task
   Races : Option Text → Task
   Outcomes : Option ℕ → Option ℕ → Option Text → Bool → Task
   Expected : Text → Option ℕ → Bool → Task
@@ -252,6 +261,7 @@ task_value (command.Lanes log from to svg) = Lanes log.now from to svg
 task_value (command.Page log from to) = Page log.now from to
 task_value (command.Where log at) = Where log.now at
 task_value (command.Span log) = Span log.now
+task_value (command.Why log step) = Why log.now step
 task_value (command.Races log) = Races (option_map (λ s. s.now) log)
 task_value (command.Outcomes limit pick log sets) = Outcomes limit pick (option_map (λ s. s.now) log) sets
 task_value (command.Expected list limit sets) = Expected list.now limit sets
@@ -399,6 +409,10 @@ page_on log given = Page log (count_in (codes "FROM") given) (count_in (codes "T
 abbrev pub where_on : Text → List Row → Task
 where_on log given = Where log (count_in (codes "AT") given)
 
+-- `why` on a log, with the step that was given to it
+abbrev pub why_on : Text → List Row → Option Task
+why_on log given = option_map (λ step. Why log step) (count_in (codes "STEP") given)
+
 -- the command of a name on a log, with what else was given to it
 abbrev pub command_on : Text → Text → List Row → Option Task
 command_on name log given =
@@ -408,7 +422,8 @@ command_on name log given =
     else (if bytes_eq name (codes "lanes") then Some (lanes_on log given)
     else (if bytes_eq name (codes "page") then Some (page_on log given)
     else (if bytes_eq name (codes "where") then Some (where_on log given)
-    else (if bytes_eq name (codes "span") then Some (Span log) else None))))))
+    else (if bytes_eq name (codes "span") then Some (Span log)
+    else (if bytes_eq name (codes "why") then why_on log given else None)))))))
 
 -- the command of a name that wants a log
 abbrev pub command_by_log : Text → List Row → Option Task

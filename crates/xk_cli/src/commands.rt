@@ -4,11 +4,11 @@ ghost use Rattle.std.specs.Prelude.{◌≡◌, IfOk, codes, map};
 ghost use Rattle.clap.specs.Words.{App, app_of, rule_of, with_subcommand};
 ghost use Rattle.xk_cli.specs.CommandLine.{AreLocal, HasNoGlobals, WithOrders, check_line, command_line, compile_line};
 ghost use Rattle.xk_cli.specs.CommandLine.{explain_line, lanes_line, listing_line, on_file, on_run, outcomes_line};
-ghost use Rattle.xk_cli.specs.CommandLine.{page_line, program, races_line, run_line, where_line};
+ghost use Rattle.xk_cli.specs.CommandLine.{page_line, program, races_line, run_line, where_line, why_line};
 
 use crate::options::{
     arg_option, at_option, count_option, flag, from_option, log_choice, log_option, log_place,
-    module_flag, option, order_option, place, seed_option, to_option, workers_option,
+    module_flag, option, order_option, place, seed_option, step_place, to_option, workers_option,
 };
 use clap::Arg;
 use std::alloc::{AllocError, Global};
@@ -36,7 +36,8 @@ pub(crate) fn line<'a>(alloc: Global) -> Result<clap::Command<'a>, AllocError>
     let line = add(line, lanes_line(alloc));
     let line = add(line, page_line(alloc));
     let line = add(line, where_line(alloc));
-    add(line, span_line(alloc))
+    let line = add(line, span_line(alloc));
+    add(line, why_line(alloc))
 }
 
 /// The program without its commands, of which one has to be there.
@@ -261,6 +262,21 @@ fn span_line<'a>(alloc: Global) -> Result<clap::Command<'a>, AllocError>
     let about = "Prints how parallel the run that a log has is, and what takes longest.";
     let options = [module_flag(alloc), log_place(alloc), arg_option(alloc)];
     on_file(alloc, "span", about, Vec::from_array(alloc, options)?)
+}
+
+/// The command `why`.
+fn why_line<'a>(alloc: Global) -> Result<clap::Command<'a>, AllocError>
+    ensures shape { IfOk result (λ c. app_of c ≡ why_line) }
+    ensures local { IfOk result HasNoGlobals }
+{
+    let about = "Prints what a step of the run that a log has rests on.";
+    let options = [
+        module_flag(alloc),
+        log_place(alloc),
+        step_place(alloc),
+        arg_option(alloc),
+    ];
+    on_file(alloc, "why", about, Vec::from_array(alloc, options)?)
 }
 
 /// A command on FILE with further arguments.

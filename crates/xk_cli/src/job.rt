@@ -78,6 +78,13 @@ pub enum Command<'a> {
         /// The log's path.
         log: &'a str,
     },
+    /// `why`: print what a step of the run of FILE that a log has rests on.
+    Why {
+        /// The log's path.
+        log: &'a str,
+        /// The step, counted from 1.
+        step: u64,
+    },
     /// `races`: print which steps of a run of FILE race with one another.
     Races {
         /// The path of the log of the run that is looked at, where that was given.
@@ -120,7 +127,8 @@ impl<'a> Command<'a> {
             | Command::Lanes { log, .. }
             | Command::Page { log, .. }
             | Command::Where { log, .. }
-            | Command::Span { log } => Some(log),
+            | Command::Span { log }
+            | Command::Why { log, .. } => Some(log),
             Command::Expected { list, .. } => Some(list),
             Command::Races { log } => log,
             Command::Check
@@ -151,6 +159,7 @@ impl<'a> Command<'a> {
             | Command::Page { .. }
             | Command::Where { .. }
             | Command::Span { .. }
+            | Command::Why { .. }
             | Command::Races { .. }
             | Command::Expected { .. } => None,
         }
@@ -174,6 +183,7 @@ impl<'a> Command<'a> {
             | Command::Page { .. }
             | Command::Where { .. }
             | Command::Span { .. }
+            | Command::Why { .. }
             | Command::Races { .. }
             | Command::Outcomes { .. }
             | Command::Expected { .. } => None,
@@ -192,6 +202,7 @@ impl<'a> Command<'a> {
             | Command::Page { .. }
             | Command::Where { .. }
             | Command::Span { .. }
+            | Command::Why { .. }
             | Command::Races { .. } => true,
             Command::Check
             | Command::Compile

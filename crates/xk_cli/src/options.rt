@@ -4,7 +4,7 @@ ghost use Rattle.std.specs.Prelude.{◌≡◌, false};
 ghost use Rattle.clap.specs.Words.{rule_of};
 ghost use Rattle.xk_cli.specs.CommandLine.{WithOrders, arg_option, at_option, count_option, flag, from_option, log_choice};
 ghost use Rattle.xk_cli.specs.CommandLine.{log_option, log_place, module_flag, option, order_option, place};
-ghost use Rattle.xk_cli.specs.CommandLine.{seed_option, to_option, workers_option};
+ghost use Rattle.xk_cli.specs.CommandLine.{seed_option, step_place, to_option, workers_option};
 
 use crate::job::MOST_WORKERS;
 use clap::builder::ValueParser;
@@ -180,6 +180,15 @@ pub(crate) fn log_place<'a>(alloc: Global) -> Arg<'a>
     ensures local { result.global ≡ false }
 {
     place(alloc, "LOG", "The log of a run of FILE")
+}
+
+/// STEP, which has to be there: a whole number from 1 on.
+pub(crate) fn step_place<'a>(alloc: Global) -> Arg<'a>
+    ensures rule { rule_of result ≡ step_place }
+    ensures local { result.global ≡ false }
+{
+    let step = place(alloc, "STEP", "The step of that run, counted from 1");
+    step.value_parser(ValueParser::unsigned(1, u64::MAX))
 }
 
 /// An argument without a long name, which has to be there.

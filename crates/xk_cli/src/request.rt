@@ -7,7 +7,7 @@ ghost use Rattle.xk_cli.specs.CommandLine.{asked_of, asked_value, command_by, co
 ghost use Rattle.xk_cli.specs.CommandLine.{crowds_in, excludes_by, excludes_in, faults_in, found_task, is_both};
 ghost use Rattle.xk_cli.specs.CommandLine.{is_list_misplaced, is_pick_alone, is_seed_alone, job_of, misplaces_by, misplaces_in};
 ghost use Rattle.xk_cli.specs.CommandLine.{outcomes_by, outcomes_in, picks_by, picks_in, run_asked, run_by, run_in, strays_by, strays_in};
-ghost use Rattle.xk_cli.specs.CommandLine.{task_by, task_value, texts};
+ghost use Rattle.xk_cli.specs.CommandLine.{task_by, task_value, texts, why_on};
 
 use crate::commands::line;
 use crate::given::{
@@ -233,8 +233,17 @@ fn command_by_log<'a>(name: &str, given: &ArgMatches<'a>) -> Option<Command<'a>>
             at: count_in(given, "AT"),
         }),
         "span" => Some(Command::Span { log }),
+        "why" => why_on(log, given),
         _ => None,
     }
+}
+
+/// The command `why` on this log, with the step that was given to it.
+fn why_on<'a>(log: &'a str, given: &ArgMatches<'a>) -> Option<Command<'a>>
+    ensures { option_map task_value result ≡ why_on log.entry.now (rows_of (found_of given.now)) }
+{
+    let step = count_in(given, "STEP")?;
+    Some(Command::Why { log, step })
 }
 
 /// The command `outcomes` with what was given to it: outcomes are held against a list, or printed. None where a list

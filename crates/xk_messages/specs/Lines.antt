@@ -83,6 +83,10 @@ ended_line steps = codes "ended steps " ++ (decimal steps ++ codes "\n")
 abbrev pub log_end_line : ℕ → List ℕ
 log_end_line steps = codes "the log ends after step " ++ (decimal steps ++ codes "\n")
 
+-- a step that was asked for, and that others can't see: `no other activity can see step 3: see events`
+abbrev pub local_line : ℕ → List ℕ
+local_line step = codes "no other activity can see step " ++ (decimal step ++ codes ": see events\n")
+
 -- ---- statuses
 
 abbrev pub label_status : Option (List ℕ) → ℕ

@@ -2,7 +2,7 @@
 
 ghost use Rattle.std.specs.Prelude.{◌≡◌, IfOk, string_bytes};
 ghost use Rattle.xk_module.specs.Faults.{fault_label};
-ghost use Rattle.xk_messages.specs.Lines.{accepted_line, arguments_line, bound_text, ended_line, front_text, grammar_line, kind_text, label_line, line, log_end_line, no_outcome_line, not_enabled_line, place_text, refusal_line, rule_text, walk_text};
+ghost use Rattle.xk_messages.specs.Lines.{accepted_line, arguments_line, bound_text, ended_line, front_text, grammar_line, kind_text, label_line, line, local_line, log_end_line, no_outcome_line, not_enabled_line, place_text, refusal_line, rule_text, walk_text};
 
 use std::alloc::{AllocError, Global};
 use xk_bounds::{BoundFault, KindFault, Refusal};
@@ -168,4 +168,11 @@ pub fn log_end_line(alloc: Global, steps: u64) -> Result<String, AllocError>
     ensures { IfOk result (λ text. string_bytes text ≡ log_end_line steps) }
 {
     format!(in alloc; "the log ends after step {steps}\n")
+}
+
+/// `no other activity can see step 3: see events`. Err where memory was refused.
+pub fn local_line(alloc: Global, step: u64) -> Result<String, AllocError>
+    ensures { IfOk result (λ text. string_bytes text ≡ local_line step) }
+{
+    format!(in alloc; "no other activity can see step {step}: see events\n")
 }

@@ -11,7 +11,7 @@ ghost use Rattle.xk_races.specs.Deeds.{advance, at_clocks, awaiting, awaits, cel
 use std::alloc::{AllocError, Global};
 use xk_core::Core;
 use xk_scheduler::Ended;
-use xk_show_events::{RunStep, Tell, advanced, take_step, tell_run};
+use xk_show_events::{LegalRun, RunStep, Tell, advanced, take_step, tell_run};
 use xk_types::{Act, ClockId, Event, Instr, Module, Standing};
 
 /// What a step has to do with the order of a run.
@@ -443,6 +443,6 @@ pub(crate) fn deeds_of_run(alloc: Global, ended: &Ended<'_>) -> Result<Vec<Deed>
         ended.now.module.now ended.now.core.world.arguments ended.now.log.items) }
 {
     let mut list = Vec::new(alloc);
-    tell_run(&DeedTeller, alloc, &mut list, ended)?;
+    tell_run(&DeedTeller, alloc, &mut list, &LegalRun::of(ended))?;
     Ok(list)
 }

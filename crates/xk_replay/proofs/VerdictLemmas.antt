@@ -14,7 +14,8 @@ use Rattle.xk_law_schedules.proofs.ReachabilityLemmas.{same_through}
 use Rattle.xk_scheduler.proofs.ScheduleLemmas.{split_before, barred}
 use Rattle.xk_replay.specs.declared.fault.ReplayFault.{ReplayFault}
 use Rattle.xk_replay.specs.declared.fault.ReplayFault.TheVariants as fault
-use Rattle.xk_replay.specs.Replay.{IsStoppedAt, IsUnfinished, IsWhole, Verdict, Whole, Stopped, Unfinished, Says, Fails, IsStop, IsFaultOf}
+use Rattle.xk_replay.specs.Replay.{IsLegal, IsStoppedAt, IsUnfinished, IsWhole, Verdict, Whole, Stopped, Unfinished, Says}
+use Rattle.xk_replay.specs.Replay.{Fails, IsStop, IsFaultOf}
 use Rattle.xk_replay.proofs.ChartLineLemmas.{legal_front}
 
 -- the schedule of a log in three parts: what stands before an entry, some steps of it, and what begins with its next step
@@ -90,6 +91,10 @@ module _ (m : ModuleValue) (args : List ℤ) (log : List Entry) where
   one_verdict Unfinished (Stopped j) p q = absurd (unfinished_not_stopped j p q)
   one_verdict Unfinished Unfinished p q = refl
 
+  -- in a legal log no step isn't enabled
+  pub legal_not_stopped : (i : ℕ) → IsLegal m args log → IsStoppedAt m args log i → ⊥
+  legal_not_stopped i r s = stopped_all i r.last s (leads_from m args (schedule_of log) r.last r.leads r.given)
+
   -- ---- what is told
 
   -- what stops a log is a fault of it
@@ -112,6 +117,12 @@ module _ (m : ModuleValue) (args : List ℤ) (log : List Entry) where
   fault_of_unfinished (fault.NotEnabled j) told u = absurd (unfinished_not_stopped j u told)
   fault_of_unfinished fault.NotEnded told u = inl refl
   fault_of_unfinished fault.OutOfMemory told u = inr refl
+
+  -- what stops a legal log is want of memory
+  pub stop_of_legal : (f : ReplayFault) → IsStop m args log f → IsLegal m args log → f ≡ fault.OutOfMemory
+  stop_of_legal (fault.NotEnabled i) told r = absurd (legal_not_stopped i r told)
+  stop_of_legal fault.NotEnded told r = absurd told
+  stop_of_legal fault.OutOfMemory told r = refl
 
   -- the log of a whole run is refused for want of memory alone
   pub answer_whole : {X Y : Type 0} (r : Result X (Y × ReplayFault)) → IfErr r (λ f. IsFaultOf m args log f.1) → IsWhole m args log → IfErr r (λ f. f.1 ≡ fault.OutOfMemory)

@@ -35,6 +35,12 @@ pub record IsWhole (m : ModuleValue) (args : List ℤ) (log : List Entry) : Type
   pub given : last.arguments ≡ args
   pub over : all_ended last ≡ true
 
+-- the log is legal: whether or not all have ended behind its last step
+pub record IsLegal (m : ModuleValue) (args : List ℤ) (log : List Entry) : Type 0 where
+  pub last : World
+  pub leads : Leads m (schedule_of log) last
+  pub given : last.arguments ≡ args
+
 -- what a log can be
 pub data Verdict : Type 0 where
   Whole : Verdict

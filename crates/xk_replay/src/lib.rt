@@ -10,5 +10,5 @@ mod log_writer;
 
 pub use clock_chart::chart;
 pub use fault::ReplayFault;
-pub use log_replay::replay;
+pub use log_replay::{replay, replay_so_far};
 pub use log_writer::write_log;

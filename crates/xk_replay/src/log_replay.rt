@@ -4,14 +4,14 @@ ghost use Rattle.std.specs.Prelude.{◌≡◌, ℕ, IfOk, IfErr};
 ghost use Rattle.xk_types.specs.World.{AreArguments};
 ghost use Rattle.xk_scheduler.specs.LoggedRuns.{IsRunOf};
 ghost use Rattle.xk_replay.specs.declared.fault.ReplayFault.TheVariants as fault;
-ghost use Rattle.xk_replay.specs.Replay.{Fails, IsFaultOf, IsRepeated, IsStop, IsStoppedAt, IsUnfinished, IsWhole};
+ghost use Rattle.xk_replay.specs.Replay.{Fails, IsFaultOf, IsLegal, IsRepeated, IsStop, IsStoppedAt, IsUnfinished, IsWhole};
 
 use crate::fault::ReplayFault;
 use std::alloc::{AllocError, Global};
 use xk_bounds::Verified;
 use xk_core::Core;
 use xk_log::Log;
-use xk_scheduler::{Ended, keep_printed};
+use xk_scheduler::{Ended, Partial, keep_printed};
 use xk_types::{Act, Entry};
 
 /// Where a log leads, and what it prints on the way.
@@ -51,6 +51,41 @@ pub fn replay<'m>(
     match carry_out(alloc, verified, arguments, &entries) {
         Err(fault) => Err((Log::new(entries), fault)),
         Ok(led) => close(verified, arguments, entries, led),
+    }
+}
+
+/// Plays a log again as `replay` does, and takes one, too, that stops before the run does. Ok exactly where each step is enabled, want of
+/// memory aside; the answer has the log as it was given. Where one isn't, the log comes back with the reason.
+pub fn replay_so_far<'m>(
+    alloc: Global,
+    verified: &'m Verified,
+    arguments: &[i64],
+    log: Log,
+) -> Result<Partial<'m>, (Log, ReplayFault)>
+    requires { AreArguments verified.now arguments.now }
+    ensures same_module { IfOk result (λ p. p.module.now ≡ verified.now) }
+    ensures same_arguments { IfOk result (λ p. p.core.world.arguments ≡ arguments.now) }
+    ensures same_log { IfOk result (λ p. p.log.items ≡ log) }
+    ensures log_back { IfErr result (λ f. f.0 ≡ log) }
+    // What is played is legal; and each legal log is played, want of memory aside.
+    ensures legal { IfOk result (λ _. IsLegal verified.now arguments.now log) }
+    ensures never_wrongly { IsLegal verified.now arguments.now log
+        → IfErr result (λ f. f.1 ≡ fault.OutOfMemory) }
+    // A log of which a fault is told has a step that isn't enabled.
+    ensures fault { IfErr result (λ f. IsStop verified.now arguments.now log f.1) }
+    // And the first one is told, want of memory aside.
+    ensures stopped { (i : ℕ) → IsStoppedAt verified.now arguments.now log i
+        → Fails (fault.NotEnabled i) result }
+{
+    let steps = log.into_entries();
+    match carry_out(alloc, verified, arguments, &steps) {
+        Err(fault) => Err((Log::new(steps), fault)),
+        Ok(led) => Ok(Partial {
+            module: verified,
+            log: steps,
+            printed: led.printed,
+            core: led.core,
+        }),
     }
 }
 

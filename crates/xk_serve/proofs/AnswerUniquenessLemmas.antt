@@ -10,7 +10,7 @@ use Rattle.xk_types.specs.Acceptance.{IsAccepted}
 use Rattle.xk_types.specs.Bound.{steps_bound, activities_bound, clocks_bound}
 use Rattle.xk_types.specs.Code.{ModuleValue, IsWithinLimits}
 use Rattle.xk_types.specs.Logs.{schedule_of}
-use Rattle.xk_types.specs.Schedule.{Leads}
+use Rattle.xk_types.specs.Schedule.{Leads, all_ended}
 use Rattle.xk_types.specs.World.{AreArguments}
 use Rattle.xk_bounds.specs.declared.refusal.Refusal.{Refusal}
 use Rattle.xk_bounds.specs.declared.refusal.Refusal.TheVariants as refusal
@@ -20,7 +20,8 @@ use Rattle.xk_module.specs.declared.fault.ModuleFault.{ModuleFault}
 use Rattle.xk_module.specs.declared.fault.ModuleFault.TheVariants as text
 use Rattle.xk_module.specs.ModuleText.{IsJson, IsModuleText, module_value}
 use Rattle.xk_module.proofs.TextLemmas.{one_module}
-use Rattle.xk_replay.specs.Replay.{IsWhole}
+use Rattle.xk_replay.specs.Replay.{IsLegal, IsStoppedAt, IsWhole}
+use Rattle.xk_replay.proofs.VerdictLemmas.{legal_not_stopped}
 use Rattle.xk_tree.specs.declared.fault.FrontFault.{FrontFault}
 use Rattle.xk_cli.specs.declared.job.Form.{Form}
 use Rattle.xk_cli.specs.declared.job.Form.TheVariants as form
@@ -29,8 +30,8 @@ use Rattle.xk_answers.specs.declared.job_result.Done.{Done}
 use Rattle.xk_answers.specs.declared.job_result.Done.TheVariants as done
 use Rattle.xk_program.specs.declared.fault.Fault.{Fault}
 use Rattle.xk_program.specs.declared.fault.Fault.TheVariants as fault
-use Rattle.xk_serve.specs.Answer.{Answers, IsSaidBy, Reply, Task, asks_verifier, done_reply, fault_reply, reads_list, reads_log, runs, wants_whole}
-use Rattle.xk_answers.specs.Results.{Check, ComesTo, Compile, Doing, Draw, Expected, Explain, IsLogText, IsNoRun, IsTelling, IsText, Listing, Outcomes, Races, Replay, Run, Tally, Where, list_in}
+use Rattle.xk_serve.specs.Answer.{Answers, IsSaidBy, Reply, Task, asks_verifier, done_reply, fault_reply, reads_list, reads_log, runs}
+use Rattle.xk_answers.specs.Results.{Check, ComesTo, Compile, Doing, Draw, Expected, Explain, IsLogText, IsNoRun, IsTelling, IsText, Listing, Outcomes, Races, Replay, Run, Tally, Where, is_of_whole, list_in}
 use Rattle.xk_program.specs.Refusals.{IsMisfit}
 use Rattle.xk_answers.specs.Printed.{done_status, whole_status, done_log, done_text}
 use Rattle.xk_answers.specs.Explanation.{Tale}
@@ -44,6 +45,7 @@ use Rattle.xk_program.specs.Programs.{Gives, IsCompiledTo, IsNoModule, IsNoSourc
 use Rattle.xk_serve.proofs.LogUniquenessLemmas.{no_run_once, text_not_cut, text_not_wrong, text_once, whole_not_refused}
 use Rattle.xk_serve.proofs.RefusalUniquenessLemmas.{not_accepted, refusal_once, refused_status}
 use Rattle.xk_serve.proofs.RunUniquenessLemmas.{list_once, logged_once, ordered_once, run_taken}
+use Rattle.xk_serve.proofs.TaskLemmas.{MayStand}
 use Rattle.xk_serve.proofs.TellingUniquenessLemmas.{telling_once}
 use Rattle.xk_serve.proofs.TextUniquenessLemmas.{one_text, unfit_none, unfit_once}
 
@@ -263,17 +265,25 @@ said_determined (Expected sets limit) kind file bytes said f h one = h
 
 -- ---- what is told of it
 
--- a fault of the run that a log has is told where the log is to be that of a whole one
-abbrev pub MayStand : Doing → Fault → Type 0
-MayStand what (fault.NotEnabled i) = wants_whole what ≡ true
-MayStand what fault.NotEnded = wants_whole what ≡ true
-MayStand what _ = ⊤
-
--- the log that is read is that of a whole run, of whose module something is told
-telling_whole : (picture : Picture) (kind : Form) (file bytes : List ℕ) (m : ModuleValue) (args : List ℤ) (logged : List ℕ) (told : Tale)
-    → IsTelling (Draw picture) kind file bytes m args logged told → (es : List Entry) × IsLogText logged es × IsWhole m args es
-telling_whole picture kind file bytes m args logged told h =
-    let r = h.1.2 in (h.1.0, h.1.1, record { last = r.last; leads = r.leads; given = r.given; over = r.over })
+-- a legal log of which a picture is drawn isn't refused; where that is one of whole runs, all have ended behind it
+picture_stands : (p : Picture) (m : ModuleValue) (args : List ℤ) (logged : List ℕ) (es : List Entry) (f : Fault) → IsLogText logged es
+    → (legal : IsLegal m args es) → (is_of_whole p ≡ true → all_ended legal.last ≡ true) → IsNoRun m args logged f → MayStand (Draw p) f
+    → status_of f ≢ 4 → ⊥
+picture_stands p m args logged es (fault.Text f) text legal over told_by may not4 = told_by
+picture_stands p m args logged es (fault.Front f) text legal over told_by may not4 = told_by
+picture_stands p m args logged es (fault.Refused r) text legal over told_by may not4 = told_by
+picture_stands p m args logged es (fault.Arguments wants has) text legal over told_by may not4 = told_by
+picture_stands p m args logged es (fault.Grammar line) text legal over told_by may not4 = text_not_wrong logged line es text told_by
+picture_stands p m args logged es fault.Truncated text legal over told_by may not4 = text_not_cut logged es text told_by
+picture_stands p m args logged es (fault.NotEnabled i) text legal over told_by may not4 =
+    let same = text_once logged told_by.0 es told_by.1 text in
+    legal_not_stopped m args es i legal (subst (λ xs. IsStoppedAt m args xs i) same told_by.2)
+picture_stands p m args logged es fault.NotEnded text legal over told_by may not4 =
+    whole_not_refused m args logged fault.NotEnded es told_by not4 text
+    (record { last = legal.last; leads = legal.leads; given = legal.given; over = over may })
+picture_stands p m args logged es (fault.NoOutcome line) text legal over told_by may not4 = told_by
+picture_stands p m args logged es fault.OutOfMemory text legal over told_by may not4 = not4 refl
+picture_stands p m args logged es fault.Device text legal over told_by may not4 = told_by
 
 -- a text of a log that need not be that of a whole run isn't refused
 text_stands : (at : Option ℕ) (m : ModuleValue) (args : List ℤ) (logged : List ℕ) (es : List Entry) (f : Fault) → IsLogText logged es → IsNoRun m args logged f → MayStand (Where at) f
@@ -294,7 +304,7 @@ text_stands at m args logged es fault.Device text told_by may not4 = told_by
 telling_stands : (what : Doing) (kind : Form) (file bytes : List ℕ) (m : ModuleValue) (args : List ℤ) (logged : List ℕ) (told : Tale) (f : Fault) → reads_log what ≡ true
     → IsTelling what kind file bytes m args logged told → IsNoRun m args logged f → MayStand what f → status_of f ≢ 4 → ⊥
 telling_stands (Draw picture) kind file bytes m args logged told f reads h told_by may not4 =
-    let whole = telling_whole picture kind file bytes m args logged told h in whole_not_refused m args logged f whole.0 told_by not4 whole.1 whole.2
+    let of = h.1 in picture_stands picture m args logged of.0 f of.1 of.2 of.3 told_by may not4
 telling_stands (Where at) kind file bytes m args logged told f reads h told_by may not4 = text_stands at m args logged h.1.1.0 f h.1.1.1 told_by may not4
 telling_stands Races kind file bytes m args logged told f reads h told_by may not4 = false≢true reads
 telling_stands (Tally seed count) kind file bytes m args logged told f reads h told_by may not4 = false≢true reads

@@ -25,6 +25,7 @@ use Rattle.xk_answers.specs.Explanation.{Tale}
 use Rattle.xk_program.specs.Lines.{status_of}
 use Rattle.xk_serve.specs.OneAnswer.{IsChartOf, IsCharted, MayChart, charting, done_with, replaying}
 use Rattle.xk_answers.specs.OrderedRun.{IsReplay, IsWholeRun}
+use Rattle.xk_replay.specs.Replay.{IsLegal}
 use Rattle.xk_program.specs.Programs.{Gives}
 use Rattle.xk_serve.proofs.AnswerUniquenessLemmas.{done_zero, prints, prints_once, whole_done}
 use Rattle.xk_serve.proofs.TellingUniquenessLemmas.{same_tale}
@@ -124,7 +125,12 @@ whole_run m args numbers steps es r = record { last = r.last; leads = subst (λ 
 charts : (t : Task) (bytes logged : List ℕ) (m : ModuleValue) (es : List Entry) → Gives t.form bytes m → IsAccepted m → IsLogText logged es → IsWholeRun m t.arguments es
     → (d : Done) → IsChartOf (chart_text m t.arguments es) d → Answers (charting t) bytes logged (done_reply d)
 charts t bytes logged m es given accepted log whole (done.Told found all) is =
-    inl (done.Told found all, record { of = m; given = given; done = inr (accepted, (es, log, whole, same_tale is.0 is.1)) }, refl)
+    let legal : IsLegal m t.arguments es = record { last = whole.last; leads = whole.leads; given = whole.given } in
+    inl (
+      done.Told found all,
+      record { of = m; given = given; done = inr (accepted, (es, log, legal, (λ _. whole.over), same_tale is.0 is.1)) },
+      refl,
+    )
 charts t bytes logged m es given accepted log whole _ is = absurd is
 
 module _ (t : Task) (way : Way) (bytes logged : List ℕ) (r : Reply) (is : t.doing ≡ Run way true) (answers : Answers t bytes logged r) (zero : r.status ≡ 0) where
@@ -170,5 +176,5 @@ module _ (t : Task) (way : Way) (bytes logged : List ℕ) (r : Reply) (is : t.do
         | inl printed ↦ absurd printed.1
         | inr told ↦
             let c = told.2.1 in
-            (w.of, c.0, w.given, c.1, reply_is s _ (told.1 ∙ ap (λ (tale : Tale). whole_status tale.1) c.3) (ap (λ (tale : Tale). tale.0) c.3) q.0 told.3)
+            (w.of, c.0, w.given, c.1, reply_is s _ (told.1 ∙ ap (λ (tale : Tale). whole_status tale.1) c.4) (ap (λ (tale : Tale). tale.0) c.4) q.0 told.3)
       ]

@@ -21,7 +21,8 @@ use Rattle.xk_scheduler.proofs.EnabledSetLemmas.{going}
 use Rattle.xk_replay.proofs.VerdictLemmas.{leads_from}
 use Rattle.xk_cli.specs.declared.job.Order.{Order}
 use Rattle.xk_cli.specs.declared.job.Order.TheVariants as order
-use Rattle.xk_answers.specs.OrderedRun.{FollowsOrder, IsLoggedRun, IsOrderedRun, IsWholeRun}
+use Rattle.xk_answers.specs.OrderedRun.{FollowsOrder, IsLoggedRun, IsOrderedRun}
+use Rattle.xk_replay.specs.Replay.{IsLegal}
 
 -- ---- whoever chooses
 
@@ -72,8 +73,8 @@ list_once P Q m args numbers others n k p q e =
       p.steps_are ∙ ap (λ (w : World). w.steps) last ∙ sym q.steps_are,
     )
 
--- a whole run by one log ends in one world
-pub last_once : (m : ModuleValue) (args : List ℤ) (es fs : List Entry) → es ≡ fs → (p : IsWholeRun m args es) (q : IsWholeRun m args fs) → p.last ≡ q.last
+-- a legal run by one log ends in one world
+pub last_once : (m : ModuleValue) (args : List ℤ) (es fs : List Entry) → es ≡ fs → (p : IsLegal m args es) (q : IsLegal m args fs) → p.last ≡ q.last
 last_once m args es fs same p q =
     let here = leads_from m args (schedule_of es) p.last p.leads p.given in
     let there = leads_from m args (schedule_of fs) q.last q.leads q.given in

@@ -1,5 +1,6 @@
 -- From what is said of a module to what is said of the task on the bytes that give it.
 use Rattle.std.proofs.Common.{◌≡◌, ◌∙◌, ◌||◌, ℕ, ℤ, List, [], Bool, true, false, Option, Some, Result, Ok, Err, IfOk, IfErr, if◌then◌else◌, inl, inr, refl, ap, sym, subst}
+use Rattle.std.specs.Prelude.{⊤}
 use Rattle.xk_log.specs.SomeBytes.{OfSome}
 use Rattle.xk_types.specs.Acceptance.{IsAccepted}
 use Rattle.xk_types.specs.Code.{ModuleValue}
@@ -9,12 +10,14 @@ use Rattle.xk_answers.specs.declared.job_result.Done.{Done}
 use Rattle.xk_program.specs.declared.fault.Fault.{Fault}
 use Rattle.xk_program.specs.declared.fault.Fault.TheVariants as fault
 use Rattle.xk_answers.specs.Results.{Check, ComesTo, Compile, Doing, Draw, Expected, Explain, IsNoRun, IsTelling, IsText, Listing, Outcomes, Races, Replay, Run, Tally, Where}
-use Rattle.xk_serve.specs.Answer.{FailsBy, Succeeds, Task, asks_verifier, reads_list, reads_log, reads_more, runs, wants_whole}
+use Rattle.xk_serve.specs.Answer.{FailsBy, Succeeds, Task, asks_verifier, reads_list, reads_log, reads_more, runs, wants_legal, wants_whole}
 use Rattle.xk_program.specs.Refusals.{IsNotRun, IsRefusal}
 use Rattle.std.proofs.lemmas.Result.{IfOk-weaker}
 use Rattle.std.proofs.lemmas.Bool.{false≢true}
 use Rattle.xk_program.specs.Programs.{Gives}
 use Rattle.xk_answers.specs.Refusals.{AgainstExpected, AgainstModule, AgainstRun, AgainstText}
+use Rattle.xk_answers.specs.Refusals as refusals
+use Rattle.xk_answers.specs.declared.picture.Picture.{Picture}
 use Rattle.xk_serve.specs.Devices.{AgainstLog, read_of}
 use Rattle.xk_program.specs.Faults.{GivesNoModule}
 use Rattle.xk_answers.proofs.LogLemmas.{some_any, some_each}
@@ -201,7 +204,41 @@ against_run_of t bytes known n m what args (Ok d) is told runs_it given h = tt
 against_run_of t bytes known n m what args (Err f) is told runs_it given h =
     against_not_run t bytes known n n m f refl (ap runs is ∙ runs_it) given (subst (λ xs. IsNotRun m xs f) told h)
 
-no_run_fails : (t : Task) (bytes logged : List ℕ) (m : ModuleValue) (f : Fault) → reads_log t.doing ≡ true → wants_whole t.doing ≡ true → Gives t.form bytes m → IsAccepted m → AreArguments m t.arguments
+-- a fault of the run that a log has is told where that has to be legal, or whole
+abbrev pub MayStand : Doing → Fault → Type 0
+MayStand what (fault.NotEnabled i) = wants_legal what ≡ true
+MayStand what fault.NotEnded = wants_whole what ≡ true
+MayStand what _ = ⊤
+
+-- any is where it has to be whole
+whole_stands : (what : Doing) (f : Fault) → wants_legal what ≡ true → wants_whole what ≡ true → MayStand what f
+whole_stands what (fault.Text f) legal whole = tt
+whole_stands what (fault.Front f) legal whole = tt
+whole_stands what (fault.Refused r) legal whole = tt
+whole_stands what (fault.Arguments wants has) legal whole = tt
+whole_stands what (fault.Grammar line) legal whole = tt
+whole_stands what fault.Truncated legal whole = tt
+whole_stands what (fault.NotEnabled i) legal whole = legal
+whole_stands what fault.NotEnded legal whole = whole
+whole_stands what (fault.NoOutcome line) legal whole = tt
+whole_stands what fault.OutOfMemory legal whole = tt
+whole_stands what fault.Device legal whole = tt
+
+-- of a picture those that may stand against it
+picture_stands : (p : Picture) (f : Fault) → refusals.MayStand p f → MayStand (Draw p) f
+picture_stands p (fault.Text f) stands = tt
+picture_stands p (fault.Front f) stands = tt
+picture_stands p (fault.Refused r) stands = tt
+picture_stands p (fault.Arguments wants has) stands = tt
+picture_stands p (fault.Grammar line) stands = tt
+picture_stands p fault.Truncated stands = tt
+picture_stands p (fault.NotEnabled i) stands = refl
+picture_stands p fault.NotEnded stands = stands refl
+picture_stands p (fault.NoOutcome line) stands = tt
+picture_stands p fault.OutOfMemory stands = tt
+picture_stands p fault.Device stands = tt
+
+no_run_fails : (t : Task) (bytes logged : List ℕ) (m : ModuleValue) (f : Fault) → reads_log t.doing ≡ true → MayStand t.doing f → Gives t.form bytes m → IsAccepted m → AreArguments m t.arguments
     → IsNoRun m t.arguments logged f → FailsBy t bytes logged f
 no_run_fails t bytes logged m (fault.Text f) reads wants given accepted taken h = absurd h
 no_run_fails t bytes logged m (fault.Front f) reads wants given accepted taken h = absurd h
@@ -217,13 +254,13 @@ no_run_fails t bytes logged m fault.Device reads wants given accepted taken h = 
 
 -- what stands against a log, and is no device's, stands against the task
 no_run_stands : (t : Task) (bytes : List ℕ) (known : Option (List ℕ)) (old new : ℕ) (m : ModuleValue) (f : Fault) → reads_log t.doing ≡ true
-    → wants_whole t.doing ≡ true → Gives t.form bytes m → IsAccepted m → AreArguments m t.arguments → (new ≡ old) × OfSome known (λ logged. IsNoRun m t.arguments logged f)
+    → MayStand t.doing f → Gives t.form bytes m → IsAccepted m → AreArguments m t.arguments → (new ≡ old) × OfSome known (λ logged. IsNoRun m t.arguments logged f)
     → (new ≡ old) × OfSome (read_of t known) (λ logged. FailsBy t bytes logged f)
 no_run_stands t bytes known old new m f reads wants given accepted taken h =
     (h.0, of_read t _ _ known reads (λ logged none. no_run_fails t bytes logged m f reads wants given accepted taken none) h.1)
 
 against_run : (t : Task) (bytes : List ℕ) (known : Option (List ℕ)) (old new : ℕ) (m : ModuleValue) (f : Fault) → reads_log t.doing ≡ true
-    → wants_whole t.doing ≡ true → Gives t.form bytes m → IsAccepted m → AreArguments m t.arguments → AgainstRun m t.arguments known old new f → AgainstLog t bytes known old new f
+    → MayStand t.doing f → Gives t.form bytes m → IsAccepted m → AreArguments m t.arguments → AgainstRun m t.arguments known old new f → AgainstLog t bytes known old new f
 against_run t bytes known old new m (fault.Text f) reads wants given accepted taken h = no_run_stands t bytes known old new m (fault.Text f) reads wants given accepted taken h
 against_run t bytes known old new m (fault.Front f) reads wants given accepted taken h = no_run_stands t bytes known old new m (fault.Front f) reads wants given accepted taken h
 against_run t bytes known old new m (fault.Refused r) reads wants given accepted taken h = no_run_stands t bytes known old new m (fault.Refused r) reads wants given accepted taken h
@@ -252,16 +289,28 @@ reads_runs (Outcomes sets limit pick kept) h = refl
 reads_runs (Expected sets limit) h = refl
 
 against_either : (t : Task) (bytes : List ℕ) (known : Option (List ℕ)) (old new : ℕ) (m : ModuleValue) (f : Fault) → reads_log t.doing ≡ true
-    → wants_whole t.doing ≡ true → Gives t.form bytes m → AgainstModule m t.arguments known old new f → AgainstLog t bytes known old new f
+    → MayStand t.doing f → Gives t.form bytes m → AgainstModule m t.arguments known old new f → AgainstLog t bytes known old new f
 against_either t bytes known old new m f reads wants given (inl h) = against_not_run t bytes known old new m f h.0 (reads_runs t.doing reads) given h.1
 against_either t bytes known old new m f reads wants given (inr h) = against_run t bytes known old new m f reads wants given h.0 h.1 h.2
 
 -- a module that isn't run, or a log that is none of its run
 pub against_log : (t : Task) (bytes : List ℕ) (known : Option (List ℕ)) (old new : ℕ) (m : ModuleValue) (what : Doing) (args : List ℤ) (r : Result Done Fault) → t.doing ≡ what
-    → args ≡ t.arguments → reads_log what ≡ true → wants_whole what ≡ true → Gives t.form bytes m → IfErr r (AgainstModule m args known old new) → IfErr r (AgainstLog t bytes known old new)
-against_log t bytes known old new m what args (Ok d) is told reads wants given h = tt
-against_log t bytes known old new m what args (Err f) is told reads wants given h =
-    against_either t bytes known old new m f (ap reads_log is ∙ reads) (ap wants_whole is ∙ wants) given (subst (λ xs. AgainstModule m xs known old new f) told h)
+    → args ≡ t.arguments → reads_log what ≡ true → wants_legal what ≡ true → wants_whole what ≡ true → Gives t.form bytes m
+    → IfErr r (AgainstModule m args known old new) → IfErr r (AgainstLog t bytes known old new)
+against_log t bytes known old new m what args (Ok d) is told reads legal whole given h = tt
+against_log t bytes known old new m what args (Err f) is told reads legal whole given h =
+    let stands = whole_stands t.doing f (ap wants_legal is ∙ legal) (ap wants_whole is ∙ whole) in
+    let against = subst (λ xs. AgainstModule m xs known old new f) told h in
+    against_either t bytes known old new m f (ap reads_log is ∙ reads) stands given against
+
+-- the same of a picture
+pub against_picture : (t : Task) (bytes : List ℕ) (known : Option (List ℕ)) (old new : ℕ) (m : ModuleValue) (p : Picture) (args : List ℤ)
+    (r : Result Done Fault) → t.doing ≡ Draw p → args ≡ t.arguments → Gives t.form bytes m → IfErr r (AgainstModule m args known old new)
+    → IfErr r (refusals.MayStand p) → IfErr r (AgainstLog t bytes known old new)
+against_picture t bytes known old new m p args (Ok d) is told given h stands = tt
+against_picture t bytes known old new m p args (Err f) is told given h stands =
+    let may : MayStand t.doing f = subst (λ what. MayStand what f) (sym is) (picture_stands p f stands) in
+    against_either t bytes known old new m f (ap reads_log is) may given (subst (λ xs. AgainstModule m xs known old new f) told h)
 
 -- a module that isn't run, or bytes that are the text of no log
 against_read : (t : Task) (bytes : List ℕ) (known : Option (List ℕ)) (old new : ℕ) (m : ModuleValue) (f : Fault) → reads_log t.doing ≡ true → Gives t.form bytes m

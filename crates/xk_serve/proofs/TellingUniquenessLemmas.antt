@@ -17,7 +17,8 @@ use Rattle.xk_answers.specs.declared.picture.Picture.{Picture}
 use Rattle.xk_answers.specs.declared.picture.Picture.TheVariants as picture
 use Rattle.xk_answers.specs.Results.{Check, Compile, Doing, Draw, Expected, Explain, IsPicture, IsTelling, Listing, Outcomes, Races, Replay, Run, Tally, Where}
 use Rattle.xk_program.specs.Origins.{HaveOrigins, HaveSharedNames, IsByNames, IsByOrigins}
-use Rattle.xk_answers.specs.Explanation.{HaveHints, IsListed, Tale, acceptance_told, events_told, image_told, lanes_told, page_told, races_told, span_told, where_told}
+use Rattle.xk_answers.specs.Explanation.{HaveHints, IsListed, Tale, acceptance_told, events_so_far, image_so_far, lanes_so_far, page_so_far, races_told, span_told, where_told}
+use Rattle.xk_answers.specs.Explanation.{why_told}
 use Rattle.xk_cli.specs.declared.job.Order.TheVariants as order
 use Rattle.xk_program.specs.Programs.{Gives}
 use Rattle.xk_types.specs.World.{World}
@@ -72,18 +73,24 @@ pub same_tale : {x y : List ℕ} {v w : Bool} → x ≡ y → v ≡ w → ◌≡
 same_tale e d = cc
 
 -- a picture of a run is one
-picture_once : (p : Picture) (kind : Form) (bytes : List ℕ) (m : ModuleValue) (args : List ℤ) (es : List Entry) (last : World) (a b : Tale) → Gives kind bytes m
-    → IsPicture p kind bytes m args es last a → IsPicture p kind bytes m args es last b → a ≡ b
-picture_once picture.Chart kind bytes m args es last a b given h k = h ∙ sym k
-picture_once picture.Events kind bytes m args es last a b given h k = by_names_once kind bytes m (events_told bytes m args es) a b given h k
-picture_once (picture.Lanes window) kind bytes m args es last a b given h k =
-    by_names_once kind bytes m (lanes_told bytes window m es last) a b given h k
-picture_once (picture.Image window) kind bytes m args es last a b given h k =
-    by_names_once kind bytes m (image_told bytes window m es last) a b given h k
-picture_once (picture.Page window) kind bytes m args es last a b given h k =
-    by_names_once kind bytes m (page_told bytes window m es last) a b given h k
-picture_once picture.Span kind bytes m args es last a b given h k = by_origins_once kind bytes m (span_told bytes m args es) a b given h k
-picture_once picture.Races kind bytes m args es last a b given h k = by_names_once kind bytes m (races_told bytes m args es) a b given h k
+picture_once : (p : Picture) (kind : Form) (file bytes : List ℕ) (m : ModuleValue) (args : List ℤ) (es : List Entry) (last : World) (a b : Tale)
+    → Gives kind bytes m
+    → IsPicture p kind file bytes m args es last a → IsPicture p kind file bytes m args es last b → a ≡ b
+picture_once picture.Chart kind file bytes m args es last a b given h k = h ∙ sym k
+picture_once picture.Events kind file bytes m args es last a b given h k =
+    by_names_once kind bytes m (events_so_far bytes m args es last) a b given h k
+picture_once (picture.Lanes window) kind file bytes m args es last a b given h k =
+    by_names_once kind bytes m (lanes_so_far bytes window m es last) a b given h k
+picture_once (picture.Image window) kind file bytes m args es last a b given h k =
+    by_names_once kind bytes m (image_so_far bytes window m es last) a b given h k
+picture_once (picture.Page window) kind file bytes m args es last a b given h k =
+    by_names_once kind bytes m (page_so_far file bytes window m es last) a b given h k
+picture_once picture.Span kind file bytes m args es last a b given h k =
+    by_origins_once kind bytes m (span_told bytes m args es) a b given h k
+picture_once (picture.Why step) kind file bytes m args es last a b given h k =
+    by_names_once kind bytes m (why_told bytes step m args es) a b given h k
+picture_once picture.Races kind file bytes m args es last a b given h k =
+    by_names_once kind bytes m (races_told bytes m args es) a b given h k
 
 pub telling_once : (what : Doing) (kind : Form) (file bytes : List ℕ) (m : ModuleValue) (args : List ℤ) (logged : List ℕ) (a b : Tale) → Gives kind bytes m
     → IsTelling what kind file bytes m args logged a → IsTelling what kind file bytes m args logged b → a ≡ b
@@ -97,8 +104,8 @@ telling_once Listing kind file bytes m args logged a b given h k =
 telling_once (Draw picture) kind file bytes m args logged a b given h k =
     let same = text_once logged k.1.0 h.1.0 k.1.1 h.1.1 in
     let last = last_once m args k.1.0 h.1.0 same k.1.2 h.1.2 in
-    picture_once picture kind bytes m args h.1.0 h.1.2.last a b given h.1.3
-    (subst (λ w. IsPicture picture kind bytes m args h.1.0 w b) last (subst (λ es. IsPicture picture kind bytes m args es k.1.2.last b) same k.1.3))
+    picture_once picture kind file bytes m args h.1.0 h.1.2.last a b given h.1.4
+    (subst (λ w. IsPicture picture kind file bytes m args h.1.0 w b) last (subst (λ es. IsPicture picture kind file bytes m args es k.1.2.last b) same k.1.4))
 telling_once (Where at) kind file bytes m args logged a b given h k =
     let here = h.1.1 in
     let there = k.1.1 in

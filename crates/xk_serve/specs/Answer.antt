@@ -19,7 +19,7 @@ use Rattle.xk_answers.specs.Printed.{done_log, done_text, done_status}
 use Rattle.xk_program.specs.Lines.{fault_line, status_of}
 use Rattle.xk_program.specs.Programs.{Gives, IsNoModule, IsNoSource}
 use Rattle.xk_answers.specs.Explanation.{IsExplanation}
-use Rattle.xk_answers.specs.Results.{Doing, way_given, window_given, lanes_given, list_in, ComesTo, IsTelling, IsText, IsNoRun, Check, Explain, Compile, Listing, Run, Replay, Draw, Where, Races, Tally, Outcomes, Expected}
+use Rattle.xk_answers.specs.Results.{Doing, way_given, window_given, lanes_given, list_in, ComesTo, IsTelling, IsText, IsNoRun, is_of_whole, Check, Explain, Compile, Listing, Run, Replay, Draw, Where, Races, Tally, Outcomes, Expected}
 use Rattle.xk_program.specs.Refusals.{IsMisfit}
 
 -- whether the module is run, and main given its arguments
@@ -52,9 +52,15 @@ reads_list _ = false
 abbrev pub reads_more : Doing → Bool
 reads_more what = reads_log what || reads_list what
 
--- whether the log that is read is to be that of a whole run
+-- whether each step of the log that is read has to be one that can be taken
+abbrev pub wants_legal : Doing → Bool
+wants_legal (Where at) = false
+wants_legal _ = true
+
+-- whether that log has to be one of a whole run
 abbrev pub wants_whole : Doing → Bool
 wants_whole (Where at) = false
+wants_whole (Draw picture) = is_of_whole picture
 wants_whole _ = true
 
 -- races are those of the run that a log has, if one is given, and else of the run in the order `first`
@@ -76,6 +82,7 @@ doing_of (command.Lanes log from to svg) = Draw (lanes_given from to svg)
 doing_of (command.Page log from to) = Draw (picture.Page (window_given from to))
 doing_of (command.Where log at) = Where at
 doing_of (command.Span log) = Draw picture.Span
+doing_of (command.Why log step) = Draw (picture.Why step)
 doing_of (command.Races path) = races_by (is_some path)
 doing_of (command.Tally seed runs) = Tally seed runs
 doing_of (command.Outcomes limit pick path sets) = Outcomes sets limit (unwrap_or pick 1) (is_some path)
@@ -113,7 +120,7 @@ FailsByList t bytes logged line =
 
 -- The fault is one of the bytes, or of main's arguments where the module is run, or of the bytes of a log or a list where one is read, or want of
 -- memory, of which nothing is claimed. `compile` and `listing` ask nothing of the verifier. The arguments are looked at only where the module is accepted,
--- and a log only where they are as many as main takes; `where` takes one that is none of a whole run.
+-- and a log only where they are as many as main takes. `where` takes any log, and some pictures one that stops before the run does.
 abbrev pub FailsBy : Task → List ℕ → List ℕ → Fault → Type 0
 FailsBy t bytes logged (fault.Text f) = (t.form ≡ form.Module) × IsNoModule bytes f
 FailsBy t bytes logged (fault.Front f) = (t.form ≡ form.Source) × IsNoSource bytes f
@@ -122,7 +129,7 @@ FailsBy t bytes logged (fault.Refused r) = (asks_verifier t.doing ≡ true) × (
 FailsBy t bytes logged (fault.Arguments wants has) = (runs t.doing ≡ true) × GivesAccepted t bytes (λ m. IsMisfit m t.arguments wants has)
 FailsBy t bytes logged (fault.Grammar line) = FailsByLog t bytes logged (fault.Grammar line)
 FailsBy t bytes logged fault.Truncated = FailsByLog t bytes logged fault.Truncated
-FailsBy t bytes logged (fault.NotEnabled i) = (wants_whole t.doing ≡ true) × FailsByLog t bytes logged (fault.NotEnabled i)
+FailsBy t bytes logged (fault.NotEnabled i) = (wants_legal t.doing ≡ true) × FailsByLog t bytes logged (fault.NotEnabled i)
 FailsBy t bytes logged fault.NotEnded = (wants_whole t.doing ≡ true) × FailsByLog t bytes logged fault.NotEnded
 FailsBy t bytes logged (fault.NoOutcome line) = FailsByList t bytes logged line
 FailsBy t bytes logged fault.OutOfMemory = ⊤

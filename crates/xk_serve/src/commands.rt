@@ -61,30 +61,34 @@ pub(crate) fn answer<R: Threads + Wait + Sync, L: Source>(
         Command::Replay { .. } => replayed(alloc, program.module, arguments, log_in),
         Command::Chart { .. } => {
             let chart = Picture::Chart;
-            drawn(alloc, chart, program, arguments, log_in)
+            drawn(alloc, chart, job.file, program, arguments, log_in)
         }
         Command::Events { .. } => {
             let events = Picture::Events;
-            drawn(alloc, events, program, arguments, log_in)
+            drawn(alloc, events, job.file, program, arguments, log_in)
         }
         Command::Lanes { from, to, svg, .. } => {
             let lanes = lanes_given(from, to, svg);
-            drawn(alloc, lanes, program, arguments, log_in)
+            drawn(alloc, lanes, job.file, program, arguments, log_in)
         }
         Command::Page { from, to, .. } => {
             let page = Picture::Page(window_given(from, to));
-            drawn(alloc, page, program, arguments, log_in)
+            drawn(alloc, page, job.file, program, arguments, log_in)
         }
         Command::Span { .. } => {
             let span = Picture::Span;
-            drawn(alloc, span, program, arguments, log_in)
+            drawn(alloc, span, job.file, program, arguments, log_in)
+        }
+        Command::Why { step, .. } => {
+            let why = Picture::Why(step);
+            drawn(alloc, why, job.file, program, arguments, log_in)
         }
         Command::Where { at, .. } => stood(alloc, program, at, arguments, log_in),
         Command::Races { log } => {
             let given = log.is_some();
             if given {
                 let races = Picture::Races;
-                return drawn(alloc, races, program, arguments, log_in);
+                return drawn(alloc, races, job.file, program, arguments, log_in);
             }
             raced(alloc, program, arguments)
         }

@@ -1,3 +1,4 @@
 pub mod Worlds
+pub mod Endings
 pub mod Steps
 pub mod Events

@@ -3,11 +3,11 @@
 ghost use Rattle.std.specs.Prelude.{◌≡◌, ◌++◌, flat_map, IfOk, OnOk, string_bytes};
 ghost use Rattle.xk_show_events.specs.Events.{event_line, events_text, no_text};
 
+use crate::legal_run::LegalRun;
 use crate::places::Places;
 use crate::steps::{RunStep, seen_steps};
 use crate::words::event_line;
 use std::alloc::{AllocError, Global};
-use xk_scheduler::Ended;
 
 /// Puts a piece behind a text.
 fn put(text: &mut String, piece: String) -> Result<(), AllocError>
@@ -32,21 +32,25 @@ fn event_lines(alloc: Global, places: &Places<'_>, steps: &[RunStep]) -> Result<
 }
 
 /// The lines of a run.
-fn events(alloc: Global, places: &Places<'_>, ended: &Ended<'_>) -> Result<String, AllocError>
+fn events(
+    alloc: Global,
+    places: &Places<'_>,
+    legal: &LegalRun<'_, '_>,
+) -> Result<String, AllocError>
     ensures { IfOk result (λ text. string_bytes text ≡ events_text places.now
-        ended.now.module.now ended.now.core.world.arguments ended.now.log.items) }
+        legal.now.module.now legal.now.core.now.world.arguments legal.now.log.now) }
 {
-    let steps = seen_steps(alloc, ended)?;
+    let steps = seen_steps(alloc, legal)?;
     event_lines(alloc, places, &steps)
 }
 
 /// The steps of a run of a module without a text that other activities can see, in their order, a line each, as `step 4 act 0 unit 0 place 3
 /// print 10`: which step of the run it was, counted from 1; whose; the unit and place of its instruction; and what was seen. Err where
 /// memory was refused.
-pub fn module_events(alloc: Global, ended: &Ended<'_>) -> Result<String, AllocError>
+pub fn module_events(alloc: Global, legal: &LegalRun<'_, '_>) -> Result<String, AllocError>
     ensures { IfOk result (λ lines. string_bytes lines ≡ events_text no_text
-        ended.now.module.now ended.now.core.world.arguments ended.now.log.items) }
+        legal.now.module.now legal.now.core.now.world.arguments legal.now.log.now) }
 {
     let places = Places::of_module(alloc)?;
-    events(alloc, &places, ended)
+    events(alloc, &places, legal)
 }

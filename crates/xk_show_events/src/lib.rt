@@ -3,6 +3,7 @@
 
 mod advances;
 mod events;
+mod legal_run;
 mod pairs;
 mod places;
 mod steps;
@@ -11,6 +12,7 @@ mod words;
 
 pub use advances::advanced;
 pub use events::module_events;
+pub use legal_run::LegalRun;
 pub use pairs::{Both, describe_run_by_both};
 pub use places::Places;
 pub use steps::{RunStep, seen_steps, take_step};

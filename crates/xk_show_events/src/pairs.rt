@@ -6,11 +6,11 @@ ghost use Rattle.xk_types.specs.Schedule.{Through, is_enabled, run};
 ghost use Rattle.xk_core.specs.Core.{StepsTo};
 ghost use Rattle.xk_show_events.specs.Steps.{IsLegalFrom, IsSilentAfter, tell_by, told, told_of_run};
 
+use crate::legal_run::LegalRun;
 use crate::steps::take_step;
 use crate::walk::Describe;
 use std::alloc::{AllocError, Global};
 use xk_core::Core;
-use xk_scheduler::Ended;
 use xk_types::{Act, Entry, Event};
 
 /// Two who tell of the same steps.
@@ -88,17 +88,17 @@ pub fn describe_run_by_both<X, Y, A: Describe<X>, B: Describe<Y>>(
     alloc: Global,
     firsts: &mut Vec<X>,
     seconds: &mut Vec<Y>,
-    ended: &Ended<'_>,
+    legal: &LegalRun<'_, '_>,
 ) -> Result<(), AllocError>
     ensures first { OnOk result (firsts.new.items ≡ firsts.old.items
-        ++ told_of_run (tell_by (A.describe both.now.first.now ended.now.module.now))
-        ended.now.module.now ended.now.core.world.arguments ended.now.log.items) }
+        ++ told_of_run (tell_by (A.describe both.now.first.now legal.now.module.now))
+        legal.now.module.now legal.now.core.now.world.arguments legal.now.log.now) }
     ensures second { OnOk result (seconds.new.items ≡ seconds.old.items
-        ++ told_of_run (tell_by (B.describe both.now.second.now ended.now.module.now))
-        ended.now.module.now ended.now.core.world.arguments ended.now.log.items) }
+        ++ told_of_run (tell_by (B.describe both.now.second.now legal.now.module.now))
+        legal.now.module.now legal.now.core.now.world.arguments legal.now.log.now) }
 {
-    let mut core = Core::open(alloc, ended.module, ended.core.arguments())?;
-    for entry in &ended.log {
+    let mut core = Core::open(alloc, legal.module, legal.core.arguments())?;
+    for entry in legal.log {
         if are_silent_after(both, core.steps_done()) {
             return Ok(());
         }

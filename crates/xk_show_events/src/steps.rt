@@ -5,11 +5,11 @@ ghost use Rattle.xk_types.specs.Schedule.{is_enabled};
 ghost use Rattle.xk_core.specs.Core.{StepsTo, WantsMemory};
 ghost use Rattle.xk_show_events.specs.Steps.{if_seen, run_step, seen_steps};
 
+use crate::legal_run::LegalRun;
 use crate::walk::{Describe, describe_run};
 use crate::words::is_seen;
 use std::alloc::{AllocError, Global};
 use xk_core::Core;
-use xk_scheduler::Ended;
 use xk_types::{Act, Event};
 
 /// A step of a run.
@@ -81,11 +81,11 @@ impl Describe<RunStep> for SeenSteps {
 }
 
 /// The steps of a run that other activities can see, in their order. The log is played again for it. Err where memory was refused.
-pub fn seen_steps(alloc: Global, ended: &Ended<'_>) -> Result<Vec<RunStep>, AllocError>
+pub fn seen_steps(alloc: Global, legal: &LegalRun<'_, '_>) -> Result<Vec<RunStep>, AllocError>
     ensures { IfOk result (λ v. v.items ≡ seen_steps
-        ended.now.module.now ended.now.core.world.arguments ended.now.log.items) }
+        legal.now.module.now legal.now.core.now.world.arguments legal.now.log.now) }
 {
     let mut list = Vec::new(alloc);
-    describe_run(&SeenSteps, alloc, &mut list, ended)?;
+    describe_run(&SeenSteps, alloc, &mut list, legal)?;
     Ok(list)
 }

@@ -8,10 +8,10 @@ ghost use Rattle.xk_core.specs.Core.{StepsTo};
 ghost use Rattle.xk_show_events.specs.declared.steps.RunStep.{RunStep};
 ghost use Rattle.xk_show_events.specs.Steps.{IsLegalFrom, IsSilentAfter, Teller, tell_by, told, told_of_run};
 
+use crate::legal_run::LegalRun;
 use crate::steps::{RunStep, take_step};
 use std::alloc::{AllocError, Global};
 use xk_core::Core;
-use xk_scheduler::Ended;
 use xk_types::{Act, Entry, Event};
 
 /// Tells of the steps of runs, each by some items.
@@ -69,14 +69,14 @@ pub fn tell_run<X, T: Tell<X>>(
     teller: &T,
     alloc: Global,
     out: &mut Vec<X>,
-    ended: &Ended<'_>,
+    legal: &LegalRun<'_, '_>,
 ) -> Result<(), AllocError>
     ensures { OnOk result (out.new.items ≡ out.old.items
-        ++ told_of_run (T.tell teller.now ended.now.module.now)
-        ended.now.module.now ended.now.core.world.arguments ended.now.log.items) }
+        ++ told_of_run (T.tell teller.now legal.now.module.now)
+        legal.now.module.now legal.now.core.now.world.arguments legal.now.log.now) }
 {
-    let mut core = Core::open(alloc, ended.module, ended.core.arguments())?;
-    for entry in &ended.log {
+    let mut core = Core::open(alloc, legal.module, legal.core.arguments())?;
+    for entry in legal.log {
         if teller.is_silent_after(core.steps_done()) {
             return Ok(());
         }
@@ -142,11 +142,11 @@ pub fn describe_run<X, D: Describe<X>>(
     describer: &D,
     alloc: Global,
     out: &mut Vec<X>,
-    ended: &Ended<'_>,
+    legal: &LegalRun<'_, '_>,
 ) -> Result<(), AllocError>
     ensures { OnOk result (out.new.items ≡ out.old.items
-        ++ told_of_run (tell_by (D.describe describer.now ended.now.module.now))
-        ended.now.module.now ended.now.core.world.arguments ended.now.log.items) }
+        ++ told_of_run (tell_by (D.describe describer.now legal.now.module.now))
+        legal.now.module.now legal.now.core.now.world.arguments legal.now.log.now) }
 {
-    tell_run(&Taking { describer }, alloc, out, ended)
+    tell_run(&Taking { describer }, alloc, out, legal)
 }

@@ -12,8 +12,7 @@ use crate::window::Window;
 use std::alloc::{AllocError, Global};
 use xk_core::Core;
 use xk_origins::UnitOrigins;
-use xk_scheduler::Ended;
-use xk_show_events::{Describe, Places, RunStep, describe_run, is_seen};
+use xk_show_events::{Describe, LegalRun, Places, RunStep, describe_run, is_seen};
 
 /// What is drawn, and whether it is whole: no lane is left out. (A step that wasn't asked for isn't left out.)
 #[derive(Debug, Drop)]
@@ -85,18 +84,18 @@ fn lanes_in(
     alloc: Global,
     grid: Grid,
     places: &Places<'_>,
-    ended: &Ended<'_>,
+    legal: &LegalRun<'_, '_>,
 ) -> Result<Vec<u8>, AllocError>
-    ensures { IfOk result (λ v. v.items ≡ lanes_in grid places.now ended.now.module.now
-        ended.now.log.items ended.now.core.world) }
+    ensures { IfOk result (λ v. v.items ≡ lanes_in grid places.now legal.now.module.now
+        legal.now.log.now legal.now.core.now.world) }
 {
     let mut out = Vec::new(alloc);
     push_head(alloc, &mut out, grid)?;
-    describe_run(&LaneTeller { grid, places }, alloc, &mut out, ended)?;
+    describe_run(&LaneTeller { grid, places }, alloc, &mut out, legal)?;
     push_left_out(
         alloc,
         &mut out,
-        ended.core.activities().saturating_sub(DRAWN),
+        legal.core.activities().saturating_sub(DRAWN),
     )?;
     Ok(out)
 }
@@ -130,12 +129,16 @@ impl Describe<RunStep> for AskedSteps {
 }
 
 /// The steps of a run that are asked for, and that others can see. The log is played again for it.
-fn steps_asked(alloc: Global, ended: &Ended<'_>, window: Window) -> Result<Vec<RunStep>, AllocError>
-    ensures { IfOk result (λ v. v.items ≡ steps_asked window ended.now.module.now
-        ended.now.log.items ended.now.core.world) }
+fn steps_asked(
+    alloc: Global,
+    legal: &LegalRun<'_, '_>,
+    window: Window,
+) -> Result<Vec<RunStep>, AllocError>
+    ensures { IfOk result (λ v. v.items ≡ steps_asked window legal.now.module.now
+        legal.now.log.now legal.now.core.now.world) }
 {
     let mut steps = Vec::new(alloc);
-    describe_run(&AskedSteps { window }, alloc, &mut steps, ended)?;
+    describe_run(&AskedSteps { window }, alloc, &mut steps, legal)?;
     Ok(steps)
 }
 
@@ -143,30 +146,30 @@ fn steps_asked(alloc: Global, ended: &Ended<'_>, window: Window) -> Result<Vec<R
 fn grid_for(
     alloc: Global,
     places: &Places<'_>,
-    ended: &Ended<'_>,
+    legal: &LegalRun<'_, '_>,
     window: Window,
 ) -> Result<Grid, AllocError>
-    ensures { IfOk result (λ g. g ≡ grid_for places.now window ended.now.module.now
-        ended.now.log.items ended.now.core.world) }
+    ensures { IfOk result (λ g. g ≡ grid_for places.now window legal.now.module.now
+        legal.now.log.now legal.now.core.now.world) }
 {
-    let steps = steps_asked(alloc, ended, window)?;
-    grid_of(alloc, places, window, &steps, ended.core.activities())
+    let steps = steps_asked(alloc, legal, window)?;
+    grid_of(alloc, places, window, &steps, legal.core.activities())
 }
 
 /// The lanes of these steps of a run.
 fn lanes(
     alloc: Global,
     places: &Places<'_>,
-    ended: &Ended<'_>,
+    legal: &LegalRun<'_, '_>,
     window: Window,
 ) -> Result<Drawing, AllocError>
     ensures text { IfOk result (λ d. d.text.items ≡ lanes_text places.now window
-        ended.now.module.now ended.now.log.items ended.now.core.world) }
-    ensures whole { IfOk result (λ d. d.whole ≡ are_lanes_whole ended.now.core.world) }
+        legal.now.module.now legal.now.log.now legal.now.core.now.world) }
+    ensures whole { IfOk result (λ d. d.whole ≡ are_lanes_whole legal.now.core.now.world) }
 {
-    let grid = grid_for(alloc, places, ended, window)?;
-    let text = lanes_in(alloc, grid, places, ended)?;
-    let whole = ended.core.activities() <= DRAWN;
+    let grid = grid_for(alloc, places, legal, window)?;
+    let text = lanes_in(alloc, grid, places, legal)?;
+    let whole = legal.core.activities() <= DRAWN;
     Ok(Drawing { text, whole })
 }
 
@@ -179,24 +182,28 @@ pub fn source_lanes(
     alloc: Global,
     text: &[u8],
     origins: &[UnitOrigins<'_>],
-    ended: &Ended<'_>,
+    legal: &LegalRun<'_, '_>,
     window: Window,
 ) -> Result<Drawing, AllocError>
     ensures text { IfOk result (λ d. d.text.items
         ≡ lanes_text (places_of text.now origins.now) window
-        ended.now.module.now ended.now.log.items ended.now.core.world) }
-    ensures whole { IfOk result (λ d. d.whole ≡ are_lanes_whole ended.now.core.world) }
+        legal.now.module.now legal.now.log.now legal.now.core.now.world) }
+    ensures whole { IfOk result (λ d. d.whole ≡ are_lanes_whole legal.now.core.now.world) }
 {
     let places = Places::of_source(alloc, text, origins)?;
-    lanes(alloc, &places, ended, window)
+    lanes(alloc, &places, legal, window)
 }
 
 /// The same of a module without a text, with the unit and place of each step. Err where memory was refused.
-pub fn module_lanes(alloc: Global, ended: &Ended<'_>, window: Window) -> Result<Drawing, AllocError>
+pub fn module_lanes(
+    alloc: Global,
+    legal: &LegalRun<'_, '_>,
+    window: Window,
+) -> Result<Drawing, AllocError>
     ensures text { IfOk result (λ d. d.text.items ≡ lanes_text no_text window
-        ended.now.module.now ended.now.log.items ended.now.core.world) }
-    ensures whole { IfOk result (λ d. d.whole ≡ are_lanes_whole ended.now.core.world) }
+        legal.now.module.now legal.now.log.now legal.now.core.now.world) }
+    ensures whole { IfOk result (λ d. d.whole ≡ are_lanes_whole legal.now.core.now.world) }
 {
     let places = Places::of_module(alloc)?;
-    lanes(alloc, &places, ended, window)
+    lanes(alloc, &places, legal, window)
 }

@@ -21,8 +21,7 @@ use crate::window::Window;
 use std::alloc::{AllocError, Global};
 use xk_core::Core;
 use xk_origins::UnitOrigins;
-use xk_scheduler::Ended;
-use xk_show_events::{Places, advanced, is_seen};
+use xk_show_events::{LegalRun, Places, advanced, is_seen};
 use xk_show_names::{Account, Names, Recount, account_words, clock_word, recount_run};
 use xk_types::{ClockId, Event};
 
@@ -121,14 +120,14 @@ impl Recount<Account> for KeptAccounts {
 /// The steps of a run by which clocks have their names, and columns their widths. The log is played again for it.
 fn accounts_kept(
     alloc: Global,
-    ended: &Ended<'_>,
+    legal: &LegalRun<'_, '_>,
     window: Window,
 ) -> Result<Vec<Account>, AllocError>
-    ensures { IfOk result (λ v. v.items ≡ accounts_kept window ended.now.module.now
-        ended.now.log.items ended.now.core.world) }
+    ensures { IfOk result (λ v. v.items ≡ accounts_kept window legal.now.module.now
+        legal.now.log.now legal.now.core.now.world) }
 {
     let mut steps = Vec::new(alloc);
-    recount_run(&KeptAccounts { window }, alloc, &mut steps, ended)?;
+    recount_run(&KeptAccounts { window }, alloc, &mut steps, legal)?;
     Ok(steps)
 }
 
@@ -146,18 +145,18 @@ fn kept_names<'t>(
     places: &Places<'_>,
     origins: &[UnitOrigins<'_>],
     shared: &'t [&'t [u8]],
-    ended: &Ended<'_>,
+    legal: &LegalRun<'_, '_>,
     window: Window,
     kept: &[Account],
 ) -> Result<Names<'t>, AllocError>
     requires origins { places.now.origins ≡ origins.now }
-    requires kept { kept.now ≡ accounts_kept window ended.now.module.now
-        ended.now.log.items ended.now.core.world }
+    requires kept { kept.now ≡ accounts_kept window legal.now.module.now
+        legal.now.log.now legal.now.core.now.world }
     ensures { IfOk result (λ n. n ≡ names_until places.now
-        (map (λ x. x.now) shared.now) window.last ended.now.module.now
-        ended.now.core.world.arguments ended.now.log.items) }
+        (map (λ x. x.now) shared.now) window.last legal.now.module.now
+        legal.now.core.now.world.arguments legal.now.log.now) }
 {
-    let program = ended.module.module();
+    let program = legal.module.module();
     Names::by_steps(alloc, places, origins, shared, program, kept)
 }
 
@@ -175,20 +174,20 @@ pub fn named_columns<'t>(
     places: &Places<'_>,
     origins: &[UnitOrigins<'_>],
     shared: &'t [&'t [u8]],
-    ended: &Ended<'_>,
+    legal: &LegalRun<'_, '_>,
     window: Window,
     kept: Vec<Account>,
 ) -> Result<Columns<'t>, AllocError>
     requires origins { places.now.origins ≡ origins.now }
-    requires kept { kept.items ≡ accounts_kept window ended.now.module.now
-        ended.now.log.items ended.now.core.world }
+    requires kept { kept.items ≡ accounts_kept window legal.now.module.now
+        legal.now.log.now legal.now.core.now.world }
     ensures names { IfOk result (λ c. c.names ≡ names_until places.now
-        (map (λ x. x.now) shared.now) window.last ended.now.module.now
-        ended.now.core.world.arguments ended.now.log.items) }
+        (map (λ x. x.now) shared.now) window.last legal.now.module.now
+        legal.now.core.now.world.arguments legal.now.log.now) }
     ensures grid { IfOk result (λ c. c.grid ≡ grid_by_names places.now c.names window
-        ended.now.module.now ended.now.log.items ended.now.core.world) }
+        legal.now.module.now legal.now.log.now legal.now.core.now.world) }
 {
-    let names = kept_names(alloc, places, origins, shared, ended, window, &kept)?;
+    let names = kept_names(alloc, places, origins, shared, legal, window, &kept)?;
     let mut steps = kept;
     leave_asked(&mut steps, window);
     let grid = named_grid(
@@ -197,7 +196,7 @@ pub fn named_columns<'t>(
         &names,
         window,
         &steps,
-        ended.core.activities(),
+        legal.core.activities(),
     )?;
     Ok(Columns { names, grid })
 }
@@ -365,10 +364,10 @@ fn named_lanes_in(
     grid: Grid,
     places: &Places<'_>,
     names: &Names<'_>,
-    ended: &Ended<'_>,
+    legal: &LegalRun<'_, '_>,
 ) -> Result<Vec<u8>, AllocError>
     ensures { IfOk result (λ v. v.items ≡ named_lanes_in grid places.now names.now
-        ended.now.module.now ended.now.log.items ended.now.core.world) }
+        legal.now.module.now legal.now.log.now legal.now.core.now.world) }
 {
     let mut out = Vec::new(alloc);
     push_head(alloc, &mut out, grid)?;
@@ -377,11 +376,11 @@ fn named_lanes_in(
         places,
         names,
     };
-    recount_run(&teller, alloc, &mut out, ended)?;
+    recount_run(&teller, alloc, &mut out, legal)?;
     push_left_out(
         alloc,
         &mut out,
-        ended.core.activities().saturating_sub(DRAWN),
+        legal.core.activities().saturating_sub(DRAWN),
     )?;
     Ok(out)
 }
@@ -395,18 +394,18 @@ pub fn lanes_with_names(
     text: &[u8],
     origins: &[UnitOrigins<'_>],
     shared: &[&[u8]],
-    ended: &Ended<'_>,
+    legal: &LegalRun<'_, '_>,
     window: Window,
 ) -> Result<Drawing, AllocError>
     ensures text { IfOk result (λ d. d.text.items ≡ named_lanes_text
         (places_of text.now origins.now) (map (λ x. x.now) shared.now) window
-        ended.now.module.now ended.now.log.items ended.now.core.world) }
-    ensures whole { IfOk result (λ d. d.whole ≡ are_lanes_whole ended.now.core.world) }
+        legal.now.module.now legal.now.log.now legal.now.core.now.world) }
+    ensures whole { IfOk result (λ d. d.whole ≡ are_lanes_whole legal.now.core.now.world) }
 {
     let places = Places::of_source(alloc, text, origins)?;
-    let kept = accounts_kept(alloc, ended, window)?;
-    let columns = named_columns(alloc, &places, origins, shared, ended, window, kept)?;
-    let text = named_lanes_in(alloc, columns.grid, &places, &columns.names, ended)?;
-    let whole = ended.core.activities() <= DRAWN;
+    let kept = accounts_kept(alloc, legal, window)?;
+    let columns = named_columns(alloc, &places, origins, shared, legal, window, kept)?;
+    let text = named_lanes_in(alloc, columns.grid, &places, &columns.names, legal)?;
+    let whole = legal.core.activities() <= DRAWN;
     Ok(Drawing { text, whole })
 }

@@ -13,8 +13,7 @@ ghost use Rattle.xk_show_events.specs.Steps.{IsSilentAfter, told_of_run};
 
 use std::alloc::{AllocError, Global};
 use xk_core::Core;
-use xk_scheduler::Ended;
-use xk_show_events::{RunStep, Tell, is_seen, take_step, tell_run};
+use xk_show_events::{LegalRun, RunStep, Tell, is_seen, take_step, tell_run};
 use xk_types::{Act, Event, Instr, Module, Value};
 
 /// What a step was about.
@@ -201,13 +200,13 @@ pub fn recount_run<X, R: Recount<X>>(
     recounter: &R,
     alloc: Global,
     out: &mut Vec<X>,
-    ended: &Ended<'_>,
+    legal: &LegalRun<'_, '_>,
 ) -> Result<(), AllocError>
     ensures { OnOk result (out.new.items ≡ out.old.items ++ told_of_run
-        (recounted_by ended.now.module.now (R.recount recounter.now ended.now.module.now))
-        ended.now.module.now ended.now.core.world.arguments ended.now.log.items) }
+        (recounted_by legal.now.module.now (R.recount recounter.now legal.now.module.now))
+        legal.now.module.now legal.now.core.now.world.arguments legal.now.log.now) }
 {
-    tell_run(&Recounting { recounter }, alloc, out, ended)
+    tell_run(&Recounting { recounter }, alloc, out, legal)
 }
 
 /// Tells of the steps that other activities can see.
@@ -232,11 +231,14 @@ impl Recount<Account> for SeenAccounts {
 
 /// The steps of a run that other activities can see, in their order, and what they were about. The log is played again
 /// for it. Err where memory was refused.
-pub(crate) fn seen_accounts(alloc: Global, ended: &Ended<'_>) -> Result<Vec<Account>, AllocError>
+pub(crate) fn seen_accounts(
+    alloc: Global,
+    legal: &LegalRun<'_, '_>,
+) -> Result<Vec<Account>, AllocError>
     ensures { IfOk result (λ v. v.items ≡ seen_accounts
-        ended.now.module.now ended.now.core.world.arguments ended.now.log.items) }
+        legal.now.module.now legal.now.core.now.world.arguments legal.now.log.now) }
 {
     let mut list = Vec::new(alloc);
-    recount_run(&SeenAccounts, alloc, &mut list, ended)?;
+    recount_run(&SeenAccounts, alloc, &mut list, legal)?;
     Ok(list)
 }

@@ -17,8 +17,7 @@ use std::marker::Model;
 use xk_core::Core;
 use xk_lines::Position;
 use xk_origins::UnitOrigins;
-use xk_scheduler::Ended;
-use xk_show_events::{Places, RunStep};
+use xk_show_events::{LegalRun, Places, RunStep};
 use xk_types::{Event, Instr, Module};
 
 /// Where a clock was made: the instruction, and the slot.
@@ -95,12 +94,12 @@ impl Recount<Birth> for BirthTeller {
 }
 
 /// Where the clocks of a run were made.
-fn births(alloc: Global, ended: &Ended<'_>) -> Result<Vec<Birth>, AllocError>
+fn births(alloc: Global, legal: &LegalRun<'_, '_>) -> Result<Vec<Birth>, AllocError>
     ensures { IfOk result (λ v. v.items ≡ births
-        ended.now.module.now ended.now.core.world.arguments ended.now.log.items) }
+        legal.now.module.now legal.now.core.now.world.arguments legal.now.log.now) }
 {
     let mut list = Vec::new(alloc);
-    recount_run(&BirthTeller, alloc, &mut list, ended)?;
+    recount_run(&BirthTeller, alloc, &mut list, legal)?;
     Ok(list)
 }
 
@@ -264,14 +263,14 @@ impl<'t> Names<'t> {
         text: &[u8],
         origins: &[UnitOrigins<'_>],
         shared: &'t [&'t [u8]],
-        ended: &Ended<'_>,
+        legal: &LegalRun<'_, '_>,
     ) -> Result<Names<'t>, AllocError>
         ensures { IfOk result (λ n. n ≡ names_in_run
             (places_of text.now origins.now) (map (λ x. x.now) shared.now)
-            ended.now.module.now ended.now.core.world.arguments ended.now.log.items) }
+            legal.now.module.now legal.now.core.now.world.arguments legal.now.log.now) }
     {
         let places = Places::of_source(alloc, text, origins)?;
-        let clocks = clock_names(alloc, &places, origins, &births(alloc, ended)?)?;
+        let clocks = clock_names(alloc, &places, origins, &births(alloc, legal)?)?;
         Ok(Names { shared, clocks })
     }
 

@@ -13,8 +13,7 @@ use crate::letters::cut_name;
 use crate::writers::Writers;
 use std::alloc::{AllocError, Global};
 use xk_origins::UnitOrigins;
-use xk_scheduler::Ended;
-use xk_show_events::{Places, RunStep, event_words, place_words};
+use xk_show_events::{LegalRun, Places, RunStep, event_words, place_words};
 use xk_types::Event;
 
 /// A shared number by its name, or `shared 0`. Err where memory was refused.
@@ -212,16 +211,16 @@ fn seen_names<'t>(
     places: &Places<'_>,
     origins: &[UnitOrigins<'_>],
     shared: &'t [&'t [u8]],
-    ended: &Ended<'_>,
+    legal: &LegalRun<'_, '_>,
     steps: &[Account],
 ) -> Result<Names<'t>, AllocError>
     requires origins { places.now.origins ≡ origins.now }
     requires steps { steps.now ≡ seen_accounts
-        ended.now.module.now ended.now.core.world.arguments ended.now.log.items }
+        legal.now.module.now legal.now.core.now.world.arguments legal.now.log.now }
     ensures { IfOk result (λ n. n ≡ names_in_run places.now (map (λ x. x.now) shared.now)
-        ended.now.module.now ended.now.core.world.arguments ended.now.log.items) }
+        legal.now.module.now legal.now.core.now.world.arguments legal.now.log.now) }
 {
-    let program = ended.module.module();
+    let program = legal.module.module();
     Names::by_steps(alloc, places, origins, shared, program, steps)
 }
 
@@ -234,14 +233,14 @@ pub fn named_events(
     text: &[u8],
     origins: &[UnitOrigins<'_>],
     shared: &[&[u8]],
-    ended: &Ended<'_>,
+    legal: &LegalRun<'_, '_>,
 ) -> Result<String, AllocError>
     ensures { IfOk result (λ lines. string_bytes lines ≡ named_events_text
         (places_of text.now origins.now) (map (λ x. x.now) shared.now)
-        ended.now.module.now ended.now.core.world.arguments ended.now.log.items) }
+        legal.now.module.now legal.now.core.now.world.arguments legal.now.log.now) }
 {
     let places = Places::of_source(alloc, text, origins)?;
-    let steps = seen_accounts(alloc, ended)?;
-    let names = seen_names(alloc, &places, origins, shared, ended, &steps)?;
+    let steps = seen_accounts(alloc, legal)?;
+    let names = seen_names(alloc, &places, origins, shared, legal, &steps)?;
     lines_of(alloc, &places, &names, &steps)
 }

@@ -10,8 +10,7 @@ ghost use Rattle.xk_show_names.specs.Accounts.{recounted_by};
 use crate::accounts::{Recount, take_account};
 use std::alloc::{AllocError, Global};
 use xk_core::Core;
-use xk_scheduler::Ended;
-use xk_show_events::Both;
+use xk_show_events::{Both, LegalRun};
 use xk_types::{Act, Entry, Event};
 
 /// Takes a step of an activity that can take one, and adds what each of the two tells of it.
@@ -86,19 +85,19 @@ pub fn recount_run_by_both<X, Y, A: Recount<X>, B: Recount<Y>>(
     alloc: Global,
     firsts: &mut Vec<X>,
     seconds: &mut Vec<Y>,
-    ended: &Ended<'_>,
+    legal: &LegalRun<'_, '_>,
 ) -> Result<(), AllocError>
     ensures first { OnOk result (firsts.new.items ≡ firsts.old.items
-        ++ told_of_run (recounted_by ended.now.module.now
-        (A.recount both.now.first.now ended.now.module.now))
-        ended.now.module.now ended.now.core.world.arguments ended.now.log.items) }
+        ++ told_of_run (recounted_by legal.now.module.now
+        (A.recount both.now.first.now legal.now.module.now))
+        legal.now.module.now legal.now.core.now.world.arguments legal.now.log.now) }
     ensures second { OnOk result (seconds.new.items ≡ seconds.old.items
-        ++ told_of_run (recounted_by ended.now.module.now
-        (B.recount both.now.second.now ended.now.module.now))
-        ended.now.module.now ended.now.core.world.arguments ended.now.log.items) }
+        ++ told_of_run (recounted_by legal.now.module.now
+        (B.recount both.now.second.now legal.now.module.now))
+        legal.now.module.now legal.now.core.now.world.arguments legal.now.log.now) }
 {
-    let mut core = Core::open(alloc, ended.module, ended.core.arguments())?;
-    for entry in &ended.log {
+    let mut core = Core::open(alloc, legal.module, legal.core.arguments())?;
+    for entry in legal.log {
         if are_silent_after(both, core.steps_done()) {
             return Ok(());
         }

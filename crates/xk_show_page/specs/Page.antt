@@ -2,6 +2,7 @@
 -- the run's. The elements that hold them are spelled here, and so is the policy. What stands in each page besides, the script that shows them too, means
 -- nothing to a run: `src/furniture.rt` has these texts. That it is told so is this project's own.
 use Rattle.std.specs.Prelude.{ℕ, ◌==◌, nat_le, Bool, not, ◌&&◌, List, [], ◌∷◌, ◌++◌, flat_map, Option, Some, None, codes, if◌then◌else◌}
+use Rattle.std.specs.Str.{bytes_eq}
 use Rattle.xk_types.specs.declared.world.Entry.{Entry}
 use Rattle.xk_types.specs.declared.world.Event.{Event}
 use Rattle.xk_types.specs.declared.world.Event.TheVariants as event
@@ -23,7 +24,7 @@ use Rattle.xk_show_page.specs.declared.furniture.TheConstants.{COLOURS, PLACES, 
 
 -- ---- what stands in each page
 
--- The page's first lines, up to its style. The policy forbids it to fetch anything. It lets one script run, and two styles count, by the sums of
+-- The page's first lines, up to its title. The policy forbids it to fetch anything. It lets one script run, and two styles count, by the sums of
 -- their bytes: the page's own, and the picture's style (Content Security Policy, level 2).
 unfoldable pub page_top : List ℕ
 page_top =
@@ -35,9 +36,12 @@ page_top =
     ++ (codes "<meta http-equiv=\"Content-Security-Policy\" content=\"default-src 'none'; "
     ++ (codes "style-src 'sha256-QW0jIMtXTkkfaYlBND2dXOB+8VgibctLm50Yf0JGq0A=' "
     ++ (codes "'sha256-1Mhn6nywKkLaXR5W9I5AIbKxhh5lqmYSXkp8j1iVKwY='; "
-    ++ (codes "script-src 'sha256-cpEXyTxU4mWoKY7iyMS4jrm+JTlIxbb87f72wMe+ovs='\">\n"
-    ++ (codes "<title>A run, step by step</title>\n"
-    ++ (codes "<style>\n"))))))))))
+    ++ (codes "script-src 'sha256-uxq7+y06EA9sB4bPJa0xOnw2yHT9pTDPpFC8SiTq/08='\">\n"
+    ++ codes "<title>A run"))))))))
+
+-- the end of its title, and the beginning of its style
+unfoldable pub title_ends : List ℕ
+title_ends = codes ", step by step</title>\n<style>\n"
 
 -- the end of the page's style
 unfoldable pub style_ends : List ℕ
@@ -53,13 +57,9 @@ source_ends = codes "</pre>\n"
 unfoldable pub picture_begins : List ℕ
 picture_begins = codes "<div id=\"picture\" tabindex=\"0\" role=\"group\" aria-label=\"Lanes of the run\">\n"
 
--- what stands in the page's head
-unfoldable pub page_look : List ℕ
-page_look = (((page_top ++ COLOURS.now) ++ PLACES.now) ++ MARKS.now) ++ style_ends
-
--- before the source text
-unfoldable pub page_head : List ℕ
-page_head = (page_look ++ CONTROLS.now) ++ source_begins
+-- the beginning of its body, up to the heading's first words
+unfoldable pub body_begins : List ℕ
+body_begins = codes "<body class=\"still\">\n<header>\n<h1>A run"
 
 -- between it and the picture
 unfoldable pub behind_source : List ℕ
@@ -82,6 +82,26 @@ escaped_byte b = if b == 38 then codes "&amp;" else (if b == 60 then codes "&lt;
 
 abbrev pub escaped : List ℕ → List ℕ
 escaped text = flat_map escaped_byte text
+
+-- ---- the file's name
+
+-- it was read from standard input
+abbrev pub is_nameless : List ℕ → Bool
+is_nameless file = bytes_eq file (codes "-")
+
+-- behind `A run`: ` of t7.x10`; nothing of standard input
+abbrev pub of_file : List ℕ → List ℕ
+of_file file = if is_nameless file then [] else codes " of " ++ escaped file
+
+-- ---- before the source text
+
+-- what stands in the head of the page of a file
+unfoldable pub page_look : List ℕ → List ℕ
+page_look file = (((((page_top ++ of_file file) ++ title_ends) ++ COLOURS.now) ++ PLACES.now) ++ MARKS.now) ++ style_ends
+
+-- before the source text
+unfoldable pub page_head : List ℕ → List ℕ
+page_head file = (((page_look file ++ body_begins) ++ of_file file) ++ CONTROLS.now) ++ source_begins
 
 -- ---- moments
 
@@ -122,19 +142,19 @@ moments window p n m log last =
 
 -- ---- the page
 
--- of a source text, a picture and moments
-abbrev pub page_of : List ℕ → List ℕ → List ℕ → List ℕ
-page_of text picture told = (((((page_head ++ escaped text) ++ behind_source) ++ picture) ++ behind_picture) ++ told) ++ page_tail
+-- of a file, its source text, a picture and moments
+abbrev pub page_of : List ℕ → List ℕ → List ℕ → List ℕ → List ℕ
+page_of file text picture told = (((((page_head file ++ escaped text) ++ behind_source) ++ picture) ++ behind_picture) ++ told) ++ page_tail
 
 -- the page, if the picture is drawn, or else the line that stands in the picture's place
-abbrev pub page_by : Bool → List ℕ → List ℕ → List ℕ → List ℕ
-page_by drawn text picture told = if drawn then page_of text picture told else picture
+abbrev pub page_by : Bool → List ℕ → List ℕ → List ℕ → List ℕ → List ℕ
+page_by drawn file text picture told = if drawn then page_of file text picture told else picture
 
--- the page of these steps of the run that a log stands for, which ends in this world
-abbrev pub page_text : PlacesValue → Option NamesValue → Window → ModuleValue → List Entry → World → List ℕ
-page_text p n window m log last =
-    page_by (is_drawn window m log last) p.text (picture_text p n window m log last) (moments window p n m log last)
+-- the page of these steps of the run of a file's module that a log stands for, which ends in this world
+abbrev pub page_text : List ℕ → PlacesValue → Option NamesValue → Window → ModuleValue → List Entry → World → List ℕ
+page_text file p n window m log last =
+    page_by (is_drawn window m log last) file p.text (picture_text p n window m log last) (moments window p n m log last)
 
 -- the same where shared numbers have these names, and clocks those that they were made under
-abbrev pub named_page_text : PlacesValue → List (List ℕ) → Window → ModuleValue → List Entry → World → List ℕ
-named_page_text p shared w m log last = page_text p (names_for p (Some shared) w m log last) w m log last
+abbrev pub named_page_text : List ℕ → PlacesValue → List (List ℕ) → Window → ModuleValue → List Entry → World → List ℕ
+named_page_text file p shared w m log last = page_text file p (names_for p (Some shared) w m log last) w m log last

@@ -2,9 +2,9 @@
 //! shows moments. The definitions name these texts, and spell those elements, and the policy.
 
 ghost use Rattle.std.specs.Prelude.{◌≡◌};
-ghost use Rattle.xk_show_page.specs.Page.{page_top, picture_begins, source_begins, source_ends, style_ends};
+ghost use Rattle.xk_show_page.specs.Page.{body_begins, page_top, picture_begins, source_begins, source_ends, style_ends, title_ends};
 
-/// The page's first lines. Its policy has the sums of its script and of both styles: whoever changes one of these is told
+/// The page's first lines, up to its title. Its policy has the sums of its script and of both styles: whoever changes one of these is told
 /// the new sum by tests/program/html_pages.py.
 #[tactic(auto, unfolding(crate::specs::Page::page_top))]
 pub(crate) fn top() -> &'static str
@@ -19,9 +19,24 @@ pub(crate) fn top() -> &'static str
 <meta http-equiv=\"Content-Security-Policy\" content=\"default-src 'none'; \
 style-src 'sha256-QW0jIMtXTkkfaYlBND2dXOB+8VgibctLm50Yf0JGq0A=' \
 'sha256-1Mhn6nywKkLaXR5W9I5AIbKxhh5lqmYSXkp8j1iVKwY='; \
-script-src 'sha256-cpEXyTxU4mWoKY7iyMS4jrm+JTlIxbb87f72wMe+ovs='\">\n\
-<title>A run, step by step</title>\n\
-<style>\n"
+script-src 'sha256-uxq7+y06EA9sB4bPJa0xOnw2yHT9pTDPpFC8SiTq/08='\">\n\
+<title>A run"
+}
+
+/// The end of the page's title, and the beginning of its style.
+#[tactic(auto, unfolding(crate::specs::Page::title_ends))]
+pub(crate) fn title_ends() -> &'static str
+    ensures { result.now ≡ title_ends }
+{
+    ", step by step</title>\n<style>\n"
+}
+
+/// The beginning of the page's body.
+#[tactic(auto, unfolding(crate::specs::Page::body_begins))]
+pub(crate) fn body_begins() -> &'static str
+    ensures { result.now ≡ body_begins }
+{
+    "<body class=\"still\">\n<header>\n<h1>A run"
 }
 
 /// The end of the page's style.
@@ -150,10 +165,8 @@ li .own{padding-left:1.5em;font-weight:normal}
 #picture .now rect{stroke:var(--seen);stroke-width:3}
 "#;
 
-/// What stands between the colours and the element of the source text.
-pub(crate) const CONTROLS: &str = r#"<body class="still">
-<header>
-<h1>A run, step by step</h1>
+/// What stands between the heading's beginning and the element of the source text.
+pub(crate) const CONTROLS: &str = r#", step by step</h1>
 <output id="event" for="slider"></output>
 <div id="controls" role="group" aria-label="Steps">
 <button type="button" id="back">Back</button>
@@ -189,7 +202,7 @@ pub(crate) const LISTS: &str =
 <details>
 <summary>What the words and colours mean</summary>
 <dl>
-<dt>make</dt><dd>it made a clock; read, write, add: a shared number, and what it was then</dd>
+<dt>make</dt><dd>it made a clock; read, write, add: a shared number, and what it was then; read .. (step 4): that step wrote it</dd>
 <dt>arrive</dt><dd>it came to an advanceAll: it has resumed all its clocks</dd>
 <dt>pass</dt><dd>it went on behind the advanceAll, when all of them had advanced</dd>
 <dt>resume, drop</dt><dd>it resumed one clock, or left it</dd>
@@ -217,12 +230,21 @@ const byId = id => document.getElementById(id);
 // "total = 5", whatever it is called, or "shared 0 is 5".
 const moments = [], printed = [];
 let done = "";
+
+// Which step wrote or added to each shared number last, so that a read tells it: "step 9 act 1 at 7:9 read total 2 (step 4)".
+const writers = new Map();
+function withWriter(line) {
+  const [, step, word, name] = /^step (\d+) act \d+ at \S+ (read|write|add) (\S+) /.exec(line) || [];
+  if (word === "read") return writers.has(name) ? line + " (step " + writers.get(name) + ")" : line;
+  if (word) writers.set(name, step);
+  return line;
+}
 for (const line of byId("moments").textContent.split("\n")) {
   const word = line.split(" ")[0], moment = moments[moments.length - 1];
   if (/^\S+ = -?\d+$/.test(line)) moment.shared.push(line);
   else if (/^act \d+ (in|called by) /.test(line)) moment.own[moment.act.length - 1].push(line.replace(/^act \d+ /, ""));
   else if (word === "step") {
-    done = line;
+    done = withWriter(line);
     const print = /^step \d+ act \d+ (?:at \S+|unit \d+ place \d+) print (-?\d+)$/.exec(line);
     if (print) printed.push(print[1]);
   } else if (word === "steps") {

@@ -8,8 +8,7 @@ ghost use Rattle.xk_show_page.specs.Page.{is_moment, line_of, moment, named_line
 use crate::texts::put;
 use std::alloc::{AllocError, Global};
 use xk_core::Core;
-use xk_scheduler::Ended;
-use xk_show_events::{Places, RunStep, event_line, is_seen, place_words};
+use xk_show_events::{LegalRun, Places, RunStep, event_line, is_seen, place_words};
 use xk_show_lanes::Window;
 use xk_show_names::{Account, Names, Recount, account_words};
 use xk_show_where::{named_standings_text, standings_text};
@@ -198,12 +197,12 @@ pub(crate) fn push_opening(
     out: &mut Vec<u8>,
     places: &Places<'_>,
     names: &Option<Names<'_>>,
-    ended: &Ended<'_>,
+    legal: &LegalRun<'_, '_>,
 ) -> Result<(), AllocError>
     ensures { OnOk result (out.new.items ≡ out.old.items
-        ++ standings_by places.now names.now ended.now.module.now
-        (opening ended.now.module.now ended.now.core.world.arguments)) }
+        ++ standings_by places.now names.now legal.now.module.now
+        (opening legal.now.module.now legal.now.core.now.world.arguments)) }
 {
-    let core = Core::open(alloc, ended.module, ended.core.arguments())?;
+    let core = Core::open(alloc, legal.module, legal.core.arguments())?;
     push_standings(alloc, out, places, names, &core)
 }

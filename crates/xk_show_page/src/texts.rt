@@ -1,11 +1,12 @@
 //! Pieces of the page.
 
 ghost use Rattle.std.specs.Prelude.{◌≡◌, ◌++◌, OnOk};
-ghost use Rattle.xk_show_page.specs.Page.{behind_picture, behind_source, escaped, escaped_byte, page_head, page_look, page_tail};
+ghost use Rattle.xk_show_page.specs.Page.{behind_picture, behind_source, escaped, escaped_byte, is_nameless};
+ghost use Rattle.xk_show_page.specs.Page.{of_file, page_head, page_look, page_tail};
 
 use crate::furniture::{
-    COLOURS, CONTROLS, LISTS, MARKS, MOVER, PLACES, READER, SHOWER, picture_begins, source_begins,
-    source_ends, style_ends, top,
+    COLOURS, CONTROLS, LISTS, MARKS, MOVER, PLACES, READER, SHOWER, body_begins, picture_begins,
+    source_begins, source_ends, style_ends, title_ends, top,
 };
 use std::alloc::AllocError;
 
@@ -16,24 +17,46 @@ pub(crate) fn put(out: &mut Vec<u8>, text: &str) -> Result<(), AllocError>
     out.extend_from_slice(text.as_bytes())
 }
 
-/// Adds what stands in the page's head.
+/// Whether a program was read from standard input.
+fn is_nameless(file: &str) -> bool
+    ensures { result ≡ is_nameless file.now }
+{
+    file == "-"
+}
+
+/// Adds the name of a file behind `A run`.
+fn push_of_file(out: &mut Vec<u8>, file: &str) -> Result<(), AllocError>
+    ensures { OnOk result (out.new.items ≡ out.old.items ++ of_file file.now) }
+{
+    if is_nameless(file) {
+        return Ok(());
+    }
+    put(out, " of ")?;
+    push_escaped(out, file.as_bytes())
+}
+
+/// Adds what stands in the head of the page of a file.
 #[tactic(auto, unfolding(crate::specs::Page::page_look))]
-fn push_look(out: &mut Vec<u8>) -> Result<(), AllocError>
-    ensures { OnOk result (out.new.items ≡ out.old.items ++ page_look) }
+fn push_look(out: &mut Vec<u8>, file: &str) -> Result<(), AllocError>
+    ensures { OnOk result (out.new.items ≡ out.old.items ++ page_look file.now) }
 {
     put(out, top())?;
+    push_of_file(out, file)?;
+    put(out, title_ends())?;
     put(out, COLOURS)?;
     put(out, PLACES)?;
     put(out, MARKS)?;
     put(out, style_ends())
 }
 
-/// Adds what stands before the source text.
+/// Adds what stands before the source text of a file.
 #[tactic(auto, unfolding(crate::specs::Page::page_head))]
-pub(crate) fn push_head(out: &mut Vec<u8>) -> Result<(), AllocError>
-    ensures { OnOk result (out.new.items ≡ out.old.items ++ page_head) }
+pub(crate) fn push_head(out: &mut Vec<u8>, file: &str) -> Result<(), AllocError>
+    ensures { OnOk result (out.new.items ≡ out.old.items ++ page_head file.now) }
 {
-    push_look(out)?;
+    push_look(out, file)?;
+    put(out, body_begins())?;
+    push_of_file(out, file)?;
     put(out, CONTROLS)?;
     put(out, source_begins())
 }

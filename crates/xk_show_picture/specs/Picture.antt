@@ -7,11 +7,12 @@ use Rattle.xk_types.specs.declared.world.Event.{Event}
 use Rattle.xk_types.specs.declared.world.Event.TheVariants as event
 use Rattle.xk_types.specs.Code.{ModuleValue}
 use Rattle.xk_types.specs.World.{World}
-use Rattle.xk_types.specs.Schedule.{is_enabled, is_local}
+use Rattle.xk_types.specs.Schedule.{all_ended, is_enabled, is_local}
 use Rattle.xk_core.specs.Core.{advanced_now, is_living, is_quiet}
 use Rattle.xk_show_events.specs.declared.steps.RunStep.{RunStep}
 use Rattle.xk_show_events.specs.Steps.{tell_by, told_of_run}
 use Rattle.xk_show_events.specs.Events.{PlacesValue, event_words}
+use Rattle.xk_show_events.specs.Endings.{ending_words}
 use Rattle.xk_show_events.specs.Worlds.{each_below, phase_of}
 use Rattle.xk_show_names.specs.declared.accounts.Account.{Account}
 use Rattle.xk_show_names.specs.Accounts.{recounted_by}
@@ -193,13 +194,16 @@ head s activities rows =
 abbrev pub fits : ℕ → ℕ → Bool
 fits rows activities = nat_le rows most_rows && nat_le activities most_lanes
 
--- behind the last row
-abbrev pub picture_end : List ℕ
-picture_end = codes "</svg>\n"
+-- behind the last row: of a run in which not all have ended words that say so
+abbrev pub ending : ℕ → World → List ℕ
+ending rows last = if all_ended last then [] else label 8 (top (min rows most_rows) + 10) (ending_words last)
+
+abbrev pub picture_end : ℕ → World → List ℕ
+picture_end rows last = ending rows last ++ codes "</svg>\n"
 
 abbrev pub picture_in : Sheet → List ℕ → PlacesValue → Option NamesValue → ModuleValue → List Entry → World → List ℕ
 picture_in s rows p n m log last =
-    (head s (length last.activities) (length rows) ++ told_of_run (recounted_by m (drawn_step s rows p n m)) m last.arguments log) ++ picture_end
+    (head s (length last.activities) (length rows) ++ told_of_run (recounted_by m (drawn_step s rows p n m)) m last.arguments log) ++ picture_end (length rows) last
 
 -- it isn't too large to be drawn
 abbrev pub is_drawn : Window → ModuleValue → List Entry → World → Bool

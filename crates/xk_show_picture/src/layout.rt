@@ -8,8 +8,7 @@ ghost use Rattle.xk_show_picture.specs.Picture.{bar_row, is_shown, row_of, rows_
 
 use std::alloc::{AllocError, Global};
 use xk_core::Core;
-use xk_scheduler::Ended;
-use xk_show_events::{Both, Describe, RunStep, advanced, describe_run_by_both, is_seen};
+use xk_show_events::{Both, Describe, LegalRun, RunStep, advanced, describe_run_by_both, is_seen};
 use xk_show_lanes::{AskedSteps, KeptAccounts, Window};
 use xk_show_names::{Account, Recount, recount_run_by_both};
 use xk_types::Event;
@@ -108,13 +107,13 @@ pub(crate) struct Layout {
 /// The layout of the picture of a module's run. The log is played again for it.
 pub(crate) fn layout_of(
     alloc: Global,
-    ended: &Ended<'_>,
+    legal: &LegalRun<'_, '_>,
     window: Window,
 ) -> Result<Layout, AllocError>
-    ensures rows { IfOk result (λ l. l.rows.items ≡ rows_of window ended.now.module.now
-        ended.now.core.world.arguments ended.now.log.items) }
-    ensures steps { IfOk result (λ l. l.steps.items ≡ steps_asked window ended.now.module.now
-        ended.now.log.items ended.now.core.world) }
+    ensures rows { IfOk result (λ l. l.rows.items ≡ rows_of window legal.now.module.now
+        legal.now.core.now.world.arguments legal.now.log.now) }
+    ensures steps { IfOk result (λ l. l.steps.items ≡ steps_asked window legal.now.module.now
+        legal.now.log.now legal.now.core.now.world) }
 {
     let mut rows = Vec::new(alloc);
     let mut steps = Vec::new(alloc);
@@ -122,7 +121,7 @@ pub(crate) fn layout_of(
         first: &RowTeller { window },
         second: &AskedSteps { window },
     };
-    describe_run_by_both(&both, alloc, &mut rows, &mut steps, ended)?;
+    describe_run_by_both(&both, alloc, &mut rows, &mut steps, legal)?;
     Ok(Layout { rows, steps })
 }
 
@@ -137,13 +136,13 @@ pub(crate) struct NamedLayout {
 /// The layout of the picture of its run. The log is played again for it.
 pub(crate) fn named_layout_of(
     alloc: Global,
-    ended: &Ended<'_>,
+    legal: &LegalRun<'_, '_>,
     window: Window,
 ) -> Result<NamedLayout, AllocError>
-    ensures rows { IfOk result (λ l. l.rows.items ≡ rows_of window ended.now.module.now
-        ended.now.core.world.arguments ended.now.log.items) }
-    ensures kept { IfOk result (λ l. l.kept.items ≡ accounts_kept window ended.now.module.now
-        ended.now.log.items ended.now.core.world) }
+    ensures rows { IfOk result (λ l. l.rows.items ≡ rows_of window legal.now.module.now
+        legal.now.core.now.world.arguments legal.now.log.now) }
+    ensures kept { IfOk result (λ l. l.kept.items ≡ accounts_kept window legal.now.module.now
+        legal.now.log.now legal.now.core.now.world) }
 {
     let mut rows = Vec::new(alloc);
     let mut kept = Vec::new(alloc);
@@ -151,7 +150,7 @@ pub(crate) fn named_layout_of(
         first: &RowTeller { window },
         second: &KeptAccounts { window },
     };
-    recount_run_by_both(&both, alloc, &mut rows, &mut kept, ended)?;
+    recount_run_by_both(&both, alloc, &mut rows, &mut kept, legal)?;
     Ok(NamedLayout { rows, kept })
 }
 

@@ -4,7 +4,7 @@ ghost use Rattle.std.specs.Prelude.{◌≡◌, ◌++◌, length, map, option_map
 ghost use Rattle.xk_show_events.specs.Events.{no_text, places_of};
 ghost use Rattle.xk_show_events.specs.Worlds.{each_below};
 ghost use Rattle.xk_show_picture.specs.Sheet.{sheet_of};
-ghost use Rattle.xk_show_picture.specs.Picture.{IsPlanned, drawn_step, fits, furniture, head, high, is_drawn, lane_head, names_for};
+ghost use Rattle.xk_show_picture.specs.Picture.{IsPlanned, drawn_step, ending, fits, furniture, head, high, is_drawn, lane_head, names_for};
 ghost use Rattle.xk_show_picture.specs.Picture.{named_picture_text, picture_end, picture_in, picture_text, rows_of_step, signs_of};
 ghost use Rattle.xk_show_picture.specs.Shapes.{too_large};
 
@@ -13,14 +13,13 @@ use crate::furniture::{legend, shapes, style};
 use crate::layout::{is_shown, layout_of, named_layout_of};
 use crate::lines::put;
 use crate::rows::push_row;
-use crate::shapes::{described, lane_title, svg_head, too_large, top};
+use crate::shapes::{described, label, lane_title, svg_head, too_large, top};
 use crate::sheet::{Sheet, middle, sheet_of, wide};
 use crate::words::signs_of;
 use std::alloc::{AllocError, Global};
 use xk_core::Core;
 use xk_origins::UnitOrigins;
-use xk_scheduler::Ended;
-use xk_show_events::Places;
+use xk_show_events::{LegalRun, Places};
 use xk_show_lanes::{Drawing, Grid, Window, grid_of, named_columns, title};
 use xk_show_names::{Account, Names, Recount, recount_run};
 
@@ -126,6 +125,24 @@ fn push_head(
     push_titles(alloc, out, sheet)
 }
 
+/// Adds what is told below so many rows of a run in which not all have ended.
+fn push_ending(
+    alloc: Global,
+    out: &mut Vec<u8>,
+    rows: usize,
+    legal: &LegalRun<'_, '_>,
+) -> Result<(), AllocError>
+    ensures { OnOk result (out.new.items ≡ out.old.items
+        ++ ending rows legal.now.core.now.world) }
+{
+    if legal.core.ended() {
+        return Ok(());
+    }
+    let words = legal.ending(alloc)?;
+    let text = label(alloc, 8, top(rows.min(ROWS) as u32) + 10, words.as_str())?;
+    put(out, text.as_str())
+}
+
 /// How the picture of a run is drawn: where its columns stand, by which names things are told, if by any, the numbers of
 /// its rows, and how many activities there were.
 #[derive(Drop)]
@@ -146,9 +163,16 @@ impl Plan<'_> {
     }
 
     /// Adds what stands behind the last one. Err where memory was refused.
-    pub fn push_end(&self, out: &mut Vec<u8>) -> Result<(), AllocError>
-        ensures { OnOk result (out.new.items ≡ out.old.items ++ picture_end) }
+    pub fn push_end(
+        &self,
+        alloc: Global,
+        out: &mut Vec<u8>,
+        legal: &LegalRun<'_, '_>,
+    ) -> Result<(), AllocError>
+        ensures { OnOk result (out.new.items ≡ out.old.items
+            ++ picture_end (length self.now.rows.items) legal.now.core.now.world) }
     {
+        push_ending(alloc, out, self.rows.len(), legal)?;
         put(out, "</svg>\n")
     }
 }
@@ -173,32 +197,32 @@ fn plan_in<'t>(
     grid: Grid,
     names: Option<Names<'t>>,
     rows: Vec<u64>,
-    ended: &Ended<'_>,
+    legal: &LegalRun<'_, '_>,
 ) -> Result<Plan<'t>, AllocError>
     ensures sheet { IfOk result (λ p. p.sheet ≡ sheet_of grid
-        (signs_of names.entry (length ended.now.core.world.clocks))
-        (length ended.now.core.world.clocks)) }
+        (signs_of names.entry (length legal.now.core.now.world.clocks))
+        (length legal.now.core.now.world.clocks)) }
     ensures names { IfOk result (λ p. p.names ≡ names.entry) }
     ensures rows { IfOk result (λ p. p.rows.items ≡ rows.items) }
     ensures activities { IfOk result (λ p.
-        p.activities ≡ length ended.now.core.world.activities) }
+        p.activities ≡ length legal.now.core.now.world.activities) }
 {
-    let clocks = ended.core.clocks();
+    let clocks = legal.core.clocks();
     let signs = signs_of(alloc, &names, clocks)?;
     Ok(Plan {
         sheet: sheet_of(grid, signs, clocks),
         names,
         rows,
-        activities: ended.core.activities(),
+        activities: legal.core.activities(),
     })
 }
 
 /// The line that is told in the place of a picture with these rows.
-fn line_for(alloc: Global, rows: &[u64], ended: &Ended<'_>) -> Result<Vec<u8>, AllocError>
+fn line_for(alloc: Global, rows: &[u64], legal: &LegalRun<'_, '_>) -> Result<Vec<u8>, AllocError>
     ensures { IfOk result (λ v. v.items
-        ≡ too_large (length rows.now) (length ended.now.core.world.activities)) }
+        ≡ too_large (length rows.now) (length legal.now.core.now.world.activities)) }
 {
-    let told = too_large(alloc, rows.len(), ended.core.activities())?;
+    let told = too_large(alloc, rows.len(), legal.core.activities())?;
     Ok(told.into_bytes())
 }
 
@@ -209,21 +233,21 @@ fn named_plan<'t>(
     places: &Places<'_>,
     origins: &[UnitOrigins<'_>],
     shared: &'t [&'t [u8]],
-    ended: &Ended<'_>,
+    legal: &LegalRun<'_, '_>,
     window: Window,
 ) -> Result<Planned<'t>, AllocError>
     requires { places.now.origins ≡ origins.now }
     ensures { IfOk result (IsPlanned places.now
         (names_for places.now (Some (map (λ x. x.now) shared.now)) window
-        ended.now.module.now ended.now.log.items ended.now.core.world)
-        window ended.now.module.now ended.now.log.items ended.now.core.world) }
+        legal.now.module.now legal.now.log.now legal.now.core.now.world)
+        window legal.now.module.now legal.now.log.now legal.now.core.now.world) }
 {
-    let layout = named_layout_of(alloc, ended, window)?;
-    if !fits(&layout.rows, ended.core.activities()) {
-        return Ok(Planned::TooLarge(line_for(alloc, &layout.rows, ended)?));
+    let layout = named_layout_of(alloc, legal, window)?;
+    if !fits(&layout.rows, legal.core.activities()) {
+        return Ok(Planned::TooLarge(line_for(alloc, &layout.rows, legal)?));
     }
-    let columns = named_columns(alloc, places, origins, shared, ended, window, layout.kept)?;
-    let plan = plan_in(alloc, columns.grid, Some(columns.names), layout.rows, ended)?;
+    let columns = named_columns(alloc, places, origins, shared, legal, window, layout.kept)?;
+    let plan = plan_in(alloc, columns.grid, Some(columns.names), layout.rows, legal)?;
     Ok(Planned::Drawn(plan))
 }
 
@@ -231,19 +255,19 @@ fn named_plan<'t>(
 fn module_plan<'t>(
     alloc: Global,
     places: &Places<'_>,
-    ended: &Ended<'_>,
+    legal: &LegalRun<'_, '_>,
     window: Window,
 ) -> Result<Planned<'t>, AllocError>
     ensures { IfOk result (IsPlanned places.now None window
-        ended.now.module.now ended.now.log.items ended.now.core.world) }
+        legal.now.module.now legal.now.log.now legal.now.core.now.world) }
 {
-    let layout = layout_of(alloc, ended, window)?;
-    let activities = ended.core.activities();
+    let layout = layout_of(alloc, legal, window)?;
+    let activities = legal.core.activities();
     if !fits(&layout.rows, activities) {
-        return Ok(Planned::TooLarge(line_for(alloc, &layout.rows, ended)?));
+        return Ok(Planned::TooLarge(line_for(alloc, &layout.rows, legal)?));
     }
     let grid = grid_of(alloc, places, window, &layout.steps, activities)?;
-    let plan = plan_in(alloc, grid, None, layout.rows, ended)?;
+    let plan = plan_in(alloc, grid, None, layout.rows, legal)?;
     Ok(Planned::Drawn(plan))
 }
 
@@ -254,18 +278,18 @@ pub fn plan_for<'t>(
     places: &Places<'_>,
     origins: &[UnitOrigins<'_>],
     shared: Option<&'t [&'t [u8]]>,
-    ended: &Ended<'_>,
+    legal: &LegalRun<'_, '_>,
     window: Window,
 ) -> Result<Planned<'t>, AllocError>
     requires { places.now.origins ≡ origins.now }
     ensures { IfOk result (IsPlanned places.now
         (names_for places.now (option_map (λ l. map (λ x. x.now) l.now) shared.entry) window
-        ended.now.module.now ended.now.log.items ended.now.core.world)
-        window ended.now.module.now ended.now.log.items ended.now.core.world) }
+        legal.now.module.now legal.now.log.now legal.now.core.now.world)
+        window legal.now.module.now legal.now.log.now legal.now.core.now.world) }
 {
     match shared {
-        Some(known) => named_plan(alloc, places, origins, known, ended, window),
-        None => module_plan(alloc, places, ended, window),
+        Some(known) => named_plan(alloc, places, origins, known, legal, window),
+        None => module_plan(alloc, places, legal, window),
     }
 }
 
@@ -273,17 +297,17 @@ pub fn plan_for<'t>(
 fn picture_in(
     alloc: Global,
     teller: &PictureTeller<'_, '_>,
-    ended: &Ended<'_>,
+    legal: &LegalRun<'_, '_>,
 ) -> Result<Vec<u8>, AllocError>
-    requires { teller.now.plan.now.activities ≡ length ended.now.core.world.activities }
+    requires { teller.now.plan.now.activities ≡ length legal.now.core.now.world.activities }
     ensures { IfOk result (λ v. v.items ≡ picture_in teller.now.plan.now.sheet
         teller.now.plan.now.rows.items teller.now.places.now teller.now.names.now
-        ended.now.module.now ended.now.log.items ended.now.core.world) }
+        legal.now.module.now legal.now.log.now legal.now.core.now.world) }
 {
     let mut out = Vec::new(alloc);
     teller.plan.push_front(alloc, &mut out)?;
-    recount_run(teller, alloc, &mut out, ended)?;
-    teller.plan.push_end(&mut out)?;
+    recount_run(teller, alloc, &mut out, legal)?;
+    teller.plan.push_end(alloc, &mut out, legal)?;
     Ok(out)
 }
 
@@ -293,25 +317,25 @@ fn picture(
     places: &Places<'_>,
     origins: &[UnitOrigins<'_>],
     shared: Option<&[&[u8]]>,
-    ended: &Ended<'_>,
+    legal: &LegalRun<'_, '_>,
     window: Window,
 ) -> Result<Drawing, AllocError>
     requires { places.now.origins ≡ origins.now }
     ensures text { IfOk result (λ d. d.text.items ≡ picture_text places.now
         (names_for places.now (option_map (λ l. map (λ x. x.now) l.now) shared.entry) window
-        ended.now.module.now ended.now.log.items ended.now.core.world)
-        window ended.now.module.now ended.now.log.items ended.now.core.world) }
+        legal.now.module.now legal.now.log.now legal.now.core.now.world)
+        window legal.now.module.now legal.now.log.now legal.now.core.now.world) }
     ensures whole { IfOk result (λ d. d.whole ≡ is_drawn window
-        ended.now.module.now ended.now.log.items ended.now.core.world) }
+        legal.now.module.now legal.now.log.now legal.now.core.now.world) }
 {
-    match plan_for(alloc, places, origins, shared, ended, window)? {
+    match plan_for(alloc, places, origins, shared, legal, window)? {
         Planned::Drawn(plan) => {
             let teller = PictureTeller {
                 plan: &plan,
                 places,
                 names: &plan.names,
             };
-            let text = picture_in(alloc, &teller, ended)?;
+            let text = picture_in(alloc, &teller, legal)?;
             Ok(Drawing { text, whole: true })
         }
         Planned::TooLarge(text) => Ok(Drawing { text, whole: false }),
@@ -328,31 +352,31 @@ pub fn source_picture(
     text: &[u8],
     origins: &[UnitOrigins<'_>],
     shared: &[&[u8]],
-    ended: &Ended<'_>,
+    legal: &LegalRun<'_, '_>,
     window: Window,
 ) -> Result<Drawing, AllocError>
     ensures text { IfOk result (λ d. d.text.items ≡ named_picture_text
         (places_of text.now origins.now) (map (λ x. x.now) shared.now) window
-        ended.now.module.now ended.now.log.items ended.now.core.world) }
+        legal.now.module.now legal.now.log.now legal.now.core.now.world) }
     ensures whole { IfOk result (λ d. d.whole ≡ is_drawn window
-        ended.now.module.now ended.now.log.items ended.now.core.world) }
+        legal.now.module.now legal.now.log.now legal.now.core.now.world) }
 {
     let places = Places::of_source(alloc, text, origins)?;
-    picture(alloc, &places, origins, Some(shared), ended, window)
+    picture(alloc, &places, origins, Some(shared), legal, window)
 }
 
 /// The same of a module without a text, with the unit and place of each step, and with the numbers of what it was about.
 /// Err where memory was refused.
 pub fn module_picture(
     alloc: Global,
-    ended: &Ended<'_>,
+    legal: &LegalRun<'_, '_>,
     window: Window,
 ) -> Result<Drawing, AllocError>
     ensures text { IfOk result (λ d. d.text.items ≡ picture_text no_text None window
-        ended.now.module.now ended.now.log.items ended.now.core.world) }
+        legal.now.module.now legal.now.log.now legal.now.core.now.world) }
     ensures whole { IfOk result (λ d. d.whole ≡ is_drawn window
-        ended.now.module.now ended.now.log.items ended.now.core.world) }
+        legal.now.module.now legal.now.log.now legal.now.core.now.world) }
 {
     let places = Places::of_module(alloc)?;
-    picture(alloc, &places, &[], None, ended, window)
+    picture(alloc, &places, &[], None, legal, window)
 }

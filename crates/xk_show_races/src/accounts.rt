@@ -13,7 +13,7 @@ use std::collections::{BTreeMap, BTreeSet};
 use xk_core::Core;
 use xk_races::Race;
 use xk_scheduler::Ended;
-use xk_show_events::is_seen;
+use xk_show_events::{LegalRun, is_seen};
 use xk_show_names::{Account, Recount, recount_run};
 
 /// Steps by their numbers.
@@ -85,7 +85,12 @@ fn accounts_among(
         ended.now.module.now ended.now.core.world.arguments ended.now.log.items) }
 {
     let mut list = Vec::new(alloc);
-    recount_run(&StepsAmong { numbers }, alloc, &mut list, ended)?;
+    recount_run(
+        &StepsAmong { numbers },
+        alloc,
+        &mut list,
+        &LegalRun::of(ended),
+    )?;
     Ok(list)
 }
 

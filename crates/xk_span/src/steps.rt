@@ -7,7 +7,7 @@ use std::alloc::{AllocError, Global};
 use xk_core::Core;
 use xk_races::{Deed, Part, push_deeds};
 use xk_scheduler::Ended;
-use xk_show_events::{Tell, tell_run};
+use xk_show_events::{LegalRun, Tell, tell_run};
 use xk_types::{Act, Event};
 
 /// Whether a deed waits for others.
@@ -99,6 +99,6 @@ pub(crate) fn steps_of_run(alloc: Global, ended: &Ended<'_>) -> Result<Vec<Deed>
         ended.now.module.now ended.now.core.world.arguments ended.now.log.items) }
 {
     let mut list = Vec::new(alloc);
-    tell_run(&StepTeller, alloc, &mut list, ended)?;
+    tell_run(&StepTeller, alloc, &mut list, &LegalRun::of(ended))?;
     Ok(list)
 }

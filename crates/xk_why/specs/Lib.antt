@@ -6,3 +6,4 @@ pub mod Waits
 pub mod Told
 pub mod Rest
 pub mod Lines
+pub mod ModuleLines

@@ -5,10 +5,11 @@ mod data;
 mod flows;
 pub mod laws;
 mod lines;
+mod module_lines;
 mod report;
 mod rest;
 mod slices;
 mod told;
 mod waits;
 
-pub use report::source_why;
+pub use report::{is_told, module_why, source_why};

@@ -8,7 +8,7 @@ ghost use Rattle.xk_why.specs.Lines.{count_line, is_number, line_if, lines_for, 
 use std::alloc::{AllocError, Global};
 use xk_core::Core;
 use xk_scheduler::Ended;
-use xk_show_events::{Places, RunStep, is_seen, place_words};
+use xk_show_events::{LegalRun, Places, RunStep, is_seen, place_words};
 use xk_show_names::{Account, Names, Recount, Subject, account_words, recount_run};
 use xk_types::Event;
 
@@ -41,7 +41,7 @@ pub(crate) fn seen_accounts(alloc: Global, ended: &Ended<'_>) -> Result<Vec<Acco
         ended.now.module.now ended.now.core.world.arguments ended.now.log.items) }
 {
     let mut list = Vec::new(alloc);
-    recount_run(&SeenAccounts, alloc, &mut list, ended)?;
+    recount_run(&SeenAccounts, alloc, &mut list, &LegalRun::of(ended))?;
     Ok(list)
 }
 
@@ -172,7 +172,7 @@ fn is_number(steps: &[Account], number: u64, i: usize) -> bool
 }
 
 /// Puts a piece behind a text.
-fn put(text: &mut String, piece: &str) -> Result<(), AllocError>
+pub(crate) fn put(text: &mut String, piece: &str) -> Result<(), AllocError>
     ensures { OnOk result (string_bytes text.new ≡ string_bytes text.old ++ piece.now) }
 {
     text.push_str(piece)?;
@@ -227,7 +227,7 @@ fn most_shown() -> usize
 
 /// How many steps it rests on, and how many of them are shown.
 #[tactic(auto, unfolding(crate::specs::Lines::most_shown))]
-fn count_line(alloc: Global, count: usize) -> Result<String, AllocError>
+pub(crate) fn count_line(alloc: Global, count: usize) -> Result<String, AllocError>
     ensures { IfOk result (λ text. string_bytes text ≡ count_line count) }
 {
     if count > 100 {
@@ -255,7 +255,7 @@ fn put_lines(
 }
 
 /// The first of these numbers: so many as are shown.
-fn first_shown(numbers: &[u64]) -> &[u64]
+pub(crate) fn first_shown(numbers: &[u64]) -> &[u64]
     ensures { result.now ≡ take most_shown numbers.now }
 {
     &numbers[..numbers.len().min(most_shown())]

@@ -3,16 +3,18 @@
 ghost use Rattle.std.specs.Prelude.{◌≡◌, map, IfOk, string_bytes};
 ghost use Rattle.xk_show_events.specs.Events.{places_of};
 ghost use Rattle.xk_why.specs.Lines.{why_text};
+ghost use Rattle.xk_why.specs.ModuleLines.{is_told, module_why_text};
 ghost use Rattle.xk_why.specs.Rest.{rest_of};
 ghost use Rattle.xk_why.specs.Told.{flows_of_run};
 
 use crate::lines::{seen_accounts, why_lines};
+use crate::module_lines::{event_why_lines, has_number};
 use crate::rest::rest_of;
 use crate::told::flows_of_run;
 use std::alloc::{AllocError, Global};
 use xk_origins::UnitOrigins;
 use xk_scheduler::Ended;
-use xk_show_events::Places;
+use xk_show_events::{LegalRun, Places, seen_steps};
 use xk_show_names::Names;
 
 /// The numbers of the steps that a step of a run rests on and that others can see.
@@ -22,6 +24,16 @@ fn rest_in(alloc: Global, ended: &Ended<'_>, number: u64) -> Result<Vec<u64>, Al
 {
     let flows = flows_of_run(alloc, ended)?;
     rest_of(alloc, &flows, number)
+}
+
+/// Whether a step of a run has a line among those of the run: there are so many, and other activities can see that one. Err where
+/// memory was refused.
+pub fn is_told(alloc: Global, ended: &Ended<'_>, number: u64) -> Result<bool, AllocError>
+    ensures { IfOk result (λ told. told ≡ is_told
+        ended.now.module.now ended.now.core.world.arguments ended.now.log.items number) }
+{
+    let steps = seen_steps(alloc, &LegalRun::of(ended))?;
+    Ok(has_number(&steps, number))
 }
 
 /// What a step of a run of a source text's module rests on: its line, as it stands among those of the run, then those of the steps
@@ -45,6 +57,17 @@ pub fn source_why(
     let places = Places::of_source(alloc, text, origins)?;
     let rest = rest_in(alloc, ended, number)?;
     let steps = seen_accounts(alloc, ended)?;
-    let names = Names::of_run(alloc, text, origins, shared, ended)?;
+    let names = Names::of_run(alloc, text, origins, shared, &LegalRun::of(ended))?;
     why_lines(alloc, &places, &names, &steps, number, &rest)
+}
+
+/// The same of a module that has no text, by numbers of units and places, and without names and values. Err where memory was refused.
+pub fn module_why(alloc: Global, ended: &Ended<'_>, number: u64) -> Result<String, AllocError>
+    ensures { IfOk result (λ lines. string_bytes lines ≡ module_why_text
+        ended.now.module.now ended.now.core.world.arguments ended.now.log.items number) }
+{
+    let places = Places::of_module(alloc)?;
+    let rest = rest_in(alloc, ended, number)?;
+    let steps = seen_steps(alloc, &LegalRun::of(ended))?;
+    event_why_lines(alloc, &places, &steps, number, &rest)
 }

@@ -17,7 +17,7 @@ use xk_activity::Frames;
 use xk_core::Core;
 use xk_races::{Deed, push_deeds};
 use xk_scheduler::Ended;
-use xk_show_events::{RunStep, Tell, tell_run};
+use xk_show_events::{LegalRun, RunStep, Tell, tell_run};
 use xk_types::{Act, Event, Instr, Module};
 
 /// The code of a unit.
@@ -148,6 +148,6 @@ pub(crate) fn flows_of_run(alloc: Global, ended: &Ended<'_>) -> Result<Vec<Flow>
         ended.now.module.now ended.now.core.world.arguments ended.now.log.items) }
 {
     let mut list = Vec::new(alloc);
-    tell_run(&FlowTeller, alloc, &mut list, ended)?;
+    tell_run(&FlowTeller, alloc, &mut list, &LegalRun::of(ended))?;
     Ok(list)
 }

@@ -6,7 +6,7 @@ use Rattle.std.proofs.lemmas.Result.{err_from_is_err_and}
 use Rattle.xk_answers.specs.Results.{Check, Compile, Draw, Expected, Outcomes, Races, Replay, Run, Where, way_given}
 use Rattle.xk_cli.specs.CommandAnswers.{explanation, shows_origins}
 use Rattle.xk_serve.specs.Answer.{doing_of, races_by, task_of}
-use Rattle.xk_serve.proofs.TaskLemmas.{against_any, against_list, against_log, against_memory, against_refused, against_run_of, against_text, done_of_any, done_of_list, done_of_log, done_of_none, done_of_run, done_of_text, done_of_told}
+use Rattle.xk_serve.proofs.TaskLemmas.{against_any, against_list, against_log, against_memory, against_picture, against_refused, against_run_of, against_text, done_of_any, done_of_list, done_of_log, done_of_none, done_of_run, done_of_text, done_of_told}
 use Rattle.xk_serve.proofs.TaskLemmas.{no_module_fails}
 use Rattle.xk_serve.proofs.commands.answer.Goals as goal
 
@@ -61,59 +61,74 @@ returns-in-Replay-clause-done g c =
 
 pub returns-in-Replay-clause-fault : goal.returns-in-Replay-clause-fault
 returns-in-Replay-clause-fault g c =
-    against_log (task_of c.args.job.now) c.args.bytes.now (g.L.Source.remaining c.args.log_in.now) _ _ _ Replay c.as_slice-arguments.result.now c.replayed.result (ap doing_of c.in-Replay.is) c.as_slice-arguments.ensures.value refl refl c.in_ok-program.ensures.module c.replayed.ensures.fault
+    against_log (task_of c.args.job.now) c.args.bytes.now (g.L.Source.remaining c.args.log_in.now) _ _ _ Replay c.as_slice-arguments.result.now c.replayed.result (ap doing_of c.in-Replay.is) c.as_slice-arguments.ensures.value refl refl refl c.in_ok-program.ensures.module c.replayed.ensures.fault
 
 pub returns-in-Chart-clause-done : goal.returns-in-Chart-clause-done
 returns-in-Chart-clause-done g c =
-    done_of_run (task_of c.args.job.now) c.args.bytes.now (g.L.Source.remaining c.args.log_in.now) _ (Draw picture.Chart) c.as_slice-arguments.result.now c.drawn.result (ap doing_of c.in-Chart.is) c.as_slice-arguments.ensures.value refl c.in_ok-program.ensures.module (c.drawn.ensures.done c.args.job.now.form c.args.job.now.file.now c.args.bytes.now (c.in_ok-program.ensures.from.0, λ shows. absurd (false≢true shows)))
+    done_of_run (task_of c.args.job.now) c.args.bytes.now (g.L.Source.remaining c.args.log_in.now) _ (Draw picture.Chart) c.as_slice-arguments.result.now c.drawn.result (ap doing_of c.in-Chart.is) c.as_slice-arguments.ensures.value refl c.in_ok-program.ensures.module (c.drawn.ensures.done c.args.job.now.form c.args.bytes.now (c.in_ok-program.ensures.from.0, λ shows. absurd (false≢true shows)))
 
 pub returns-in-Chart-clause-fault : goal.returns-in-Chart-clause-fault
 returns-in-Chart-clause-fault g c =
-    against_log (task_of c.args.job.now) c.args.bytes.now (g.L.Source.remaining c.args.log_in.now) _ _ _ (Draw picture.Chart) c.as_slice-arguments.result.now c.drawn.result (ap doing_of c.in-Chart.is) c.as_slice-arguments.ensures.value refl refl c.in_ok-program.ensures.module c.drawn.ensures.fault
+    against_picture (task_of c.args.job.now) c.args.bytes.now (g.L.Source.remaining c.args.log_in.now) _ _ _ picture.Chart c.as_slice-arguments.result.now c.drawn.result (ap doing_of c.in-Chart.is) c.as_slice-arguments.ensures.value c.in_ok-program.ensures.module c.drawn.ensures.fault c.drawn.ensures.stands
 
 pub returns-in-Events-clause-done : goal.returns-in-Events-clause-done
 returns-in-Events-clause-done g c =
-    done_of_run (task_of c.args.job.now) c.args.bytes.now (g.L.Source.remaining c.args.log_in.now) _ (Draw picture.Events) c.as_slice-arguments.result.now c.drawn-in-Events.result (ap doing_of c.in-Events.is) c.as_slice-arguments.ensures.value refl c.in_ok-program.ensures.module (c.drawn-in-Events.ensures.done c.args.job.now.form c.args.job.now.file.now c.args.bytes.now (c.in_ok-program.ensures.from.0, λ _. c.in_ok-program.ensures.from.1 (c.shows_origins.ensures ∙ ap shows_origins c.in-Events.is)))
+    done_of_run (task_of c.args.job.now) c.args.bytes.now (g.L.Source.remaining c.args.log_in.now) _ (Draw picture.Events) c.as_slice-arguments.result.now c.drawn-in-Events.result (ap doing_of c.in-Events.is) c.as_slice-arguments.ensures.value refl c.in_ok-program.ensures.module (c.drawn-in-Events.ensures.done c.args.job.now.form c.args.bytes.now (c.in_ok-program.ensures.from.0, λ _. c.in_ok-program.ensures.from.1 (c.shows_origins.ensures ∙ ap shows_origins c.in-Events.is)))
 
 pub returns-in-Events-clause-fault : goal.returns-in-Events-clause-fault
 returns-in-Events-clause-fault g c =
-    against_log (task_of c.args.job.now) c.args.bytes.now (g.L.Source.remaining c.args.log_in.now) _ _ _ (Draw picture.Events) c.as_slice-arguments.result.now c.drawn-in-Events.result (ap doing_of c.in-Events.is) c.as_slice-arguments.ensures.value refl refl c.in_ok-program.ensures.module c.drawn-in-Events.ensures.fault
+    against_picture (task_of c.args.job.now) c.args.bytes.now (g.L.Source.remaining c.args.log_in.now) _ _ _ picture.Events c.as_slice-arguments.result.now c.drawn-in-Events.result (ap doing_of c.in-Events.is) c.as_slice-arguments.ensures.value c.in_ok-program.ensures.module c.drawn-in-Events.ensures.fault c.drawn-in-Events.ensures.stands
 
 pub returns-in-Lanes-clause-done : goal.returns-in-Lanes-clause-done
 returns-in-Lanes-clause-done g c =
     let is = ap doing_of c.in-Lanes.is ∙ ap (λ p. Draw p) (sym c.lanes_given-lanes.ensures) in
-    done_of_run (task_of c.args.job.now) c.args.bytes.now (g.L.Source.remaining c.args.log_in.now) _ (Draw c.lanes_given-lanes.result) c.as_slice-arguments.result.now c.drawn-in-Lanes.result is c.as_slice-arguments.ensures.value refl c.in_ok-program.ensures.module (c.drawn-in-Lanes.ensures.done c.args.job.now.form c.args.job.now.file.now c.args.bytes.now (c.in_ok-program.ensures.from.0, λ _. c.in_ok-program.ensures.from.1 (c.shows_origins.ensures ∙ ap shows_origins c.in-Lanes.is)))
+    done_of_run (task_of c.args.job.now) c.args.bytes.now (g.L.Source.remaining c.args.log_in.now) _ (Draw c.lanes_given-lanes.result) c.as_slice-arguments.result.now c.drawn-in-Lanes.result is c.as_slice-arguments.ensures.value refl c.in_ok-program.ensures.module (c.drawn-in-Lanes.ensures.done c.args.job.now.form c.args.bytes.now (c.in_ok-program.ensures.from.0, λ _. c.in_ok-program.ensures.from.1 (c.shows_origins.ensures ∙ ap shows_origins c.in-Lanes.is)))
 
 pub returns-in-Lanes-clause-fault : goal.returns-in-Lanes-clause-fault
 returns-in-Lanes-clause-fault g c =
     let is = ap doing_of c.in-Lanes.is ∙ ap (λ p. Draw p) (sym c.lanes_given-lanes.ensures) in
-    against_log (task_of c.args.job.now) c.args.bytes.now (g.L.Source.remaining c.args.log_in.now) _ _ _ (Draw c.lanes_given-lanes.result) c.as_slice-arguments.result.now c.drawn-in-Lanes.result is c.as_slice-arguments.ensures.value refl refl c.in_ok-program.ensures.module c.drawn-in-Lanes.ensures.fault
+    against_picture (task_of c.args.job.now) c.args.bytes.now (g.L.Source.remaining c.args.log_in.now) _ _ _ c.lanes_given-lanes.result c.as_slice-arguments.result.now c.drawn-in-Lanes.result is c.as_slice-arguments.ensures.value c.in_ok-program.ensures.module c.drawn-in-Lanes.ensures.fault c.drawn-in-Lanes.ensures.stands
 
 pub returns-in-Page-clause-done : goal.returns-in-Page-clause-done
 returns-in-Page-clause-done g c =
     let what = Draw (picture.Page c.window_given.result) in
     let is = ap doing_of c.in-Page.is ∙ ap (λ window. Draw (picture.Page window)) (sym c.window_given.ensures) in
-    done_of_run (task_of c.args.job.now) c.args.bytes.now (g.L.Source.remaining c.args.log_in.now) _ what c.as_slice-arguments.result.now c.drawn-in-Page.result is c.as_slice-arguments.ensures.value refl c.in_ok-program.ensures.module (c.drawn-in-Page.ensures.done c.args.job.now.form c.args.job.now.file.now c.args.bytes.now (c.in_ok-program.ensures.from.0, λ _. c.in_ok-program.ensures.from.1 (c.shows_origins.ensures ∙ ap shows_origins c.in-Page.is)))
+    done_of_run (task_of c.args.job.now) c.args.bytes.now (g.L.Source.remaining c.args.log_in.now) _ what c.as_slice-arguments.result.now c.drawn-in-Page.result is c.as_slice-arguments.ensures.value refl c.in_ok-program.ensures.module (c.drawn-in-Page.ensures.done c.args.job.now.form c.args.bytes.now (c.in_ok-program.ensures.from.0, λ _. c.in_ok-program.ensures.from.1 (c.shows_origins.ensures ∙ ap shows_origins c.in-Page.is)))
 
 pub returns-in-Page-clause-fault : goal.returns-in-Page-clause-fault
 returns-in-Page-clause-fault g c =
-    let what = Draw (picture.Page c.window_given.result) in
     let is = ap doing_of c.in-Page.is ∙ ap (λ window. Draw (picture.Page window)) (sym c.window_given.ensures) in
-    against_log (task_of c.args.job.now) c.args.bytes.now (g.L.Source.remaining c.args.log_in.now) _ _ _ what c.as_slice-arguments.result.now c.drawn-in-Page.result is c.as_slice-arguments.ensures.value refl refl c.in_ok-program.ensures.module c.drawn-in-Page.ensures.fault
+    against_picture (task_of c.args.job.now) c.args.bytes.now (g.L.Source.remaining c.args.log_in.now) _ _ _ (picture.Page c.window_given.result) c.as_slice-arguments.result.now c.drawn-in-Page.result is c.as_slice-arguments.ensures.value c.in_ok-program.ensures.module c.drawn-in-Page.ensures.fault c.drawn-in-Page.ensures.stands
 
 pub returns-in-Span-clause-done : goal.returns-in-Span-clause-done
 returns-in-Span-clause-done g c =
     done_of_run (task_of c.args.job.now) c.args.bytes.now (g.L.Source.remaining c.args.log_in.now) _
     (Draw picture.Span) c.as_slice-arguments.result.now c.drawn-in-Span.result (ap doing_of c.in-Span.is) c.as_slice-arguments.ensures.value
     refl
-    c.in_ok-program.ensures.module (c.drawn-in-Span.ensures.done c.args.job.now.form c.args.job.now.file.now c.args.bytes.now
+    c.in_ok-program.ensures.module (c.drawn-in-Span.ensures.done c.args.job.now.form c.args.bytes.now
     (c.in_ok-program.ensures.from.0, λ _. c.in_ok-program.ensures.from.1 (c.shows_origins.ensures ∙ ap shows_origins c.in-Span.is)))
 
 pub returns-in-Span-clause-fault : goal.returns-in-Span-clause-fault
 returns-in-Span-clause-fault g c =
-    against_log (task_of c.args.job.now) c.args.bytes.now (g.L.Source.remaining c.args.log_in.now) _ _ _
-    (Draw picture.Span) c.as_slice-arguments.result.now c.drawn-in-Span.result (ap doing_of c.in-Span.is) c.as_slice-arguments.ensures.value
-    refl refl c.in_ok-program.ensures.module c.drawn-in-Span.ensures.fault
+    against_picture (task_of c.args.job.now) c.args.bytes.now (g.L.Source.remaining c.args.log_in.now) _ _ _
+    picture.Span c.as_slice-arguments.result.now c.drawn-in-Span.result (ap doing_of c.in-Span.is) c.as_slice-arguments.ensures.value
+    c.in_ok-program.ensures.module c.drawn-in-Span.ensures.fault c.drawn-in-Span.ensures.stands
+
+pub returns-in-Why-clause-done : goal.returns-in-Why-clause-done
+returns-in-Why-clause-done g c =
+    done_of_run (task_of c.args.job.now) c.args.bytes.now (g.L.Source.remaining c.args.log_in.now) _
+    (Draw (picture.Why c.in-Why.step)) c.as_slice-arguments.result.now c.drawn-in-Why.result (ap doing_of c.in-Why.is)
+    c.as_slice-arguments.ensures.value
+    refl
+    c.in_ok-program.ensures.module (c.drawn-in-Why.ensures.done c.args.job.now.form c.args.bytes.now
+    (c.in_ok-program.ensures.from.0, λ _. c.in_ok-program.ensures.from.1 (c.shows_origins.ensures ∙ ap shows_origins c.in-Why.is)))
+
+pub returns-in-Why-clause-fault : goal.returns-in-Why-clause-fault
+returns-in-Why-clause-fault g c =
+    against_picture (task_of c.args.job.now) c.args.bytes.now (g.L.Source.remaining c.args.log_in.now) _ _ _
+    (picture.Why c.in-Why.step) c.as_slice-arguments.result.now c.drawn-in-Why.result (ap doing_of c.in-Why.is)
+    c.as_slice-arguments.ensures.value
+    c.in_ok-program.ensures.module c.drawn-in-Why.ensures.fault c.drawn-in-Why.ensures.stands
 
 pub returns-in-Where-clause-done : goal.returns-in-Where-clause-done
 returns-in-Where-clause-done g c =
@@ -126,7 +141,7 @@ returns-in-Where-clause-fault g c =
 pub returns-then-given-clause-done : goal.returns-then-given-clause-done
 returns-then-given-clause-done g c =
     let is = ap doing_of c.in-Races.is ∙ ap races_by (sym c.is_some-given.ensures ∙ c.if-given.true) in
-    done_of_run (task_of c.args.job.now) c.args.bytes.now (g.L.Source.remaining c.args.log_in.now) _ (Draw picture.Races) c.as_slice-arguments.result.now c.drawn-then-given.result is c.as_slice-arguments.ensures.value refl c.in_ok-program.ensures.module (c.drawn-then-given.ensures.done c.args.job.now.form c.args.job.now.file.now c.args.bytes.now (c.in_ok-program.ensures.from.0, λ _. c.in_ok-program.ensures.from.1 (c.shows_origins.ensures ∙ ap shows_origins c.in-Races.is)))
+    done_of_run (task_of c.args.job.now) c.args.bytes.now (g.L.Source.remaining c.args.log_in.now) _ (Draw picture.Races) c.as_slice-arguments.result.now c.drawn-then-given.result is c.as_slice-arguments.ensures.value refl c.in_ok-program.ensures.module (c.drawn-then-given.ensures.done c.args.job.now.form c.args.bytes.now (c.in_ok-program.ensures.from.0, λ _. c.in_ok-program.ensures.from.1 (c.shows_origins.ensures ∙ ap shows_origins c.in-Races.is)))
 
 pub returns-else-given-clause-done : goal.returns-else-given-clause-done
 returns-else-given-clause-done g c =
@@ -136,7 +151,7 @@ returns-else-given-clause-done g c =
 pub returns-then-given-clause-fault : goal.returns-then-given-clause-fault
 returns-then-given-clause-fault g c =
     let is = ap doing_of c.in-Races.is ∙ ap races_by (sym c.is_some-given.ensures ∙ c.if-given.true) in
-    against_log (task_of c.args.job.now) c.args.bytes.now (g.L.Source.remaining c.args.log_in.now) _ _ _ (Draw picture.Races) c.as_slice-arguments.result.now c.drawn-then-given.result is c.as_slice-arguments.ensures.value refl refl c.in_ok-program.ensures.module c.drawn-then-given.ensures.fault
+    against_picture (task_of c.args.job.now) c.args.bytes.now (g.L.Source.remaining c.args.log_in.now) _ _ _ picture.Races c.as_slice-arguments.result.now c.drawn-then-given.result is c.as_slice-arguments.ensures.value c.in_ok-program.ensures.module c.drawn-then-given.ensures.fault c.drawn-then-given.ensures.stands
 
 pub returns-else-given-clause-fault : goal.returns-else-given-clause-fault
 returns-else-given-clause-fault g c =

@@ -8,9 +8,9 @@ use Rattle.xk_show_names.proofs.pairs.recount_run_by_both.Given as goal
 -- of the run's steps those are left, to be told by each, whose entries weren't come to
 abbrev pub invariant-loop-entry : goal.invariant-loop-entry
 invariant-loop-entry g l =
-    let m = l.ended.module.now in
-    let log = l.ended.log.items in
-    let w = opening m l.ended.core.world.arguments in
+    let m = l.legal.module.now in
+    let log = l.legal.log.now in
+    let w = opening m l.legal.core.now.world.arguments in
     let left = schedule_of (drop l.entry-index log) in
     IsLeft (recounted_by m (g.A.Recount.recount l.fn.both.first.now m)) m (schedule_of log) w l.fn.firsts.items left l.core l.firsts.items
     × IsLeft (recounted_by m (g.B.Recount.recount l.fn.both.second.now m)) m (schedule_of log) w l.fn.seconds.items left l.core l.seconds.items

@@ -4,6 +4,6 @@ use Rattle.xk_show_picture.proofs.layout.layout_of.Goals as goal
 
 pub returns-clause-steps : goal.returns-clause-steps
 returns-clause-steps c =
-    let e = c.args.ended.now in
+    let e = c.args.legal.now in
     let told = rw c.new-steps.ensures.items at c.in_ok-describe_run_by_both.ensures.second in
-    told ∙ asked_told c.args.window e.module.now e.log.items e.core.world
+    told ∙ asked_told c.args.window e.module.now e.log.now e.core.now.world
