@@ -218,7 +218,10 @@ def paged(
 
 def picture(browser: Browser, program: pathlib.Path, folder: pathlib.Path) -> None:
     """Makes the picture of the pages anew."""
-    _, page = paged(program, *PICTURED, folder)
+    run = made(program.resolve(), *PICTURED, folder)
+    os.chdir(TOP)
+    page = folder / "page.html"
+    page.write_bytes(run._replace(file=run.file.relative_to(TOP)).page().encode())
     browser.look("light", *PICTURED_SIZE)
     browser.ask("Emulation.setScrollbarsHidden", hidden=True)
     browser.open(page, f"#{PICTURED_STEP}")

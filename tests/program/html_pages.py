@@ -284,7 +284,8 @@ def behind_first_line(element: Element, text: str) -> str:
 def try_title(page: Page, run: Run) -> None:
     """The file's name stands in the title and in the heading."""
     for name in ("title", "h1"):
-        same(name, [element.text for element in page.named(name)], [f"A run of {run.file}, step by step"])
+        first, *_ = page.named(name)
+        same(name, first.text, f"A run of {run.file}, step by step")
 
 
 def try_source(page: Page, run: Run) -> None:
