@@ -65,6 +65,7 @@ FETCHING = set("applet audio base embed feimage form frame iframe image img link
 ADDRESSES = set("action archive background code codebase data formaction manifest ping poster src srcset".split())
 # Pages that are wrong on purpose, made of that of signs.x10: what is done, what is taken out, and what comes instead.
 WRONG = (
+    ("the title has another name", "<title>A run of ", "<title>A run of an"),
     ("the source text's element isn't closed", "</pre>\n", ""),
     ("a tag of the source text is one of the page", "&lt;/pre>", "</pre>"),
     ("a script of the source text is one of the page", "&lt;script>", "<script>"),
