@@ -12,7 +12,7 @@ import errno
 import itertools
 import os
 import re
-from dataclasses import dataclass, field
+from dataclasses import dataclass, field, replace
 from typing import BinaryIO
 
 from tests.harness import TOP
@@ -66,6 +66,8 @@ class Device(Exception):
 
 # Of these commands the specification has what is told where a file can't be opened.
 FIXED = ("check", "compile", "run", "replay", "chart")
+# These have a log beside FILE, and say so where FILE is one.
+ON_LOGS = ("events", "lanes", "page", "where", "races", "span", "why")
 # Why a file can't be opened.
 REASONS = {errno.ENOENT: "no such file or folder", errno.EISDIR: "it is a folder", errno.EACCES: "no permission",
            errno.EPERM: "no permission"}
@@ -531,6 +533,16 @@ def answered(job: Job, data: bytes, given: BinaryIO, log_in: BinaryIO | None, lo
     return Told(status, out, err.removesuffix("\n"))
 
 
+def noted(job: Job, data: bytes, told: Told) -> Told:
+    """Before the line of the fault, where FILE is a log: that it is one, and in which order the two are given."""
+    is_log = data.startswith(b"x10log ") and "module" not in job.flags
+    if told.status != 1 or not is_log or job.command not in (*ON_LOGS, "outcomes", "listing"):
+        return told
+    step = " STEP" if job.command == "why" else ""
+    order = f": {job.command} FILE LOG{step}" if job.command in ON_LOGS else ""
+    return replace(told, err=f"x10clock: FILE is a log{order}\n{told.err}")
+
+
 def rule_page(job: Job) -> str | None:
     """The page of the rule whose code stands for FILE, where `explain` is asked for it as a text."""
     if job.command != "explain" or job.flags:
@@ -556,7 +568,8 @@ def done(job: Job, given: BinaryIO) -> Told:
             if is_same(job.values["log"], program):
                 return Told(2, "", OVER_FILE)
             log_out = opened(job, job.values["log"], "wb")
-        return answered(job, contents(program), given, log_in, log_out)
+        data = contents(program)
+        return noted(job, data, answered(job, data, given, log_in, log_out))
     finally:
         for opened_file in (log_in, log_out, program if file != "-" else None):
             if opened_file:

@@ -24,7 +24,7 @@ use Rattle.xk_answers.specs.declared.job_result.Done.TheVariants as done
 use Rattle.xk_answers.specs.Explanation.{IsExplanation, Tale, fault_said, refusal_said}
 use Rattle.xk_answers.specs.Printed.{done_status, done_text, whole_status}
 use Rattle.xk_answers.specs.Results.{Check, ComesTo, Compile, Doing, Draw, Expected, Explain, IsTelling, IsText, Listing, Outcomes, Races, Replay, Run, Tally, Where}
-use Rattle.xk_serve.specs.Answer.{Answers, FailsBy, IsSaidBy, IsSaidOf, Reply, Task, done_reply, fault_reply, reads_list, reads_log, runs}
+use Rattle.xk_serve.specs.Answer.{Answers, FailsBy, IsSaidBy, IsSaidOf, Reply, Task, done_reply, fault_reply, log_note, begins_log, note_of, reads_list, reads_log, runs}
 use Rattle.xk_serve.specs.OneAnswer.{AreWalks, ExplainFaults, IsLeftOpen, IsReplyOf, MayCheck, checking}
 use Rattle.xk_serve.proofs.AnswerUniquenessLemmas.{Case, Does, Misfit, NoRun, Astray, Prints, Read, Refusing, Said, Telling, Unfit, Unread, case_of, given_once, given_source, given_text, no_source, said_of, text_told, unread_none, unread_once}
 use Rattle.xk_serve.proofs.RefusalUniquenessLemmas.{not_accepted, refusals_once}
@@ -195,6 +195,24 @@ accepted_whole t bytes m logged d json (inr h) =
     let said : IsTelling (Explain json) t.form t.file bytes m t.arguments logged (done_text d, told.0) = told.1 in
     (said.0, told.2 ∙ ap whole_status (ap (λ (tale : Tale). tale.1) said.1.2.2))
 
+either_none : (b : Bool) (note : List ℕ) → note ≡ [] → (if b then note else []) ≡ []
+either_none true note e = e
+either_none false note e = refl
+
+-- of neither of the two a log is told before the line
+unnoted : (t : Task) (bytes : List ℕ) (f : Fault) → log_note t.doing ≡ [] → note_of t bytes f ≡ []
+unnoted t bytes (fault.Front f) e = either_none (begins_log bytes) (log_note t.doing) e
+unnoted t bytes (fault.Text f) e = refl
+unnoted t bytes (fault.Refused r) e = refl
+unnoted t bytes (fault.Arguments wants has) e = refl
+unnoted t bytes (fault.Grammar line) e = refl
+unnoted t bytes fault.Truncated e = refl
+unnoted t bytes (fault.NotEnabled i) e = refl
+unnoted t bytes fault.NotEnded e = refl
+unnoted t bytes (fault.NoOutcome line) e = refl
+unnoted t bytes fault.OutOfMemory e = refl
+unnoted t bytes fault.Device e = refl
+
 pub checked : (t : Task) (json : Bool) (bytes logged : List ℕ) (r : Reply) → t.doing ≡ Explain json → Answers t bytes logged r
     → MayCheck t bytes logged r
 checked t json bytes logged r is (inl (d, found, e)) =
@@ -209,8 +227,8 @@ checked t json bytes logged r is (inl (d, found, e)) =
       sym (ap (λ (z : Reply). z.err) e),
     )
 checked t json bytes logged r is (inr (f, h, told)) = (
-  fault_reply [] f,
+  fault_reply (checking t) bytes [] f,
   inr (f, fails_check t bytes logged f json is h, ([], refl, refl)),
   sym (ap (λ (z : Reply). z.status) told.2),
-  sym (ap (λ (z : Reply). z.err) told.2),
+  ap (λ note. note ++ fault_line f) (unnoted (checking t) bytes f refl ∙ sym (unnoted t bytes f (ap log_note is))) ∙ sym (ap (λ (z : Reply). z.err) told.2),
 )

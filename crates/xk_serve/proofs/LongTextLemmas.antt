@@ -1,28 +1,30 @@
 -- Of a text that is too long no more than one byte too many is kept: what stands against that stands against the whole text.
 use Rattle.std.proofs.Common.{◌≡◌, ◌+◌, ◌<◌, ◌≤◌, ℕ, Bool, true, false, if◌then◌else◌, List, [], length, take, min, Option, Some, None, Result, Ok, Err, IfErr, inl, inr, refl, sym, arith, ap, ◌∙◌, subst}
 use Rattle.std.proofs.lemmas.Bool.{false≢true}
-use Rattle.std.proofs.lemmas.List.{length-take, take_all}
+use Rattle.std.proofs.lemmas.List.{length-take, take-take, take_all}
+use Rattle.std.specs.Prelude.{codes}
+use Rattle.std.specs.Str.{bytes_eq}
 use Rattle.std.specs.Prelude.{◌⊎◌, IfSome}
 use Rattle.xk_types.specs.Code.{ModuleValue}
 use Rattle.xk_tree.specs.declared.fault.FrontFault.{FrontFault}
 use Rattle.xk_cli.specs.declared.job.Form.{Form}
 use Rattle.xk_cli.specs.declared.job.Form.TheVariants as form
-use Rattle.xk_bounds.specs.declared.refusal.Refusal.{Refusal}
+use Rattle.xk_bounds.specs.declared.refusal.Refusal.{Refusal as RefusalOfModule}
 use Rattle.xk_bounds.specs.declared.refusal.Refusal.TheVariants as refusal
 use Rattle.xk_answers.specs.declared.job_result.Done.{Done}
-use Rattle.xk_answers.specs.declared.explanation.Refused.{Refused}
+use Rattle.xk_serve.specs.declared.refusal.Refusal.{Refusal}
 use Rattle.xk_program.specs.declared.fault.Fault.{Fault}
 use Rattle.xk_program.specs.declared.fault.Fault.TheVariants as fault
 use Rattle.xk_module.specs.declared.fault.ModuleFault.{ModuleFault}
 use Rattle.xk_program.specs.Programs.{Gives, IsNoModule, IsNoSource, IsNoText, IsTooLong, longest_module, longest_source}
 use Rattle.xk_program.specs.Bytes.{kept}
 use Rattle.xk_answers.specs.Results.{Check, ComesTo, Compile, Doing, Draw, Expected, Explain, IsTelling, IsText, Listing, Outcomes, Races, Replay, Run, Tally, Where}
-use Rattle.xk_serve.specs.Answer.{FailsBy, GivesAccepted, IsSaidBy, IsSaidOf, Succeeds, Task}
+use Rattle.xk_serve.specs.Answer.{FailsBy, GivesAccepted, IsSaidBy, IsSaidOf, Succeeds, Task, begins_log, log_note, note_of}
 use Rattle.xk_explain_expected.specs.Notes.{expected_notes}
 use Rattle.xk_program.specs.Origins.{IsByProgram, IsByTree}
 use Rattle.xk_answers.specs.Explanation.{IsExplanation, fault_said, front_said, refusal_said}
 use Rattle.xk_tree.specs.declared.fault.FrontRule.TheVariants as rule
-use Rattle.xk_serve.specs.Devices.{AgainstLog, IfKnown, IsRead, Reads, StandsAgainst, read_of}
+use Rattle.xk_serve.specs.Devices.{AgainstLog, IfKnown, IsRead, IsToldOf, Reads, StandsAgainst, read_of}
 use Rattle.xk_explain.specs.Explanations.{has_place}
 use Rattle.xk_answers.proofs.LogLemmas.{if_known, of_each}
 use Rattle.xk_log.specs.SomeBytes.{OfSome}
@@ -138,7 +140,7 @@ front_kept json file bytes known said f e (inr (inr (inr h))) is =
     subst (λ b. IsByTree b (fault_said json file b f) said) (whole longest_source bytes known e h.1.1.short) is
 
 -- of a program that is refused the whole text is kept
-refusal_kept : (json : Bool) (kind : Form) (file bytes known said : List ℕ) (r : Refusal) (m : ModuleValue) → bytes ≡ kept kind known → Gives kind bytes m
+refusal_kept : (json : Bool) (kind : Form) (file bytes known said : List ℕ) (r : RefusalOfModule) (m : ModuleValue) → bytes ≡ kept kind known → Gives kind bytes m
     → IsByProgram kind bytes (refusal_said json file bytes r) said → IsByProgram kind known (refusal_said json file known r) said
 refusal_kept json kind file bytes known said r m e given is =
     subst (λ b. IsByProgram kind b (refusal_said json file b r) said) (kept_whole kind bytes known m e given) is
@@ -199,36 +201,60 @@ device_unsaid (Tally seed runs) kind file bytes said h = h
 device_unsaid (Outcomes sets limit pick kept) kind file bytes said h = h
 device_unsaid (Expected sets limit) kind file bytes said h = h
 
+-- ---- what is said of a log
+
+-- the front that is kept of a text has as many bytes as it is seen by
+begins_kept : (n : ℕ) (bytes known : List ℕ) → 7 ≤ n → bytes ≡ take n known → begins_log bytes ≡ begins_log known
+begins_kept n bytes known long e =
+    ap (λ front. bytes_eq front (codes "x10log ")) (ap (take 7) e ∙ take-take 7 n known long)
+
+log_kept : (kind : Form) (bytes known : List ℕ) → bytes ≡ kept kind known → begins_log bytes ≡ begins_log known
+log_kept form.Module bytes known e = begins_kept (longest_module + 1) bytes known (omega arith) e
+log_kept form.Source bytes known e = begins_kept (longest_source + 1) bytes known (omega arith) e
+
+note_kept : (t : Task) (bytes known : List ℕ) (f : Fault) → bytes ≡ kept t.form known → note_of t bytes f ≡ note_of t known f
+note_kept t bytes known (fault.Front f) e = ap (λ b. if b then log_note t.doing else []) (log_kept t.form bytes known e)
+note_kept t bytes known (fault.Text f) e = refl
+note_kept t bytes known (fault.Refused r) e = refl
+note_kept t bytes known (fault.Arguments wants has) e = refl
+note_kept t bytes known (fault.Grammar line) e = refl
+note_kept t bytes known fault.Truncated e = refl
+note_kept t bytes known (fault.NotEnabled i) e = refl
+note_kept t bytes known fault.NotEnded e = refl
+note_kept t bytes known (fault.NoOutcome line) e = refl
+note_kept t bytes known fault.OutOfMemory e = refl
+note_kept t bytes known fault.Device e = refl
+
 -- the same of the faults that are no device's
-stands : (t : Task) (known logged : Option (List ℕ)) (bytes : List ℕ) (n : Reads) (f : Fault) (said : List ℕ) → n.program_new ≡ n.program_old → n.log_new ≡ n.log_old
-    → IfSome known (λ k. bytes ≡ kept t.form k) → OfSome (read_of t logged) (λ log. FailsBy t bytes log f) → IsSaidOf t bytes f said
-    → IsRead n × IfKnown t known logged (λ k log. FailsBy t k log f × IsSaidOf t k f said)
-stands t None logged bytes n f said s l e h is = ((s, l), tt)
-stands t (Some k) logged bytes n f said s l e h is = (
+stands : (t : Task) (known logged : Option (List ℕ)) (bytes : List ℕ) (n : Reads) (f : Fault) (note said : List ℕ) → n.program_new ≡ n.program_old → n.log_new ≡ n.log_old
+    → IfSome known (λ k. bytes ≡ kept t.form k) → OfSome (read_of t logged) (λ log. FailsBy t bytes log f) → IsToldOf t bytes f note said
+    → IsRead n × IfKnown t known logged (λ k log. FailsBy t k log f × IsToldOf t k f note said)
+stands t None logged bytes n f note said s l e h is = ((s, l), tt)
+stands t (Some k) logged bytes n f note said s l e h is = (
   (s, l),
-  of_each _ _ (read_of t logged) (λ log p. (kept_fails t bytes k log f e p, said_kept t bytes k log said f e p is))
+  of_each _ _ (read_of t logged) (λ log p. (kept_fails t bytes k log f e p, (said_kept t bytes k log said f e p is.0, is.1 ∙ note_kept t bytes k f e)))
       (if_known (λ log. FailsBy t bytes log f) (read_of t logged) h),
 )
 
 -- a fault with the bytes kept is one with those that are known
-pub told_stands : (t : Task) (known logged : Option (List ℕ)) (bytes : List ℕ) (n : Reads) (f : Fault) (said : List ℕ)
+pub told_stands : (t : Task) (known logged : Option (List ℕ)) (bytes : List ℕ) (n : Reads) (f : Fault) (note said : List ℕ)
     → n.program_new ≡ n.program_old → IfSome known (λ k. bytes ≡ kept t.form k) → AgainstLog t bytes logged n.log_old n.log_new f
-    → IsSaidOf t bytes f said → StandsAgainst t known logged n f said
-told_stands t known logged bytes n (fault.Text f) said s e h is = stands t known logged bytes n (fault.Text f) said s h.0 e h.1 is
-told_stands t known logged bytes n (fault.Front f) said s e h is = stands t known logged bytes n (fault.Front f) said s h.0 e h.1 is
-told_stands t known logged bytes n (fault.Refused r) said s e h is = stands t known logged bytes n (fault.Refused r) said s h.0 e h.1 is
-told_stands t known logged bytes n (fault.Arguments wants has) said s e h is = stands t known logged bytes n (fault.Arguments wants has) said s h.0 e h.1 is
-told_stands t known logged bytes n (fault.Grammar line) said s e h is = stands t known logged bytes n (fault.Grammar line) said s h.0 e h.1 is
-told_stands t known logged bytes n fault.Truncated said s e h is = stands t known logged bytes n fault.Truncated said s h.0 e h.1 is
-told_stands t known logged bytes n (fault.NotEnabled i) said s e h is = stands t known logged bytes n (fault.NotEnabled i) said s h.0 e h.1 is
-told_stands t known logged bytes n fault.NotEnded said s e h is = stands t known logged bytes n fault.NotEnded said s h.0 e h.1 is
-told_stands t known logged bytes n (fault.NoOutcome line) said s e h is = stands t known logged bytes n (fault.NoOutcome line) said s h.0 e h.1 is
-told_stands t known logged bytes n fault.OutOfMemory said s e h is = stands t known logged bytes n fault.OutOfMemory said s h.0 e h.1 is
-told_stands t known logged bytes n fault.Device said s e h is = (inr h, device_unsaid t.doing t.form t.file bytes said is)
+    → IsToldOf t bytes f note said → StandsAgainst t known logged n f note said
+told_stands t known logged bytes n (fault.Text f) note said s e h is = stands t known logged bytes n (fault.Text f) note said s h.0 e h.1 is
+told_stands t known logged bytes n (fault.Front f) note said s e h is = stands t known logged bytes n (fault.Front f) note said s h.0 e h.1 is
+told_stands t known logged bytes n (fault.Refused r) note said s e h is = stands t known logged bytes n (fault.Refused r) note said s h.0 e h.1 is
+told_stands t known logged bytes n (fault.Arguments wants has) note said s e h is = stands t known logged bytes n (fault.Arguments wants has) note said s h.0 e h.1 is
+told_stands t known logged bytes n (fault.Grammar line) note said s e h is = stands t known logged bytes n (fault.Grammar line) note said s h.0 e h.1 is
+told_stands t known logged bytes n fault.Truncated note said s e h is = stands t known logged bytes n fault.Truncated note said s h.0 e h.1 is
+told_stands t known logged bytes n (fault.NotEnabled i) note said s e h is = stands t known logged bytes n (fault.NotEnabled i) note said s h.0 e h.1 is
+told_stands t known logged bytes n fault.NotEnded note said s e h is = stands t known logged bytes n fault.NotEnded note said s h.0 e h.1 is
+told_stands t known logged bytes n (fault.NoOutcome line) note said s e h is = stands t known logged bytes n (fault.NoOutcome line) note said s h.0 e h.1 is
+told_stands t known logged bytes n fault.OutOfMemory note said s e h is = stands t known logged bytes n fault.OutOfMemory note said s h.0 e h.1 is
+told_stands t known logged bytes n fault.Device note said s e h is = (inr h, device_unsaid t.doing t.form t.file bytes said is.0, is.1)
 
 -- what stands against the task on the bytes kept stands against it on those that are known, and what is said of it is the same
-pub kept_stands : {A : Type 0} (t : Task) (known logged : Option (List ℕ)) (bytes : List ℕ) (n : Reads) (r : Result A Refused) → n.program_new ≡ n.program_old
-    → IfSome known (λ k. bytes ≡ kept t.form k) → IfErr r (λ x. AgainstLog t bytes logged n.log_old n.log_new x.fault)
-    → IfErr r (λ x. IsSaidOf t bytes x.fault x.said.items) → IfErr r (λ x. StandsAgainst t known logged n x.fault x.said.items)
+pub kept_stands : {A : Type 0} (t : Task) (known logged : Option (List ℕ)) (bytes : List ℕ) (n : Reads) (r : Result A Refusal) → n.program_new ≡ n.program_old
+    → IfSome known (λ k. bytes ≡ kept t.form k) → IfErr r (λ x. AgainstLog t bytes logged n.log_old n.log_new x.refused.fault)
+    → IfErr r (λ x. IsToldOf t bytes x.refused.fault x.note.now x.refused.said.items) → IfErr r (λ x. StandsAgainst t known logged n x.refused.fault x.note.now x.refused.said.items)
 kept_stands t known logged bytes n (Ok d) s e h is = tt
-kept_stands t known logged bytes n (Err x) s e h is = told_stands t known logged bytes n x.fault x.said.items s e h is
+kept_stands t known logged bytes n (Err x) s e h is = told_stands t known logged bytes n x.refused.fault x.note.now x.refused.said.items s e h is

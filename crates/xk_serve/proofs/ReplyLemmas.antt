@@ -1,5 +1,5 @@
 -- From a fault and how it was told to the clauses of the whole program.
-use Rattle.std.proofs.Common.{◌≡◌, ◌≢◌, ◌⊎◌, ℕ, zero, suc, List, [], length, take, Option, Some, None, inl, inr, refl, sym, ap, subst, ◌∙◌}
+use Rattle.std.proofs.Common.{◌≡◌, ◌≢◌, ◌⊎◌, ℕ, zero, suc, List, [], ◌++◌, length, take, Option, Some, None, inl, inr, refl, sym, ap, subst, ◌∙◌}
 use Rattle.std.proofs.Math.Seq.{take-length}
 use Rattle.std.proofs.lemmas.List.{append-nil}
 use Rattle.std.specs.Prelude.{IfSome}
@@ -9,12 +9,12 @@ use Rattle.std.specs.Io.KnownBytes.{Appends}
 use Rattle.xk_answers.specs.declared.job_result.Done.{Done}
 use Rattle.xk_program.specs.declared.fault.Fault.{Fault}
 use Rattle.xk_program.specs.declared.fault.Fault.TheVariants as fault
-use Rattle.xk_serve.specs.Answer.{FailsBy, IsSaidOf, Succeeds, Task, done_reply, fault_reply}
+use Rattle.xk_serve.specs.Answer.{FailsBy, Succeeds, Task, done_reply, fault_reply, note_of}
 use Rattle.xk_answers.specs.Printed.{done_status}
 use Rattle.xk_io.specs.Writing.{AppendsBeginning}
 use Rattle.xk_program.specs.Lines.{device_line, fault_line, status_of}
 use Rattle.xk_messages.specs.Lines.{memory_line}
-use Rattle.xk_serve.specs.Devices.{Answered, ErrBegins, Explained, IfKnown, IsBegun, IsTold, IsWritten, OutBegins, Reads, Reports, StandsAgainst, StandsOn, Tells, read_of}
+use Rattle.xk_serve.specs.Devices.{Answered, ErrBegins, Explained, IfKnown, IsBegun, IsTold, IsToldOf, IsWritten, OutBegins, Reads, Reports, StandsAgainst, StandsOn, Tells, read_of}
 
 -- nothing was written
 pub appends_none : (a : Option (List ℕ)) → Appends a a []
@@ -90,38 +90,38 @@ tells_begins line status old new faults_old faults_new result (inr p) = p.1
 -- ---- faults
 
 -- what stands against a task: a device's fault, of which nothing is said, or one of the bytes, with what is said of it
-either : (t : Task) (program known : Option (List ℕ)) (n : Reads) (f : Fault) (said : List ℕ) → StandsAgainst t program known n f said
-    → ((f ≡ fault.Device) × (said ≡ [])) ⊎ IfKnown t program known (λ bytes log. FailsBy t bytes log f × IsSaidOf t bytes f said)
-either t program known n (fault.Text f) said h = inr h.1
-either t program known n (fault.Front f) said h = inr h.1
-either t program known n (fault.Refused r) said h = inr h.1
-either t program known n (fault.Arguments wants has) said h = inr h.1
-either t program known n (fault.Grammar line) said h = inr h.1
-either t program known n fault.Truncated said h = inr h.1
-either t program known n (fault.NotEnabled i) said h = inr h.1
-either t program known n fault.NotEnded said h = inr h.1
-either t program known n (fault.NoOutcome line) said h = inr h.1
-either t program known n fault.OutOfMemory said h = inr h.1
-either t program known n fault.Device said h = inl (refl, h.1)
+either : (t : Task) (program known : Option (List ℕ)) (n : Reads) (f : Fault) (note said : List ℕ) → StandsAgainst t program known n f note said
+    → ((f ≡ fault.Device) × (said ≡ []) × (note ≡ [])) ⊎ IfKnown t program known (λ bytes log. FailsBy t bytes log f × IsToldOf t bytes f note said)
+either t program known n (fault.Text f) note said h = inr h.1
+either t program known n (fault.Front f) note said h = inr h.1
+either t program known n (fault.Refused r) note said h = inr h.1
+either t program known n (fault.Arguments wants has) note said h = inr h.1
+either t program known n (fault.Grammar line) note said h = inr h.1
+either t program known n fault.Truncated note said h = inr h.1
+either t program known n (fault.NotEnabled i) note said h = inr h.1
+either t program known n fault.NotEnded note said h = inr h.1
+either t program known n (fault.NoOutcome line) note said h = inr h.1
+either t program known n fault.OutOfMemory note said h = inr h.1
+either t program known n fault.Device note said h = inl (refl, h.1, h.2)
 
 -- the same on these bytes of FILE, where less may be known of the log
-one_of : (t : Task) (bytes : List ℕ) (logged : Option (List ℕ)) (n : Reads) (f : Fault) (said : List ℕ) → StandsOn t bytes logged n f said
-    → ((f ≡ fault.Device) × (said ≡ [])) ⊎ OfSome (read_of t logged) (λ log. FailsBy t bytes log f × IsSaidOf t bytes f said)
-one_of t bytes logged n (fault.Text f) said h = inr h.1
-one_of t bytes logged n (fault.Front f) said h = inr h.1
-one_of t bytes logged n (fault.Refused r) said h = inr h.1
-one_of t bytes logged n (fault.Arguments wants has) said h = inr h.1
-one_of t bytes logged n (fault.Grammar line) said h = inr h.1
-one_of t bytes logged n fault.Truncated said h = inr h.1
-one_of t bytes logged n (fault.NotEnabled i) said h = inr h.1
-one_of t bytes logged n fault.NotEnded said h = inr h.1
-one_of t bytes logged n (fault.NoOutcome line) said h = inr h.1
-one_of t bytes logged n fault.OutOfMemory said h = inr h.1
-one_of t bytes logged n fault.Device said h = inl (refl, h.1)
+one_of : (t : Task) (bytes : List ℕ) (logged : Option (List ℕ)) (n : Reads) (f : Fault) (note said : List ℕ) → StandsOn t bytes logged n f note said
+    → ((f ≡ fault.Device) × (said ≡ []) × (note ≡ [])) ⊎ OfSome (read_of t logged) (λ log. FailsBy t bytes log f × IsToldOf t bytes f note said)
+one_of t bytes logged n (fault.Text f) note said h = inr h.1
+one_of t bytes logged n (fault.Front f) note said h = inr h.1
+one_of t bytes logged n (fault.Refused r) note said h = inr h.1
+one_of t bytes logged n (fault.Arguments wants has) note said h = inr h.1
+one_of t bytes logged n (fault.Grammar line) note said h = inr h.1
+one_of t bytes logged n fault.Truncated note said h = inr h.1
+one_of t bytes logged n (fault.NotEnabled i) note said h = inr h.1
+one_of t bytes logged n fault.NotEnded note said h = inr h.1
+one_of t bytes logged n (fault.NoOutcome line) note said h = inr h.1
+one_of t bytes logged n fault.OutOfMemory note said h = inr h.1
+one_of t bytes logged n fault.Device note said h = inl (refl, h.1, h.2)
 
-module _ (said : List ℕ) (f : Fault) (out_old out_new : Option (List ℕ)) (out_faults out_after : ℕ) (err_old err_new : Option (List ℕ)) (err_faults err_after result : ℕ) where
+module _ (note said : List ℕ) (f : Fault) (out_old out_new : Option (List ℕ)) (out_faults out_after : ℕ) (err_old err_new : Option (List ℕ)) (err_faults err_after result : ℕ) where
   -- a device's fault has the status of a device
-  device_told : f ≡ fault.Device → Explained said f out_old out_new out_faults out_after err_old err_new err_faults err_after result → result ≡ 5
+  device_told : f ≡ fault.Device → Explained note said f out_old out_new out_faults out_after err_old err_new err_faults err_after result → result ≡ 5
   device_told e (inl (out, same, inl p)) = p.0 ∙ ap status_of e
   device_told e (inl (out, same, inr p)) = p.0
   device_told e (inr (inl (out, same, device, told))) = absurd (device e)
@@ -129,15 +129,15 @@ module _ (said : List ℕ) (f : Fault) (out_old out_new : Option (List ℕ)) (ou
   device_told e (inr (inr (out, rose, inr p))) = p.0
 
   -- a fault that was told is an answer
-  explained_answer : (t : Task) (bytes logged : List ℕ) (log : Option (List ℕ)) → FailsBy t bytes logged f × IsSaidOf t bytes f said
-      → Explained said f out_old out_new out_faults out_after err_old err_new err_faults err_after result
+  explained_answer : (t : Task) (bytes logged : List ℕ) (log : Option (List ℕ)) → FailsBy t bytes logged f × IsToldOf t bytes f note said
+      → Explained note said f out_old out_new out_faults out_after err_old err_new err_faults err_after result
       → result ≢ 4 → result ≢ 5 → Answered t bytes logged result out_old out_new err_old err_new log log
   explained_answer t bytes logged log h (inl (out, same, inl p)) not4 not5 = record {
-    reply = fault_reply said f;
-    answers = inr (f, h.0, (said, h.1, refl));
+    reply = fault_reply t bytes said f;
+    answers = inr (f, h.0, (said, h.1.0, refl));
     status_is = p.0;
     out_is = out;
-    err_is = p.1;
+    err_is = subst (λ z. Appends err_old err_new (z ++ fault_line f)) h.1.1 p.1;
     log_is = appends_none log;
   }
   explained_answer t bytes logged log h (inl (out, same, inr p)) not4 not5 = absurd (not5 p.0)
@@ -147,33 +147,37 @@ module _ (said : List ℕ) (f : Fault) (out_old out_new : Option (List ℕ)) (ou
   explained_answer t bytes logged log h (inr (inr (out, rose, inr p))) not4 not5 = absurd (not5 p.0)
 
   -- standard output got a beginning of what is said
-  explained_begins : Explained said f out_old out_new out_faults out_after err_old err_new err_faults err_after result → AppendsBeginning out_old out_new said
+  explained_begins : Explained note said f out_old out_new out_faults out_after err_old err_new err_faults err_after result → AppendsBeginning out_old out_new said
   explained_begins (inl (out, same, told)) = (length said, rw (take-length said) out)
   explained_begins (inr (inl (out, same, device, told))) = (0, out)
   explained_begins (inr (inr (out, rose, told))) = out
 
   -- standard error got a beginning of a line
-  explained_line : (t : Task) (bytes logged : List ℕ) → IsTold t bytes logged f
-      → Explained said f out_old out_new out_faults out_after err_old err_new err_faults err_after result → ErrBegins t bytes logged err_old err_new
-  explained_line t bytes logged told (inl (out, same, p)) = (f, told, tells_begins (fault_line f) _ err_old err_new _ _ _ p)
-  explained_line t bytes logged told (inr (inl (out, same, device, p))) = (fault.OutOfMemory, inr tt, tells_begins memory_line _ err_old err_new _ _ _ p)
-  explained_line t bytes logged told (inr (inr (out, rose, p))) = (fault.Device, inl refl, tells_begins device_line _ err_old err_new _ _ _ p)
+  explained_line : (t : Task) (bytes logged : List ℕ) → IsTold t bytes logged f → note ≡ note_of t bytes f
+      → Explained note said f out_old out_new out_faults out_after err_old err_new err_faults err_after result → ErrBegins t bytes logged err_old err_new
+  explained_line t bytes logged told is (inl (out, same, p)) = (
+    f,
+    told,
+    subst (λ z. AppendsBeginning err_old err_new (z ++ fault_line f)) is (tells_begins (note ++ fault_line f) _ err_old err_new _ _ _ p),
+  )
+  explained_line t bytes logged told is (inr (inl (out, same, device, p))) = (fault.OutOfMemory, inr tt, tells_begins memory_line _ err_old err_new _ _ _ p)
+  explained_line t bytes logged told is (inr (inr (out, rose, p))) = (fault.Device, inl refl, tells_begins device_line _ err_old err_new _ _ _ p)
 
-  module _ (t : Task) (bytes : List ℕ) (logged : Option (List ℕ)) (n : Reads) (stands : StandsOn t bytes logged n f said)
-      (explained : Explained said f out_old out_new out_faults out_after err_old err_new err_faults err_after result) (log : Option (List ℕ)) where
+  module _ (t : Task) (bytes : List ℕ) (logged : Option (List ℕ)) (n : Reads) (stands : StandsOn t bytes logged n f note said)
+      (explained : Explained note said f out_old out_new out_faults out_after err_old err_new err_faults err_after result) (log : Option (List ℕ)) where
     -- the answer on these bytes of FILE
     pub some_answers : result ≢ 4 → result ≢ 5 → OfSome (read_of t logged) (λ one. Answered t bytes one result out_old out_new err_old err_new log log)
-    some_answers not4 not5 = elim (one_of t bytes logged n f said stands) [
+    some_answers not4 not5 = elim (one_of t bytes logged n f note said stands) [
       | inl d ↦ absurd (not5 (device_told d.0 explained))
-      | inr k ↦ some_each (λ one. FailsBy t bytes one f × IsSaidOf t bytes f said) (λ one. Answered t bytes one result out_old out_new err_old err_new log log)
+      | inr k ↦ some_each (λ one. FailsBy t bytes one f × IsToldOf t bytes f note said) (λ one. Answered t bytes one result out_old out_new err_old err_new log log)
           (read_of t logged) (λ one h. explained_answer t bytes one log h explained not4 not5) k
     ]
 
-  module _ (t : Task) (program known : Option (List ℕ)) (n : Reads) (stands : StandsAgainst t program known n f said)
-      (explained : Explained said f out_old out_new out_faults out_after err_old err_new err_faults err_after result) (log : Option (List ℕ)) where
+  module _ (t : Task) (program known : Option (List ℕ)) (n : Reads) (stands : StandsAgainst t program known n f note said)
+      (explained : Explained note said f out_old out_new out_faults out_after err_old err_new err_faults err_after result) (log : Option (List ℕ)) where
     -- the answer, whether the bytes are known or not
     pub told_answers : IfKnown t program known (λ bytes logged. result ≢ 4 → result ≢ 5 → Answered t bytes logged result out_old out_new err_old err_new log log)
-    told_answers = elim (either t program known n f said stands) [
+    told_answers = elim (either t program known n f note said stands) [
       | inl d ↦ of_known t program known (λ bytes logged. result ≢ 4 → result ≢ 5 → Answered t bytes logged result out_old out_new err_old err_new log log)
           (λ bytes logged not4 not5. absurd (not5 (device_told d.0 explained)))
       | inr k ↦ known_weaker t program known _ _ (λ bytes logged h not4 not5. explained_answer t bytes logged log h explained not4 not5) k
@@ -181,18 +185,18 @@ module _ (said : List ℕ) (f : Fault) (out_old out_new : Option (List ℕ)) (ou
 
     -- standard output, and the log
     pub said_begins : IfKnown t program known (λ bytes logged. OutBegins t bytes logged out_old out_new log log)
-    said_begins = elim (either t program known n f said stands) [
+    said_begins = elim (either t program known n f note said stands) [
       | inl d ↦ of_known t program known (λ bytes logged. OutBegins t bytes logged out_old out_new log log)
           (λ bytes logged. inl (nothing_begun out_old out_new said d.1 (explained_begins explained), appends_none log))
       | inr k ↦ known_weaker t program known _ _
-          (λ bytes logged h. inr (inr (f, h.0, (said, h.1, explained_begins explained, appends_none log)))) k
+          (λ bytes logged h. inr (inr (f, h.0, (said, h.1.0, explained_begins explained, appends_none log)))) k
     ]
 
     -- standard error
     pub line_begins : IfKnown t program known (λ bytes logged. ErrBegins t bytes logged err_old err_new)
-    line_begins = elim (either t program known n f said stands) [
-      | inl d ↦ of_known t program known (λ bytes logged. ErrBegins t bytes logged err_old err_new) (λ bytes logged. explained_line t bytes logged (inl d.0) explained)
-      | inr k ↦ known_weaker t program known _ _ (λ bytes logged h. explained_line t bytes logged (inr h.0) explained) k
+    line_begins = elim (either t program known n f note said stands) [
+      | inl d ↦ of_known t program known (λ bytes logged. ErrBegins t bytes logged err_old err_new) (λ bytes logged. explained_line t bytes logged (inl d.0) (d.2 ∙ sym (ap (note_of t bytes) d.0)) explained)
+      | inr k ↦ known_weaker t program known _ _ (λ bytes logged h. explained_line t bytes logged (inr h.0) h.1.1 explained) k
     ]
 
 -- a device's fault was told

@@ -4,7 +4,7 @@ use Rattle.std.specs.Prelude.{IfErr, IfOk}
 use Rattle.xk_log.specs.SomeBytes.{OfSome}
 use Rattle.std.specs.Io.KnownBytes.{Appends}
 use Rattle.xk_cli.specs.declared.job.Form.{Form}
-use Rattle.xk_answers.specs.declared.explanation.Refused.{Refused}
+use Rattle.xk_serve.specs.declared.refusal.Refusal.{Refusal}
 use Rattle.xk_answers.specs.declared.job_result.Done.{Done}
 use Rattle.xk_answers.specs.Printed.{done_status}
 use Rattle.xk_answers.specs.Results.{Check, Compile, Doing, Draw, Expected, Explain, Listing, Outcomes, Races, Replay, Run, Tally, Where}
@@ -12,8 +12,8 @@ use Rattle.xk_answers.proofs.LogLemmas.{some_any, some_each}
 use Rattle.xk_program.specs.Bytes.{FailsRead, kept}
 use Rattle.xk_program.specs.declared.fault.Fault.{Fault}
 use Rattle.xk_program.specs.declared.fault.Fault.TheVariants as fault
-use Rattle.xk_serve.specs.Answer.{FailsBy, IsSaidBy, IsSaidOf, Succeeds, Task}
-use Rattle.xk_serve.specs.Devices.{AgainstLog, Answered, AnsweredBySome, AreKeptOf, Explained, IsOutcomeOfSome, IsRead, IsWritten, Reads, StandsOn, read_of}
+use Rattle.xk_serve.specs.Answer.{FailsBy, IsSaidBy, Succeeds, Task}
+use Rattle.xk_serve.specs.Devices.{AgainstLog, Answered, AnsweredBySome, AreKeptOf, Explained, IsOutcomeOfSome, IsRead, IsToldOf, IsWritten, Reads, StandsOn, read_of}
 use Rattle.xk_serve.proofs.LongTextLemmas.{device_unsaid}
 use Rattle.xk_serve.proofs.ReplyLemmas.{some_answers, written_answer}
 
@@ -46,63 +46,63 @@ memory_unsaid (Outcomes sets limit pick kept) kind file bytes said e = e
 memory_unsaid (Expected sets limit) kind file bytes said e = e
 
 -- where FILE can't be read
-pub unread_stands : (t : Task) (bytes : List ℕ) (logged : Option (List ℕ)) (n : Reads) (f : Fault) (said : List ℕ)
-    → FailsRead n.program_old n.program_new f → n.log_new ≡ n.log_old → said ≡ [] → StandsOn t bytes logged n f said
-unread_stands t bytes logged n (fault.Text f) said h l e = absurd h
-unread_stands t bytes logged n (fault.Front f) said h l e = absurd h
-unread_stands t bytes logged n (fault.Refused r) said h l e = absurd h
-unread_stands t bytes logged n (fault.Arguments wants has) said h l e = absurd h
-unread_stands t bytes logged n (fault.Grammar line) said h l e = absurd h
-unread_stands t bytes logged n fault.Truncated said h l e = absurd h
-unread_stands t bytes logged n (fault.NotEnabled i) said h l e = absurd h
-unread_stands t bytes logged n fault.NotEnded said h l e = absurd h
-unread_stands t bytes logged n (fault.NoOutcome line) said h l e = absurd h
-unread_stands t bytes logged n fault.OutOfMemory said h l e = (
+pub unread_stands : (t : Task) (bytes : List ℕ) (logged : Option (List ℕ)) (n : Reads) (f : Fault) (note said : List ℕ)
+    → FailsRead n.program_old n.program_new f → n.log_new ≡ n.log_old → said ≡ [] → note ≡ [] → StandsOn t bytes logged n f note said
+unread_stands t bytes logged n (fault.Text f) note said h l e k = absurd h
+unread_stands t bytes logged n (fault.Front f) note said h l e k = absurd h
+unread_stands t bytes logged n (fault.Refused r) note said h l e k = absurd h
+unread_stands t bytes logged n (fault.Arguments wants has) note said h l e k = absurd h
+unread_stands t bytes logged n (fault.Grammar line) note said h l e k = absurd h
+unread_stands t bytes logged n fault.Truncated note said h l e k = absurd h
+unread_stands t bytes logged n (fault.NotEnabled i) note said h l e k = absurd h
+unread_stands t bytes logged n fault.NotEnded note said h l e k = absurd h
+unread_stands t bytes logged n (fault.NoOutcome line) note said h l e k = absurd h
+unread_stands t bytes logged n fault.OutOfMemory note said h l e k = (
   (h, l),
-  some_any (λ log. FailsBy t bytes log fault.OutOfMemory × IsSaidOf t bytes fault.OutOfMemory said) (read_of t logged)
-      (λ log. (tt, memory_unsaid t.doing t.form t.file bytes said e)),
+  some_any (λ log. FailsBy t bytes log fault.OutOfMemory × IsToldOf t bytes fault.OutOfMemory note said) (read_of t logged)
+      (λ log. (tt, (memory_unsaid t.doing t.form t.file bytes said e, k))),
 )
-unread_stands t bytes logged n fault.Device said h l e = (inl h, e)
+unread_stands t bytes logged n fault.Device note said h l e k = (inl h, e, k)
 
 -- the faults that are no device's
-stands_on : (t : Task) (bytes : List ℕ) (logged : Option (List ℕ)) (n : Reads) (f : Fault) (said : List ℕ) → n.program_new ≡ n.program_old
-    → n.log_new ≡ n.log_old → OfSome (read_of t logged) (λ log. FailsBy t bytes log f) → IsSaidOf t bytes f said
-    → IsRead n × OfSome (read_of t logged) (λ log. FailsBy t bytes log f × IsSaidOf t bytes f said)
-stands_on t bytes logged n f said s l h is = (
+stands_on : (t : Task) (bytes : List ℕ) (logged : Option (List ℕ)) (n : Reads) (f : Fault) (note said : List ℕ) → n.program_new ≡ n.program_old
+    → n.log_new ≡ n.log_old → OfSome (read_of t logged) (λ log. FailsBy t bytes log f) → IsToldOf t bytes f note said
+    → IsRead n × OfSome (read_of t logged) (λ log. FailsBy t bytes log f × IsToldOf t bytes f note said)
+stands_on t bytes logged n f note said s l h is = (
   (s, l),
-  some_each (λ log. FailsBy t bytes log f) (λ log. FailsBy t bytes log f × IsSaidOf t bytes f said) (read_of t logged) (λ log p.
+  some_each (λ log. FailsBy t bytes log f) (λ log. FailsBy t bytes log f × IsToldOf t bytes f note said) (read_of t logged) (λ log p.
       (p, is)) h,
 )
 
 -- a fault of the bytes that were read
-pub read_stands : (t : Task) (bytes : List ℕ) (logged : Option (List ℕ)) (n : Reads) (f : Fault) (said : List ℕ)
+pub read_stands : (t : Task) (bytes : List ℕ) (logged : Option (List ℕ)) (n : Reads) (f : Fault) (note said : List ℕ)
     → n.program_new ≡ n.program_old
-    → AgainstLog t bytes logged n.log_old n.log_new f → IsSaidOf t bytes f said → StandsOn t bytes logged n f said
-read_stands t bytes logged n (fault.Text f) said s h is = stands_on t bytes logged n (fault.Text f) said s h.0 h.1 is
-read_stands t bytes logged n (fault.Front f) said s h is = stands_on t bytes logged n (fault.Front f) said s h.0 h.1 is
-read_stands t bytes logged n (fault.Refused r) said s h is = stands_on t bytes logged n (fault.Refused r) said s h.0 h.1 is
-read_stands t bytes logged n (fault.Arguments wants has) said s h is =
-    stands_on t bytes logged n (fault.Arguments wants has) said s h.0 h.1 is
-read_stands t bytes logged n (fault.Grammar line) said s h is = stands_on t bytes logged n (fault.Grammar line) said s h.0 h.1 is
-read_stands t bytes logged n fault.Truncated said s h is = stands_on t bytes logged n fault.Truncated said s h.0 h.1 is
-read_stands t bytes logged n (fault.NotEnabled i) said s h is = stands_on t bytes logged n (fault.NotEnabled i) said s h.0 h.1 is
-read_stands t bytes logged n fault.NotEnded said s h is = stands_on t bytes logged n fault.NotEnded said s h.0 h.1 is
-read_stands t bytes logged n (fault.NoOutcome line) said s h is = stands_on t bytes logged n (fault.NoOutcome line) said s h.0 h.1 is
-read_stands t bytes logged n fault.OutOfMemory said s h is = stands_on t bytes logged n fault.OutOfMemory said s h.0 h.1 is
-read_stands t bytes logged n fault.Device said s h is = (inr h, device_unsaid t.doing t.form t.file bytes said is)
+    → AgainstLog t bytes logged n.log_old n.log_new f → IsToldOf t bytes f note said → StandsOn t bytes logged n f note said
+read_stands t bytes logged n (fault.Text f) note said s h is = stands_on t bytes logged n (fault.Text f) note said s h.0 h.1 is
+read_stands t bytes logged n (fault.Front f) note said s h is = stands_on t bytes logged n (fault.Front f) note said s h.0 h.1 is
+read_stands t bytes logged n (fault.Refused r) note said s h is = stands_on t bytes logged n (fault.Refused r) note said s h.0 h.1 is
+read_stands t bytes logged n (fault.Arguments wants has) note said s h is =
+    stands_on t bytes logged n (fault.Arguments wants has) note said s h.0 h.1 is
+read_stands t bytes logged n (fault.Grammar line) note said s h is = stands_on t bytes logged n (fault.Grammar line) note said s h.0 h.1 is
+read_stands t bytes logged n fault.Truncated note said s h is = stands_on t bytes logged n fault.Truncated note said s h.0 h.1 is
+read_stands t bytes logged n (fault.NotEnabled i) note said s h is = stands_on t bytes logged n (fault.NotEnabled i) note said s h.0 h.1 is
+read_stands t bytes logged n fault.NotEnded note said s h is = stands_on t bytes logged n fault.NotEnded note said s h.0 h.1 is
+read_stands t bytes logged n (fault.NoOutcome line) note said s h is = stands_on t bytes logged n (fault.NoOutcome line) note said s h.0 h.1 is
+read_stands t bytes logged n fault.OutOfMemory note said s h is = stands_on t bytes logged n fault.OutOfMemory note said s h.0 h.1 is
+read_stands t bytes logged n fault.Device note said s h is = (inr h, device_unsaid t.doing t.form t.file bytes said is.0, is.1)
 
 -- the same of a result
-pub result_stands : (t : Task) (bytes : List ℕ) (logged : Option (List ℕ)) (n : Reads) (r : Result Done Refused)
+pub result_stands : (t : Task) (bytes : List ℕ) (logged : Option (List ℕ)) (n : Reads) (r : Result Done Refusal)
     → n.program_new ≡ n.program_old
-    → IfErr r (λ x. AgainstLog t bytes logged n.log_old n.log_new x.fault) → IfErr r (λ x. IsSaidOf t bytes x.fault x.said.items)
-    → IfErr r (λ x. StandsOn t bytes logged n x.fault x.said.items)
+    → IfErr r (λ x. AgainstLog t bytes logged n.log_old n.log_new x.refused.fault) → IfErr r (λ x. IsToldOf t bytes x.refused.fault x.note.now x.refused.said.items)
+    → IfErr r (λ x. StandsOn t bytes logged n x.refused.fault x.note.now x.refused.said.items)
 result_stands t bytes logged n (Ok d) s h is = tt
-result_stands t bytes logged n (Err x) s h is = read_stands t bytes logged n x.fault x.said.items s h is
+result_stands t bytes logged n (Err x) s h is = read_stands t bytes logged n x.refused.fault x.note.now x.refused.said.items s h is
 
 -- ---- what is answered
 
 -- a result that was written
-pub written_by_some : (t : Task) (program logged : Option (List ℕ)) (n : Reads) (r : Result Done Refused)
+pub written_by_some : (t : Task) (program logged : Option (List ℕ)) (n : Reads) (r : Result Done Refusal)
     (out_old out_new err_old err_new log_old log_new : Option (List ℕ)) (result : ℕ) (d : Done) (Failing : Type 0) → r ≡ Ok d
     → IsOutcomeOfSome t program logged n r
     → ((result ≡ done_status d) × IsWritten d out_old out_new log_old log_new × Appends err_old err_new []) ⊎ ((result ≡ 5) × Failing)
@@ -120,19 +120,19 @@ written_by_some t program logged n r out_old out_new err_old err_new log_old log
     }
 
 -- a fault that was told
-pub told_by_some : (t : Task) (program logged : Option (List ℕ)) (n : Reads) (r : Result Done Refused) (x : Refused) (out_old out_new :
+pub told_by_some : (t : Task) (program logged : Option (List ℕ)) (n : Reads) (r : Result Done Refusal) (x : Refusal) (out_old out_new :
     Option (List ℕ))
     (out_faults out_after : ℕ) (err_old err_new : Option (List ℕ)) (err_faults err_after result : ℕ) (log : Option (List ℕ)) → r ≡ Err x
     → IsOutcomeOfSome t program logged n r
-    → Explained x.said.items x.fault out_old out_new out_faults out_after err_old err_new err_faults err_after result
+    → Explained x.note.now x.refused.said.items x.refused.fault out_old out_new out_faults out_after err_old err_new err_faults err_after result
     → result ≢ 4 → result ≢ 5 → AnsweredBySome t program logged result out_old out_new err_old err_new log log
 told_by_some t program logged n r x out_old out_new out_faults out_after err_old err_new err_faults err_after result log e o told memory
     device =
-    let stands : StandsOn t o.bytes logged n x.fault x.said.items =
-    subst (λ z. IfErr z (λ y. StandsOn t o.bytes logged n y.fault y.said.items)) e o.against in
+    let stands : StandsOn t o.bytes logged n x.refused.fault x.note.now x.refused.said.items =
+    subst (λ z. IfErr z (λ y. StandsOn t o.bytes logged n y.refused.fault y.note.now y.refused.said.items)) e o.against in
     record {
       bytes = o.bytes;
       are = o.are;
-      answered = some_answers x.said.items x.fault out_old out_new out_faults out_after err_old err_new err_faults err_after result t o.bytes logged
+      answered = some_answers x.note.now x.refused.said.items x.refused.fault out_old out_new out_faults out_after err_old err_new err_faults err_after result t o.bytes logged
           n stands told log memory device;
     }

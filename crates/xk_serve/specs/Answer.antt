@@ -1,5 +1,7 @@
 -- What the program answers: which status and texts a job and the bytes of its file may have. This project's own.
-use Rattle.std.specs.Prelude.{◌≡◌, ℕ, ⊤, ◌⊎◌, ℤ, ◌||◌, Bool, true, false, List, [], Some, is_some, unwrap_or}
+use Rattle.std.specs.Prelude.{◌≡◌, ℕ, ⊤, ◌⊎◌, ℤ, ◌||◌, Bool, true, false, List, [], ◌++◌, Some, is_some, unwrap_or, take, codes}
+use Rattle.std.specs.Prelude.{if◌then◌else◌}
+use Rattle.std.specs.Str.{bytes_eq}
 use Rattle.xk_types.specs.Code.{ModuleValue}
 use Rattle.xk_types.specs.World.{AreArguments}
 use Rattle.xk_types.specs.Acceptance.{IsAccepted}
@@ -153,10 +155,40 @@ pub record Reply : Type 0 where
 abbrev pub done_reply : Done → Reply
 done_reply d = record { status = done_status d; out = done_text d; err = []; log = done_log d }
 
-abbrev pub fault_reply : List ℕ → Fault → Reply
-fault_reply said f = record { status = status_of f; out = said; err = fault_line f; log = [] }
+-- the bytes begin as those of a log do
+abbrev pub begins_log : List ℕ → Bool
+begins_log bytes = bytes_eq (take 7 bytes) (codes "x10log ")
+
+-- What a task says of a source text that is a log. Those say nothing whose lines are those of older formats, nor does `explain`, which says it
+-- otherwise.
+abbrev pub log_note : Doing → List ℕ
+log_note Listing = codes "x10clock: FILE is a log\n"
+log_note (Outcomes sets limit pick kept) = codes "x10clock: FILE is a log\n"
+log_note (Expected sets limit) = codes "x10clock: FILE is a log\n"
+log_note (Draw picture.Events) = codes "x10clock: FILE is a log: events FILE LOG\n"
+log_note (Draw (picture.Lanes w)) = codes "x10clock: FILE is a log: lanes FILE LOG\n"
+log_note (Draw (picture.Image w)) = codes "x10clock: FILE is a log: lanes FILE LOG\n"
+log_note (Draw (picture.Page w)) = codes "x10clock: FILE is a log: page FILE LOG\n"
+log_note (Draw picture.Span) = codes "x10clock: FILE is a log: span FILE LOG\n"
+log_note (Draw (picture.Why step)) = codes "x10clock: FILE is a log: why FILE LOG STEP\n"
+log_note (Draw picture.Races) = codes "x10clock: FILE is a log: races FILE LOG\n"
+log_note Races = codes "x10clock: FILE is a log: races FILE LOG\n"
+log_note (Where at) = codes "x10clock: FILE is a log: where FILE LOG\n"
+log_note _ = []
+
+-- before the line of a fault
+abbrev pub note_of : Task → List ℕ → Fault → List ℕ
+note_of t bytes (fault.Front f) = if begins_log bytes then log_note t.doing else []
+note_of t bytes _ = []
+
+-- all that goes to standard error
+abbrev pub told_of : Task → List ℕ → Fault → List ℕ
+told_of t bytes f = note_of t bytes f ++ fault_line f
+
+abbrev pub fault_reply : Task → List ℕ → List ℕ → Fault → Reply
+fault_reply t bytes said f = record { status = status_of f; out = said; err = told_of t bytes f; log = [] }
 
 -- the program may answer so
 abbrev pub Answers : Task → List ℕ → List ℕ → Reply → Type 0
 Answers t bytes logged r =
-    ((d : Done) × Succeeds t bytes logged d × (r ≡ done_reply d)) ⊎ ((f : Fault) × FailsBy t bytes logged f × ((said : List ℕ) × IsSaidOf t bytes f said × (r ≡ fault_reply said f)))
+    ((d : Done) × Succeeds t bytes logged d × (r ≡ done_reply d)) ⊎ ((f : Fault) × FailsBy t bytes logged f × ((said : List ℕ) × IsSaidOf t bytes f said × (r ≡ fault_reply t bytes said f)))

@@ -1,5 +1,5 @@
 -- What the program does with its devices. This project's own.
-use Rattle.std.specs.Prelude.{◌≡◌, ◌≢◌, ℕ, ◌⊎◌, true, List, [], Option, Some, Result, IfErr, IfOk, IfSome, string_bytes, if◌then◌else◌}
+use Rattle.std.specs.Prelude.{◌≡◌, ◌≢◌, ℕ, ◌⊎◌, true, List, [], ◌++◌, Option, Some, Result, IfErr, IfOk, IfSome, string_bytes, if◌then◌else◌}
 use Rattle.std.specs.Io.KnownBytes.{Appends}
 use Rattle.xk_types.specs.Device.{Rose}
 use Rattle.xk_log.specs.SomeBytes.{OfSome}
@@ -7,12 +7,12 @@ use Rattle.xk_cli.specs.Status.{status_device, status_done, status_memory, statu
 use Rattle.xk_cli.specs.declared.words_fault.WordsFault.{WordsFault}
 use Rattle.xk_cli.specs.declared.words_fault.WordsFault.TheVariants as words
 use Rattle.xk_cli.specs.declared.job.Form.{Form}
-use Rattle.xk_answers.specs.declared.explanation.Refused.{Refused}
+use Rattle.xk_serve.specs.declared.refusal.Refusal.{Refusal}
 use Rattle.xk_answers.specs.declared.job_result.Done.{Done}
 use Rattle.xk_program.specs.declared.fault.Fault.{Fault}
 use Rattle.xk_program.specs.declared.fault.Fault.TheVariants as fault
 use Rattle.xk_io.specs.Writing.{AppendsBeginning}
-use Rattle.xk_serve.specs.Answer.{Answers, FailsBy, Reply, Succeeds, Task, IsSaidOf, reads_list, reads_more}
+use Rattle.xk_serve.specs.Answer.{Answers, FailsBy, Reply, Succeeds, Task, IsSaidOf, note_of, reads_list, reads_more, told_of}
 use Rattle.xk_answers.specs.Results.{Doing, longest_list}
 use Rattle.xk_program.specs.Bytes.{LosesAtMost, kept}
 use Rattle.xk_program.specs.Lines.{device_line, fault_line, status_of}
@@ -60,16 +60,20 @@ IsRead n = (n.program_new ≡ n.program_old) × (n.log_new ≡ n.log_old)
 abbrev pub FailsToRead : Reads → Type 0
 FailsToRead n = Rose n.program_old n.program_new ⊎ Rose n.log_old n.log_new
 
+-- this is said of a fault on standard output, and that note goes before its line
+abbrev pub IsToldOf : Task → List ℕ → Fault → List ℕ → List ℕ → Type 0
+IsToldOf t bytes f note said = IsSaidOf t bytes f said × (note ≡ note_of t bytes f)
+
 -- The fault is one of the task on the known bytes, or want of memory, and then no source failed, and this is what is said of it on standard
--- output; or a source failed, and nothing is said.
-abbrev pub StandsAgainst : Task → Option (List ℕ) → Option (List ℕ) → Reads → Fault → List ℕ → Type 0
-StandsAgainst t known logged n fault.Device said = FailsToRead n × (said ≡ [])
-StandsAgainst t known logged n f said = IsRead n × IfKnown t known logged (λ bytes log. FailsBy t bytes log f × IsSaidOf t bytes f said)
+-- output, and the note before its line; or a source failed, and nothing is said.
+abbrev pub StandsAgainst : Task → Option (List ℕ) → Option (List ℕ) → Reads → Fault → List ℕ → List ℕ → Type 0
+StandsAgainst t known logged n fault.Device note said = FailsToRead n × (said ≡ []) × (note ≡ [])
+StandsAgainst t known logged n f note said = IsRead n × IfKnown t known logged (λ bytes log. FailsBy t bytes log f × IsToldOf t bytes f note said)
 
 -- The same on these bytes of FILE, and on those of the log or the list that is read, where they are known, or else on some.
-abbrev pub StandsOn : Task → List ℕ → Option (List ℕ) → Reads → Fault → List ℕ → Type 0
-StandsOn t bytes logged n fault.Device said = FailsToRead n × (said ≡ [])
-StandsOn t bytes logged n f said = IsRead n × OfSome (read_of t logged) (λ log. FailsBy t bytes log f × IsSaidOf t bytes f said)
+abbrev pub StandsOn : Task → List ℕ → Option (List ℕ) → Reads → Fault → List ℕ → List ℕ → Type 0
+StandsOn t bytes logged n fault.Device note said = FailsToRead n × (said ≡ []) × (note ≡ [])
+StandsOn t bytes logged n f note said = IsRead n × OfSome (read_of t logged) (λ log. FailsBy t bytes log f × IsToldOf t bytes f note said)
 
 -- these are the bytes that are kept of FILE, where those in it are known
 abbrev pub AreKeptOf : Form → Option (List ℕ) → List ℕ → Type 0
@@ -77,11 +81,11 @@ AreKeptOf form program bytes = IfSome program (λ all. bytes ≡ kept form all)
 
 -- On some bytes of FILE, and of the log or the list that is read, each known or not, the task comes to what it is said to come to, or what is said
 -- to stand against it does.
-pub record IsOutcomeOfSome (t : Task) (program logged : Option (List ℕ)) (n : Reads) (r : Result Done Refused) : Type 0 where
+pub record IsOutcomeOfSome (t : Task) (program logged : Option (List ℕ)) (n : Reads) (r : Result Done Refusal) : Type 0 where
   pub bytes : List ℕ
   pub are : AreKeptOf t.form program bytes
   pub done : IfOk r (λ d. OfSome (read_of t logged) (λ log. Succeeds t bytes log d))
-  pub against : IfErr r (λ x. StandsOn t bytes logged n x.fault x.said.items)
+  pub against : IfErr r (λ x. StandsOn t bytes logged n x.refused.fault x.note.now x.refused.said.items)
 
 -- What stands against a task on these bytes, of which the log may still have been read: the numbers are the failures of the log's source.
 abbrev pub AgainstLog : Task → List ℕ → Option (List ℕ) → ℕ → ℕ → Fault → Type 0
@@ -101,17 +105,17 @@ Reports f old new faults_old faults_new result =
     Tells (fault_line f) (status_of f) old new faults_old faults_new result
     ⊎ ((f ≢ fault.Device) × Tells memory_line status_memory old new faults_old faults_new result)
 
--- All that is said of a fault was written to standard output, and then its line was told; or want of memory was, and nothing was written before;
+-- All that is said of a fault was written to standard output, and then the note and its line were told; or want of memory was, and nothing was written before;
 -- or a write failed: to standard output, which got a beginning, and then a device is told, or to standard error.
-abbrev pub Explained : List ℕ → Fault → Option (List ℕ) → Option (List ℕ) → ℕ → ℕ → Option (List ℕ) → Option (List ℕ) → ℕ → ℕ → ℕ → Type 0
-Explained said f out_old out_new out_faults out_after err_old err_new err_faults err_after result =
-    (Appends out_old out_new said × (out_after ≡ out_faults) × Tells (fault_line f) (status_of f) err_old err_new err_faults err_after result)
+abbrev pub Explained : List ℕ → List ℕ → Fault → Option (List ℕ) → Option (List ℕ) → ℕ → ℕ → Option (List ℕ) → Option (List ℕ) → ℕ → ℕ → ℕ → Type 0
+Explained note said f out_old out_new out_faults out_after err_old err_new err_faults err_after result =
+    (Appends out_old out_new said × (out_after ≡ out_faults) × Tells (note ++ fault_line f) (status_of f) err_old err_new err_faults err_after result)
     ⊎ ((Appends out_old out_new [] × (out_after ≡ out_faults) × (f ≢ fault.Device) × Tells memory_line status_memory err_old err_new err_faults err_after result)
     ⊎ (AppendsBeginning out_old out_new said × Rose out_faults out_after × Tells device_line status_device err_old err_new err_faults err_after result))
 
 -- where a fault is want of memory or a device's, nothing is said
-abbrev pub IsQuiet : Fault → List ℕ → Type 0
-IsQuiet f said = (status_of f ≡ status_memory) ⊎ (status_of f ≡ status_device) → said ≡ []
+abbrev pub IsQuiet : Fault → List ℕ → List ℕ → Type 0
+IsQuiet f note said = (status_of f ≡ status_memory) ⊎ (status_of f ≡ status_device) → (said ≡ []) × (note ≡ [])
 
 -- status and texts are an answer to the task on these bytes
 pub record Answered (t : Task) (bytes logged : List ℕ) (status : ℕ) (out_old out_new err_old err_new log_old log_new : Option (List ℕ)) : Type 0 where
@@ -144,9 +148,9 @@ OutBegins t bytes logged out_old out_new log_old log_new = (Appends out_old out_
 abbrev pub IsTold : Task → List ℕ → List ℕ → Fault → Type 0
 IsTold t bytes logged f = (f ≡ fault.Device) ⊎ FailsBy t bytes logged f
 
--- standard error got a beginning of one such line
+-- standard error got a beginning of one such line, and of the note before it
 abbrev pub ErrBegins : Task → List ℕ → List ℕ → Option (List ℕ) → Option (List ℕ) → Type 0
-ErrBegins t bytes logged old new = (f : Fault) × IsTold t bytes logged f × AppendsBeginning old new (fault_line f)
+ErrBegins t bytes logged old new = (f : Fault) × IsTold t bytes logged f × AppendsBeginning old new (told_of t bytes f)
 
 -- How words that are no job are told, where the first predicate says what standard output got and with which status,
 -- and the second one the same of standard error: help goes to the one, all else to the other.

@@ -1,6 +1,6 @@
 //! The program between its devices.
 
-ghost use Rattle.std.specs.Prelude.{◌≡◌, ◌≢◌, ◌⊎◌, false, [], IfOk, IfErr, OnOk, OnErr};
+ghost use Rattle.std.specs.Prelude.{◌≡◌, ◌≢◌, ◌⊎◌, false, [], ◌++◌, string_bytes, IfOk, IfErr, OnOk, OnErr};
 ghost use Rattle.std.specs.Io.KnownBytes.{Appends};
 ghost use Rattle.xk_types.specs.Device.{Rose};
 ghost use Rattle.xk_io.specs.Writing.{AppendsBeginning};
@@ -8,16 +8,17 @@ ghost use Rattle.xk_cli.specs.Status.{status_device, status_done, status_memory,
 ghost use Rattle.xk_serve.specs.Answer.{Succeeds, reads_more, task_of};
 ghost use Rattle.xk_answers.specs.Printed.{done_status};
 ghost use Rattle.xk_program.specs.Bytes.{IsReadToLimit};
-ghost use Rattle.xk_program.specs.Lines.{device_line, status_of};
+ghost use Rattle.xk_program.specs.Lines.{device_line, fault_line, status_of};
 ghost use Rattle.xk_answers.specs.Printed.{done_ending, done_log};
 ghost use Rattle.xk_messages.specs.Lines.{memory_line};
 ghost use Rattle.xk_serve.specs.Devices.{Answered, AnsweredBySome, ErrBegins, Explained, IfKnown, IsBegun, IsListReadToLimit, IsOutcomeOfSome, IsQuiet, IsWritten, OutBegins, Reports, StandsAgainst, Tells, TellsWords, reads};
 
 use crate::commands::answer;
-use std::alloc::Global;
+use crate::refusal::{Refusal, note_of};
+use std::alloc::{AllocError, Global};
 use std::sync::Wait;
 use std::thread::Threads;
-use xk_answers::{Done, Refused, explained, unsaid};
+use xk_answers::{Done, explained, unsaid};
 use xk_cli::{EXCLUDED_LINE, Job, LIST_LINE, PICK_LINE, RUNS_LINE, SEED_LINE, WordsFault, status};
 use xk_io::{Device, write_all};
 use xk_log::write_entries;
@@ -31,7 +32,7 @@ use xk_types::{Sink, Source};
 /// than it is given, 3 where the log or the list of outcomes is refused, 4 where memory ran out, 5 where a device failed. A run by workers
 /// is some run of the program: a call with such a job may wait for them, and what is said here holds where it returns. Whatever the answer
 /// but 5, no read or write failed. The result is written piece by piece, once all is known and no more memory is wanted, so `out` and
-/// `log_out` stay empty but at 0, 6, 7 and 5, and at 1 where `explain` says more of a fault; and `err` never gets more than one line.
+/// `log_out` stay empty but at 0, 6, 7 and 5, and at 1 where `explain` says more of a fault; and `err` never gets more than one line, and before it one that says that FILE is a log.
 pub fn serve<R: Threads + Wait + Sync, P: Source, L: Source, O: Sink, E: Sink, K: Sink>(
     rt: &R,
     alloc: Global,
@@ -98,7 +99,7 @@ pub fn serve<R: Threads + Wait + Sync, P: Source, L: Source, O: Sink, E: Sink, K
             Ok(ending) => print(alloc, &done, ending.as_str(), out, err, log_out),
             Err(_) => report(alloc, &Fault::OutOfMemory, err),
         },
-        Err(refused) => refuse(alloc, &refused, out, err),
+        Err(refusal) => refuse(alloc, &refusal, out, err),
     }
 }
 
@@ -109,7 +110,7 @@ fn outcome<R: Threads + Wait + Sync, P: Source, L: Source>(
     job: &Job<'_>,
     program: &mut P,
     log_in: &mut L,
-) -> Result<Done, Refused>
+) -> Result<Done, Refusal>
     ensures done { IfOk result (λ d.
         IfKnown (task_of job.now) (P.remaining program.old) (L.remaining log_in.old)
         (λ bytes logged. Succeeds (task_of job.now) bytes logged d)) }
@@ -118,14 +119,15 @@ fn outcome<R: Threads + Wait + Sync, P: Source, L: Source>(
     ensures fault { IfErr result (λ r.
         StandsAgainst (task_of job.now) (P.remaining program.old) (L.remaining log_in.old)
         (reads (P.fault_count program.old) (P.fault_count program.new)
-        (L.fault_count log_in.old) (L.fault_count log_in.new)) r.fault r.said.items) }
+        (L.fault_count log_in.old) (L.fault_count log_in.new))
+        r.refused.fault r.note.now r.refused.said.items) }
     ensures by_some { IsOutcomeOfSome (task_of job.now) (P.remaining program.old)
         (L.remaining log_in.old) (reads (P.fault_count program.old) (P.fault_count program.new)
         (L.fault_count log_in.old) (L.fault_count log_in.new)) result }
-    ensures quiet { IfErr result (λ r. IsQuiet r.fault r.said.items) }
+    ensures quiet { IfErr result (λ r. IsQuiet r.refused.fault r.note.now r.refused.said.items) }
     ensures unread { reads_more (task_of job.now).doing ≡ false → log_in.new ≡ log_in.old }
     ensures refused { IfErr result
-        (λ r. status_of r.fault ≡ status_program → log_in.new ≡ log_in.old) }
+        (λ r. status_of r.refused.fault ≡ status_program → log_in.new ≡ log_in.old) }
     ensures no_further { IsReadToLimit (task_of job.now).form
         (P.remaining program.old) (P.remaining program.new) }
     ensures list_no_further { IsListReadToLimit (task_of job.now).doing
@@ -133,13 +135,23 @@ fn outcome<R: Threads + Wait + Sync, P: Source, L: Source>(
 {
     let bytes = match read_program(alloc, job.form, program) {
         Ok(bytes) => bytes,
-        Err(fault) => return Err(unsaid(alloc, fault)),
+        Err(fault) => {
+            let refused = unsaid(alloc, fault);
+            return Err(Refusal { refused, note: "" });
+        }
     };
     match job.command.explanation() {
-        Some(json) => explained(alloc, json, job.form, job.file, &bytes),
+        Some(json) => match explained(alloc, json, job.form, job.file, &bytes) {
+            Ok(done) => Ok(done),
+            Err(refused) => Err(Refusal { refused, note: "" }),
+        },
         None => match answer(rt, alloc, job, &bytes, log_in) {
             Ok(done) => Ok(done),
-            Err(fault) => Err(unsaid(alloc, fault)),
+            Err(fault) => {
+                let note = note_of(job, &bytes, &fault);
+                let refused = unsaid(alloc, fault);
+                Err(Refusal { refused, note })
+            }
         },
     }
 }
@@ -216,25 +228,39 @@ fn write_log<K: Sink>(done: &Done, log_out: &mut K) -> Result<(), Device>
     write_entries(log, log_out)
 }
 
-/// Writes what is said of a fault to `out`, and then its line to `err`, and gives the status: the fault's, or 4 where memory for the line ran
+/// Writes what is said of a fault to `out`, and then the note and its line to `err`, and gives the status: the fault's, or 4 where memory for the line ran
 /// out, and then nothing was written before, or 5 where a write failed.
-fn refuse<O: Sink, E: Sink>(alloc: Global, refused: &Refused, out: &mut O, err: &mut E) -> u8
-    requires quiet { IsQuiet refused.now.fault refused.now.said.items }
-    ensures { Explained refused.now.said.items refused.now.fault
+fn refuse<O: Sink, E: Sink>(alloc: Global, refusal: &Refusal, out: &mut O, err: &mut E) -> u8
+    requires quiet { IsQuiet refusal.now.refused.fault refusal.now.note.now
+        refusal.now.refused.said.items }
+    ensures { Explained refusal.now.note.now refusal.now.refused.said.items
+        refusal.now.refused.fault
         (O.contents out.old) (O.contents out.new) (O.fault_count out.old) (O.fault_count out.new)
         (E.contents err.old) (E.contents err.new) (E.fault_count err.old) (E.fault_count err.new)
         result }
 {
-    if refused.said.is_empty() {
+    let refused = &refusal.refused;
+    if refused.said.is_empty() && refusal.note.is_empty() {
         return report(alloc, &refused.fault, err);
     }
-    let Ok(line) = refused.fault.line(alloc) else {
+    let Ok(line) = noted_line(alloc, refusal) else {
         return tell(MEMORY_LINE, status::MEMORY, err);
     };
     match write_all(out, &refused.said) {
         Ok(()) => tell(line.as_str(), refused.fault.status(), err),
         Err(_) => tell(DEVICE_LINE, status::DEVICE, err),
     }
+}
+
+/// The note, and the line of the fault.
+fn noted_line(alloc: Global, refusal: &Refusal) -> Result<String, AllocError>
+    ensures { IfOk result (λ text. string_bytes text
+        ≡ refusal.now.note.now ++ fault_line refusal.now.refused.fault) }
+{
+    let line = refusal.refused.fault.line(alloc)?;
+    let mut text = String::from_str(alloc, refusal.note)?;
+    text.push_str(line.as_str())?;
+    Ok(text)
 }
 
 /// Writes the line of a fault, and gives the status: the fault's, or 4 where memory for the line ran out, or 5 where it can't
