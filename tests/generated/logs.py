@@ -91,6 +91,11 @@ class Text:
 # Who answers.
 
 
+def step_asked(log: bytes) -> int:
+    """The step that `why` is asked of: one of most runs, which others see or not, and behind the last of some."""
+    return 1 + len(log) % 17
+
+
 class Told:
     """The reference."""
 
@@ -101,7 +106,7 @@ class Told:
         return (0, modules.run(module, way, text.arguments).text(), ""), logs.text_of(log)
 
     def answer(self, text: Text, log: bytes, command: str) -> Answer:
-        return runs.answer(command, text.judged(), text.read(), log, text.arguments)
+        return runs.answer(command, text.judged(), text.read(), log, text.arguments, step=step_asked(log))
 
 
 class Program:
@@ -130,7 +135,8 @@ class Program:
     def answer(self, text: Text, log: bytes, command: str) -> Answer:
         given, text = self.folder / "log", self.form(text)
         given.write_bytes(log)
-        return self.call(command, *text.words(), "-", given, given=text.data)
+        steps = [step_asked(log)] if command == "why" else []
+        return self.call(command, *text.words(), "-", given, *steps, given=text.data)
 
 
 class ProgramOnModules(Program):
