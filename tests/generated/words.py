@@ -132,7 +132,7 @@ def options(rng: random.Random, command: str, text: str) -> Iterator[list[str]]:
 
 def meant(rng: random.Random, given: str) -> list[str]:
     """A call that could be meant, with this file as standard input."""
-    command = rng.choice([*command_line.COMMANDS, "run", "run", "run", "run", "outcomes"])
+    command = rng.choice([*command_line.COMMANDS, "run", "run", "run", "run", "outcomes", "why"])
     file = rng.choice(["step.x10", "many.x10", "step.json", "many.json", "-"] if rng.random() < 0.8 else NAMES)
     parts = [[file], *options(rng, command, given if file == "-" else file)]
     rng.shuffle(parts)
