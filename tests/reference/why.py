@@ -82,8 +82,8 @@ class Walk:
         # By which step each making was; and of what stands at each place, the makings that it rests on.
         self.steps: list[int] = []
         self.stands: dict[Spot, int] = {}
-        # The steps by which a clock ceased to await somebody in a phase; and the ends of activities under a finish, which
-        # is known by who opened it and how many of that one's were open: a later one may be the same.
+        # The steps by which a clock ceased to await somebody in a phase; and the ends of activities under a finish,
+        # which is known by who opened it and how many of that one's were open: a later one may be the same.
         self.came: dict[tuple[int, int], list[int]] = {}
         self.ended: dict[tuple[int, int], list[int]] = {}
         self.known: dict[int, tuple[int, int]] = {}
