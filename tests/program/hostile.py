@@ -286,9 +286,9 @@ def asked(tried: Tried) -> None:
     tried.answers(f"exec $x {run} --log /dev/full", 5, "stopped steps 0\n", ASKED + OVER + DEVICE)
     tried.answers(f"exec $x {run} --log no-folder/log", 5, err=DEVICE)
     tried.answers(f"exec $x {run} < /dev/null", 6, "stopped steps 0\n", ASKED + OVER)
-    tried.answers(f"head -c 30000000 /dev/zero | $x {run}", 6, "stopped steps 0\n", ASKED + OVER)
+    tried.answers(f"head -c 10000000 /dev/zero | $x {run}", 6, "stopped steps 0\n", ASKED + OVER)
     tried.answers(
-        f"{{ head -c 30000000 /dev/zero; echo; }} | $x {run}",
+        f"{{ head -c 10000000 /dev/zero; echo; }} | $x {run}",
         6,
         "stopped steps 0\n",
         ASKED + "none of these: who steps?\n" + OVER,
