@@ -26,6 +26,7 @@ import random
 import re
 import sys
 import tempfile
+import zlib
 from collections.abc import Callable, Iterator
 from dataclasses import dataclass, replace
 
@@ -92,8 +93,9 @@ class Text:
 
 
 def step_asked(log: bytes) -> int:
-    """The step that `why` is asked of: one of most runs, which others see or not, and behind the last of some."""
-    return 1 + len(log) % 17
+    """The step that `why` is asked of: one of the run, which others see or not, or the one behind its last."""
+    ends = logs.END.search(log)
+    return 1 + zlib.crc32(log) % (min(int(ends[1]), MOST_STEPS) + 1 if ends else MOST_STEPS)
 
 
 class Told:

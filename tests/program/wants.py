@@ -359,7 +359,7 @@ class Calls:
             ("133,000 additions", adds, 2, 266_003, 133_003),
             ("133,000 additions", adds, -1, 266_003, 133_003),
             ("133,000 turns", sums, -1, 133_003, 2),
-            ("3,000 ends", ends, -1, 9_002, 6_003),
+            ("3,000 ends", ends, -1, 6_002, 6_003),
         ):
             yield self.logged(name, text, 1)
             # The print, or the end of the finish, is the last step but one; an addition is the second.

@@ -1,7 +1,7 @@
 #!/usr/bin/env python3
 """Runs `rt ci`, but keeps what earlier runs of it proved of the same sources.
 
-    tests/prover/kept_ci.py EARLIER LOG [EARLIER LOG ..] [--leave 'NAME ..']
+    tests/prover/kept_ci.py [EARLIER LOG ..] [--leave 'NAME ..'] [--later] [--at-once N]
 
 EARLIER is another checkout in which `rt ci` ran, with its `out/` folders, and LOG what that run printed; it may itself
 have been such a run, may have been stopped, and may still be running: what it proves before this one comes to a crate
@@ -20,6 +20,7 @@ hard links, as a whole, and a crate of a run only where those below are the very
 from __future__ import annotations
 
 import argparse
+import fcntl
 import importlib.machinery
 import importlib.util
 import os
@@ -28,14 +29,33 @@ import re
 import shutil
 import subprocess
 import sys
+import threading
+import time
+from collections.abc import Callable
 from types import ModuleType
 from typing import Any
 
 TOP = pathlib.Path(__file__).resolve().parents[2]
+# Between two looks at a run that is waited for, in seconds.
+PAUSE = 4
+# What a crate counts that tests/prover/times.txt doesn't have, in seconds.
+UNKNOWN = 40
+
+
+def once(reckon: Callable[[Any], Any], key: Callable[[Any], Any]) -> Callable[[Any], Any]:
+    """What reckons it for each crate once; the crates are held, so that no other has the same `id`."""
+    known = dict[Any, tuple[Any, Any]]()
+
+    def of(crate: Any) -> Any:
+        if key(crate) not in known:
+            known[key(crate)] = crate, reckon(crate)
+        return known[key(crate)][1]
+
+    return of
 
 
 def kit() -> tuple[ModuleType, ModuleType]:
-    """The modules of `rt`, with sums of crates that are reckoned once."""
+    """The modules of `rt`, with sums and libraries of crates that are reckoned once."""
     path = shutil.which("rt")
     if path is None:
         sys.exit("kept_ci: the kit isn't on the path as rt")
@@ -48,14 +68,8 @@ def kit() -> tuple[ModuleType, ModuleType]:
     loader.exec_module(rt)
     rtlib = importlib.import_module("rtlib")
     rtlib.Crate = rt.Crate
-    reckon, sums = rt.Crate.stamp, dict[str, str]()
-
-    def stamp(crate: Any) -> str:
-        if crate.folder not in sums:
-            sums[crate.folder] = reckon(crate)
-        return sums[crate.folder]
-
-    rt.Crate.stamp = stamp
+    rt.Crate.stamp = once(rt.Crate.stamp, lambda crate: crate.folder)
+    rt.Crate.below = once(rt.Crate.below, id)
     return rt, rtlib
 
 
@@ -84,6 +98,8 @@ class Earlier:
         another's, on the same line."""
         log = self.log.read_text("utf-8", "replace")
         self.proofs = set(re.findall(r"rt: (\w+) proved(?![ ,:])", log))
+        self.failed = set(re.findall(r"rt: (\w+)(?:: its tests are)? NOT PROVED", log))
+        self.left = set(" ".join(re.findall(r"^left: (.*)$", log, re.M)).split())
         self.tests = set(re.findall(r"rt: (\w+): its tests are proved(?![ ,:])", log))
         self.edits = set(re.findall(r"rt: must-fail (\w+/\S+): refused", log))
 
@@ -92,6 +108,21 @@ class Earlier:
         name = crate.name
         is_same = name in self.crates and self.crates[name].stamp() == crate.stamp() and name in self.proofs
         return is_same and (not crate.has_tests() or name in self.tests)
+
+    def is_running(self) -> bool:
+        """Whether `rt ci` holds its lock there."""
+        try:
+            with open(self.top / ".git/rt-ci.lock", "a", encoding="utf-8") as lock:
+                fcntl.flock(lock, fcntl.LOCK_EX | fcntl.LOCK_NB)
+        except BlockingIOError:
+            return True
+        return False
+
+    def is_to_have(self, crate: Any) -> bool:
+        """Whether the run goes on, and will come to the crate, which is the same there."""
+        name = crate.name
+        is_same = name in self.crates and self.crates[name].stamp() == crate.stamp()
+        return is_same and name not in self.left | self.failed and not self.has(crate) and self.is_running()
 
     def library(self, name: str) -> set[tuple[str, int]]:
         """The files of a crate's library: where they are in it, and which they are on the disk."""
@@ -133,6 +164,44 @@ def runs_that_have(mine: dict[str, Any], runs: list[Earlier]) -> dict[str, Earli
     return kept
 
 
+def with_above(mine: dict[str, Any], names: set[str]) -> set[str]:
+    """These crates, and all above them."""
+    return {name for name, crate in mine.items() if name in names or any(it.name in names for it in crate.below())}
+
+
+def seconds_above(mine: dict[str, Any]) -> dict[str, int]:
+    """For each crate how long the longest chain of crates takes that begins with it."""
+    rows = re.findall(r"^(xk_\w+|x10clock) +(\d+) +(\d+)", (TOP / "tests/prover/times.txt").read_text("utf-8"), re.M)
+    times = {name: int(proof) + int(tests) for name, proof, tests in rows}
+    chains = {name: times.get(name, UNKNOWN) for name in mine}
+    for crate in sorted(mine.values(), key=lambda it: -len(it.below())):
+        for low in crate.below():
+            chains[low.name] = max(chains[low.name], times.get(low.name, UNKNOWN) + chains[crate.name])
+    return chains
+
+
+class Places:
+    """So many checks run side by side; of those that wait the one with the longest chain goes first."""
+
+    def __init__(self, number: int) -> None:
+        self.free = number
+        self.waiting = list[int]()
+        self.changed = threading.Condition()
+
+    def take(self, chain: int) -> None:
+        with self.changed:
+            self.waiting.append(chain)
+            self.changed.wait_for(lambda: self.free and chain == max(self.waiting))
+            self.waiting.remove(chain)
+            self.free -= 1
+            self.changed.notify_all()
+
+    def give(self) -> None:
+        with self.changed:
+            self.free += 1
+            self.changed.notify_all()
+
+
 def keep(rt: ModuleType, runs: list[Earlier], kept: dict[str, Earlier], left: set[str]) -> None:
     """Has `rt` leave out what is kept, and what is to be left."""
     crates_of, prove, try_edits = rt.crates_of, rt.Crate.ci, rt.must_fail_all
@@ -146,6 +215,10 @@ def keep(rt: ModuleType, runs: list[Earlier], kept: dict[str, Earlier], left: se
     def keep_late(crate: Any) -> bool:
         for run in runs:
             run.read()
+        while any(run.is_to_have(crate) for run in runs):
+            time.sleep(PAUSE)
+            for run in runs:
+                run.read()
         run = run_that_has(crate, runs, kept)
         if run:
             run.take(crate.name)
@@ -169,10 +242,34 @@ def keep(rt: ModuleType, runs: list[Earlier], kept: dict[str, Earlier], left: se
     rt.crates_of, rt.Crate.ci, rt.must_fail_all = crates, ci, must_fail_all
 
 
+def hurry(rt: ModuleType, chains: dict[str, int], number: int) -> None:
+    """Has `rt` begin each crate as soon as those below are there, so many checks side by side."""
+    prove, places = rt.Crate.ci, Places(number)
+
+    def ci(crate: Any, flags: list[str], tests: bool) -> int:
+        places.take(chains[crate.name])
+        try:
+            return prove(crate, flags, tests)
+        finally:
+            places.give()
+
+    # (each crate has a lane, since most of them only wait)
+    os.environ["RT_JOBS"] = str(2 * len(chains))
+    rt.Crate.ci = ci
+
+
+def later(rt: ModuleType, rtlib: ModuleType) -> None:
+    """Has `rt` try no edits, and not look at the format."""
+    rtlib.fmt = lambda *_: 0
+    rt.must_fail_all = lambda *_: []
+
+
 def main() -> int:
     parser = argparse.ArgumentParser(description="Runs rt ci, and keeps what earlier runs proved.")
-    parser.add_argument("runs", nargs="+", type=pathlib.Path, metavar="EARLIER LOG")
+    parser.add_argument("runs", nargs="*", type=pathlib.Path, metavar="EARLIER LOG")
     parser.add_argument("--leave", default="", help="crates that aren't tried, in one word")
+    parser.add_argument("--later", action="store_true", help="edits aren't tried, nor is the format looked at")
+    parser.add_argument("--at-once", type=int, metavar="N", help="so many checks at most side by side")
     given = parser.parse_args()
     if len(given.runs) % 2:
         parser.error("each EARLIER has a LOG")
@@ -182,11 +279,16 @@ def main() -> int:
     rt.Crate.allowed = rt.handles_of(str(TOP))
     runs = [Earlier(rtlib, top, log) for top, log in pairs]
     mine = crates_in(rtlib, TOP)
-    left = set(given.leave.split())
+    left = with_above(mine, set(given.leave.split()))
     kept = {name: run for name, run in runs_that_have(mine, runs).items() if name not in left}
+    print("left:", " ".join(sorted(left)))
     print("proved anew:", " ".join(name for name in mine if name not in kept and name not in left) or "no crate")
     refused = sorted(name for name in kept if edits_in(TOP, name) and any(run.refused(name) for run in runs))
-    print("edits kept of:", " ".join(refused))
+    print("edits kept of:", " ".join(refused), flush=True)
+    if given.later:
+        later(rt, rtlib)
+    if given.at_once:
+        hurry(rt, seconds_above(mine), given.at_once)
     keep(rt, runs, kept, left)
     return rt.ci()
 

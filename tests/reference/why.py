@@ -82,11 +82,8 @@ class Walk:
         # By which step each making was; and of what stands at each place, the makings that it rests on.
         self.steps: list[int] = []
         self.stands: dict[Spot, int] = {}
-        # The steps by which a clock ceased to await somebody in a phase; and the ends of activities under a finish,
-        # which is known by who opened it and how many of that one's were open: a later one may be the same.
+        # The steps by which a clock ceased to await somebody in a phase; and what finishes wait for.
         self.came: dict[tuple[int, int], list[int]] = {}
-        self.ended: dict[tuple[int, int], list[int]] = {}
-        self.known: dict[int, tuple[int, int]] = {}
         self.doings = Doings()
 
     def waited_for(self, taken: Taken) -> list[int]:
@@ -96,17 +93,8 @@ class Walk:
             ahead = [at for at, clock in enumerate(taken.before.clocks) if clock.standing(who) is Standing.AHEAD]
             return [step for clock in ahead for step in self.came.get((clock, doings.phases[clock] - 1), [])]
         if taken.step.event == "Closed":
-            return list(self.ended.get(self.known[doings.opened[who][-1]], []))
+            return list(doings.ends.get(doings.opened[who][-1], []))
         return []
-
-    def note_finishes(self, taken: Taken) -> None:
-        """Which finish is opened, and under which ones an activity ends."""
-        who = taken.who
-        if taken.step.event == "Opened":
-            self.known[taken.number] = (who, len(self.doings.opened.get(who, [])))
-        if taken.step.event == "Ended":
-            for finish in self.doings.under.get(who, []):
-                self.ended.setdefault(self.known[finish], []).append(taken.number)
 
     def take(self, taken: Taken) -> int:
         """Takes a step; what it used, and what that rests on, as bits."""
@@ -122,7 +110,6 @@ class Walk:
         self.stands.update(made)
         for clock in ceased(taken):
             self.came.setdefault((clock, self.doings.phases.get(clock, 0)), []).append(taken.number)
-        self.note_finishes(taken)
         self.doings.note(taken)
         return used
 

@@ -1,5 +1,5 @@
 -- Where each that was found was looked at, nothing is missed.
-use Rattle.std.proofs.Common.{◌≡◌, ◌∙◌, ℕ, ℤ, ◌⊎◌, inl, inr, true, List, [], ◌∷◌, ◌++◌, length, Some, refl, sym, ap, subst, slice_get}
+use Rattle.std.proofs.Common.{◌≡◌, ◌∙◌, ℕ, ℤ, ◌⊎◌, inl, inr, true, List, [], ◌∷◌, ◌++◌, length, Some, refl, sym, ap, subst, eq-eqb, eqb-true, slice_get}
 use Rattle.std.specs.Option.{option_to_list}
 use Rattle.std.proofs.lemmas.List.{append-nil}
 use Rattle.std.proofs.lemmas.Option.{slice_get_within}
@@ -10,14 +10,18 @@ use Rattle.xk_types.specs.World.{World, opening, AreArguments}
 use Rattle.xk_types.specs.Step.{Stepped, step}
 use Rattle.xk_types.specs.Schedule.{Through, run, all_ended, number_printed, printed}
 use Rattle.xk_law_schedules.proofs.ReachabilityLemmas.{run_more}
-use Rattle.xk_law_commute.specs.QuietSteps.{has_quiet_step}
-use Rattle.xk_law_commute.specs.Exploration.{IsLedTo, HasNext}
+use Rattle.xk_law_commute.specs.Exploration.{IsLedTo, NothingIsMissed}
+use Rattle.xk_law_commute.specs.PlainWorlds.{AreAlike}
 use Rattle.xk_law_commute.proofs.ChangeSquareLemmas.{same_step}
-use Rattle.xk_law_commute.proofs.QuietStepLaw.{quiet_steps_go_first, alike_worlds_go_alike}
-use Rattle.xk_law_commute.proofs.ExplorationLaw.{nobody_steps, nothing_missed}
+use Rattle.xk_law_commute.proofs.QuietStepLaw.{alike_worlds_go_alike}
+use Rattle.xk_law_commute.proofs.ExplorationLaw.{nobody_steps}
+use Rattle.xk_closed.specs.Closed.{HasClosed, HasNextSame, IsCarried}
+use Rattle.xk_closed.specs.Futures.{alone}
+use Rattle.xk_closed.proofs.ClosedLaw.{closed_sets}
 use Rattle.xk_core.specs.Core.{CoreValue}
 use Rattle.xk_outcomes.specs.Found.{FoundValue}
-use Rattle.xk_outcomes.specs.Search.{LeadsQuietly, AreFound, Has, IsKnown, AreExpanded, AreAllFound}
+use Rattle.xk_outcomes.specs.Search.{LeadsPrivately, AreFound, Has, IsKnown, AreExpanded, AreAllFound}
+use Rattle.xk_outcomes.proofs.PrivateStepLemmas.{private_closed, private_enabled, private_silent}
 use Rattle.xk_outcomes.proofs.SearchLemmas.{printed_more}
 
 -- a schedule goes on by a step
@@ -38,7 +42,7 @@ module _ (start : CoreValue) (all : List FoundValue) (limits : IsWithinLimits st
   abbrev args : List ℤ
   args = start.world.arguments
 
-  -- a legal schedule leads to this world and prints these numbers, and quiet steps lead from there to one that they have
+  -- a legal schedule leads to this world and prints these numbers, and private steps lead from there to one that they have
   abbrev Finds : World → List ℤ → Type 0
   Finds w numbers = IsLedTo m args w numbers × IsKnown m all w numbers
 
@@ -51,7 +55,7 @@ module _ (start : CoreValue) (all : List FoundValue) (limits : IsWithinLimits st
   }
 
   -- each step from one that is like one of them
-  by_each : (w : World) (numbers : List ℤ) → Has all w numbers → (a : ℕ) → HasNext m Finds w numbers a
+  by_each : (w : World) (numbers : List ℤ) → Has all w numbers → (a : ℕ) → HasNextSame m AreAlike Finds w numbers a
   by_each w numbers has a u e h =
       let x = has.1 in
       let next = (alike_worlds_go_alike m).steps w x.core.world u a e has.3.0 h in
@@ -63,47 +67,62 @@ module _ (start : CoreValue) (all : List FoundValue) (limits : IsWithinLimits st
       record {
         other = next.0;
         found = subst (λ p. Finds next.0 (p ++ more)) has.3.1 there;
-        alike = next.2;
+        same = next.2;
       }
 
-  -- the first quiet step on the way to one
-  by_quiet : (b : ℕ) (list : List ℕ) (w v : World) (numbers : List ℤ) → IsLedTo m args w numbers → LeadsQuietly m (b ∷ list) w v → Has all v numbers → HasNext m Finds w numbers b
-  by_quiet b list w v numbers led quiet has u e h =
-      let same : (quiet.1 ≡ u) × (quiet.2 ≡ e) = same_step quiet.1 u quiet.2 e (sym quiet.3 ∙ h) in
+  -- the first private step on the way to one
+  by_private : (b : ℕ) (list : List ℕ) (w v : World) (numbers : List ℤ) → IsLedTo m args w numbers → LeadsPrivately m (b ∷ list) w v → Has all v numbers
+      → HasNextSame m AreAlike Finds w numbers b
+  by_private b list w v numbers led private has u e h =
+      let same : (private.1 ≡ u) × (private.2 ≡ e) = same_step private.1 u private.2 e (sym private.3 ∙ h) in
       let silent : numbers ++ option_to_list (number_printed e) ≡ numbers =
-      ap (λ n. numbers ++ option_to_list n) ((quiet_steps_go_first m limits ok).silent w u b e quiet.0 h) ∙ append-nil numbers in
+      ap (λ n. numbers ++ option_to_list n) (private_silent m w b private.0 u e h) ∙ append-nil numbers in
       record {
         other = u;
         found = (
           led_step m args w u numbers b e led h,
-          (list, v, subst (λ z. LeadsQuietly m list z v) same.0 quiet.4, subst (Has all v) (sym silent) has),
+          (list, v, subst (λ z. LeadsPrivately m list z v) same.0 private.4, subst (Has all v) (sym silent) has),
         );
-        alike = refl;
+        same = refl;
       }
 
-  explored : (list : List ℕ) (w v : World) (numbers : List ℤ) → IsLedTo m args w numbers → LeadsQuietly m list w v → Has all v numbers
-      → ((a : ℕ) × (has_quiet_step m w a ≡ true) × HasNext m Finds w numbers a) ⊎ ((a : ℕ) → HasNext m Finds w numbers a)
-  explored [] w v numbers led quiet has = inr (by_each w numbers (subst (λ z. Has all z numbers) (sym quiet) has))
-  explored (b ∷ list) w v numbers led quiet has = inl (b, quiet.0, by_quiet b list w v numbers led quiet has)
+  explored : (list : List ℕ) (w v : World) (numbers : List ℤ) → IsLedTo m args w numbers → LeadsPrivately m list w v → Has all v numbers
+      → HasClosed m AreAlike Finds w numbers ⊎ ((a : ℕ) → HasNextSame m AreAlike Finds w numbers a)
+  explored [] w v numbers led private has = inr (by_each w numbers (subst (λ z. Has all z numbers) (sym private) has))
+  explored (b ∷ list) w v numbers led private has = inl (record {
+    set = alone b;
+    closed = private_closed m w b private.0;
+    free = b;
+    inside = eq-eqb b b refl;
+    enabled = private_enabled m w b private.0;
+    next = λ a inside. subst (HasNextSame m AreAlike Finds w numbers) (sym (eqb-true a b inside)) (by_private b list w v numbers led private has);
+  })
 
   -- one of them is where all have ended, these numbers being printed by then
   abbrev IsMet : List ℤ → Type 0
   IsMet numbers = (k : ℕ) × (x : FoundValue) × (slice_get all k ≡ Some x) × (x.printed ≡ numbers) × (all_ended x.core.world ≡ true)
 
-  -- where all have ended there is no quiet step more
-  met : (list : List ℕ) (w v : World) (numbers : List ℤ) → LeadsQuietly m list w v → all_ended w ≡ true → Has all v numbers → IsMet numbers
-  met [] w v numbers quiet ended has = (
+  -- where all have ended there is no private step more
+  met : (list : List ℕ) (w v : World) (numbers : List ℤ) → LeadsPrivately m list w v → all_ended w ≡ true → Has all v numbers → IsMet numbers
+  met [] w v numbers private ended has = (
     has.0,
     has.1,
     has.2,
     has.3.1,
-    sym ((alike_worlds_go_alike m).ends v has.1.core.world has.3.0) ∙ ap all_ended (sym quiet) ∙ ended,
+    sym ((alike_worlds_go_alike m).ends v has.1.core.world has.3.0) ∙ ap all_ended (sym private) ∙ ended,
   )
-  met (b ∷ list) w v numbers quiet ended has = absurd (nobody_steps m w quiet.1 b quiet.2 quiet.3 ended)
+  met (b ∷ list) w v numbers private ended has = absurd (nobody_steps m w private.1 b private.2 private.3 ended)
 
-  missed_none : (list : List ℕ) (w : World) → run m list (opening m args) ≡ Through w → all_ended w ≡ true → (v : World) × Finds v (printed m list (opening m args)) × (all_ended v ≡ true)
-  missed_none = nothing_missed m args Finds limits ok taken (λ w numbers f. f.0)
-      (record { other = opening m args; found = (record { list = []; legal = refl; prints = refl }, subst (λ w. IsKnown m all w []) begins begun); alike = refl })
+  -- worlds that are alike go on alike
+  carried : IsCarried m AreAlike
+  carried = record {
+    steps = λ w v u a e here same h. (let next = (alike_worlds_go_alike m).steps w v u a e same h in (a, next.0, next.1, next.2));
+    ends = (alike_worlds_go_alike m).ends;
+  }
+
+  missed_none : NothingIsMissed m args Finds
+  missed_none = closed_sets m limits ok AreAlike carried args Finds taken (λ w numbers f. f.0)
+      (record { other = opening m args; found = (record { list = []; legal = refl; prints = refl }, subst (λ w. IsKnown m all w []) begins begun); same = refl })
       (λ w numbers f. explored f.1.0 w f.1.1 numbers f.0 f.1.2 f.1.3)
 
   pub all_found : AreAllFound start all

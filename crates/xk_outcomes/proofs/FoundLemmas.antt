@@ -1,4 +1,4 @@
--- One that was found goes on by a step and by quiet steps.
+-- One that was found goes on by a step and by private steps.
 use Rattle.std.proofs.Common.{◌≡◌, ◌∙◌, ℕ, zero, suc, ◌+◌, ◌<◌, ◌≤◌, ◌⊎◌, inl, inr, Bool, true, false, List, [], ◌∷◌, ◌++◌, length, Option, Some, None, refl, sym, ap, subst, add-one, arith}
 use Rattle.std.specs.Option.{option_to_list}
 use Rattle.std.proofs.lemmas.List.{append-nil}
@@ -11,11 +11,12 @@ use Rattle.xk_types.specs.World.{World}
 use Rattle.xk_types.specs.Step.{Outcome, Blocked, Wrong, Stepped, step}
 use Rattle.xk_types.specs.Schedule.{number_printed}
 use Rattle.xk_law_schedules.proofs.ReachabilityLemmas.{run_more}
-use Rattle.xk_law_commute.specs.QuietSteps.{has_quiet_step}
-use Rattle.xk_law_commute.proofs.QuietStepLaw.{enabled_step, quiet_enabled, quiet_steps_go_first}
+use Rattle.xk_outcomes.specs.PrivateSteps.{has_private_step}
+use Rattle.xk_law_commute.proofs.QuietStepLaw.{enabled_step}
 use Rattle.xk_core.specs.Core.{CoreValue}
-use Rattle.xk_outcomes.specs.Found.{FoundValue, along, at_rest, first_found, least, least_quiet, next, one_more, or_this, settled, with_outcome, with_step}
-use Rattle.xk_outcomes.specs.Search.{Has, HasAfter, IsFound, IsGrown, IsKnown, IsSettled, LeadsQuietly}
+use Rattle.xk_outcomes.specs.Found.{FoundValue, along, at_rest, first_found, least, least_private, next, one_more, or_this, settled, with_outcome, with_step}
+use Rattle.xk_outcomes.specs.Search.{Has, HasAfter, IsFound, IsGrown, IsKnown, IsSettled, LeadsPrivately}
+use Rattle.xk_outcomes.proofs.PrivateStepLemmas.{private_enabled, private_silent}
 use Rattle.xk_outcomes.proofs.SearchLemmas.{printed_more}
 
 -- ---- the least that passes
@@ -66,7 +67,7 @@ found_one_more start x a f = by (step x.core.module_run x.core.world a) refl
           prints = printed_more m x.schedule start.world x.core.world w a e f.legal stepped ∙ ap (λ l. l ++ option_to_list (number_printed e)) f.prints;
         }
 
--- ---- quiet steps
+-- ---- private steps
 
 pub found_with_step : (start : CoreValue) (x : FoundValue) (o : Option ℕ) → IsFound start x → IsFound start (with_step x o)
 found_with_step start x None f = f
@@ -74,7 +75,7 @@ found_with_step start x (Some a) f = found_one_more start x a f
 
 pub found_settled : (start : CoreValue) (x : FoundValue) (n : ℕ) → IsFound start x → IsFound start (settled n x)
 found_settled start x zero f = f
-found_settled start x (suc n) f = found_with_step start (settled n x) (least_quiet (settled n x).core) (found_settled start x n f)
+found_settled start x (suc n) f = found_with_step start (settled n x) (least_private (settled n x).core) (found_settled start x n f)
 
 -- who is settled was found
 pub settled_found : (start : CoreValue) (x : FoundValue) → IsSettled start x → IsFound start x
@@ -86,50 +87,50 @@ settled_next start x a f = (one_more a x, found_one_more start x a f, refl)
 pub settled_first : (start : CoreValue) → IsSettled start (first_found start)
 settled_first start = (record { core = start; printed = []; schedule = [] }, record { module_is = refl; legal = refl; prints = refl }, refl)
 
--- where there is no quiet step, no more are taken
-pub settled_all : (x y : FoundValue) (k n : ℕ) → k ≤ n → y ≡ settled k x → least_quiet y.core ≡ None → y ≡ settled n x
-settled_all x y k zero within h quiet = let e : k ≡ zero = omega (arith, within) in subst (λ j. y ≡ settled j x) e h
-settled_all x y k (suc n) within h quiet = by (λ l. settled_all x y k n l h quiet) (split k n within)
+-- where there is no private step, no more are taken
+pub settled_all : (x y : FoundValue) (k n : ℕ) → k ≤ n → y ≡ settled k x → least_private y.core ≡ None → y ≡ settled n x
+settled_all x y k zero within h private = let e : k ≡ zero = omega (arith, within) in subst (λ j. y ≡ settled j x) e h
+settled_all x y k (suc n) within h private = by (λ l. settled_all x y k n l h private) (split k n within)
   where
     by : (k ≤ n → y ≡ settled n x) → (k ≤ n) ⊎ (k ≡ suc n) → y ≡ settled (suc n) x
-    by before (inl l) = ap (with_step y) (sym quiet) ∙ ap (λ (u : FoundValue). with_step u (least_quiet u.core)) (before l)
+    by before (inl l) = ap (with_step y) (sym private) ∙ ap (λ (u : FoundValue). with_step u (least_private u.core)) (before l)
     by before (inr e) = subst (λ j. y ≡ settled j x) e h
 
--- quiet steps lead from one to the other, and print nothing
+-- private steps lead from one to the other, and print nothing
 record Settles (m : ModuleValue) (x y : FoundValue) : Type 0 where
   list : List ℕ
-  quiet : LeadsQuietly m list x.core.world y.core.world
+  private : LeadsPrivately m list x.core.world y.core.world
   same_module : y.core.module_run ≡ m
   prints : y.printed ≡ x.printed
 
-quiet_more : (m : ModuleValue) (list : List ℕ) (w v x : World) (a : ℕ) (e : Event) → LeadsQuietly m list w v → has_quiet_step m v a ≡ true → step m v a ≡ Stepped x e
-    → LeadsQuietly m (list ++ a ∷ []) w x
-quiet_more m [] w v x a e h q s = (subst (λ z. has_quiet_step m z a ≡ true) (sym h) q, x, e, subst (λ z. step m z a ≡ Stepped x e) (sym h) s, refl)
-quiet_more m (b ∷ list) w v x a e h q s = (h.0, h.1, h.2, h.3, quiet_more m list h.1 v x a e h.4 q s)
+private_more : (m : ModuleValue) (list : List ℕ) (w v x : World) (a : ℕ) (e : Event) → LeadsPrivately m list w v → has_private_step m v a ≡ true → step m v a ≡ Stepped x e
+    → LeadsPrivately m (list ++ a ∷ []) w x
+private_more m [] w v x a e h q s = (subst (λ z. has_private_step m z a ≡ true) (sym h) q, x, e, subst (λ z. step m z a ≡ Stepped x e) (sym h) s, refl)
+private_more m (b ∷ list) w v x a e h q s = (h.0, h.1, h.2, h.3, private_more m list h.1 v x a e h.4 q s)
 
-settles_more : (m : ModuleValue) → IsWithinLimits m → IsAccepted m → (x y : FoundValue) → Settles m x y → (o : Option ℕ) → least_quiet y.core ≡ o → Settles m x (with_step y o)
+settles_more : (m : ModuleValue) → IsWithinLimits m → IsAccepted m → (x y : FoundValue) → Settles m x y → (o : Option ℕ) → least_private y.core ≡ o → Settles m x (with_step y o)
 settles_more m limits ok x y s None is = s
 settles_more m limits ok x y s (Some a) is =
     let w = y.core.world in
-    let q : has_quiet_step m w a ≡ true =
-    subst (λ k. has_quiet_step k w a ≡ true) s.same_module (least_passes (has_quiet_step y.core.module_run w) (length w.activities) a is) in
-    let taken = enabled_step (step m w a) (quiet_enabled m w a q) in
+    let q : has_private_step m w a ≡ true =
+    subst (λ k. has_private_step k w a ≡ true) s.same_module (least_passes (has_private_step y.core.module_run w) (length w.activities) a is) in
+    let taken = enabled_step (step m w a) (private_enabled m w a q) in
     let here : one_more a y ≡ with_outcome y a (Stepped taken.0 taken.1) =
     ap (with_outcome y a) (ap (λ k. step k w a) s.same_module ∙ taken.2) in
     subst (Settles m x) (sym here) (record {
       list = s.list ++ a ∷ [];
-      quiet = quiet_more m s.list x.core.world w taken.0 a taken.1 s.quiet q taken.2;
+      private = private_more m s.list x.core.world w taken.0 a taken.1 s.private q taken.2;
       same_module = s.same_module;
-      prints = ap (λ n. y.printed ++ option_to_list n) ((quiet_steps_go_first m limits ok).silent w taken.0 a taken.1 q taken.2) ∙ append-nil y.printed ∙ s.prints;
+      prints = ap (λ n. y.printed ++ option_to_list n) (private_silent m w a q taken.0 taken.1 taken.2) ∙ append-nil y.printed ∙ s.prints;
     })
 
 settles : (m : ModuleValue) → IsWithinLimits m → IsAccepted m → (x : FoundValue) → x.core.module_run ≡ m → (n : ℕ) → Settles m x (settled n x)
-settles m limits ok x same zero = record { list = []; quiet = refl; same_module = same; prints = refl }
-settles m limits ok x same (suc n) = settles_more m limits ok x (settled n x) (settles m limits ok x same n) (least_quiet (settled n x).core) refl
+settles m limits ok x same zero = record { list = []; private = refl; same_module = same; prints = refl }
+settles m limits ok x same (suc n) = settles_more m limits ok x (settled n x) (settles m limits ok x same n) (least_private (settled n x).core) refl
 
 -- ---- one is looked at
 
--- they have one where its step and quiet steps lead
+-- they have one where its step and private steps lead
 pub after_next : (m : ModuleValue) → IsWithinLimits m → IsAccepted m → (all : List FoundValue) (here y : FoundValue) (a : ℕ) → here.core.module_run ≡ m → y ≡ next a here
     → Has all y.core.world y.printed → HasAfter m all here a
 after_next m limits ok all here y a same is has u e t =
@@ -138,7 +139,7 @@ after_next m limits ok all here y a same is has u e t =
     let there : y ≡ at_rest x = is ∙ ap at_rest taken in
     let s = settles m limits ok x same (steps_bound x.core.module_run) in
     let h : Has all (at_rest x).core.world (at_rest x).printed = subst (λ (z : FoundValue). Has all z.core.world z.printed) there has in
-    (s.list, (at_rest x).core.world, s.quiet, subst (Has all (at_rest x).core.world) s.prints h)
+    (s.list, (at_rest x).core.world, s.private, subst (Has all (at_rest x).core.world) s.prints h)
 
 -- the first one is known
 pub known_first : (start : CoreValue) → IsWithinLimits start.module_run → IsAccepted start.module_run → (all : List FoundValue) → IsGrown (first_found start ∷ []) all
@@ -146,7 +147,7 @@ pub known_first : (start : CoreValue) → IsWithinLimits start.module_run → Is
 known_first start limits ok all grown =
     let first = first_found start in
     let s = settles start.module_run limits ok (record { core = start; printed = []; schedule = [] }) refl (steps_bound start.module_run) in
-    (s.list, first.core.world, s.quiet, (0, first, grown 0 first refl, (refl, s.prints)))
+    (s.list, first.core.world, s.private, (0, first, grown 0 first refl, (refl, s.prints)))
 
 -- ---- along a way
 

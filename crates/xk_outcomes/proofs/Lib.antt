@@ -1,6 +1,7 @@
 mod DigestLemmas
 mod DigestListLemmas
 mod SearchLemmas
+mod PrivateStepLemmas
 mod FoundLemmas
 mod RestLemmas
 mod EntriesLemmas

@@ -10,7 +10,7 @@ pub record EntriesValue : Type 0 where
   pub start : CoreValue
   pub all : List FoundValue
 
--- with one more: by a step from one of these, and quiet steps
+-- with one more: by a step from one of these, and private steps
 abbrev pub with_edge : FoundValue → List FoundValue → Edge → List FoundValue
 with_edge first all e = all ++ next e.act (get_or all e.from first) ∷ []
 

@@ -4,7 +4,7 @@ use Rattle.std.specs.Option.{option_to_list}
 use Rattle.xk_types.specs.Step.{Outcome, Blocked, Wrong, Stepped, step}
 use Rattle.xk_types.specs.Schedule.{number_printed}
 use Rattle.xk_types.specs.Bound.{steps_bound}
-use Rattle.xk_law_commute.specs.QuietSteps.{has_quiet_step}
+use Rattle.xk_outcomes.specs.PrivateSteps.{has_private_step}
 use Rattle.xk_core.specs.Core.{CoreValue, with_world}
 
 -- a core, the numbers that were printed by then, and a schedule that leads there and prints them
@@ -29,7 +29,7 @@ with_outcome x a (Stepped w e) = record {
 abbrev pub one_more : ℕ → FoundValue → FoundValue
 one_more a x = with_outcome x a (step x.core.module_run x.core.world a)
 
--- ---- quiet steps
+-- ---- private steps
 
 -- a number that was found before, or else this one if it passes
 abbrev pub or_this : Option ℕ → Bool → ℕ → Option ℕ
@@ -42,31 +42,31 @@ abbrev pub least : (ℕ → Bool) → ℕ → Option ℕ
 least passes zero = None
 least passes (suc n) = or_this (least passes n) (passes n) n
 
--- the least activity that has a quiet step
-abbrev pub least_quiet : CoreValue → Option ℕ
-least_quiet c = least (has_quiet_step c.module_run c.world) (length c.world.activities)
+-- the least activity that has a private step
+abbrev pub least_private : CoreValue → Option ℕ
+least_private c = least (has_private_step c.module_run c.world) (length c.world.activities)
 
 -- a step of that activity more, if there is one
 abbrev pub with_step : FoundValue → Option ℕ → FoundValue
 with_step x None = x
 with_step x (Some a) = one_more a x
 
--- up to so many quiet steps more
+-- up to so many private steps more
 abbrev pub settled : ℕ → FoundValue → FoundValue
 settled zero x = x
-settled (suc n) x = with_step (settled n x) (least_quiet (settled n x).core)
+settled (suc n) x = with_step (settled n x) (least_private (settled n x).core)
 
--- quiet steps more, as long as there is one: no run has more steps than are verified
+-- private steps more, as long as there is one: no run has more steps than are verified
 abbrev pub at_rest : FoundValue → FoundValue
 at_rest x = settled (steps_bound x.core.module_run) x
 
 -- ---- from one to another
 
--- a step of activity a, if it can take one, and quiet steps behind it
+-- a step of activity a, if it can take one, and private steps behind it
 abbrev pub next : ℕ → FoundValue → FoundValue
 next a x = at_rest (one_more a x)
 
--- what is found before any step that isn't quiet
+-- what is found before any step that isn't private
 abbrev pub first_found : CoreValue → FoundValue
 first_found start = at_rest (record { core = start; printed = []; schedule = [] })
 

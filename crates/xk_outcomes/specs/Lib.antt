@@ -3,6 +3,7 @@ pub mod Limits
 pub mod Sets
 pub mod Digest
 pub mod Digests
+pub mod PrivateSteps
 pub mod Found
 pub mod Search
 pub mod Entries

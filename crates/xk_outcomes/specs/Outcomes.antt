@@ -6,7 +6,7 @@ use Rattle.xk_types.specs.World.{World, opening}
 use Rattle.xk_types.specs.Schedule.{Through, run, all_ended, printed}
 use Rattle.xk_types.specs.Logs.{schedule_of}
 use Rattle.xk_law_commute.specs.PlainWorlds.{AreAlike}
-use Rattle.xk_law_commute.specs.QuietSteps.{has_quiet_step}
+use Rattle.xk_outcomes.specs.PrivateSteps.{has_private_step}
 use Rattle.xk_outcomes.specs.declared.listing.Outcome.{Outcome}
 
 -- a legal schedule of the module with these arguments, after which all have ended, and which prints these numbers
@@ -34,9 +34,9 @@ AreAll m args list = (schedule : List ℕ) (numbers : List ℤ) → IsOutcome m 
 
 -- ---- how far a search went
 
--- nobody has a quiet step: whoever can take a step is about to print, to make a clock, to start an activity, or to read or change a shared number
+-- nobody has a private step: whoever can take a step is about to print, or to read or change a shared number
 abbrev pub IsAtRest : ModuleValue → World → Type 0
-IsAtRest m w = (a : ℕ) → has_quiet_step m w a ≡ false
+IsAtRest m w = (a : ℕ) → has_private_step m w a ≡ false
 
 -- These schedules are legal and lead to worlds at rest, and no two of them lead to worlds that are alike (but for numbers of steps and phases) and print
 -- the same on the way.

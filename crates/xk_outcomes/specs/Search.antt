@@ -7,7 +7,7 @@ use Rattle.xk_types.specs.World.{World}
 use Rattle.xk_types.specs.Step.{Stepped, step}
 use Rattle.xk_types.specs.Schedule.{Through, run, all_ended, number_printed, printed}
 use Rattle.xk_law_commute.specs.PlainWorlds.{AreAlike}
-use Rattle.xk_law_commute.specs.QuietSteps.{has_quiet_step}
+use Rattle.xk_outcomes.specs.PrivateSteps.{has_private_step}
 use Rattle.xk_core.specs.Core.{CoreValue}
 use Rattle.xk_outcomes.specs.Found.{FoundValue, at_rest}
 use Rattle.xk_outcomes.specs.Digest.{world_digest}
@@ -21,24 +21,24 @@ pub record IsFound (start : CoreValue) (x : FoundValue) : Type 0 where
   pub legal : run start.module_run x.schedule start.world ≡ Through x.core.world
   pub prints : printed start.module_run x.schedule start.world ≡ x.printed
 
--- these steps are quiet, and lead from w to v
-abbrev pub LeadsQuietly : ModuleValue → List ℕ → World → World → Type 0
-LeadsQuietly m [] w v = w ≡ v
-LeadsQuietly m (a ∷ list) w v = (has_quiet_step m w a ≡ true) × (u : World) × (e : Event) × (step m w a ≡ Stepped u e) × LeadsQuietly m list u v
+-- these steps are private, and lead from w to v
+abbrev pub LeadsPrivately : ModuleValue → List ℕ → World → World → Type 0
+LeadsPrivately m [] w v = w ≡ v
+LeadsPrivately m (a ∷ list) w v = (has_private_step m w a ≡ true) × (u : World) × (e : Event) × (step m w a ≡ Stepped u e) × LeadsPrivately m list u v
 
 -- ---- all that were found
 
 abbrev pub AreFound : CoreValue → List FoundValue → Type 0
 AreFound start all = (k : ℕ) (x : FoundValue) → slice_get all k ≡ Some x → IsFound start x
 
--- it was found, and then quiet steps were taken as long as there was one
+-- it was found, and then private steps were taken as long as there was one
 abbrev pub IsSettled : CoreValue → FoundValue → Type 0
 IsSettled start x = (y : FoundValue) × IsFound start y × (x ≡ at_rest y)
 
 abbrev pub AreSettled : CoreValue → List FoundValue → Type 0
 AreSettled start all = (k : ℕ) (x : FoundValue) → slice_get all k ≡ Some x → IsSettled start x
 
--- nobody has a quiet step in any of their worlds
+-- nobody has a private step in any of their worlds
 abbrev pub AreAtRest : List FoundValue → Type 0
 AreAtRest all = (k : ℕ) (x : FoundValue) → slice_get all k ≡ Some x → IsAtRest x.core.module_run x.core.world
 
@@ -66,9 +66,9 @@ found_digest x = world_digest x.core.world x.printed
 abbrev pub AreDigests : List FoundValue → List ℕ → Type 0
 AreDigests all digests = digests ≡ map found_digest all
 
--- quiet steps lead from this world to one that they have
+-- private steps lead from this world to one that they have
 abbrev pub IsKnown : ModuleValue → List FoundValue → World → List ℤ → Type 0
-IsKnown m all w numbers = (list : List ℕ) × (v : World) × LeadsQuietly m list w v × Has all v numbers
+IsKnown m all w numbers = (list : List ℕ) × (v : World) × LeadsPrivately m list w v × Has all v numbers
 
 -- where activity a can take a step from here, they know where that leads, with what is printed then
 abbrev pub HasAfter : ModuleValue → List FoundValue → FoundValue → ℕ → Type 0

@@ -14,7 +14,7 @@ use std::marker::Model;
 use xk_core::Core;
 use xk_types::Act;
 
-/// How one was found: by a step from one before it, and by quiet steps.
+/// How one was found: by a step from one before it, and by private steps.
 #[derive(Clone, Copy, Debug)]
 pub struct Edge {
     /// The number of the one before.
@@ -23,7 +23,7 @@ pub struct Edge {
     pub act: Act,
 }
 
-/// Those that were found, numbered from 0. The first is found by quiet steps alone. No core is kept with one: whoever wants to look at it is
+/// Those that were found, numbered from 0. The first is found by private steps alone. No core is kept with one: whoever wants to look at it is
 /// led there again.
 #[derive(Drop)]
 pub struct Entries<'m> {
@@ -133,7 +133,7 @@ impl<'m> Entries<'m> {
         }
     }
 
-    /// What a step of the activity leads to from the one of a number, and quiet steps behind it.
+    /// What a step of the activity leads to from the one of a number, and private steps behind it.
     pub fn successor(&self, alloc: Global, number: usize, act: Act) -> Result<Found<'m>, AllocError>
         requires { number < length self.now.all }
         ensures { IfOk result (λ y. (x : FoundValue) → slice_get self.now.all number ≡ Some x

@@ -1,9 +1,10 @@
 //! Worlds that are found one from another.
 
 ghost use Rattle.std.specs.Prelude.{◌≡◌, IfOk, OnOk};
-ghost use Rattle.xk_law_commute.specs.QuietSteps.{has_quiet_step};
-ghost use Rattle.xk_outcomes.specs.Found.{along, at_rest, first_found, least_quiet, next, one_more};
+ghost use Rattle.xk_outcomes.specs.PrivateSteps.{has_private_step};
+ghost use Rattle.xk_outcomes.specs.Found.{along, at_rest, first_found, least_private, next, one_more};
 
+use crate::private_steps::has_private_step;
 use std::alloc::{AllocError, Global};
 use std::marker::Model;
 use xk_core::Core;
@@ -33,12 +34,12 @@ impl<'m> Model for Found<'m> {
     } };
 }
 
-/// The least activity that has a quiet step, if one has.
-fn quiet_act(core: &Core<'_>) -> Option<Act>
-    ensures { result ≡ least_quiet core.now }
+/// The least activity that has a private step, if one has.
+fn private_act(core: &Core<'_>) -> Option<Act>
+    ensures { result ≡ least_private core.now }
 {
     for a in 0..core.activities() {
-        if core.has_quiet_step(Act(a)) {
+        if has_private_step(core, Act(a)) {
             return Some(Act(a));
         }
     }
@@ -59,13 +60,13 @@ impl<'m> Found<'m> {
         Ok(())
     }
 
-    /// Quiet steps, as long as there is one.
+    /// Private steps, as long as there is one.
     fn settle(&mut self) -> Result<(), AllocError>
         ensures { OnOk result (self.new ≡ at_rest self.old) }
     {
         let most = self.core.module().steps();
         for turn in 0..most {
-            match quiet_act(&self.core) {
+            match private_act(&self.core) {
                 Some(act) => self.step(act)?,
                 None => return Ok(()),
             }
@@ -73,7 +74,7 @@ impl<'m> Found<'m> {
         Ok(())
     }
 
-    /// One step of the activity, if it can take one, and then quiet steps.
+    /// One step of the activity, if it can take one, and then private steps.
     pub fn go_on(&mut self, act: Act) -> Result<(), AllocError>
         ensures { OnOk result (self.new ≡ next act self.old) }
     {
@@ -82,7 +83,7 @@ impl<'m> Found<'m> {
         Ok(())
     }
 
-    /// Steps of these activities, the last of which stands first, and quiet steps behind each.
+    /// Steps of these activities, the last of which stands first, and private steps behind each.
     pub fn go_along(&mut self, mut way: Vec<Act>) -> Result<(), AllocError>
         ensures { OnOk result (self.new ≡ along way.items self.old) }
     {
@@ -93,7 +94,7 @@ impl<'m> Found<'m> {
     }
 }
 
-/// What is found before any step that isn't quiet.
+/// What is found before any step that isn't private.
 pub fn beginning<'m>(alloc: Global, start: &Core<'m>) -> Result<Found<'m>, AllocError>
     requires { start.now.world.steps ≡ 0 }
     ensures { IfOk result (λ x. x ≡ first_found start.now) }

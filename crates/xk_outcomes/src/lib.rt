@@ -13,6 +13,7 @@ mod listing;
 mod lone_outcome;
 mod order;
 mod plain_runs;
+mod private_steps;
 mod reading;
 mod search;
 mod text;

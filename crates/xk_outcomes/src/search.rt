@@ -32,7 +32,7 @@ fn try_act(
     ensures grown { IsGrown all.old.all all.new.all }
     ensures after { OnOk result (HasAfter here.now.core.module_run all.new.all here.now act) }
 {
-    // For the law that quiet steps print nothing: the module is accepted.
+    // For the law that private steps print nothing: the module is accepted.
     let _activities = here.core.activities();
     if !here.core.enabled(act) {
         return Ok(());

@@ -19,19 +19,19 @@ is_one : (k l : Location) → same_location k l ≡ true → k ≡ l
 is_one (location.Slot s) (location.Slot t) h = grind (arith, h)
 is_one (location.Shared s) (location.Shared t) h = ap (λ n. location.Shared n) (same_numbers s t h)
 is_one (location.Signals r) (location.Signals s) h = grind (arith, h)
-is_one (location.End a) (location.End b) h = ap (λ n. location.End n) (same_numbers a b h)
+is_one (location.Ends f) (location.Ends g) h = ap (λ n. location.Ends n) (same_numbers f g h)
 is_one (location.Slot s) (location.Shared t) h = cc
 is_one (location.Slot s) (location.Signals t) h = cc
-is_one (location.Slot s) (location.End t) h = cc
+is_one (location.Slot s) (location.Ends t) h = cc
 is_one (location.Shared s) (location.Slot t) h = cc
 is_one (location.Shared s) (location.Signals t) h = cc
-is_one (location.Shared s) (location.End t) h = cc
+is_one (location.Shared s) (location.Ends t) h = cc
 is_one (location.Signals s) (location.Slot t) h = cc
 is_one (location.Signals s) (location.Shared t) h = cc
-is_one (location.Signals s) (location.End t) h = cc
-is_one (location.End s) (location.Slot t) h = cc
-is_one (location.End s) (location.Shared t) h = cc
-is_one (location.End s) (location.Signals t) h = cc
+is_one (location.Signals s) (location.Ends t) h = cc
+is_one (location.Ends s) (location.Slot t) h = cc
+is_one (location.Ends s) (location.Shared t) h = cc
+is_one (location.Ends s) (location.Signals t) h = cc
 
 -- each is told to be itself
 is_itself : (l : Location) → same_location l l ≡ true
@@ -41,7 +41,7 @@ is_itself (location.Slot s) =
 is_itself (location.Shared s) = eq-eqb s s refl
 is_itself (location.Signals r) =
     ap (λ x. x && nat_eq r.phase r.phase) (eq-eqb r.clock r.clock refl) ∙ eq-eqb r.phase r.phase refl
-is_itself (location.End a) = eq-eqb a a refl
+is_itself (location.Ends f) = eq-eqb f f refl
 
 -- ---- what a flow makes
 

@@ -54,6 +54,56 @@ overwritten = record (module_with (
 of_what_is_left : rest_of 8 (flows_of_run overwritten [] (entry 0 9 (lit< tt) ∷ [])) ≡ 7 ∷ 5 ∷ 1 ∷ []
 of_what_is_left = refl
 
+-- ---- finishes
+
+-- one finish behind the other, each with an activity
+abbrev one_by_one : ModuleValue
+one_by_one = module_with (
+    main_with 0 (instr.Finish 2 ∷ instr.Spawn 1 [] ∷ instr.EndFinish 0 ∷ instr.Finish 5 ∷ instr.Spawn 1 [] ∷ instr.EndFinish 3
+    ∷ instr.Ret ∷ [])
+    ∷ body_with [] 0 (instr.Ret ∷ [])
+    ∷ [])
+
+abbrev one_by_one_log : List Entry
+one_by_one_log = entry 0 2 (lit< tt) ∷ entry 1 1 (lit< tt) ∷ entry 0 3 (lit< tt) ∷ entry 2 1 (lit< tt) ∷ entry 0 2 (lit< tt) ∷ []
+
+-- each close: the end of its own activity
+of_the_first_finish : rest_of 4 (flows_of_run one_by_one [] one_by_one_log) ≡ 3 ∷ []
+unfolding under_within
+of_the_first_finish = refl
+
+of_the_second_finish : rest_of 8 (flows_of_run one_by_one [] one_by_one_log) ≡ 7 ∷ []
+unfolding under_within
+of_the_second_finish = refl
+
+-- one inside the other: main starts activity 1 in both, and behind the inner one activity 2, which starts activity 3 in a finish of its own
+abbrev one_in_another : ModuleValue
+one_in_another = module_with (
+    main_with 0 (instr.Finish 5 ∷ instr.Finish 3 ∷ instr.Spawn 2 [] ∷ instr.EndFinish 1 ∷ instr.Spawn 1 [] ∷ instr.EndFinish 0
+    ∷ instr.Ret ∷ [])
+    ∷ body_with [] 0 (instr.Finish 2 ∷ instr.Spawn 2 [] ∷ instr.EndFinish 0 ∷ instr.Ret ∷ [])
+    ∷ body_with [] 0 (instr.Ret ∷ [])
+    ∷ [])
+
+abbrev one_in_another_log : List Entry
+one_in_another_log =
+    entry 0 3 (lit< tt) ∷ entry 1 1 (lit< tt) ∷ entry 0 2 (lit< tt) ∷ entry 2 2 (lit< tt) ∷ entry 3 1 (lit< tt) ∷ entry 2 2 (lit< tt)
+    ∷ entry 0 2 (lit< tt) ∷ []
+
+-- the inner ones: activity 1, activity 3
+of_the_inner_finish : rest_of 5 (flows_of_run one_in_another [] one_in_another_log) ≡ 4 ∷ []
+unfolding under_within
+of_the_inner_finish = refl
+
+of_the_finish_of_another : rest_of 10 (flows_of_run one_in_another [] one_in_another_log) ≡ 9 ∷ []
+unfolding under_within
+of_the_finish_of_another = refl
+
+-- the outer one: all three
+of_the_outer_finish : rest_of 12 (flows_of_run one_in_another [] one_in_another_log) ≡ 11 ∷ 9 ∷ 4 ∷ []
+unfolding under_within
+of_the_outer_finish = refl
+
 -- ---- two activities in step
 
 abbrev in_step : ModuleValue

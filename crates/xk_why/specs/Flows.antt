@@ -19,7 +19,7 @@ abbrev pub same_location : Location → Location → Bool
 same_location (location.Slot s) (location.Slot t) = same_slot s t
 same_location (location.Shared s) (location.Shared t) = nat_eq s t
 same_location (location.Signals r) (location.Signals s) = same_round r s
-same_location (location.End a) (location.End b) = nat_eq a b
+same_location (location.Ends f) (location.Ends g) = nat_eq f g
 same_location _ _ = false
 
 -- it is this location

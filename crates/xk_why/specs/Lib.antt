@@ -3,6 +3,7 @@ pub mod Slices
 pub mod Exactness
 pub mod Data
 pub mod Waits
+pub mod Finishes
 pub mod Told
 pub mod Rest
 pub mod Lines

@@ -35,8 +35,8 @@ pub enum Location {
     Shared(u16),
     /// The steps by which a clock ceased to await activities in a phase.
     Signals(Round),
-    /// The end of an activity.
-    End(u32),
+    /// The ends for which a finish waits: that which the step of this number opened.
+    Ends(u64),
 }
 
 /// What a step makes at one location, and of what.
@@ -98,12 +98,12 @@ fn is_round(round: Round, other: Location) -> bool
     }
 }
 
-/// Whether it is the end of this activity.
-fn is_end(act: u32, other: Location) -> bool
-    ensures { result ≡ same_location (location.End act) other }
+/// Whether it is what this finish waits for.
+fn is_ends(finish: u64, other: Location) -> bool
+    ensures { result ≡ same_location (location.Ends finish) other }
 {
     match other {
-        Location::End(other) => act == other,
+        Location::Ends(other) => finish == other,
         _ => false,
     }
 }
@@ -116,7 +116,7 @@ pub(crate) fn same_location(one: Location, other: Location) -> bool
         Location::Slot(slot) => is_slot(slot, other),
         Location::Shared(number) => is_shared(number, other),
         Location::Signals(round) => is_round(round, other),
-        Location::End(act) => is_end(act, other),
+        Location::Ends(finish) => is_ends(finish, other),
     }
 }
 

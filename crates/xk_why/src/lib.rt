@@ -2,6 +2,7 @@
 #![tactic(auto)]
 
 mod data;
+mod finishes;
 mod flows;
 pub mod laws;
 mod lines;

@@ -1,23 +1,23 @@
 //! What the steps of a run made, and of what.
 
-ghost use Rattle.std.specs.Prelude.{◌≡◌, ◌+◌, ◌<◌, true, ◌++◌, length, option_map, slice_get, IfOk, OnOk};
+ghost use Rattle.std.specs.Prelude.{◌≡◌, ◌+◌, true, ◌++◌, length, slice_get, IfOk, OnOk};
 ghost use Rattle.xk_types.specs.Schedule.{is_enabled};
 ghost use Rattle.xk_activity.specs.Activities.{act_at};
 ghost use Rattle.xk_activity.specs.Local.{code_of};
 ghost use Rattle.xk_core.specs.Core.{StepsTo};
 ghost use Rattle.xk_show_events.specs.Steps.{run_step};
-ghost use Rattle.xk_why.specs.Told.{awaited, flows_of_run, spot, step_flows, tell_flows};
-ghost use Rattle.xk_why.specs.Waits.{awaited_at};
+ghost use Rattle.xk_why.specs.Told.{flows_of_run, spot, step_flows, tell_flows};
 
 use crate::data::{Spot, push_data};
+use crate::finishes::push_finish_flows;
 use crate::flows::Flow;
-use crate::waits::{push_closing, push_waits, under};
+use crate::waits::push_waits;
 use std::alloc::{AllocError, Global};
 use xk_activity::Frames;
 use xk_core::Core;
 use xk_races::{Deed, push_deeds};
 use xk_scheduler::Ended;
-use xk_show_events::{LegalRun, RunStep, Tell, tell_run};
+use xk_show_events::{LegalRun, RunStep, Tell, seen_steps, tell_run};
 use xk_types::{Act, Event, Instr, Module};
 
 /// The code of a unit.
@@ -73,51 +73,19 @@ fn spot(core: &Core<'_>, step: &RunStep) -> Result<Spot, AllocError>
     })
 }
 
-/// Those whom an activity waits for, if it carries out this instruction.
-fn awaited_at(
-    alloc: Global,
-    core: &Core<'_>,
-    act: Act,
-    instr: Option<&Instr>,
-) -> Result<Vec<u32>, AllocError>
-    requires { act < length core.now.world.activities }
-    ensures { IfOk result (λ v. v.items ≡ awaited_at core.now.world act
-        (option_map (λ i. i.now) instr.entry)) }
-{
-    match instr {
-        Some(instr) => match instr {
-            Instr::EndFinish(_) => under(alloc, core, act),
-            _ => Ok(Vec::new(alloc)),
-        },
-        None => Ok(Vec::new(alloc)),
-    }
-}
-
-/// Those whom the next step of an activity waits for, if it closes a finish.
-fn awaited(alloc: Global, core: &Core<'_>, act: Act) -> Result<Vec<u32>, AllocError>
-    requires { act < length core.now.world.activities }
-    ensures { IfOk result (λ v. v.items ≡ awaited core.now.module_run core.now.world act) }
-{
-    let frames = core.frames(act);
-    let code = code_of(core.module().module(), frames.unit());
-    awaited_at(alloc, core, act, code.get(frames.place() as usize))
-}
-
-/// Adds what a step made, by its deeds and those whom it waited for.
+/// Adds what a step made, by its deeds.
 fn push_flows(
     list: &mut Vec<Flow>,
     core: &Core<'_>,
     step: &RunStep,
     deeds: &[Deed],
-    awaited: &[u32],
 ) -> Result<(), AllocError>
     ensures { OnOk result (list.new.items ≡ list.old.items
-        ++ step_flows core.now.module_run core.now.world step.now deeds.now awaited.now) }
+        ++ step_flows core.now.module_run core.now.world step.now deeds.now) }
 {
     let spot = spot(core, step)?;
     push_data(list, code_of(core.module().module(), step.unit), &spot)?;
-    push_waits(list, core, deeds)?;
-    push_closing(list, step, awaited)
+    push_waits(list, core, deeds)
 }
 
 /// Tells of each step what it made.
@@ -134,20 +102,21 @@ impl Tell<Flow> for FlowTeller {
         core: &mut Core<'_>,
         act: Act,
     ) -> Result<Event, AllocError> {
-        let awaited = awaited(alloc, core, act)?;
         let mut deeds = Vec::new(alloc);
         let step = push_deeds(alloc, &mut deeds, core, act)?;
-        push_flows(out, core, &step, &deeds, &awaited)?;
+        push_flows(out, core, &step, &deeds)?;
         Ok(step.event)
     }
 }
 
-/// What the steps of a run made. The log is played again for it. Err where memory was refused.
+/// What the steps of a run made. The log is played again for it, twice. Err where memory was refused.
 pub(crate) fn flows_of_run(alloc: Global, ended: &Ended<'_>) -> Result<Vec<Flow>, AllocError>
     ensures { IfOk result (λ v. v.items ≡ flows_of_run
         ended.now.module.now ended.now.core.world.arguments ended.now.log.items) }
 {
     let mut list = Vec::new(alloc);
     tell_run(&FlowTeller, alloc, &mut list, &LegalRun::of(ended))?;
+    let steps = seen_steps(alloc, &LegalRun::of(ended))?;
+    push_finish_flows(alloc, &mut list, &steps)?;
     Ok(list)
 }

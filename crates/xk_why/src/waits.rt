@@ -1,20 +1,17 @@
-//! What a step did for those who wait, and whom it waited for.
+//! What a step did for those who wait at clocks, and whom it waited for there.
 
-ghost use Rattle.std.specs.Prelude.{◌≡◌, ◌<◌, ◌-◌, ◌++◌, ◌∷◌, [], flat_map, length, slice_get, IfOk, OnOk, if◌then◌else◌};
-ghost use Rattle.xk_types.specs.Step.{innermost, is_under};
-ghost use Rattle.xk_activity.specs.Activities.{act_at};
+ghost use Rattle.std.specs.Prelude.{◌≡◌, ◌-◌, ◌++◌, flat_map, OnOk, if◌then◌else◌};
 ghost use Rattle.xk_core.specs.Core.{has_advanced};
 ghost use Rattle.xk_show_events.specs.Worlds.{phase_of};
-ghost use Rattle.xk_why.specs.Data.{flow};
-ghost use Rattle.xk_why.specs.Waits.{added, closing, deed_flows, ended, part_flow, signals, under};
+ghost use Rattle.xk_why.specs.Waits.{added, deed_flows, part_flow, signals};
 
 use crate::data::flow;
 use crate::flows::{Flow, Location, Round};
-use std::alloc::{AllocError, Global};
+use std::alloc::AllocError;
 use xk_core::Core;
 use xk_races::{Deed, Part};
 use xk_show_events::RunStep;
-use xk_types::{Act, ClockId};
+use xk_types::ClockId;
 
 /// The phase of a clock.
 fn phase_of(core: &Core<'_>, clock: u32) -> u64
@@ -56,15 +53,8 @@ fn signals(clock: u32, phase: u64) -> Option<Location>
     Some(Location::Signals(Round { clock, phase }))
 }
 
-/// The end of an activity.
-fn ended(act: u32) -> Option<Location>
-    ensures { result ≡ ended act }
-{
-    Some(Location::End(act))
-}
-
 /// A step is one more of these.
-fn added(step: &RunStep, to: Option<Location>) -> Flow
+pub(crate) fn added(step: &RunStep, to: Option<Location>) -> Flow
     ensures { result ≡ added step.now to }
 {
     Flow {
@@ -87,7 +77,6 @@ fn deed_flow(core: &Core<'_>, deed: &Deed) -> Option<Flow>
             let phase = phase_of(core, clock).saturating_sub(1);
             Some(flow(step, None, signals(clock, phase), None))
         }
-        Part::End => Some(flow(step, ended(step.act), None, None)),
         _ => None,
     }
 }
@@ -117,51 +106,6 @@ pub(crate) fn push_waits(
 {
     for deed in deeds {
         push_deed_flow(list, core, deed)?;
-    }
-    Ok(())
-}
-
-/// Adds an activity, if it is under the finish that another one opened last.
-fn push_if_under(
-    list: &mut Vec<u32>,
-    core: &Core<'_>,
-    owner: Act,
-    act: u32,
-) -> Result<(), AllocError>
-    requires { owner < length core.now.world.activities }
-    ensures { OnOk result (list.new.items ≡ list.old.items
-        ++ (if is_under core.now.world.activities (innermost owner
-        (act_at core.now.world.activities owner)) act then act ∷ [] else [])) }
-{
-    if core.is_under(owner, Act(act)) {
-        list.push(act)?;
-    }
-    Ok(())
-}
-
-/// The activities under the finish that one opened last.
-pub(crate) fn under(alloc: Global, core: &Core<'_>, owner: Act) -> Result<Vec<u32>, AllocError>
-    requires { owner < length core.now.world.activities }
-    ensures { IfOk result (λ v. v.items ≡ under core.now.world owner) }
-{
-    let mut list = Vec::new(alloc);
-    for act in 0..core.activities() {
-        push_if_under(&mut list, core, owner, act)?;
-    }
-    Ok(list)
-}
-
-/// A step waited for the ends of these.
-pub(crate) fn push_closing(
-    list: &mut Vec<Flow>,
-    step: &RunStep,
-    acts: &[u32],
-) -> Result<(), AllocError>
-    ensures { OnOk result (list.new.items ≡ list.old.items
-        ++ flat_map (closing step.now) acts.now) }
-{
-    for act in acts {
-        list.push(flow(step, None, ended(*act), None))?;
     }
     Ok(())
 }
