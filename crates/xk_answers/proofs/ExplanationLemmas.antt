@@ -1,7 +1,7 @@
 -- Of want of memory and of devices nothing is said on standard output.
 use Rattle.std.proofs.Common.{◌≡◌, ℕ, Bool, true, false, List, [], Option, Some, None}
 use Rattle.xk_bounds.specs.declared.refusal.Refusal.TheVariants as refusal
-use Rattle.xk_origins.specs.UnitOrigins.{UnitOrigins}
+use Rattle.xk_unit_origins.specs.UnitOrigins.{UnitOrigins}
 use Rattle.xk_explain.specs.Notes.{NoteValue}
 use Rattle.xk_explain_bounds.specs.Notes.{module_notes, refusal_notes}
 use Rattle.xk_answers.specs.Explanation.{plain_said, refusal_said, source_said}

@@ -25,10 +25,10 @@ use xk_hints::Hint;
 use xk_listing::{list_module, list_source};
 use xk_messages::accepted_line;
 use xk_module::ModuleFault;
-use xk_origins::{Origins, UnitOrigins};
 use xk_program::{Fault, Program};
 use xk_tree::{FrontFault, Tree};
 use xk_types::Module;
+use xk_unit_origins::{Origins, UnitOrigins};
 
 /// What stands against a job, and what is said of it on standard output.
 #[derive(Drop)]

@@ -18,7 +18,6 @@ use crate::replay::{run_again, run_so_far};
 use crate::so_far::{events_so_far, image_so_far, lanes_so_far, page_so_far};
 use std::alloc::{AllocError, Global};
 use xk_bounds::Verified;
-use xk_origins::UnitOrigins;
 use xk_program::{Fault, Program, Provenance, runnable};
 use xk_races::module_races;
 use xk_replay::chart;
@@ -31,6 +30,7 @@ use xk_show_picture::{module_picture, source_picture};
 use xk_show_races::source_races;
 use xk_show_span::{module_span, source_span};
 use xk_types::Source;
+use xk_unit_origins::UnitOrigins;
 
 /// What is told of a run.
 #[derive(Clone, Copy)]

@@ -7,10 +7,10 @@ use crate::beginning::lacking;
 use crate::picture::Tale;
 use std::alloc::{AllocError, Global};
 use xk_messages::{local_line, log_end_line};
-use xk_origins::UnitOrigins;
 use xk_program::Provenance;
 use xk_scheduler::Ended;
 use xk_types::Entry;
+use xk_unit_origins::UnitOrigins;
 use xk_why::{is_told, module_why, source_why};
 
 /// What this step of a run rests on. Where the run has fewer, or others can't see that one, a line says so, and the answer isn't whole.

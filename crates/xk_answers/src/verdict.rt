@@ -23,10 +23,11 @@ use xk_bounds::verify;
 use xk_cli::Form;
 use xk_codegen::compile;
 use xk_hints::hints;
-use xk_origins::{Origins, origins};
+use xk_origins::origins;
 use xk_program::{Fault, module_of, tree_of};
 use xk_tree::{FrontError, Tree};
 use xk_types::Module;
+use xk_unit_origins::Origins;
 
 /// What `explain` says, as a text or as a JSON value, of an accepted module that these bytes give, which are such a text. Else what stands against
 /// that: a fault of the text (F1 to F15, M1 to M3) or of its module (V1 to V17), with what is said of it, or want of memory.

@@ -19,10 +19,10 @@ use std::alloc::{AllocError, Global};
 use xk_bounds::Verified;
 use xk_log::read_log;
 use xk_messages::log_end_line;
-use xk_origins::UnitOrigins;
 use xk_program::{Fault, Program, Provenance, runnable};
 use xk_show_where::{module_where, named_where};
 use xk_types::{Entry, Source};
+use xk_unit_origins::UnitOrigins;
 
 /// How things stand behind the steps of the log, or behind so many, as far as they can be taken, of the program with these arguments, if it is
 /// accepted and main takes as many. Where it isn't run, no log is read.

@@ -5,7 +5,7 @@ use Rattle.xk_types.specs.Code.{ModuleValue}
 use Rattle.xk_types.specs.World.{World}
 use Rattle.xk_lines.specs.Lines.{words_at}
 use Rattle.xk_lines.specs.Signs.{signs, shown_signs}
-use Rattle.xk_origins.specs.UnitOrigins.{UnitOrigins, offsets_at}
+use Rattle.xk_unit_origins.specs.UnitOrigins.{UnitOrigins, offsets_at}
 use Rattle.xk_show_events.specs.Events.{PlacesValue, no_text, places_of}
 use Rattle.xk_show_where.specs.Where.{named_standings_text, standings_text}
 

@@ -23,9 +23,9 @@ use std::alloc::Global;
 use xk_bounds::Verified;
 use xk_core::Core;
 use xk_io::{Device, write_all};
-use xk_origins::UnitOrigins;
 use xk_scheduler::Logged;
 use xk_types::{Entry, Sink, Source};
+use xk_unit_origins::UnitOrigins;
 
 /// What was played.
 #[derive(Debug, Drop)]

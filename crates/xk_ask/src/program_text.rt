@@ -4,9 +4,9 @@ use std::alloc::{AllocError, Global};
 use std::marker::Model;
 use xk_core::Core;
 use xk_lines::{LineStarts, shown_front};
-use xk_origins::UnitOrigins;
 use xk_show_events::Places;
 use xk_show_where::{named_standings_text, standings_text};
+use xk_unit_origins::UnitOrigins;
 
 /// How many signs of a line are shown.
 const SHOWN: usize = 60;
@@ -39,7 +39,7 @@ impl<'t> Model for ProgramText<'t> {
 
 impl<'t> ProgramText<'t> {
     ghost use Rattle.std.specs.Prelude.{◌≡◌, ◌≤◌, length, map, slice_get, IfOk};
-    ghost use Rattle.xk_origins.specs.UnitOrigins.{offsets_at};
+    ghost use Rattle.xk_unit_origins.specs.UnitOrigins.{offsets_at};
     ghost use Rattle.xk_ask.specs.ProgramTexts.{known_text, line_front, no_source, standings, statement};
 
     /// A source text whose units have these origins, and whose shared numbers these names. Err where memory was refused.

@@ -13,7 +13,7 @@ use Rattle.xk_bounds.specs.declared.refusal.Refusal.TheVariants as refusal
 use Rattle.xk_lines.specs.declared.lines.Position.{Position}
 use Rattle.xk_lines.specs.Lines.{position_of, words_at}
 use Rattle.xk_lines.specs.Signs.{signs, shown_signs}
-use Rattle.xk_origins.specs.UnitOrigins.{Head, UnitOrigins}
+use Rattle.xk_unit_origins.specs.UnitOrigins.{Head, UnitOrigins}
 use Rattle.xk_explain_words.specs.Names.{told_name}
 use Rattle.xk_explain.specs.Notes.{NoteValue, note_lines, place_title}
 use Rattle.xk_explain.specs.Messages.{kind_message, rule_repair, source_message}

@@ -13,10 +13,10 @@ use crate::source_text::SourceText;
 use crate::walks::{push_stops, stops_head, unit_title};
 use std::alloc::{AllocError, Global};
 use xk_bounds::Refusal;
-use xk_origins::{Head, UnitOrigins};
 use xk_shape::ShapeFault;
 use xk_types::Rule;
 use xk_typestate::KindFault;
+use xk_unit_origins::{Head, UnitOrigins};
 
 /// All that is said of what the verifier has against the module of the source text in FILE, whose units have these origins: `FILE:8:9: V11 Use, in main:
 /// ..`, the line there with carets, these notes, the walk to a slot of the wrong kind, statement by statement, and the usual repair. Of want of memory

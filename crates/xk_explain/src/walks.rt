@@ -13,8 +13,8 @@ use crate::source_text::SourceText;
 use std::alloc::{AllocError, Global};
 use xk_explain_words::{push_name, told_name};
 use xk_lines::{Position, shown_front};
-use xk_origins::{Head, UnitOrigins};
 use xk_types::{Kind, Visit};
+use xk_unit_origins::{Head, UnitOrigins};
 
 /// How many signs of a line are told at most.
 const TOLD: usize = 60;

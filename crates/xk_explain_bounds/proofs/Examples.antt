@@ -6,7 +6,7 @@ use Rattle.xk_types.specs.declared.unit.ParamKind.TheVariants as param
 use Rattle.xk_types.specs.declared.unit.UnitKind.TheVariants as unit_kind
 use Rattle.xk_types.specs.Code.{ModuleValue, UnitValue}
 use Rattle.xk_types.proofs.Examples.Notation.{body_with, main_only, main_with, method_with, module_with}
-use Rattle.xk_origins.specs.UnitOrigins.{UnitOrigins}
+use Rattle.xk_unit_origins.specs.UnitOrigins.{UnitOrigins}
 use Rattle.xk_explain.specs.Notes.{NoteValue}
 use Rattle.xk_explain_bounds.specs.declared.remark.Deed.TheVariants as deed
 use Rattle.xk_explain_bounds.specs.declared.remark.Fact.{Fact}

@@ -4,7 +4,7 @@ use Rattle.std.specs.Prelude.{ℕ, List, [], ◌++◌, Option, Some, None, codes
 use Rattle.std.specs.Option.{option_map_or}
 use Rattle.xk_types.specs.declared.rules.Kind.{Kind}
 use Rattle.xk_types.specs.declared.rules.Kind.TheVariants as kind
-use Rattle.xk_origins.specs.UnitOrigins.{UnitOrigins}
+use Rattle.xk_unit_origins.specs.UnitOrigins.{UnitOrigins}
 use Rattle.xk_explain_words.specs.Names.{told_name}
 use Rattle.xk_explain.specs.Notes.{NoteValue}
 use Rattle.xk_explain.specs.SourceExplanations.{slot_title}

@@ -11,8 +11,8 @@ use crate::words::note_of;
 use std::alloc::{AllocError, Global};
 use xk_bounds::Refusal;
 use xk_explain::Note;
-use xk_origins::UnitOrigins;
 use xk_types::Module;
+use xk_unit_origins::UnitOrigins;
 
 /// The notes on what the verifier has against a module whose units have these origins: for V8 and V9 where the clock comes from that is meant, and which
 /// finish is open; for V12 where the finish begins; for V14 to V17 the sum by its parts: how many turns each loop takes, how often each call and start

@@ -12,8 +12,8 @@ use crate::remark::{Deed, Fact, Remark};
 use std::alloc::{AllocError, Global};
 use xk_explain::{Note, slot_title};
 use xk_explain_words::told_name;
-use xk_origins::UnitOrigins;
 use xk_types::Kind;
+use xk_unit_origins::UnitOrigins;
 
 /// What stands for the name of an `async` at its own place.
 const THIS: &str = "this `async`";

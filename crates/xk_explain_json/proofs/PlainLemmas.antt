@@ -6,7 +6,7 @@ use Rattle.serde_json.specs.Data.{Data, boolean, string, Members, no_members, pu
 use Rattle.xk_types.specs.declared.rules.Visit.{Visit}
 use Rattle.xk_tree.specs.declared.fault.FrontFault.{FrontFault}
 use Rattle.xk_lines.specs.Lines.{position_of}
-use Rattle.xk_origins.specs.UnitOrigins.{UnitOrigins}
+use Rattle.xk_unit_origins.specs.UnitOrigins.{UnitOrigins}
 use Rattle.xk_explain.specs.Notes.{NoteValue}
 use Rattle.xk_explain.specs.Explanations.{has_place, shown_at}
 use Rattle.xk_explain.specs.SourceExplanations.{origin_at}

@@ -9,7 +9,7 @@ use crate::object::Object;
 use serde_json::Value;
 use std::alloc::{AllocError, Global};
 use xk_explain::{SourceText, is_name, origin_at, place_title, slot_name};
-use xk_origins::{Head, UnitOrigins};
+use xk_unit_origins::{Head, UnitOrigins};
 
 /// `main`, `f`, or `async at 3:5`.
 fn unit_name(alloc: Global, source: &SourceText<'_>, head: &Head<'_>) -> Result<Vec<u8>, AllocError>

@@ -13,9 +13,9 @@ use crate::walks::put_walk_in;
 use std::alloc::{AllocError, Global};
 use xk_bounds::Refusal;
 use xk_explain::{Note, SourceText, source_message};
-use xk_origins::UnitOrigins;
 use xk_shape::ShapeFault;
 use xk_typestate::KindFault;
+use xk_unit_origins::UnitOrigins;
 
 /// All that is said of what the verifier has against the module of the source text in FILE, whose units have these origins, with these notes: a JSON
 /// object in one line, with the line and column that each instruction comes from. Of want of memory nothing is said. Err where memory was refused.

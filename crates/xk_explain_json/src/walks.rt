@@ -10,8 +10,8 @@ use crate::object::Object;
 use serde_json::Value;
 use std::alloc::{AllocError, Global};
 use xk_explain::{SourceText, origin_at};
-use xk_origins::UnitOrigins;
 use xk_types::Visit;
+use xk_unit_origins::UnitOrigins;
 
 /// Adds the instruction at which a walk stops, and the slot's kind before it.
 fn put_stop(alloc: Global, object: &mut Object, visit: Visit) -> Result<(), AllocError>

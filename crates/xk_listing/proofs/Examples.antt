@@ -9,7 +9,7 @@ use Rattle.xk_types.specs.declared.instr.Instr.TheVariants as instr
 use Rattle.xk_types.specs.declared.unit.UnitKind.TheVariants as unit_kind
 use Rattle.xk_types.specs.Code.{ModuleValue}
 use Rattle.xk_typestate.specs.KindSet.{KindsValue}
-use Rattle.xk_origins.specs.UnitOrigins.{UnitOrigins}
+use Rattle.xk_unit_origins.specs.UnitOrigins.{UnitOrigins}
 use Rattle.xk_lines.specs.Signs.{signs}
 use Rattle.xk_listing.specs.Words.{one, three, unless, forto_loop, next_argument, words}
 use Rattle.xk_listing.specs.Fields.{at_left, at_right, clock_at, clock_item, line_text, origin_field, place_title, slots_field}

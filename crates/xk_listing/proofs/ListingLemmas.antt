@@ -2,7 +2,7 @@
 use Rattle.std.proofs.Common.{◌≡◌, ℕ, List, Some, inl, inr, sym, ap, ◌∙◌}
 use Rattle.xk_types.specs.Code.{ModuleValue}
 use Rattle.xk_typestate.proofs.KindTableLemmas.{same_kind_tables}
-use Rattle.xk_origins.specs.UnitOrigins.{UnitOrigins}
+use Rattle.xk_unit_origins.specs.UnitOrigins.{UnitOrigins}
 use Rattle.xk_listing.specs.Listing.{IsListing, listing}
 
 pub one_listing : (text : List ℕ) (origins : List UnitOrigins) (m : ModuleValue) (a b : List ℕ) → IsListing text origins m a → IsListing text origins m b → a ≡ b

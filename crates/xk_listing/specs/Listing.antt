@@ -11,7 +11,7 @@ use Rattle.xk_types.specs.Shape.{HasShape}
 use Rattle.xk_lines.specs.Lines.{position_of}
 use Rattle.xk_typestate.specs.KindSet.{KindsValue}
 use Rattle.xk_typestate.specs.KindTable.{AreKindTables}
-use Rattle.xk_origins.specs.UnitOrigins.{Head, UnitOrigins}
+use Rattle.xk_unit_origins.specs.UnitOrigins.{Head, UnitOrigins}
 use Rattle.xk_listing.specs.Words.{words}
 use Rattle.xk_listing.specs.Fields.{at_left, at_right, clocks_field, each_below, origin_field, place_title, slots_field}
 

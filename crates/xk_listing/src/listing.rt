@@ -10,10 +10,10 @@ use crate::module_units::{ModuleUnit, push_module_unit};
 use crate::source_text::SourceText;
 use crate::source_units::{SourceUnit, push_source_unit};
 use std::alloc::{AllocError, Global};
-use xk_origins::UnitOrigins;
 use xk_shape::{ShapeError, Shaped, shape};
 use xk_types::{Module, Unit};
 use xk_typestate::{KindTables, kind_tables};
+use xk_unit_origins::UnitOrigins;
 
 /// Adds an empty line before a unit that isn't the first.
 fn push_gap(out: &mut Vec<u8>, unit: usize) -> Result<(), AllocError>

@@ -8,9 +8,9 @@ use crate::slots::{UnitSlots, clocks, push_slots};
 use crate::source_text::SourceText;
 use crate::words::words;
 use std::alloc::{AllocError, Global};
-use xk_origins::{Head, UnitOrigins};
 use xk_types::{Instr, Unit};
 use xk_typestate::KindTables;
+use xk_unit_origins::{Head, UnitOrigins};
 
 /// Adds `unit 1  `.
 #[tactic(auto, unfolding(crate::specs::Listing::unit_front))]

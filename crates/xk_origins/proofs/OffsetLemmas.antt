@@ -6,7 +6,8 @@ use Rattle.xk_names.specs.Scope.{has}
 use Rattle.xk_names.specs.Captures.{shared_texts}
 use Rattle.xk_source_semantics.specs.Parts.{Part, OfMethod, OfBody}
 use Rattle.xk_origins.specs.Origin.{Does, Ends, Leaves, brings, brings_all, closed, does, offset_of, origins, origins_all, own, part_origins, place_of, puts, puts_limit, puts_source}
-use Rattle.xk_origins.specs.UnitOrigins.{Head, UnitOrigins, head_of, slot_names, unit_origins}
+use Rattle.xk_unit_origins.specs.UnitOrigins.{Head, UnitOrigins}
+use Rattle.xk_origins.specs.UnitOrigins.{head_of, slot_names, unit_origins}
 use Rattle.xk_origins.specs.Offsets.{offsets, offsets_all, part_offsets}
 
 -- ---- something for each instruction, and something of that

@@ -20,7 +20,8 @@ use Rattle.xk_callgraph.proofs.CallPlaceLemmas.{has_at}
 use Rattle.xk_law_compiler.proofs.CompiledOnceLaw.{one_units}
 use Rattle.xk_law_compiler.proofs.UnitLemmas.PartLookupLemmas.{found}
 use Rattle.xk_law_compiler.proofs.UnitLemmas.SettingLemmas.{AreSettled, body_unit_of}
-use Rattle.xk_origins.specs.UnitOrigins.{UnitOrigins, names, names_all, params, slot_names, slots_at, unit_origins}
+use Rattle.xk_unit_origins.specs.UnitOrigins.{UnitOrigins, slots_at}
+use Rattle.xk_origins.specs.UnitOrigins.{names, names_all, params, slot_names, unit_origins}
 use Rattle.xk_origins.specs.VisibleNames.{AreSlotNames, IsNamed, scopes, scopes_all, unit_body, unit_params}
 use Rattle.xk_origins.specs.Laws.{AreOrigins}
 

@@ -23,7 +23,8 @@ use Rattle.xk_names.specs.Captures.{shared_texts}
 use Rattle.xk_names.proofs.MembershipLemmas.{has_either}
 use Rattle.xk_source_semantics.specs.Parts.{Part, bodies, bodies_all, method_parts, parts}
 use Rattle.xk_origins.specs.Origin.{brings, brings_all, closed, own, puts, puts_limit, puts_source}
-use Rattle.xk_origins.specs.UnitOrigins.{UnitOrigins, head_of, unit_origins}
+use Rattle.xk_unit_origins.specs.UnitOrigins.{UnitOrigins}
+use Rattle.xk_origins.specs.UnitOrigins.{head_of, unit_origins}
 use Rattle.xk_origins.specs.Laws.{AreAtTokens, AreOrigins, IsAtTokens}
 use Rattle.xk_origins.proofs.OffsetLemmas.{are_part_offsets}
 use Rattle.xk_origins.specs.Offsets.{offsets, offsets_all, part_offsets}

@@ -16,7 +16,8 @@ use Rattle.xk_source_semantics.specs.Compilation.{IsCompiled, unit_of_part}
 use Rattle.xk_law_compiler.proofs.CompiledOnceLaw.{one_units}
 use Rattle.xk_law_compiler.proofs.UnitLemmas.SettingLemmas.{shared_placed}
 use Rattle.xk_origins.specs.Origin.{Origin, Leaves, offset_of, origins, part_origins}
-use Rattle.xk_origins.specs.UnitOrigins.{UnitOrigins, offsets_at, unit_origins}
+use Rattle.xk_unit_origins.specs.UnitOrigins.{UnitOrigins, offsets_at}
+use Rattle.xk_origins.specs.UnitOrigins.{unit_origins}
 use Rattle.xk_origins.specs.Laws.{AreOrigins, HasOneForEach}
 use Rattle.xk_origins.proofs.LengthLemmas.{Same, code_length, joined}
 

@@ -9,7 +9,8 @@ use Rattle.xk_lexer.specs.Pieces.{offsets}
 use Rattle.xk_names.specs.Scope.{Has}
 use Rattle.xk_source_semantics.specs.Parts.{Part}
 use Rattle.xk_source_semantics.specs.Compilation.{AreUnits}
-use Rattle.xk_origins.specs.UnitOrigins.{UnitOrigins, offsets_at, unit_origins}
+use Rattle.xk_unit_origins.specs.UnitOrigins.{UnitOrigins, offsets_at}
+use Rattle.xk_origins.specs.UnitOrigins.{unit_origins}
 
 -- these are the origins of a program, unit by unit
 pub record AreOrigins (t : TreeValue) (origins : List UnitOrigins) : Type 0 where

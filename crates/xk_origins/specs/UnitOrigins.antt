@@ -1,8 +1,7 @@
 -- Where each instruction of a unit comes from, and what its slots are called. This project's own.
-use Rattle.std.specs.Prelude.{ℕ, List, [], ◌∷◌, ◌++◌, map, slice_get, Option, Some, None}
-use Rattle.std.specs.Option.{option_map_or}
-use Rattle.xk_types.specs.declared.unit.UnitKind.{UnitKind}
+use Rattle.std.specs.Prelude.{ℕ, List, [], ◌∷◌, ◌++◌, map, Some, None}
 use Rattle.xk_types.specs.declared.unit.UnitKind.TheVariants as unit_kind
+use Rattle.xk_unit_origins.specs.UnitOrigins.{Head, UnitOrigins}
 use Rattle.xk_tree.specs.Tree.{Statement, Statements, Done, More, Block, Declare, If, IfElse, For, Finish, TreeValue}
 use Rattle.xk_names.specs.Scope.{texts}
 use Rattle.xk_names.specs.Uses.{clocks_listed}
@@ -45,31 +44,10 @@ slot_names t p = params t p ++ part_names p
 
 -- ---- units
 
--- where a unit's text stands, what it is for, and what it is called
-pub record Head : Type 0 where
-  pub at : ℕ
-  pub kind : UnitKind
-  pub name : Option (List ℕ)
-
 -- of a method, its name; of a body, the word `async`
 abbrev pub head_of : Part → Head
 head_of (OfMethod m) = record { at = m.name.at; kind = method_kind m; name = Some m.name.text }
 head_of (OfBody at cs s) = record { at = at; kind = unit_kind.Body; name = None }
 
-pub record UnitOrigins : Type 0 where
-  pub head : Head
-  -- where each instruction comes from, as an offset in the text
-  pub offsets : List ℕ
-  -- the names of the slots
-  pub slots : List (List ℕ)
-
 abbrev pub unit_origins : TreeValue → Part → UnitOrigins
 unit_origins t p = record { head = head_of p; offsets = map offset_of (part_origins (shared_texts t.shared) p); slots = slot_names t p }
-
--- where the instructions of a unit come from; none where there is no such unit
-abbrev pub offsets_at : List UnitOrigins → ℕ → List ℕ
-offsets_at origins unit = option_map_or (λ o. o.offsets) (slice_get origins unit) []
-
--- the names of its slots
-abbrev pub slots_at : List UnitOrigins → ℕ → List (List ℕ)
-slots_at origins unit = option_map_or (λ o. o.slots) (slice_get origins unit) []

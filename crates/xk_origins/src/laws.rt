@@ -21,7 +21,7 @@ ghost use Rattle.xk_origins.specs.Due.{HasRunBeside};
 ghost use Rattle.xk_origins.specs.Laws.{AreAtTokens, AreOrigins, HasOneForEach, code_at};
 ghost use Rattle.xk_origins.specs.Origin.{origins, part_origins};
 ghost use Rattle.xk_origins.specs.OwnInstructions.{AreOf};
-ghost use Rattle.xk_origins.specs.UnitOrigins.{UnitOrigins, slots_at};
+ghost use Rattle.xk_unit_origins.specs.UnitOrigins.{UnitOrigins, slots_at};
 ghost use Rattle.xk_origins.specs.VisibleNames.{AreSlotNames};
 
 /// The code of a statement has as many instructions as origins, whatever scope, temporary, slot and place it is made for: which names are

@@ -6,8 +6,6 @@ pub mod laws;
 mod shared_names;
 mod slots;
 mod statements;
-mod unit_origins;
 mod units;
 
-pub use unit_origins::{Head, Origins, UnitOrigins};
 pub use units::origins;

@@ -18,12 +18,12 @@ use crate::expressions::add;
 use crate::shared_names::SharedNames;
 use crate::slots::{add_all_names, add_clocks, add_names, add_params, add_taken};
 use crate::statements::{add_all_offsets, add_offsets, closed};
-use crate::unit_origins::{Head, Origins, UnitOrigins};
 use std::alloc::{AllocError, Global};
 use xk_names::{Methods, captures, methods_of};
 use xk_numbering::{Part, units_in_order};
 use xk_tree::{Method, Stmt, Tree};
 use xk_types::UnitKind;
+use xk_unit_origins::{Head, Origins, UnitOrigins};
 
 const MAIN: &[u8] = b"main";
 
@@ -203,7 +203,7 @@ fn origins_of<'a, 't>(
     let methods = methods_of(alloc, tree)?;
     let shared = SharedNames::of(alloc, &tree.shared)?;
     let units = origins_among(alloc, tree, &methods, &shared, units)?;
-    Ok(Origins { units })
+    Ok(Origins::new(units))
 }
 
 /// Where the instructions of the module come from that a tree is compiled to, unit by unit, and what their slots are called.

@@ -4,7 +4,7 @@ use Rattle.xk_types.specs.Code.{ModuleValue}
 use Rattle.xk_tree.specs.Tree.{TreeValue}
 use Rattle.xk_tree.specs.declared.fault.FrontFault.{FrontFault}
 use Rattle.xk_names.specs.Captures.{shared_texts}
-use Rattle.xk_origins.specs.UnitOrigins.{UnitOrigins}
+use Rattle.xk_unit_origins.specs.UnitOrigins.{UnitOrigins}
 use Rattle.xk_origins.specs.Laws.{AreOrigins}
 use Rattle.xk_cli.specs.declared.job.Form.{Form}
 use Rattle.xk_cli.specs.declared.job.Form.TheVariants as form

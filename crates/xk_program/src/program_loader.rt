@@ -15,10 +15,11 @@ use std::alloc::{AllocError, Global};
 use xk_cli::Form;
 use xk_codegen::compile;
 use xk_module::{ModuleFault, read_module};
-use xk_origins::{Origins, origins};
+use xk_origins::origins;
 use xk_syntax::parse;
 use xk_tree::{FrontError, FrontFault, FrontRule, Tree};
 use xk_types::Module;
+use xk_unit_origins::Origins;
 
 /// The most bytes that a source text has.
 pub(crate) const LONGEST_SOURCE: usize = 1_048_576;

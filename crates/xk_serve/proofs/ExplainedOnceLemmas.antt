@@ -8,7 +8,7 @@ use Rattle.xk_types.specs.Code.{ModuleValue}
 use Rattle.xk_tree.specs.Tree.{TreeValue}
 use Rattle.xk_tree.specs.declared.fault.FrontFault.{FrontFault}
 use Rattle.xk_syntax.proofs.TextLemmas.{one_tree}
-use Rattle.xk_origins.specs.UnitOrigins.{UnitOrigins}
+use Rattle.xk_unit_origins.specs.UnitOrigins.{UnitOrigins}
 use Rattle.xk_bounds.specs.declared.refusal.Refusal.{Refusal}
 use Rattle.xk_bounds.specs.declared.refusal.Refusal.TheVariants as refusal
 use Rattle.xk_bounds.specs.Refusals.{Refuses}

@@ -5,7 +5,8 @@ use Rattle.xk_tree.specs.Tree.{TreeValue}
 use Rattle.xk_names.specs.Captures.{shared_texts}
 use Rattle.xk_syntax.proofs.TextLemmas.{one_tree}
 use Rattle.xk_law_compiler.proofs.CompiledOnceLaw.{one_units}
-use Rattle.xk_origins.specs.UnitOrigins.{UnitOrigins, unit_origins}
+use Rattle.xk_unit_origins.specs.UnitOrigins.{UnitOrigins}
+use Rattle.xk_origins.specs.UnitOrigins.{unit_origins}
 use Rattle.xk_origins.specs.Laws.{AreOrigins}
 use Rattle.xk_hints.specs.Words.{HintValue, hints}
 use Rattle.xk_listing.proofs.ListingLemmas.{one_listing}

@@ -2,3 +2,4 @@ pub mod Lines
 pub mod Answer
 pub mod Devices
 pub mod OneAnswer
+pub use Rattle.xk_answers.specs.Printed

@@ -16,13 +16,13 @@ use Rattle.xk_messages.specs.Lines.{label_line, label_status, memory_line, refus
 use Rattle.xk_bounds.specs.declared.refusal.Refusal.{Refusal}
 use Rattle.xk_bounds.specs.declared.refusal.Refusal.TheVariants as refusal
 use Rattle.xk_module.specs.Faults.{fault_label}
-use Rattle.xk_origins.specs.UnitOrigins.{UnitOrigins}
+use Rattle.xk_unit_origins.specs.UnitOrigins.{UnitOrigins}
 use Rattle.xk_ask.specs.Answers.{AreAnswers}
 use Rattle.xk_ask.specs.Asking.{BeginsByAnswers, IsByAnswers, Leaves}
 use Rattle.xk_ask.specs.Play.{IsPlayed, log_by, told_by, unread}
 use Rattle.xk_program.specs.declared.fault.Fault.{Fault}
 use Rattle.xk_program.specs.declared.fault.Fault.TheVariants as fault
-use Rattle.xk_answers.specs.Printed.{whole_status}
+use Rattle.xk_serve.specs.Printed.{whole_status}
 use Rattle.xk_program.specs.Bytes.{FailsRead, kept}
 use Rattle.xk_serve.specs.Devices.{Reports}
 use Rattle.xk_program.specs.Origins.{HaveOrigins, HaveSharedNames}

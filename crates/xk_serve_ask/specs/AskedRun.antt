@@ -19,8 +19,8 @@ use Rattle.xk_ask.specs.declared.fault.AskFault.TheVariants as ask
 use Rattle.xk_program.specs.declared.fault.Fault.{Fault}
 use Rattle.xk_program.specs.declared.fault.Fault.TheVariants as fault
 use Rattle.xk_program.specs.Refusals.{IsNotRun}
-use Rattle.xk_answers.specs.Printed.{whole_status}
-use Rattle.xk_origins.specs.UnitOrigins.{UnitOrigins}
+use Rattle.xk_serve.specs.Printed.{whole_status}
+use Rattle.xk_unit_origins.specs.UnitOrigins.{UnitOrigins}
 use Rattle.xk_ask.specs.ProgramTexts.{ProgramTextValue, known_text, no_source}
 use Rattle.xk_program.specs.Origins.{IsByNames}
 use Rattle.xk_program.specs.Bytes.{kept}

@@ -11,7 +11,7 @@ ghost use Rattle.xk_cli.specs.Status.{status_device, status_memory, status_progr
 ghost use Rattle.xk_messages.specs.Lines.{memory_line};
 ghost use Rattle.xk_ask.specs.Asking.{Leaves};
 ghost use Rattle.xk_ask.specs.Play.{IsPlayed, log_by, unread};
-ghost use Rattle.xk_answers.specs.Printed.{whole_status};
+ghost use Rattle.xk_serve.specs.Printed.{whole_status};
 ghost use Rattle.xk_program.specs.Lines.{device_line, status_of};
 ghost use Rattle.xk_ask.specs.Answers.{AreAnswers};
 ghost use Rattle.xk_serve_ask.specs.AskedRun.{AreBegun, BeginsAsking, BeginsToAsk, EndsAsking, FailsWhile, fault_of, IsAskedBy, IsAskedFirst, IsHandReply, IsHandReplyOfSome, IsPlayedByHand, IsWrittenBy, OutBeginsRun, StandsAgainstAsked, last_line};

@@ -7,7 +7,7 @@ use Rattle.xk_types.specs.declared.world.Event.TheVariants as event
 use Rattle.xk_types.specs.Code.{ModuleValue}
 use Rattle.xk_lines.specs.Lines.{position_of}
 use Rattle.xk_lines.specs.declared.lines.Position.{Position}
-use Rattle.xk_origins.specs.UnitOrigins.{UnitOrigins, offsets_at}
+use Rattle.xk_unit_origins.specs.UnitOrigins.{UnitOrigins, offsets_at}
 use Rattle.xk_show_events.specs.declared.steps.RunStep.{RunStep}
 use Rattle.xk_show_events.specs.Steps.{seen_steps}
 

@@ -1,13 +1,13 @@
 //! Where the instructions of a program come from.
 
 ghost use Rattle.std.specs.Prelude.{◌≡◌, IfOk};
-ghost use Rattle.xk_origins.specs.UnitOrigins.{offsets_at};
+ghost use Rattle.xk_unit_origins.specs.UnitOrigins.{offsets_at};
 ghost use Rattle.xk_show_events.specs.Events.{no_text, origin_of, places_of};
 
 use std::alloc::{AllocError, Global};
 use std::marker::Model;
 use xk_lines::{LineStarts, Position};
-use xk_origins::UnitOrigins;
+use xk_unit_origins::UnitOrigins;
 
 /// A source text, and where the instructions of its units come from. A module alone has neither.
 #[derive(Drop)]

@@ -11,8 +11,8 @@ use crate::rows::{push_head, push_row_if_seen};
 use crate::window::Window;
 use std::alloc::{AllocError, Global};
 use xk_core::Core;
-use xk_origins::UnitOrigins;
 use xk_show_events::{Describe, LegalRun, Places, RunStep, describe_run, is_seen};
+use xk_unit_origins::UnitOrigins;
 
 /// What is drawn, and whether it is whole: no lane is left out. (A step that wasn't asked for isn't left out.)
 #[derive(Debug, Drop)]

@@ -20,10 +20,10 @@ use crate::rows::{push_cells, push_head, push_words_behind, row_front};
 use crate::window::Window;
 use std::alloc::{AllocError, Global};
 use xk_core::Core;
-use xk_origins::UnitOrigins;
 use xk_show_events::{LegalRun, Places, advanced, is_seen};
 use xk_show_names::{Account, Names, Recount, account_words, clock_word, recount_run};
 use xk_types::{ClockId, Event};
+use xk_unit_origins::UnitOrigins;
 
 /// How long the longest place is at which one of these steps was taken.
 fn longest_spot(alloc: Global, places: &Places<'_>, steps: &[Account]) -> Result<usize, AllocError>

@@ -9,7 +9,7 @@ use Rattle.xk_types.specs.declared.unit.UnitKind.TheVariants as unit_kind
 use Rattle.xk_types.specs.declared.world.Status.TheVariants as status
 use Rattle.xk_types.specs.World.{Activity, Frame, root}
 use Rattle.xk_types.proofs.Examples.Notation.{main_with, module_with}
-use Rattle.xk_origins.specs.UnitOrigins.{UnitOrigins}
+use Rattle.xk_unit_origins.specs.UnitOrigins.{UnitOrigins}
 use Rattle.xk_show_events.specs.Events.{places_of}
 use Rattle.xk_show_locals.specs.Locals.{bound_words, caller_front, clock_words, frame_line, frame_words, front, lines_of, number_words}
 

@@ -10,7 +10,7 @@ use Rattle.xk_types.specs.declared.world.Value.{Value}
 use Rattle.xk_types.specs.declared.world.Value.TheVariants as value
 use Rattle.xk_types.specs.Code.{ModuleValue}
 use Rattle.xk_types.specs.World.{Activity, Frame, World}
-use Rattle.xk_origins.specs.UnitOrigins.{UnitOrigins}
+use Rattle.xk_unit_origins.specs.UnitOrigins.{UnitOrigins}
 use Rattle.xk_activity.specs.Activities.{act_at}
 use Rattle.xk_activity.specs.Local.{code_of}
 use Rattle.xk_core.specs.Core.{is_living}

@@ -11,9 +11,9 @@ use std::alloc::{AllocError, Global};
 use xk_activity::Frames;
 use xk_bounds::Verified;
 use xk_core::Core;
-use xk_origins::UnitOrigins;
 use xk_show_events::{Places, place_words};
 use xk_types::{Act, Instr};
+use xk_unit_origins::UnitOrigins;
 
 /// Adds what a slot of the present frame holds, if there is such a slot.
 fn push_slot(

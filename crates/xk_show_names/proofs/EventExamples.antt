@@ -8,7 +8,7 @@ use Rattle.xk_types.specs.declared.unit.UnitKind.TheVariants as unit_kind
 use Rattle.xk_types.specs.declared.world.Entry.{Entry}
 use Rattle.xk_types.specs.Code.{ModuleValue}
 use Rattle.xk_types.proofs.Examples.Notation.{main_with, module_with}
-use Rattle.xk_origins.specs.UnitOrigins.{UnitOrigins}
+use Rattle.xk_unit_origins.specs.UnitOrigins.{UnitOrigins}
 use Rattle.xk_show_events.specs.Events.{event_words, no_text}
 use Rattle.xk_show_names.specs.ClockNames.{births, births_until, clock_names, each_numbered}
 use Rattle.xk_show_names.specs.Methods.{prefix_at}

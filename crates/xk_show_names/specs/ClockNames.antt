@@ -11,7 +11,7 @@ use Rattle.xk_types.specs.declared.world.Event.{Event}
 use Rattle.xk_types.specs.declared.world.Event.TheVariants as event
 use Rattle.xk_types.specs.Code.{ModuleValue}
 use Rattle.xk_lines.specs.declared.lines.Position.{Position}
-use Rattle.xk_origins.specs.UnitOrigins.{slots_at}
+use Rattle.xk_unit_origins.specs.UnitOrigins.{slots_at}
 use Rattle.xk_show_names.specs.declared.accounts.Account.{Account}
 use Rattle.xk_show_names.specs.declared.clock_names.Birth.{Birth}
 use Rattle.xk_show_events.specs.declared.steps.RunStep.{RunStep}

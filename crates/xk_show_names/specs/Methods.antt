@@ -5,7 +5,7 @@ use Rattle.std.specs.List.{fold}
 use Rattle.std.specs.Option.{option_map_or}
 use Rattle.xk_types.specs.declared.unit.UnitKind.{UnitKind}
 use Rattle.xk_types.specs.declared.unit.UnitKind.TheVariants as unit_kind
-use Rattle.xk_origins.specs.UnitOrigins.{Head, UnitOrigins}
+use Rattle.xk_unit_origins.specs.UnitOrigins.{Head, UnitOrigins}
 use Rattle.xk_show_names.specs.Letters.{cut_name}
 
 -- the name of a method stands there, or before it, and behind that of the one found so far

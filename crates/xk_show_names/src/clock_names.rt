@@ -1,7 +1,7 @@
 //! What the shared numbers and clocks of a run are called: clocks by the names that they were made under.
 
 ghost use Rattle.std.specs.Prelude.{◌≡◌, ◌++◌, length, map, min, option_map, slice_get, IfOk, OnOk, string_bytes};
-ghost use Rattle.xk_origins.specs.UnitOrigins.{slots_at};
+ghost use Rattle.xk_unit_origins.specs.UnitOrigins.{slots_at};
 ghost use Rattle.xk_show_events.specs.Events.{places_of};
 ghost use Rattle.xk_show_names.specs.ClockNames.{birth, birth_by, births, births_among, made_in};
 ghost use Rattle.xk_show_names.specs.ClockNames.{clock_names, is_name, name_of, names_by, names_in_run, unnamed, unnamed_by};
@@ -16,9 +16,9 @@ use std::alloc::{AllocError, Global};
 use std::marker::Model;
 use xk_core::Core;
 use xk_lines::Position;
-use xk_origins::UnitOrigins;
 use xk_show_events::{LegalRun, Places, RunStep};
 use xk_types::{Event, Instr, Module};
+use xk_unit_origins::UnitOrigins;
 
 /// Where a clock was made: the instruction, and the slot.
 #[derive(Clone, Copy)]

@@ -12,9 +12,9 @@ use crate::clock_names::Names;
 use crate::letters::cut_name;
 use crate::writers::Writers;
 use std::alloc::{AllocError, Global};
-use xk_origins::UnitOrigins;
 use xk_show_events::{LegalRun, Places, RunStep, event_words, place_words};
 use xk_types::Event;
+use xk_unit_origins::UnitOrigins;
 
 /// A shared number by its name, or `shared 0`. Err where memory was refused.
 #[tactic(auto, unfolding(crate::specs::Events::shared_word))]

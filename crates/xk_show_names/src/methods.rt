@@ -5,8 +5,8 @@ ghost use Rattle.xk_show_names.specs.Methods.{is_nearer, method_at, method_of, n
 
 use crate::letters::cut_name;
 use std::alloc::{AllocError, Global};
-use xk_origins::{Head, UnitOrigins};
 use xk_types::UnitKind;
+use xk_unit_origins::{Head, UnitOrigins};
 
 /// Whether the name of a method stands there, or before it, and behind that of the one found so far.
 fn is_nearer(at: usize, found: Option<&Head<'_>>, head: &Head<'_>) -> bool

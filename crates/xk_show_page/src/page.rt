@@ -8,11 +8,11 @@ ghost use Rattle.xk_show_page.specs.Page.{behind_picture, behind_source, escaped
 use crate::moments::{MomentTeller, push_opening};
 use crate::texts::{push_escaped, push_head, push_lists, push_moments_begin, push_tail};
 use std::alloc::{AllocError, Global};
-use xk_origins::UnitOrigins;
 use xk_show_events::{Both, LegalRun, Places};
 use xk_show_lanes::{Drawing, Window};
 use xk_show_names::recount_run_by_both;
 use xk_show_picture::{PictureTeller, Planned, plan_for};
+use xk_unit_origins::UnitOrigins;
 
 /// A file's source text, where its units' instructions come from, and what its shared numbers are called. A module alone has none
 /// of it.

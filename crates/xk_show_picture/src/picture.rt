@@ -18,10 +18,10 @@ use crate::sheet::{Sheet, middle, sheet_of, wide};
 use crate::words::signs_of;
 use std::alloc::{AllocError, Global};
 use xk_core::Core;
-use xk_origins::UnitOrigins;
 use xk_show_events::{LegalRun, Places};
 use xk_show_lanes::{Drawing, Grid, Window, grid_of, named_columns, title};
 use xk_show_names::{Account, Names, Recount, recount_run};
+use xk_unit_origins::UnitOrigins;
 
 /// The most rows that are drawn.
 const ROWS: usize = 2000;

@@ -11,7 +11,7 @@ use Rattle.xk_types.specs.declared.world.Entry.{Entry}
 use Rattle.xk_types.specs.Code.{ModuleValue}
 use Rattle.xk_types.proofs.Examples.Notation.{body_with, main_with, module_with}
 use Rattle.xk_lines.specs.Signs.{signs}
-use Rattle.xk_origins.specs.UnitOrigins.{UnitOrigins}
+use Rattle.xk_unit_origins.specs.UnitOrigins.{UnitOrigins}
 use Rattle.xk_show_events.specs.Events.{PlacesValue, places_of}
 use Rattle.xk_show_names.specs.Events.{change_words, shared_word, value_words}
 use Rattle.xk_races.specs.Text.{count_line, most_shown}

@@ -5,7 +5,7 @@ use Rattle.std.specs.List.{find}
 use Rattle.xk_types.specs.declared.world.Entry.{Entry}
 use Rattle.xk_types.specs.Code.{ModuleValue}
 use Rattle.xk_lines.specs.Excerpts.{excerpt}
-use Rattle.xk_origins.specs.UnitOrigins.{offsets_at}
+use Rattle.xk_unit_origins.specs.UnitOrigins.{offsets_at}
 use Rattle.xk_show_events.specs.declared.steps.RunStep.{RunStep}
 use Rattle.xk_show_events.specs.Events.{PlacesValue, origin_of, place_words}
 use Rattle.xk_show_names.specs.declared.accounts.Account.{Account}

@@ -10,10 +10,10 @@ use crate::accounts::racing;
 use crate::source_lines::SourceLines;
 use crate::text::lines_of;
 use std::alloc::{AllocError, Global};
-use xk_origins::UnitOrigins;
 use xk_races::{Race, RaceReport, shown_races};
 use xk_scheduler::Ended;
 use xk_show_names::Names;
+use xk_unit_origins::UnitOrigins;
 
 /// The lines of these races of a run.
 fn lines_told(

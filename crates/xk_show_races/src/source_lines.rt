@@ -3,8 +3,8 @@
 use std::alloc::{AllocError, Global};
 use std::marker::Model;
 use xk_lines::LineStarts;
-use xk_origins::UnitOrigins;
 use xk_show_events::Places;
+use xk_unit_origins::UnitOrigins;
 
 /// A source text, its lines, and where the instructions of its units come from.
 #[derive(Drop)]
@@ -29,7 +29,7 @@ impl<'t> Model for SourceLines<'t> {
 
 impl<'t> SourceLines<'t> {
     ghost use Rattle.std.specs.Prelude.{◌≡◌, slice_get, IfOk};
-    ghost use Rattle.xk_origins.specs.UnitOrigins.{offsets_at};
+    ghost use Rattle.xk_unit_origins.specs.UnitOrigins.{offsets_at};
     ghost use Rattle.xk_show_events.specs.Events.{places_of};
     ghost use Rattle.xk_show_races.specs.Text.{excerpt_at};
 

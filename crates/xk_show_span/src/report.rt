@@ -7,11 +7,11 @@ ghost use Rattle.xk_show_span.specs.Text.{span_text};
 
 use crate::text::text_by;
 use std::alloc::{AllocError, Global};
-use xk_origins::UnitOrigins;
 use xk_races::module_races;
 use xk_scheduler::Ended;
 use xk_show_events::Places;
 use xk_span::time_run;
+use xk_unit_origins::UnitOrigins;
 
 /// What is told of how long a run had to take, and whether it has no race.
 #[derive(Drop)]

@@ -9,7 +9,7 @@ use Rattle.xk_types.specs.declared.world.Entry.{Entry}
 use Rattle.xk_types.specs.Code.{ModuleValue}
 use Rattle.xk_types.specs.Step.{under_within}
 use Rattle.xk_types.proofs.Examples.Notation.{main_with, body_with, module_with}
-use Rattle.xk_origins.specs.UnitOrigins.{UnitOrigins}
+use Rattle.xk_unit_origins.specs.UnitOrigins.{UnitOrigins}
 use Rattle.xk_show_events.specs.Events.{no_text, places_of}
 use Rattle.xk_show_locals.specs.Locals.{bound_words, front, number_words}
 use Rattle.xk_show_where.specs.Where.{act_line, are_steps_legal, clock_line, clock_words, held_words, listed, named_where_text}

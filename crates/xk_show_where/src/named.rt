@@ -16,10 +16,10 @@ use crate::texts::push_text;
 use std::alloc::{AllocError, Global};
 use xk_bounds::Verified;
 use xk_core::Core;
-use xk_origins::UnitOrigins;
 use xk_show_events::Places;
 use xk_show_locals::push_name;
 use xk_types::Entry;
+use xk_unit_origins::UnitOrigins;
 
 /// Adds the line of a shared number by its name.
 #[tactic(auto, unfolding(crate::specs::Where::value_line))]

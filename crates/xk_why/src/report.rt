@@ -12,10 +12,10 @@ use crate::module_lines::{event_why_lines, has_number};
 use crate::rest::rest_of;
 use crate::told::flows_of_run;
 use std::alloc::{AllocError, Global};
-use xk_origins::UnitOrigins;
 use xk_scheduler::Ended;
 use xk_show_events::{LegalRun, Places, seen_steps};
 use xk_show_names::Names;
+use xk_unit_origins::UnitOrigins;
 
 /// The numbers of the steps that a step of a run rests on and that others can see.
 fn rest_in(alloc: Global, ended: &Ended<'_>, number: u64) -> Result<Vec<u64>, AllocError>

@@ -16,7 +16,7 @@ pub struct Head<'t> {
 
 impl<'t> Model for Head<'t> {
     ghost use Rattle.std.specs.Prelude.{option_map};
-    ghost use Rattle.xk_origins.specs.UnitOrigins.{Head as HeadValue};
+    ghost use Rattle.xk_unit_origins.specs.UnitOrigins.{Head as HeadValue};
 
     ghost Value = { HeadValue };
 
@@ -41,7 +41,7 @@ pub struct UnitOrigins<'t> {
 
 impl<'t> Model for UnitOrigins<'t> {
     ghost use Rattle.std.specs.Prelude.{map};
-    ghost use Rattle.xk_origins.specs.UnitOrigins.{UnitOrigins as UnitOriginsValue};
+    ghost use Rattle.xk_unit_origins.specs.UnitOrigins.{UnitOrigins as UnitOriginsValue};
 
     ghost Value = { UnitOriginsValue };
 
@@ -55,12 +55,12 @@ impl<'t> Model for UnitOrigins<'t> {
 /// Where the instructions of a module come from, unit by unit.
 #[derive(Drop)]
 pub struct Origins<'t> {
-    pub(crate) units: Vec<UnitOrigins<'t>>,
+    units: Vec<UnitOrigins<'t>>,
 }
 
 impl<'t> Model for Origins<'t> {
     ghost use Rattle.std.specs.Prelude.{List};
-    ghost use Rattle.xk_origins.specs.UnitOrigins.{UnitOrigins as UnitOriginsValue};
+    ghost use Rattle.xk_unit_origins.specs.UnitOrigins.{UnitOrigins as UnitOriginsValue};
 
     ghost Value = { List UnitOriginsValue };
 
@@ -69,7 +69,14 @@ impl<'t> Model for Origins<'t> {
 
 impl<'t> Origins<'t> {
     ghost use Rattle.std.specs.Prelude.{◌≡◌, ◌<◌, Some, length, option_map, slice_get};
-    ghost use Rattle.xk_origins.specs.UnitOrigins.{offsets_at, slots_at};
+    ghost use Rattle.xk_unit_origins.specs.UnitOrigins.{offsets_at, slots_at};
+
+    /// What is said of these units is what is said of a module that has them in this order.
+    pub fn new(units: Vec<UnitOrigins<'t>>) -> Origins<'t>
+        ensures { result.now ≡ units.items }
+    {
+        Origins { units }
+    }
 
     /// What is said of each unit, in their order.
     pub fn units(&self) -> &[UnitOrigins<'t>]
