@@ -31,7 +31,7 @@ MOST = {
     "prover": 0,
     "uncited": 1,
     "twice": 30,
-    "pub": 82,
+    "pub": 81,
     "clauses": 0,
     "code": 234,
     "proofs": 6668,
