@@ -533,6 +533,7 @@ fn is_left_open(command: &Command<'_>) -> bool
         | Command::Events { .. }
         | Command::Lanes { .. }
         | Command::Page { .. }
+        | Command::OutcomePage { .. }
         | Command::Where { .. }
         | Command::Span { .. }
         | Command::Why { .. }

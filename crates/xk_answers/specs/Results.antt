@@ -1,5 +1,6 @@
 -- What a job on a module comes to, or tells of it: the numbers and the log of a run, what a module can print, pictures of a run. This project's own.
-use Rattle.std.specs.Prelude.{◌≡◌, ℕ, ⊤, ℤ, ◌-◌, ◌&&◌, not, Bool, true, false, List, take, slice_get, Option, Some, None, is_some, option_map, unwrap_or, string_bytes, if◌then◌else◌}
+use Rattle.std.specs.Prelude.{◌≡◌, ℕ, ⊤, ℤ, ◌-◌, ◌&&◌, not, Bool, true, false, List, ◌++◌, length, take, slice_get, Option, Some, None, is_some}
+use Rattle.std.specs.Prelude.{option_map, unwrap_or, string_bytes, codes, decimal, if◌then◌else◌}
 use Rattle.serde_json.specs.Written.{compact_text}
 use Rattle.xk_types.specs.Code.{ModuleValue}
 use Rattle.xk_unit_origins.specs.UnitOrigins.{UnitOrigins}
@@ -27,7 +28,7 @@ use Rattle.xk_outcomes.specs.Sets.{AreAllAs, AreDistinctAs, AreShownAs}
 use Rattle.xk_outcomes.specs.declared.listing.Outcome.{Outcome}
 use Rattle.xk_outcomes.specs.LoneOutcomes.{IsOneOfManyAs}
 use Rattle.xk_outcomes.specs.PlainRuns.{ArePlainListedAs}
-use Rattle.xk_outcomes.specs.Text.{outcomes_text}
+use Rattle.xk_outcomes.specs.Text.{completeness, outcomes_text}
 use Rattle.xk_outcomes.specs.declared.all_outcomes.Limit.{Limit}
 use Rattle.xk_outcomes.specs.Limits.{GoesFar, limit_of}
 use Rattle.xk_outcomes.specs.Expected.{AreExpected}
@@ -42,7 +43,7 @@ use Rattle.xk_answers.specs.Explanation.{lanes_so_far, page_so_far, races_told, 
 -- what is to be done with a module; what is explained is a JSON value or not; a run is in an order, or by workers, and has its log kept or not; some
 -- picture is drawn of one; it is told how things stand behind a log, or behind so many of its steps, which races the run in the order `first` has, or how often so many runs by chance,
 -- from this seed on, print what; of outcomes, as lists of numbers or without their order, so many are looked for, and of one, counted from 1, the log
--- is kept or not, or they are held against a list
+-- is kept or not, or they are held against a list, or of one the page of its run is made
 pub data Doing : Type 0 where
   Check : Doing
   Explain : Bool → Doing
@@ -56,6 +57,7 @@ pub data Doing : Type 0 where
   Tally : ℕ → ℕ → Doing
   Outcomes : Bool → Option ℕ → ℕ → Bool → Doing
   Expected : Bool → Option ℕ → Doing
+  OutcomePage : Window → Option ℕ → ℕ → Doing
 
 -- a run is in the order `first` where neither an order nor workers were given
 abbrev pub way_given : Option Drive → Way
@@ -196,12 +198,44 @@ abbrev pub AreFirstRaces : Form → List ℕ → ModuleValue → List ℤ → Ta
 AreFirstRaces kind bytes m args told = (numbers : List ℤ) × (steps : ℕ) × (es : List Entry) × IsLoggedRun order.First m args numbers steps es
     × IsByNames kind bytes (races_told bytes m args es) told
 
+-- What a module can print is looked for up to this limit, and this is the log of the outcome of a number, if it is there; so many outcomes are, which
+-- are all or not.
+pub record IsPicked (m : ModuleValue) (args : List ℤ) (limit : Limit) (pick count : ℕ) (complete : Bool) (log : Option (List Entry)) : Type 0 where
+  pub text : List ℕ
+  pub whole : Bool
+  pub found : AreOutcomes m args false limit pick true text whole log
+  pub count_is : count ≡ length found.list
+  pub complete_is : complete ≡ found.complete
+
+-- the page of the run by this log is told, which is legal, and in which all have ended
+abbrev pub IsPageOf : Window → Form → List ℕ → List ℕ → ModuleValue → List ℤ → List Entry → Tale → Type 0
+IsPageOf window kind file bytes m args es told = (legal : IsLegal m args es) × (all_ended legal.last ≡ true)
+    × IsPicture (picture.Page window) kind file bytes m args es legal.last told
+
+-- there is no outcome of this number: `no outcome 5: outcomes 2 complete`; the answer isn't whole
+abbrev pub none_line : ℕ → ℕ → Bool → List ℕ
+none_line pick count complete = codes "no outcome " ++ (decimal pick ++ (codes ": outcomes " ++ (decimal count ++ completeness complete)))
+
+abbrev pub none_told : ℕ → ℕ → Bool → Tale
+none_told pick count complete = (none_line pick count complete, false)
+
+-- the page of the run by the log that was picked is told, or that there is none
+abbrev pub IsPickedTold : Window → ℕ → ℕ → Bool → Form → List ℕ → List ℕ → ModuleValue → List ℤ → Option (List Entry) → Tale → Type 0
+IsPickedTold window pick count complete kind file bytes m args (Some es) told = IsPageOf window kind file bytes m args es told
+IsPickedTold window pick count complete kind file bytes m args None told = told ≡ none_told pick count complete
+
+-- The page of a run with the outcome of this number is told: by the log that `outcomes` may write of it, with the same limit.
+abbrev pub IsOutcomePage : Window → Limit → ℕ → Form → List ℕ → List ℕ → ModuleValue → List ℤ → Tale → Type 0
+IsOutcomePage window limit pick kind file bytes m args told = (count : ℕ) × (complete : Bool) × (log : Option (List Entry))
+    × IsPicked m args limit pick count complete log × IsPickedTold window pick count complete kind file bytes m args log told
+
 -- so many runs by chance, from this seed on, are told as a tally
 abbrev pub IsTallied : ModuleValue → List ℤ → ℕ → ℕ → Tale → Type 0
 IsTallied m args seed runs told = IsTallyText m args seed runs told.0 × (told.1 ≡ true)
 
 -- What is told of the module that the bytes give, by their lines and names where they are a source text: for `explain`, where the module is accepted,
--- its bounds and hints, and for `listing` its instructions; for all others, where it is accepted, the run that the log has, or the runs in their orders.
+-- its bounds and hints, and for `listing` its instructions; for all others, where it is accepted, the run that the log has, the runs in their orders, or
+-- a run with an outcome.
 abbrev pub IsTelling : Doing → Form → List ℕ → List ℕ → ModuleValue → List ℤ → List ℕ → Tale → Type 0
 IsTelling (Explain json) kind file bytes m args logged told =
     IsAccepted m × ((hs : List HintValue) × HaveHints kind bytes hs × IsByOrigins kind bytes (acceptance_told json file bytes m hs) told)
@@ -211,6 +245,8 @@ IsTelling (Draw picture) kind file bytes m args logged told =
 IsTelling (Where at) kind file bytes m args logged told = IsAccepted m × IsWhereabouts at kind bytes m args logged told
 IsTelling Races kind file bytes m args logged told = IsAccepted m × AreFirstRaces kind bytes m args told
 IsTelling (Tally seed runs) kind file bytes m args logged told = IsAccepted m × AreArguments m args × IsTallied m args seed runs told
+IsTelling (OutcomePage window limit pick) kind file bytes m args logged told =
+    IsAccepted m × IsOutcomePage window (limit_of limit (activities_bound m)) pick kind file bytes m args told
 IsTelling _ kind file bytes m args logged told = ⊥
 
 -- it is a text of which this holds

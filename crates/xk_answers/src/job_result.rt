@@ -31,7 +31,7 @@ pub enum Done {
         clocks: u32,
     },
     /// `explain`, `listing`: this is told of the module; `chart`, `events`, `lanes`, `page`, `where`, `races`, `span`, `why`: of the
-    /// run that the log has; `run --runs`: of many runs.
+    /// run that the log has; `page --outcome`: of a run with an outcome; `run --runs`: of many runs.
     Told {
         text: Vec<u8>,
         /// Whether that is a whole answer: nothing is left out, a run has no races, and a step that is asked for has a line.

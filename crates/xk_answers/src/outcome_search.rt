@@ -121,7 +121,7 @@ fn held_by<L: Source>(
 }
 
 /// The log of the outcome of this number, counted from 1, where it is to be kept and there is such an outcome.
-fn kept_log(
+pub(crate) fn kept_log(
     alloc: Global,
     keeps_log: bool,
     pick: usize,

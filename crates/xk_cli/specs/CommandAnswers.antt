@@ -15,6 +15,7 @@ shows_origins command.Listing = true
 shows_origins (command.Events log) = true
 shows_origins (command.Lanes log from to svg) = true
 shows_origins (command.Page log from to) = true
+shows_origins (command.OutcomePage pick limit from to) = true
 shows_origins (command.Where log at) = true
 shows_origins (command.Span log) = true
 shows_origins (command.Why log step) = true

@@ -93,6 +93,14 @@ seed_option = record (option (codes "SEED") (codes "seed")) { parser = Some (par
 abbrev pub workers_option : Rule
 workers_option = record (option (codes "N") (codes "workers")) { parser = Some (parser.Unsigned 1 most_workers) }
 
+-- `--limit LIMIT`
+abbrev pub limit_option : Rule
+limit_option = count_option (codes "LIMIT") (codes "limit")
+
+-- `--outcome K`
+abbrev pub outcome_option : Rule
+outcome_option = record (count_option (codes "OUTCOME") (codes "outcome")) { value_names = 1 }
+
 -- `--from STEP`
 abbrev pub from_option : Rule
 from_option = record (count_option (codes "FROM") (codes "from")) { value_names = 1 }
@@ -140,7 +148,7 @@ run_line names = on_file (codes "run")
 -- prints outcomes, so many at most, of which one may be picked, or holds them against a list
 abbrev pub outcomes_line : App
 outcomes_line = on_file (codes "outcomes")
-    (module_flag ∷ count_option (codes "LIMIT") (codes "limit") ∷ count_option (codes "K") (codes "pick") ∷ log_option ∷ flag (codes "sets")
+    (module_flag ∷ limit_option ∷ count_option (codes "K") (codes "pick") ∷ log_option ∷ flag (codes "sets")
     ∷ option (codes "FILE2") (codes "expect") ∷ arg_option ∷ [])
 
 -- prints races, maybe of the run that a log has
@@ -155,9 +163,9 @@ on_run name = on_file name (module_flag ∷ log_place ∷ arg_option ∷ [])
 abbrev pub lanes_line : App
 lanes_line = on_file (codes "lanes") (module_flag ∷ log_place ∷ arg_option ∷ from_option ∷ to_option ∷ flag (codes "svg") ∷ [])
 
--- makes a page, maybe from a step on and up to one
+-- makes a page of the run that a log has, or of an outcome, of which so many are looked for, maybe from a step on and up to one
 abbrev pub page_line : App
-page_line = on_file (codes "page") (module_flag ∷ log_place ∷ arg_option ∷ from_option ∷ to_option ∷ [])
+page_line = on_file (codes "page") (module_flag ∷ log_choice ∷ outcome_option ∷ limit_option ∷ arg_option ∷ from_option ∷ to_option ∷ [])
 
 -- tells how things stand, maybe after a step
 abbrev pub where_line : App
@@ -222,11 +230,14 @@ abbrev pub way_value : Drive → Way
 way_value (drive.Order o) = In o
 way_value (drive.Workers w) = By w.count
 
--- A command without where its texts lie in memory. What is explained may be a JSON value. A run has who takes its steps, and the log's path, where
--- they were given; one by hand, whose order a person is asked for, has the log's path; a tally has the first seed, and how many runs there are. Lanes have
--- the log's path, the first step and the last, where they were given, and may be a picture; a page has the same steps. How things stand is told by the log's path,
--- and after a step, where that was given; what a step rests on has both; races have the log's path, where it was given; the others on a log have its path. Outcomes have how many there are at most, which is picked, and the path of its log; numbers of them may
--- have no order. Where they are held against a list they have its path, how many there are at most, and whether numbers of them have no order.
+-- A command without where its texts lie in memory. What is explained may be a JSON value. A run has who takes its steps, and the log's
+-- path, where they were given; one by hand, whose order a person is asked for, has the log's path; a tally has the first seed, and how
+-- many runs there are. Lanes have the log's path, the first step and the last, where they were given, and may be a picture; a page has
+-- the same steps. That of an outcome has its number, how many there are at most, and the same steps. How things stand is told by the
+-- log's path, and after a step, where that was given; what a step rests on has both; races have the log's path, where it was given; the
+-- others on a log have its path. Outcomes have how many there are at most, which is picked, and the path of its log; numbers of them
+-- may have no order. Where they are held against a list they have its path, how many there are at most, and whether numbers of them
+-- have no order.
 pub data Task : Type 0 where
   Check : Task
   Compile : Task
@@ -240,6 +251,7 @@ pub data Task : Type 0 where
   Events : Text → Task
   Lanes : Text → Option ℕ → Option ℕ → Bool → Task
   Page : Text → Option ℕ → Option ℕ → Task
+  OutcomePage : ℕ → Option ℕ → Option ℕ → Option ℕ → Task
   Where : Text → Option ℕ → Task
   Span : Text → Task
   Why : Text → ℕ → Task
@@ -259,6 +271,7 @@ task_value (command.Chart log) = Chart log.now
 task_value (command.Events log) = Events log.now
 task_value (command.Lanes log from to svg) = Lanes log.now from to svg
 task_value (command.Page log from to) = Page log.now from to
+task_value (command.OutcomePage pick limit from to) = OutcomePage pick limit from to
 task_value (command.Where log at) = Where log.now at
 task_value (command.Span log) = Span log.now
 task_value (command.Why log step) = Why log.now step
@@ -405,6 +418,31 @@ lanes_on log given = Lanes log (count_in (codes "FROM") given) (count_in (codes 
 abbrev pub page_on : Text → List Row → Task
 page_on log given = Page log (count_in (codes "FROM") given) (count_in (codes "TO") given)
 
+-- a log was given, and an outcome or a limit; or neither a log nor an outcome
+abbrev pub is_run_unclear : List Row → Bool
+is_run_unclear given =
+    let outcome = is_some (first_of (codes "OUTCOME") given) in
+    if is_some (first_of (codes "LOG") given) then outcome || is_some (first_of (codes "LIMIT") given) else not outcome
+
+-- the command of this name is `page`, and it is unclear of which run
+abbrev pub is_page_unclear : Text → List Row → Bool
+is_page_unclear name given = bytes_eq name (codes "page") && is_run_unclear given
+
+-- `page` of an outcome, with what else was given to it
+abbrev pub outcome_page_of : List Row → Option Task
+outcome_page_of given =
+    option_map (λ pick. OutcomePage pick (count_in (codes "LIMIT") given) (count_in (codes "FROM") given) (count_in (codes "TO") given))
+    (count_in (codes "OUTCOME") given)
+
+-- a page of the run that this log has, or else of an outcome
+abbrev pub page_of : Option Text → List Row → Option Task
+page_of (Some log) given = Some (page_on log given)
+page_of None given = outcome_page_of given
+
+-- A page is that of the run which a log has, or that of an outcome, and a limit is for outcomes.
+abbrev pub page_by : List Row → Option Task
+page_by given = if is_run_unclear given then None else page_of (first_of (codes "LOG") given) given
+
 -- `where` on a log, with what else was given to it
 abbrev pub where_on : Text → List Row → Task
 where_on log given = Where log (count_in (codes "AT") given)
@@ -420,10 +458,9 @@ command_on name log given =
     else (if bytes_eq name (codes "chart") then Some (Chart log)
     else (if bytes_eq name (codes "events") then Some (Events log)
     else (if bytes_eq name (codes "lanes") then Some (lanes_on log given)
-    else (if bytes_eq name (codes "page") then Some (page_on log given)
     else (if bytes_eq name (codes "where") then Some (where_on log given)
     else (if bytes_eq name (codes "span") then Some (Span log)
-    else (if bytes_eq name (codes "why") then why_on log given else None)))))))
+    else (if bytes_eq name (codes "why") then why_on log given else None))))))
 
 -- the command of a name that wants a log
 abbrev pub command_by_log : Text → List Row → Option Task
@@ -437,7 +474,8 @@ command_by name given =
     else (if bytes_eq name (codes "explain") then Some (Explain (is_flagged (codes "json") given))
     else (if bytes_eq name (codes "listing") then Some Listing
     else (if bytes_eq name (codes "outcomes") then outcomes_by given
-    else (if bytes_eq name (codes "races") then Some (Races (first_of (codes "LOG") given)) else command_by_log name given)))))
+    else (if bytes_eq name (codes "page") then page_by given
+    else (if bytes_eq name (codes "races") then Some (Races (first_of (codes "LOG") given)) else command_by_log name given))))))
 
 -- what the command of a name does, with what else was given to it
 abbrev pub task_by : Text → List Row → Option Task
@@ -498,6 +536,14 @@ picks_by found = option_map_or (λ p. is_pick_alone p.1) found false
 unfoldable pub picks_in : Names → List Text → Bool
 picks_in names words = picks_by (subcommand_of (command_line names) words)
 
+-- `page` was found, and it is unclear of which run
+abbrev pub blurs_by : Option (Text × List Row) → Bool
+blurs_by found = option_map_or (λ p. is_page_unclear p.0 p.1) found false
+
+-- the words have `page` so, as `clap` takes them apart
+unfoldable pub blurs_in : Names → List Text → Bool
+blurs_in names words = blurs_by (subcommand_of (command_line names) words)
+
 -- ---- why words are refused
 
 -- the fault fits the kind of `clap`'s error
@@ -509,26 +555,31 @@ FitsKind k fault.SeedAlone = ⊥
 FitsKind k fault.MisplacedRuns = ⊥
 FitsKind k fault.MisplacedList = ⊥
 FitsKind k fault.PickAlone = ⊥
+FitsKind k fault.UnclearPage = ⊥
 FitsKind k fault.OutOfMemory = ⊤
 
 -- a mistake is among the kinds: one that is no request for help or for the version
 abbrev pub HasMistake : Kinds → Type 0
 HasMistake kinds = (k : ErrorKind) × IsAmong k kinds × (k ≢ kind.DisplayHelp) × (k ≢ kind.DisplayVersion)
 
--- Help is told only where it was asked for, words are called not understood only where `clap` finds a mistake in them, or where it finds
--- nothing wrong and no job. The order and the workers are called to exclude each other only where both were given, a seed to stand alone only where
--- it does, a number of runs or a list to be misplaced only where it is, and an outcome to be picked for no log only where that is so, and nothing
--- is wrong else.
-abbrev pub IsRefused : Kinds → Option Asked → Bool → Bool → Bool → Bool → Bool → WordsFault → Type 0
-IsRefused kinds asked both alone misplaced crowded unlogged (fault.Help text) = IsAmong kind.DisplayHelp kinds ⊎ IsAmong kind.DisplayVersion kinds
-IsRefused kinds asked both alone misplaced crowded unlogged (fault.NotUnderstood text) =
-    HasMistake kinds ⊎ ((kinds ≡ []) × (asked ≡ None) × (both ≡ false) × (alone ≡ false) × (misplaced ≡ false) × (crowded ≡ false) × (unlogged ≡ false))
-IsRefused kinds asked both alone misplaced crowded unlogged fault.OrderAndWorkers = (kinds ≡ []) × (both ≡ true)
-IsRefused kinds asked both alone misplaced crowded unlogged fault.SeedAlone = (kinds ≡ []) × (alone ≡ true)
-IsRefused kinds asked both alone misplaced crowded unlogged fault.MisplacedRuns = (kinds ≡ []) × (misplaced ≡ true)
-IsRefused kinds asked both alone misplaced crowded unlogged fault.MisplacedList = (kinds ≡ []) × (crowded ≡ true)
-IsRefused kinds asked both alone misplaced crowded unlogged fault.PickAlone = (kinds ≡ []) × (unlogged ≡ true)
-IsRefused kinds asked both alone misplaced crowded unlogged fault.OutOfMemory = ⊤
+-- Help is told only where it was asked for, words are called not understood only where `clap` finds a mistake in them, or where it
+-- finds nothing wrong and no job. The order and the workers are called to exclude each other only where both were given, a seed to
+-- stand alone only where it does, a number of runs or a list to be misplaced only where it is, an outcome to be picked for no log only
+-- where that is so, and a page to be of no clear run only where it is, and nothing is wrong else.
+abbrev pub IsRefused : Kinds → Option Asked → Bool → Bool → Bool → Bool → Bool → Bool → WordsFault → Type 0
+IsRefused kinds asked both alone misplaced crowded unlogged unclear (fault.Help text) =
+    IsAmong kind.DisplayHelp kinds ⊎ IsAmong kind.DisplayVersion kinds
+IsRefused kinds asked both alone misplaced crowded unlogged unclear (fault.NotUnderstood text) =
+    HasMistake kinds
+    ⊎ ((kinds ≡ []) × (asked ≡ None) × (both ≡ false) × (alone ≡ false) × (misplaced ≡ false) × (crowded ≡ false) × (unlogged ≡ false)
+    × (unclear ≡ false))
+IsRefused kinds asked both alone misplaced crowded unlogged unclear fault.OrderAndWorkers = (kinds ≡ []) × (both ≡ true)
+IsRefused kinds asked both alone misplaced crowded unlogged unclear fault.SeedAlone = (kinds ≡ []) × (alone ≡ true)
+IsRefused kinds asked both alone misplaced crowded unlogged unclear fault.MisplacedRuns = (kinds ≡ []) × (misplaced ≡ true)
+IsRefused kinds asked both alone misplaced crowded unlogged unclear fault.MisplacedList = (kinds ≡ []) × (crowded ≡ true)
+IsRefused kinds asked both alone misplaced crowded unlogged unclear fault.PickAlone = (kinds ≡ []) × (unlogged ≡ true)
+IsRefused kinds asked both alone misplaced crowded unlogged unclear fault.UnclearPage = (kinds ≡ []) × (unclear ≡ true)
+IsRefused kinds asked both alone misplaced crowded unlogged unclear fault.OutOfMemory = ⊤
 
 -- the status that the program ends with
 abbrev pub status_of : WordsFault → ℕ
@@ -539,4 +590,5 @@ status_of fault.SeedAlone = status_words
 status_of fault.MisplacedRuns = status_words
 status_of fault.MisplacedList = status_words
 status_of fault.PickAlone = status_words
+status_of fault.UnclearPage = status_words
 status_of fault.OutOfMemory = status_memory

@@ -7,8 +7,9 @@ ghost use Rattle.xk_cli.specs.CommandLine.{explain_line, lanes_line, listing_lin
 ghost use Rattle.xk_cli.specs.CommandLine.{page_line, program, races_line, run_line, where_line, why_line};
 
 use crate::options::{
-    arg_option, at_option, count_option, flag, from_option, log_choice, log_option, log_place,
-    module_flag, option, order_option, place, seed_option, step_place, to_option, workers_option,
+    arg_option, at_option, count_option, flag, from_option, limit_option, log_choice, log_option,
+    log_place, module_flag, option, order_option, outcome_option, place, seed_option, step_place,
+    to_option, workers_option,
 };
 use clap::Arg;
 use std::alloc::{AllocError, Global};
@@ -137,12 +138,7 @@ fn outcomes_line<'a>(alloc: Global) -> Result<clap::Command<'a>, AllocError>
     let about = "Prints all that a program can print.";
     let options = [
         module_flag(alloc),
-        count_option(
-            alloc,
-            "LIMIT",
-            "limit",
-            "The search stops once more worlds are kept, or so many outcomes are told: 40000 where nothing is said, and fewer where there may be many activities",
-        ),
+        limit_option(alloc),
         count_option(
             alloc,
             "K",
@@ -172,7 +168,11 @@ fn races_line<'a>(alloc: Global) -> Result<clap::Command<'a>, AllocError>
     ensures local { IfOk result HasNoGlobals }
 {
     let about = "Prints which steps of a run race with one another.";
-    let options = [module_flag(alloc), log_choice(alloc), arg_option(alloc)];
+    let log = log_choice(
+        alloc,
+        "The log of a run of FILE: the run in the order first where nothing is said",
+    );
+    let options = [module_flag(alloc), log, arg_option(alloc)];
     on_file(alloc, "races", about, Vec::from_array(alloc, options)?)
 }
 
@@ -228,10 +228,14 @@ fn page_line<'a>(alloc: Global) -> Result<clap::Command<'a>, AllocError>
     ensures shape { IfOk result (λ c. app_of c ≡ page_line) }
     ensures local { IfOk result HasNoGlobals }
 {
-    let about = "Makes an HTML page of the run that a log has, to go through it step by step.";
+    let about =
+        "Makes an HTML page of the run that a log has, or of one with an outcome, to go through it step by step.";
+    let log = log_choice(alloc, "The log of a run of FILE, where no outcome is given");
     let options = [
         module_flag(alloc),
-        log_place(alloc),
+        log,
+        outcome_option(alloc),
+        limit_option(alloc),
         arg_option(alloc),
         from_option(alloc),
         to_option(alloc),

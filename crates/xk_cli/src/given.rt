@@ -4,7 +4,7 @@ ghost use Rattle.std.specs.Prelude.{◌≡◌, IfOk, option_map};
 ghost use Rattle.clap.specs.Words.{first_of, found_of, rows_of};
 ghost use Rattle.xk_cli.specs.CommandLine.{are_runs_misplaced, arguments_in, count_in, drive_in, form_in, is_both};
 ghost use Rattle.xk_cli.specs.CommandLine.{is_flagged, is_list_misplaced, is_order, is_pick_alone, is_seed_alone, order_in};
-ghost use Rattle.xk_cli.specs.CommandLine.{order_named, seed_in, way_value, workers_in, workers_named};
+ghost use Rattle.xk_cli.specs.CommandLine.{is_page_unclear, is_run_unclear, order_named, seed_in, way_value, workers_in, workers_named};
 
 use crate::job::{Drive, Form, Order, Workers};
 use crate::numbers::{count_named, numbers_named};
@@ -38,6 +38,24 @@ pub(crate) fn is_pick_alone(given: &ArgMatches<'_>) -> bool
     ensures { result ≡ is_pick_alone (rows_of (found_of given.now)) }
 {
     given_in(given, "K").is_some() && !given_in(given, "PATH").is_some()
+}
+
+/// Whether the command of this name is `page`, and it is unclear of which run.
+pub(crate) fn is_page_unclear(name: &str, given: &ArgMatches<'_>) -> bool
+    ensures { result ≡ is_page_unclear name.now (rows_of (found_of given.now)) }
+{
+    name == "page" && is_run_unclear(given)
+}
+
+/// Whether a log was given, and an outcome or a limit; or neither a log nor an outcome.
+pub(crate) fn is_run_unclear(given: &ArgMatches<'_>) -> bool
+    ensures { result ≡ is_run_unclear (rows_of (found_of given.now)) }
+{
+    let outcome = given_in(given, "OUTCOME").is_some();
+    if given_in(given, "LOG").is_some() {
+        return outcome || given_in(given, "LIMIT").is_some();
+    }
+    !outcome
 }
 
 /// Whether both an order and workers were given.

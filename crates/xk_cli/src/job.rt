@@ -66,6 +66,17 @@ pub enum Command<'a> {
         /// `--to`, as for `lanes`.
         to: Option<u64>,
     },
+    /// `page --outcome`: make such a page of a run of FILE with one of its outcomes.
+    OutcomePage {
+        /// The outcome, counted from 1 as `outcomes` counts them.
+        pick: u64,
+        /// `--limit`, as for `outcomes`.
+        limit: Option<u64>,
+        /// `--from`, as for `lanes`.
+        from: Option<u64>,
+        /// `--to`, as for `lanes`.
+        to: Option<u64>,
+    },
     /// `where`: print where in FILE each activity stands behind the steps that a log has.
     Where {
         /// The log's path.
@@ -137,6 +148,7 @@ impl<'a> Command<'a> {
             | Command::Listing
             | Command::Run { .. }
             | Command::Tally { .. }
+            | Command::OutcomePage { .. }
             | Command::Outcomes { .. } => None,
         }
     }
@@ -157,6 +169,7 @@ impl<'a> Command<'a> {
             | Command::Events { .. }
             | Command::Lanes { .. }
             | Command::Page { .. }
+            | Command::OutcomePage { .. }
             | Command::Where { .. }
             | Command::Span { .. }
             | Command::Why { .. }
@@ -181,6 +194,7 @@ impl<'a> Command<'a> {
             | Command::Events { .. }
             | Command::Lanes { .. }
             | Command::Page { .. }
+            | Command::OutcomePage { .. }
             | Command::Where { .. }
             | Command::Span { .. }
             | Command::Why { .. }
@@ -200,6 +214,7 @@ impl<'a> Command<'a> {
             | Command::Events { .. }
             | Command::Lanes { .. }
             | Command::Page { .. }
+            | Command::OutcomePage { .. }
             | Command::Where { .. }
             | Command::Span { .. }
             | Command::Why { .. }

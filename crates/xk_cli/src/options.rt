@@ -2,8 +2,8 @@
 
 ghost use Rattle.std.specs.Prelude.{◌≡◌, false};
 ghost use Rattle.clap.specs.Words.{rule_of};
-ghost use Rattle.xk_cli.specs.CommandLine.{WithOrders, arg_option, at_option, count_option, flag, from_option, log_choice};
-ghost use Rattle.xk_cli.specs.CommandLine.{log_option, log_place, module_flag, option, order_option, place};
+ghost use Rattle.xk_cli.specs.CommandLine.{WithOrders, arg_option, at_option, count_option, flag, from_option, limit_option, log_choice};
+ghost use Rattle.xk_cli.specs.CommandLine.{log_option, log_place, module_flag, option, order_option, outcome_option, place};
 ghost use Rattle.xk_cli.specs.CommandLine.{seed_option, step_place, to_option, workers_option};
 
 use crate::job::MOST_WORKERS;
@@ -76,6 +76,33 @@ pub(crate) fn at_option<'a>(alloc: Global) -> Arg<'a>
     );
     at.value_name("STEP")
         .value_parser(ValueParser::unsigned(0, u64::MAX))
+}
+
+/// `--limit LIMIT`.
+pub(crate) fn limit_option<'a>(alloc: Global) -> Arg<'a>
+    ensures rule { rule_of result ≡ limit_option }
+    ensures local { result.global ≡ false }
+{
+    count_option(
+        alloc,
+        "LIMIT",
+        "limit",
+        "The search stops once more worlds are kept, or so many outcomes are told: 40000 where nothing is said, and fewer where there may be many activities",
+    )
+}
+
+/// `--outcome K`.
+pub(crate) fn outcome_option<'a>(alloc: Global) -> Arg<'a>
+    ensures rule { rule_of result ≡ outcome_option }
+    ensures local { result.global ≡ false }
+{
+    let outcome = count_option(
+        alloc,
+        "OUTCOME",
+        "outcome",
+        "A run with this outcome of FILE in place of a log's, counted from 1 as outcomes counts them",
+    );
+    outcome.value_name("K")
 }
 
 /// An option of this long name that takes a whole number from 1 on.
@@ -165,13 +192,11 @@ pub(crate) fn option<'a>(alloc: Global, name: &'a str, long: &'a str, help: &'a 
 }
 
 /// LOG, which needn't be there.
-pub(crate) fn log_choice<'a>(alloc: Global) -> Arg<'a>
+pub(crate) fn log_choice<'a>(alloc: Global, help: &'a str) -> Arg<'a>
     ensures rule { rule_of result ≡ log_choice }
     ensures local { result.global ≡ false }
 {
-    Arg::new(alloc, "LOG")
-        .help("The log of a run of FILE: the run in the order first where nothing is said")
-        .action(ArgAction::Set)
+    Arg::new(alloc, "LOG").help(help).action(ArgAction::Set)
 }
 
 /// LOG, which has to be there.

@@ -5,6 +5,7 @@ ghost use Rattle.clap.specs.Words.{found_of, kind_of, rows_of, subcommand_rows_o
 ghost use Rattle.xk_cli.specs.CommandLine.{FitsKind, IsRefused, WithOrders, are_runs_misplaced, asked_by, asked_in};
 ghost use Rattle.xk_cli.specs.CommandLine.{asked_of, asked_value, command_by, command_by_log, command_on, crowds_by};
 ghost use Rattle.xk_cli.specs.CommandLine.{crowds_in, excludes_by, excludes_in, faults_in, found_task, is_both};
+ghost use Rattle.xk_cli.specs.CommandLine.{blurs_by, blurs_in, is_page_unclear, outcome_page_of, page_by};
 ghost use Rattle.xk_cli.specs.CommandLine.{is_list_misplaced, is_pick_alone, is_seed_alone, job_of, misplaces_by, misplaces_in};
 ghost use Rattle.xk_cli.specs.CommandLine.{outcomes_by, outcomes_in, picks_by, picks_in, run_asked, run_by, run_in, strays_by, strays_in};
 ghost use Rattle.xk_cli.specs.CommandLine.{task_by, task_value, texts, why_on};
@@ -12,7 +13,8 @@ ghost use Rattle.xk_cli.specs.CommandLine.{task_by, task_value, texts, why_on};
 use crate::commands::line;
 use crate::given::{
     are_runs_misplaced, arguments_in, count_in, drive_in, form_in, given_in, is_both, is_flagged,
-    is_list_misplaced, is_order, is_pick_alone, is_seed_alone, seed_in,
+    is_list_misplaced, is_order, is_page_unclear, is_pick_alone, is_run_unclear, is_seed_alone,
+    seed_in,
 };
 use crate::job::{Command, Form, HandRun, Job, Request};
 use crate::words_fault::WordsFault;
@@ -41,7 +43,8 @@ pub fn read_job<'a>(alloc: Global, words: &'a [&'a str]) -> Result<Request<'a>, 
         (excludes_in names (texts words.entry.now)) (strays_in names (texts words.entry.now))
         (misplaces_in names (texts words.entry.now))
         (crowds_in names (texts words.entry.now))
-        (picks_in names (texts words.entry.now)) fault)) }
+        (picks_in names (texts words.entry.now))
+        (blurs_in names (texts words.entry.now)) fault)) }
 {
     let command_line = line(alloc)?;
     match command_line.try_get_matches_from(words) {
@@ -59,7 +62,8 @@ fn asked<'a>(alloc: Global, matches: &ArgMatches<'a>) -> Result<Request<'a>, Wor
         (strays_by (subcommand_rows_of matches.now))
         (misplaces_by (subcommand_rows_of matches.now))
         (crowds_by (subcommand_rows_of matches.now))
-        (picks_by (subcommand_rows_of matches.now))) }
+        (picks_by (subcommand_rows_of matches.now))
+        (blurs_by (subcommand_rows_of matches.now))) }
 {
     match matches.subcommand() {
         Some((name, given)) => asked_by(alloc, name, given),
@@ -81,11 +85,12 @@ fn asked_by<'a>(
         (is_seed_alone (rows_of (found_of given.now)))
         (are_runs_misplaced (rows_of (found_of given.now)))
         (is_list_misplaced (rows_of (found_of given.now)))
-        (is_pick_alone (rows_of (found_of given.now)))) }
+        (is_pick_alone (rows_of (found_of given.now)))
+        (is_page_unclear name.now (rows_of (found_of given.now)))) }
 {
     match request_by(alloc, name, given)? {
         Some(request) => Ok(request),
-        None => Err(no_job(alloc, given)),
+        None => Err(no_job(alloc, name, given)),
     }
 }
 
@@ -200,6 +205,7 @@ fn command_by<'a>(name: &str, given: &ArgMatches<'a>) -> Option<Command<'a>>
         }),
         "listing" => Some(Command::Listing),
         "outcomes" => outcomes_by(given),
+        "page" => page_by(given),
         "races" => Some(Command::Races {
             log: given_in(given, "LOG"),
         }),
@@ -223,11 +229,6 @@ fn command_by_log<'a>(name: &str, given: &ArgMatches<'a>) -> Option<Command<'a>>
             to: count_in(given, "TO"),
             svg: is_flagged(given, "svg"),
         }),
-        "page" => Some(Command::Page {
-            log,
-            from: count_in(given, "FROM"),
-            to: count_in(given, "TO"),
-        }),
         "where" => Some(Command::Where {
             log,
             at: count_in(given, "AT"),
@@ -244,6 +245,36 @@ fn why_on<'a>(log: &'a str, given: &ArgMatches<'a>) -> Option<Command<'a>>
 {
     let step = count_in(given, "STEP")?;
     Some(Command::Why { log, step })
+}
+
+/// The command `page` with what was given to it: a page of the run that a log has, or of an outcome. None where it is unclear which.
+fn page_by<'a>(given: &ArgMatches<'a>) -> Option<Command<'a>>
+    ensures { option_map task_value result ≡ page_by (rows_of (found_of given.now)) }
+{
+    if is_run_unclear(given) {
+        return None;
+    }
+    match given_in(given, "LOG") {
+        Some(log) => Some(Command::Page {
+            log,
+            from: count_in(given, "FROM"),
+            to: count_in(given, "TO"),
+        }),
+        None => outcome_page_of(given),
+    }
+}
+
+/// The command `page` of an outcome, with what else was given to it.
+fn outcome_page_of<'a>(given: &ArgMatches<'a>) -> Option<Command<'a>>
+    ensures { option_map task_value result ≡ outcome_page_of (rows_of (found_of given.now)) }
+{
+    let pick = count_in(given, "OUTCOME")?;
+    Some(Command::OutcomePage {
+        pick,
+        limit: count_in(given, "LIMIT"),
+        from: count_in(given, "FROM"),
+        to: count_in(given, "TO"),
+    })
 }
 
 /// The command `outcomes` with what was given to it: outcomes are held against a list, or printed. None where a list
@@ -270,13 +301,14 @@ fn outcomes_by<'a>(given: &ArgMatches<'a>) -> Option<Command<'a>>
 }
 
 /// Why a command with what was given to it is no job: an order stands beside workers, or a seed, a number of runs, a
-/// list or an outcome to pick has no place there.
-fn no_job(alloc: Global, given: &ArgMatches<'_>) -> WordsFault
+/// list or an outcome to pick has no place there, or it is unclear of which run a page is to be.
+fn no_job(alloc: Global, name: &str, given: &ArgMatches<'_>) -> WordsFault
     ensures { IsRefused [] None (is_both (rows_of (found_of given.now)))
         (is_seed_alone (rows_of (found_of given.now)))
         (are_runs_misplaced (rows_of (found_of given.now)))
         (is_list_misplaced (rows_of (found_of given.now)))
-        (is_pick_alone (rows_of (found_of given.now))) result }
+        (is_pick_alone (rows_of (found_of given.now)))
+        (is_page_unclear name.now (rows_of (found_of given.now))) result }
 {
     if is_both(given) {
         return WordsFault::OrderAndWorkers;
@@ -293,12 +325,15 @@ fn no_job(alloc: Global, given: &ArgMatches<'_>) -> WordsFault
     if is_pick_alone(given) {
         return WordsFault::PickAlone;
     }
+    if is_page_unclear(name, given) {
+        return WordsFault::UnclearPage;
+    }
     not_a_job(alloc)
 }
 
 /// The fault where `clap` took the words, nothing in them excludes anything else, and they name no job. It doesn't come to that.
 fn not_a_job(alloc: Global) -> WordsFault
-    ensures { IsRefused [] None false false false false false result }
+    ensures { IsRefused [] None false false false false false false result }
 {
     match String::from_str(alloc, "error: no command on a file was given\n") {
         Ok(text) => WordsFault::NotUnderstood(text),

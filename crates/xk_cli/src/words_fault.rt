@@ -21,6 +21,10 @@ pub const LIST_LINE: &str = "x10clock: --expect goes without --log and --pick\n"
 /// The line of words that have an outcome to pick, and no log.
 pub const PICK_LINE: &str = "x10clock: --pick goes with --log\n";
 
+/// The line of words that have a page of a log's run and of an outcome's, or of neither.
+pub const PAGE_LINE: &str =
+    "x10clock: page takes either LOG or --outcome, and --limit goes with --outcome\n";
+
 /// The words are no job.
 #[derive(Debug, Drop, Error)]
 pub enum WordsFault {
@@ -45,6 +49,9 @@ pub enum WordsFault {
     /// `--pick` stands without `--log`.
     #[error("{line}", line = PICK_LINE)]
     PickAlone,
+    /// `page` stands beside both LOG and `--outcome`, or neither; or `--limit` beside LOG.
+    #[error("{line}", line = PAGE_LINE)]
+    UnclearPage,
     /// Memory ran out.
     #[error("out of memory")]
     OutOfMemory,
@@ -64,7 +71,8 @@ impl WordsFault {
             | WordsFault::SeedAlone
             | WordsFault::MisplacedRuns
             | WordsFault::MisplacedList
-            | WordsFault::PickAlone => status::WORDS,
+            | WordsFault::PickAlone
+            | WordsFault::UnclearPage => status::WORDS,
             WordsFault::OutOfMemory => status::MEMORY,
         }
     }

@@ -31,7 +31,8 @@ use Rattle.xk_answers.specs.declared.job_result.Done.TheVariants as done
 use Rattle.xk_program.specs.declared.fault.Fault.{Fault}
 use Rattle.xk_program.specs.declared.fault.Fault.TheVariants as fault
 use Rattle.xk_serve.specs.Answer.{Answers, IsSaidBy, Reply, Task, asks_verifier, done_reply, fault_reply, reads_list, reads_log, runs}
-use Rattle.xk_answers.specs.Results.{Check, ComesTo, Compile, Doing, Draw, Expected, Explain, IsLogText, IsNoRun, IsTelling, IsText, Listing, Outcomes, Races, Replay, Run, Tally, Where, is_of_whole, list_in}
+use Rattle.xk_answers.specs.Results.{Check, ComesTo, Compile, Doing, Draw, Expected, Explain, IsLogText, IsNoRun, IsTelling}
+use Rattle.xk_answers.specs.Results.{IsText, Listing, OutcomePage, Outcomes, Races, Replay, Run, Tally, Where, is_of_whole, list_in}
 use Rattle.xk_program.specs.Refusals.{IsMisfit}
 use Rattle.xk_answers.specs.Printed.{done_status, whole_status, done_log, done_text}
 use Rattle.xk_answers.specs.Explanation.{Tale}
@@ -68,6 +69,7 @@ Prints (Draw picture) m args logged out log = ⊥
 Prints (Where at) m args logged out log = ⊥
 Prints Races m args logged out log = ⊥
 Prints (Tally seed runs) m args logged out log = ⊥
+Prints (OutcomePage window limit pick) m args logged out log = ⊥
 Prints (Outcomes sets limit pick kept) m args logged out log = IsAccepted m × AreArguments m args
 Prints (Expected sets limit) m args logged out log = IsAccepted m × AreArguments m args × (stray_line (list_in logged) ≡ None)
 
@@ -94,6 +96,7 @@ prints (Draw picture) m args logged d h = absurd h
 prints (Where at) m args logged d h = absurd h
 prints Races m args logged d h = absurd h
 prints (Tally seed runs) m args logged d h = absurd h
+prints (OutcomePage window limit pick) m args logged d h = absurd h
 prints (Outcomes sets limit pick kept) m args logged (done.Outcomes t whole log) h = (h.0, h.1.taken)
 prints (Outcomes sets limit pick kept) m args logged _ h = absurd h.1
 prints (Expected sets limit) m args logged (done.Held t found) h = (h.0, h.1.0, h.1.1.may_stand)
@@ -115,6 +118,7 @@ done_zero (Draw picture) m args logged (done.Outcomes t whole log) one h = absur
 done_zero (Where at) m args logged (done.Outcomes t whole log) one h = absurd h
 done_zero Races m args logged (done.Outcomes t whole log) one h = absurd h
 done_zero (Tally seed runs) m args logged (done.Outcomes t whole log) one h = absurd h
+done_zero (OutcomePage window limit pick) m args logged (done.Outcomes t whole log) one h = absurd h
 done_zero (Outcomes sets limit pick kept) m args logged (done.Outcomes t whole log) one h = absurd one
 done_zero (Expected sets limit) m args logged (done.Outcomes t whole log) one h = absurd one
 done_zero Compile m args logged (done.Held t found) one h = absurd h
@@ -130,6 +134,7 @@ done_zero (Draw picture) m args logged (done.Held t found) one h = absurd h
 done_zero (Where at) m args logged (done.Held t found) one h = absurd h
 done_zero Races m args logged (done.Held t found) one h = absurd h
 done_zero (Tally seed runs) m args logged (done.Held t found) one h = absurd h
+done_zero (OutcomePage window limit pick) m args logged (done.Held t found) one h = absurd h
 done_zero (Outcomes sets limit pick kept) m args logged (done.Held t found) one h = absurd one
 done_zero (Expected sets limit) m args logged (done.Held t found) one h = absurd one
 done_zero what m args logged (done.Compiled t) one h = refl
@@ -147,6 +152,7 @@ done_zero (Draw picture) m args logged (done.Told t whole) one h = absurd h
 done_zero (Where at) m args logged (done.Told t whole) one h = absurd h
 done_zero Races m args logged (done.Told t whole) one h = absurd h
 done_zero (Tally seed runs) m args logged (done.Told t whole) one h = absurd h
+done_zero (OutcomePage window limit pick) m args logged (done.Told t whole) one h = absurd h
 done_zero (Outcomes sets limit pick kept) m args logged (done.Told t whole) one h = absurd h.1
 done_zero (Expected sets limit) m args logged (done.Told t whole) one h = absurd h.1
 done_zero what m args logged (done.Ended numbers steps log) one h = refl
@@ -166,6 +172,7 @@ prints_accepted (Draw picture) m args logged out log asks h = absurd h
 prints_accepted (Where at) m args logged out log asks h = absurd h
 prints_accepted Races m args logged out log asks h = absurd h
 prints_accepted (Tally seed runs) m args logged out log asks h = absurd h
+prints_accepted (OutcomePage window limit pick) m args logged out log asks h = absurd h
 prints_accepted (Outcomes sets limit pick kept) m args logged out log asks h = h.0
 prints_accepted (Expected sets limit) m args logged out log asks h = h.0
 
@@ -184,6 +191,7 @@ prints_taken (Draw picture) m args logged out log run h = absurd h
 prints_taken (Where at) m args logged out log run h = absurd h
 prints_taken Races m args logged out log run h = absurd h
 prints_taken (Tally seed runs) m args logged out log run h = absurd h
+prints_taken (OutcomePage window limit pick) m args logged out log run h = absurd h
 prints_taken (Outcomes sets limit pick kept) m args logged out log run h = h.1
 prints_taken (Expected sets limit) m args logged out log run h = h.1
 
@@ -205,6 +213,7 @@ prints_whole (Draw picture) m args logged out log reads h = absurd h
 prints_whole (Where at) m args logged out log reads h = absurd h
 prints_whole Races m args logged out log reads h = absurd h
 prints_whole (Tally seed runs) m args logged out log reads h = absurd h
+prints_whole (OutcomePage window limit pick) m args logged out log reads h = absurd h
 prints_whole (Outcomes sets limit pick kept) m args logged out log reads h = absurd (false≢true reads)
 prints_whole (Expected sets limit) m args logged out log reads h = absurd (false≢true reads)
 
@@ -236,6 +245,7 @@ prints_once (Draw picture) m args logged out log other kept none p q = absurd p
 prints_once (Where at) m args logged out log other kept none p q = absurd p
 prints_once Races m args logged out log other kept none p q = absurd p
 prints_once (Tally seed runs) m args logged out log other kept none p q = absurd p
+prints_once (OutcomePage window limit pick) m args logged out log other kept none p q = absurd p
 prints_once (Outcomes sets limit pick written) m args logged out log other kept none p q = absurd none
 prints_once (Expected sets limit) m args logged out log other kept none p q = absurd none
 
@@ -260,6 +270,7 @@ said_determined (Draw picture) kind file bytes said f h one = h
 said_determined (Where at) kind file bytes said f h one = h
 said_determined Races kind file bytes said f h one = h
 said_determined (Tally seed runs) kind file bytes said f h one = h
+said_determined (OutcomePage window limit pick) kind file bytes said f h one = h
 said_determined (Outcomes sets limit pick kept) kind file bytes said f h one = h
 said_determined (Expected sets limit) kind file bytes said f h one = h
 
@@ -308,6 +319,7 @@ telling_stands (Draw picture) kind file bytes m args logged told f reads h told_
 telling_stands (Where at) kind file bytes m args logged told f reads h told_by may not4 = text_stands at m args logged h.1.1.0 f h.1.1.1 told_by may not4
 telling_stands Races kind file bytes m args logged told f reads h told_by may not4 = false≢true reads
 telling_stands (Tally seed count) kind file bytes m args logged told f reads h told_by may not4 = false≢true reads
+telling_stands (OutcomePage window limit pick) kind file bytes m args logged told f reads h told_by may not4 = false≢true reads
 telling_stands (Explain json) kind file bytes m args logged told f reads h told_by may not4 = false≢true reads
 telling_stands Listing kind file bytes m args logged told f reads h told_by may not4 = false≢true reads
 telling_stands Check kind file bytes m args logged told f reads h told_by may not4 = h
@@ -324,6 +336,7 @@ telling_taken (Draw picture) kind file bytes m args logged told run h = subst (A
 telling_taken (Where at) kind file bytes m args logged told run h = h.1.0
 telling_taken Races kind file bytes m args logged told run h = run_taken _ m args h.1.0 h.1.1 h.1.3
 telling_taken (Tally seed runs) kind file bytes m args logged told run h = h.1
+telling_taken (OutcomePage window limit pick) kind file bytes m args logged told run h = h.1.3.found.taken
 telling_taken (Explain json) kind file bytes m args logged told run h = absurd (false≢true run)
 telling_taken Listing kind file bytes m args logged told run h = absurd (false≢true run)
 telling_taken Check kind file bytes m args logged told run h = absurd h
@@ -342,6 +355,7 @@ telling_unprinted (Draw picture) kind file bytes m args logged told out log h p 
 telling_unprinted (Where at) kind file bytes m args logged told out log h p = p
 telling_unprinted Races kind file bytes m args logged told out log h p = p
 telling_unprinted (Tally seed runs) kind file bytes m args logged told out log h p = p
+telling_unprinted (OutcomePage window limit pick) kind file bytes m args logged told out log h p = p
 telling_unprinted Check kind file bytes m args logged told out log h p = h
 telling_unprinted Compile kind file bytes m args logged told out log h p = h
 telling_unprinted (Run way kept) kind file bytes m args logged told out log h p = h
@@ -356,6 +370,7 @@ telling_accepted (Draw picture) kind file bytes m args logged told asks h = h.0
 telling_accepted (Where at) kind file bytes m args logged told asks h = h.0
 telling_accepted Races kind file bytes m args logged told asks h = h.0
 telling_accepted (Tally seed runs) kind file bytes m args logged told asks h = h.0
+telling_accepted (OutcomePage window limit pick) kind file bytes m args logged told asks h = h.0
 telling_accepted Listing kind file bytes m args logged told asks h = absurd (false≢true asks)
 telling_accepted Check kind file bytes m args logged told asks h = absurd h
 telling_accepted Compile kind file bytes m args logged told asks h = absurd h
@@ -375,13 +390,13 @@ text_told P (done.Held text found) h = absurd h
 text_told P (done.Ended numbers steps log) h = absurd h
 
 -- what is told of the same bytes is one
-pub told_once : (t : Task) (bytes logged : List ℕ) (m : ModuleValue) (d e : Done) → Gives t.form bytes m
+pub told_once : (t : Task) (bytes logged : List ℕ) (m : ModuleValue) (d e : Done) → HasOneStatus t.doing → Gives t.form bytes m
     → IsText (IsTelling t.doing t.form t.file bytes m t.arguments logged) d → IsText (IsTelling t.doing t.form t.file bytes m t.arguments logged) e
     → (done_text d ≡ done_text e) × (done_log d ≡ done_log e)
-told_once t bytes logged m d e given p q =
+told_once t bytes logged m d e one given p q =
     let a = text_told (IsTelling t.doing t.form t.file bytes m t.arguments logged) d p in
     let b = text_told (IsTelling t.doing t.form t.file bytes m t.arguments logged) e q in
-    let same = telling_once t.doing t.form t.file bytes m t.arguments logged (done_text d, a.0) (done_text e, b.0) given a.1 b.1 in
+    let same = telling_once t.doing t.form t.file bytes m t.arguments logged (done_text d, a.0) (done_text e, b.0) one given a.1 b.1 in
     (ap (λ (tale : Tale). tale.0) same, a.3 ∙ sym b.3)
 
 -- ---- lists
@@ -400,6 +415,7 @@ lists_alone (Draw picture) lists = absurd (false≢true lists)
 lists_alone (Where at) lists = absurd (false≢true lists)
 lists_alone Races lists = absurd (false≢true lists)
 lists_alone (Tally seed runs) lists = absurd (false≢true lists)
+lists_alone (OutcomePage window limit pick) lists = absurd (false≢true lists)
 
 -- and reads no log
 list_or_log : (what : Doing) → reads_list what ≡ true → reads_log what ≡ true → ⊥
@@ -469,8 +485,26 @@ determined (Draw picture) one = tt
 determined (Where at) one = tt
 determined Races one = tt
 determined (Tally seed runs) one = tt
+determined (OutcomePage window limit pick) one = absurd one
 determined (Outcomes sets limit pick kept) one = absurd one
 determined (Expected sets limit) one = absurd one
+
+-- and has one status
+determined_status : (what : Doing) → IsDetermined what → HasOneStatus what
+determined_status (Explain json) one = absurd one
+determined_status Check one = tt
+determined_status Compile one = tt
+determined_status Listing one = tt
+determined_status (Run (In o) kept) one = tt
+determined_status (Run (By n) kept) one = absurd one
+determined_status Replay one = tt
+determined_status (Draw picture) one = tt
+determined_status (Where at) one = tt
+determined_status Races one = tt
+determined_status (Tally seed runs) one = tt
+determined_status (OutcomePage window limit pick) one = absurd one
+determined_status (Outcomes sets limit pick kept) one = absurd one
+determined_status (Expected sets limit) one = absurd one
 
 module _ (t : Task) (bytes : List ℕ) (m : ModuleValue) (logged : List ℕ) (r s : Reply) (given : Gives t.form bytes m) where
   same_said : Said t bytes m logged r → Said t bytes m logged s → IsSameReply t.doing r s
@@ -527,11 +561,12 @@ module _ (t : Task) (bytes : List ℕ) (m : ModuleValue) (logged : List ℕ) (r 
   same_said (Telling whole zero quiet p log) (Astray line lists ok taken q d) = absurd (telling_unlisted t.doing t.form t.file bytes m t.arguments logged (r.out, whole) lists p)
   same_said (Telling whole zero quiet p log) (Does none silent q) = absurd (telling_unprinted t.doing t.form t.file bytes m t.arguments logged (r.out, whole) s.out s.log p q)
   same_said (Telling whole zero quiet p log) (Telling all none silent q unlogged) =
-      let same = telling_once t.doing t.form t.file bytes m t.arguments logged (r.out, whole) (s.out, all) given p q in
+      let same : HasOneStatus t.doing → ◌≡◌ {A = Tale} (r.out, whole) (s.out, all) =
+      λ one. telling_once t.doing t.form t.file bytes m t.arguments logged (r.out, whole) (s.out, all) one given p q in
       record {
-        status = λ one. zero ∙ ap (λ (tale : Tale). whole_status tale.1) same ∙ sym none;
+        status = λ one. zero ∙ ap (λ (tale : Tale). whole_status tale.1) (same one) ∙ sym none;
         err = inl (quiet ∙ sym silent);
-        out = λ one. ap (λ (tale : Tale). tale.0) same;
+        out = λ one. ap (λ (tale : Tale). tale.0) (same (determined_status t.doing one));
         log = λ orders. log ∙ sym unlogged;
       }
 

@@ -23,9 +23,10 @@ use Rattle.xk_answers.specs.declared.job_result.Done.{Done}
 use Rattle.xk_answers.specs.declared.job_result.Done.TheVariants as done
 use Rattle.xk_answers.specs.Explanation.{IsExplanation, Tale, fault_said, refusal_said}
 use Rattle.xk_answers.specs.Printed.{done_status, done_text, whole_status}
-use Rattle.xk_answers.specs.Results.{Check, ComesTo, Compile, Doing, Draw, Expected, Explain, IsTelling, IsText, Listing, Outcomes, Races, Replay, Run, Tally, Where}
+use Rattle.xk_answers.specs.Results.{Check, ComesTo, Compile, Doing, Draw, Expected, Explain, IsTelling}
+use Rattle.xk_answers.specs.Results.{IsText, Listing, OutcomePage, Outcomes, Races, Replay, Run, Tally, Where}
 use Rattle.xk_serve.specs.Answer.{Answers, FailsBy, IsSaidBy, IsSaidOf, Reply, Task, done_reply, fault_reply, reads_list, reads_log, runs}
-use Rattle.xk_serve.specs.OneAnswer.{AreWalks, ExplainFaults, IsLeftOpen, IsReplyOf, MayCheck, checking}
+use Rattle.xk_serve.specs.OneAnswer.{AreWalks, ExplainFaults, HasOneStatus, IsLeftOpen, IsReplyOf, MayCheck, checking}
 use Rattle.xk_serve.proofs.AnswerUniquenessLemmas.{Case, Does, Misfit, NoRun, Astray, Prints, Read, Refusing, Said, Telling, Unfit, Unread, case_of, given_once, given_source, given_text, no_source, said_of, text_told, unread_none, unread_once}
 use Rattle.xk_serve.proofs.RefusalUniquenessLemmas.{not_accepted, refusals_once}
 use Rattle.xk_serve.proofs.TellingUniquenessLemmas.{origins_once, telling_once}
@@ -81,6 +82,7 @@ said_by_once (Draw picture) kind file bytes f a b h k = h ∙ sym k
 said_by_once (Where at) kind file bytes f a b h k = h ∙ sym k
 said_by_once Races kind file bytes f a b h k = h ∙ sym k
 said_by_once (Tally seed count) kind file bytes f a b h k = h ∙ sym k
+said_by_once (OutcomePage window limit pick) kind file bytes f a b h k = h ∙ sym k
 said_by_once (Outcomes sets limit pick kept) kind file bytes f a b h k = h ∙ sym k
 said_by_once (Expected sets limit) kind file bytes f a b h k = h ∙ sym k
 
@@ -98,7 +100,7 @@ same_out t bytes r s f g same e d =
 -- the module is refused, or accepted
 data Explained (t : Task) (bytes : List ℕ) (m : ModuleValue) (logged : List ℕ) (r : Reply) : Type 0 where
   Refused : (f : Refusal) → Refuses m f → refusal_status f ≢ 4 → IsReplyOf t bytes (fault.Refused f) r → Explained t bytes m logged r
-  Accepted : (whole : Bool) → IsAccepted m → IsTelling t.doing t.form t.file bytes m t.arguments logged (r.out, whole)
+  Accepted : (whole : Bool) → HasOneStatus t.doing → IsAccepted m → IsTelling t.doing t.form t.file bytes m t.arguments logged (r.out, whole)
       → Explained t bytes m logged r
 
 -- a program that is explained isn't run, and no log or list is read
@@ -122,7 +124,7 @@ explained_of t bytes m logged r json is (Does zero quiet p) =
     let none : Prints (Explain json) m t.arguments logged r.out r.log = subst (λ what. Prints what m t.arguments logged r.out r.log) is p in
     absurd none
 explained_of t bytes m logged r json is (Telling whole zero quiet p none) =
-    Accepted whole (accepted_telling t bytes m logged (r.out, whole) json is p) p
+    Accepted whole (subst HasOneStatus (sym is) tt) (accepted_telling t bytes m logged (r.out, whole) json is p) p
 
 module _ (t : Task) (bytes logged : List ℕ) (r s : Reply) where
   refused_once : (f g : Refusal) → (f ≡ g) ⊎ AreWalks f g → IsReplyOf t bytes (fault.Refused f) r → IsReplyOf t bytes (fault.Refused g) s
@@ -134,11 +136,11 @@ module _ (t : Task) (bytes logged : List ℕ) (r s : Reply) where
   explained_once : (m : ModuleValue) → Gives t.form bytes m → Explained t bytes m logged r → Explained t bytes m logged s
       → (r.out ≡ s.out) ⊎ ExplainFaults t bytes r s
   explained_once m given (Refused f p n e) (Refused g q k d) = refused_once f g (refusals_once m f g p q n k) e d
-  explained_once m given (Refused f p n e) (Accepted whole ok q) = absurd (not_accepted m f ok p n)
-  explained_once m given (Accepted whole ok p) (Refused g q k d) = absurd (not_accepted m g ok q k)
-  explained_once m given (Accepted whole ok p) (Accepted all fine q) =
-      inl (ap (λ (tale : Tale). tale.0) (telling_once t.doing t.form t.file bytes m t.arguments logged (r.out, whole) (s.out, all) given p
-      q))
+  explained_once m given (Refused f p n e) (Accepted whole one ok q) = absurd (not_accepted m f ok p n)
+  explained_once m given (Accepted whole one ok p) (Refused g q k d) = absurd (not_accepted m g ok q k)
+  explained_once m given (Accepted whole one ok p) (Accepted all too fine q) =
+      inl (ap (λ (tale : Tale). tale.0) (telling_once t.doing t.form t.file bytes m t.arguments logged (r.out, whole) (s.out, all) one given
+      p q))
 
   unfit_explained : (f g : FrontFault) → (f ≡ g) ⊎ IsLeftOpen bytes f g → IsReplyOf t bytes (fault.Front f) r
       → IsReplyOf t bytes (fault.Front g) s

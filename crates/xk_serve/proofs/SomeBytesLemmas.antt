@@ -7,7 +7,8 @@ use Rattle.xk_cli.specs.declared.job.Form.{Form}
 use Rattle.xk_answers.specs.declared.explanation.Refused.{Refused}
 use Rattle.xk_answers.specs.declared.job_result.Done.{Done}
 use Rattle.xk_answers.specs.Printed.{done_status}
-use Rattle.xk_answers.specs.Results.{Check, Compile, Doing, Draw, Expected, Explain, Listing, Outcomes, Races, Replay, Run, Tally, Where}
+use Rattle.xk_answers.specs.Results.{Check, Compile, Doing, Draw, Expected, Explain, Listing}
+use Rattle.xk_answers.specs.Results.{OutcomePage, Outcomes, Races, Replay, Run, Tally, Where}
 use Rattle.xk_answers.proofs.LogLemmas.{some_any, some_each}
 use Rattle.xk_program.specs.Bytes.{FailsRead, kept}
 use Rattle.xk_program.specs.declared.fault.Fault.{Fault}
@@ -42,6 +43,7 @@ memory_unsaid (Draw picture) kind file bytes said e = e
 memory_unsaid (Where at) kind file bytes said e = e
 memory_unsaid Races kind file bytes said e = e
 memory_unsaid (Tally seed runs) kind file bytes said e = e
+memory_unsaid (OutcomePage window limit pick) kind file bytes said e = e
 memory_unsaid (Outcomes sets limit pick kept) kind file bytes said e = e
 memory_unsaid (Expected sets limit) kind file bytes said e = e
 

@@ -9,7 +9,8 @@ use Rattle.xk_bounds.specs.declared.refusal.Refusal.TheVariants as refusal
 use Rattle.xk_answers.specs.declared.job_result.Done.{Done}
 use Rattle.xk_program.specs.declared.fault.Fault.{Fault}
 use Rattle.xk_program.specs.declared.fault.Fault.TheVariants as fault
-use Rattle.xk_answers.specs.Results.{Check, ComesTo, Compile, Doing, Draw, Expected, Explain, IsNoRun, IsTelling, IsText, Listing, Outcomes, Races, Replay, Run, Tally, Where}
+use Rattle.xk_answers.specs.Results.{Check, ComesTo, Compile, Doing, Draw, Expected, Explain, IsNoRun, IsTelling}
+use Rattle.xk_answers.specs.Results.{IsText, Listing, OutcomePage, Outcomes, Races, Replay, Run, Tally, Where}
 use Rattle.xk_serve.specs.Answer.{FailsBy, Succeeds, Task, asks_verifier, reads_list, reads_log, reads_more, runs, wants_legal, wants_whole}
 use Rattle.xk_program.specs.Refusals.{IsNotRun, IsRefusal}
 use Rattle.std.proofs.lemmas.Result.{IfOk-weaker}
@@ -189,6 +190,7 @@ runs_asks (Draw picture) h = refl
 runs_asks (Where at) h = refl
 runs_asks Races h = refl
 runs_asks (Tally seed runs) h = refl
+runs_asks (OutcomePage window limit pick) h = refl
 runs_asks (Outcomes sets limit pick kept) h = refl
 runs_asks (Expected sets limit) h = refl
 
@@ -285,6 +287,7 @@ reads_runs (Draw picture) h = refl
 reads_runs (Where at) h = refl
 reads_runs Races h = refl
 reads_runs (Tally seed runs) h = refl
+reads_runs (OutcomePage window limit pick) h = refl
 reads_runs (Outcomes sets limit pick kept) h = refl
 reads_runs (Expected sets limit) h = refl
 
@@ -348,6 +351,7 @@ lists_runs (Draw picture) h = refl
 lists_runs (Where at) h = refl
 lists_runs Races h = refl
 lists_runs (Tally seed runs) h = refl
+lists_runs (OutcomePage window limit pick) h = refl
 lists_runs (Outcomes sets limit pick kept) h = refl
 lists_runs (Expected sets limit) h = refl
 

@@ -16,13 +16,15 @@ use Rattle.xk_cli.specs.declared.job.Form.TheVariants as form
 use Rattle.xk_types.specs.declared.world.Entry.{Entry}
 use Rattle.xk_answers.specs.declared.picture.Picture.{Picture}
 use Rattle.xk_answers.specs.declared.picture.Picture.TheVariants as picture
-use Rattle.xk_answers.specs.Results.{Check, Compile, Doing, Draw, Expected, Explain, IsPicture, IsTelling, Listing, Outcomes, Races, Replay, Run, Tally, Where}
+use Rattle.xk_answers.specs.Results.{Check, Compile, Doing, Draw, Expected, Explain, IsPicture, IsTelling}
+use Rattle.xk_answers.specs.Results.{Listing, OutcomePage, Outcomes, Races, Replay, Run, Tally, Where}
 use Rattle.xk_program.specs.Origins.{HaveOrigins, HaveSharedNames, IsByNames, IsByOrigins}
 use Rattle.xk_answers.specs.Explanation.{HaveHints, IsListed, Tale, acceptance_told, events_so_far, image_so_far, lanes_so_far, page_so_far, races_told, span_told, where_told}
 use Rattle.xk_answers.specs.Explanation.{why_told}
 use Rattle.xk_cli.specs.declared.job.Order.TheVariants as order
 use Rattle.xk_program.specs.Programs.{Gives}
 use Rattle.xk_types.specs.World.{World}
+use Rattle.xk_serve.specs.OneAnswer.{HasOneStatus}
 use Rattle.xk_serve.proofs.LogUniquenessLemmas.{text_once}
 use Rattle.xk_serve.proofs.RunUniquenessLemmas.{last_once, logged_once}
 use Rattle.xk_serve.proofs.TextUniquenessLemmas.{unfit_none}
@@ -93,36 +95,38 @@ picture_once (picture.Why step) kind file bytes m args es last a b given h k =
 picture_once picture.Races kind file bytes m args es last a b given h k =
     by_names_once kind bytes m (races_told bytes m args es) a b given h k
 
-pub telling_once : (what : Doing) (kind : Form) (file bytes : List ℕ) (m : ModuleValue) (args : List ℤ) (logged : List ℕ) (a b : Tale) → Gives kind bytes m
-    → IsTelling what kind file bytes m args logged a → IsTelling what kind file bytes m args logged b → a ≡ b
-telling_once (Explain json) kind file bytes m args logged a b given h k =
+-- what has one status is told as one text
+pub telling_once : (what : Doing) (kind : Form) (file bytes : List ℕ) (m : ModuleValue) (args : List ℤ) (logged : List ℕ) (a b : Tale)
+    → HasOneStatus what → Gives kind bytes m → IsTelling what kind file bytes m args logged a → IsTelling what kind file bytes m args logged b → a ≡ b
+telling_once (Explain json) kind file bytes m args logged a b one given h k =
     let same = hints_once kind bytes k.1.0 h.1.0 k.1.1 h.1.1 in
     by_origins_once kind bytes m (acceptance_told json file bytes m h.1.0) a b given h.1.2
     (subst (λ hs. IsByOrigins kind bytes (acceptance_told json file bytes m hs) b) same k.1.2)
-telling_once Listing kind file bytes m args logged a b given h k =
+telling_once Listing kind file bytes m args logged a b one given h k =
     let same = origins_once kind bytes m h.0.0 k.0.0 given h.0.1 k.0.1 in
     same_tale (listed_once bytes m h.0.0 a.0 b.0 h.0.2 (subst (λ o. IsListed bytes m o b.0) (sym same) k.0.2)) (h.1 ∙ sym k.1)
-telling_once (Draw picture) kind file bytes m args logged a b given h k =
+telling_once (Draw picture) kind file bytes m args logged a b one given h k =
     let same = text_once logged k.1.0 h.1.0 k.1.1 h.1.1 in
     let last = last_once m args k.1.0 h.1.0 same k.1.2 h.1.2 in
     picture_once picture kind file bytes m args h.1.0 h.1.2.last a b given h.1.4
     (subst (λ w. IsPicture picture kind file bytes m args h.1.0 w b) last (subst (λ es. IsPicture picture kind file bytes m args es k.1.2.last b) same k.1.4))
-telling_once (Where at) kind file bytes m args logged a b given h k =
+telling_once (Where at) kind file bytes m args logged a b one given h k =
     let here = h.1.1 in
     let there = k.1.1 in
     let same = text_once logged there.0 here.0 there.1 here.1 in
     by_names_once kind bytes m (where_told bytes m args at here.0) a b given here.2
     (subst (λ es. IsByNames kind bytes (where_told bytes m args at es) b) same there.2)
-telling_once Races kind file bytes m args logged a b given h k =
+telling_once Races kind file bytes m args logged a b one given h k =
     let here = h.1 in
     let there = k.1 in
     let same = logged_once order.First m args there.0 here.0 there.1 here.1 there.2 here.2 there.3 here.3 in
     by_names_once kind bytes m (races_told bytes m args here.2) a b given here.4
     (subst (λ es. IsByNames kind bytes (races_told bytes m args es) b) same.2 there.4)
-telling_once (Tally seed runs) kind file bytes m args logged a b given h k = same_tale (tally_once m args seed runs a.0 b.0 h.2.0 k.2.0) (h.2.1 ∙ sym k.2.1)
-telling_once Check kind file bytes m args logged a b given h k = absurd h
-telling_once Compile kind file bytes m args logged a b given h k = absurd h
-telling_once (Run way kept) kind file bytes m args logged a b given h k = absurd h
-telling_once Replay kind file bytes m args logged a b given h k = absurd h
-telling_once (Outcomes sets limit pick kept) kind file bytes m args logged a b given h k = absurd h
-telling_once (Expected sets limit) kind file bytes m args logged a b given h k = absurd h
+telling_once (Tally seed runs) kind file bytes m args logged a b one given h k = same_tale (tally_once m args seed runs a.0 b.0 h.2.0 k.2.0) (h.2.1 ∙ sym k.2.1)
+telling_once Check kind file bytes m args logged a b one given h k = absurd h
+telling_once Compile kind file bytes m args logged a b one given h k = absurd h
+telling_once (Run way kept) kind file bytes m args logged a b one given h k = absurd h
+telling_once Replay kind file bytes m args logged a b one given h k = absurd h
+telling_once (Outcomes sets limit pick kept) kind file bytes m args logged a b one given h k = absurd h
+telling_once (Expected sets limit) kind file bytes m args logged a b one given h k = absurd h
+telling_once (OutcomePage window limit pick) kind file bytes m args logged a b one given h k = absurd one

@@ -20,6 +20,7 @@ use Rattle.xk_program.specs.Lines.{fault_line, status_of}
 use Rattle.xk_program.specs.Programs.{Gives, IsNoModule, IsNoSource}
 use Rattle.xk_answers.specs.Explanation.{IsExplanation}
 use Rattle.xk_answers.specs.Results.{Doing, way_given, window_given, lanes_given, list_in, ComesTo, IsTelling, IsText, IsNoRun, is_of_whole, Check, Explain, Compile, Listing, Run, Replay, Draw, Where, Races, Tally, Outcomes, Expected}
+use Rattle.xk_answers.specs.Results.{OutcomePage}
 use Rattle.xk_program.specs.Refusals.{IsMisfit}
 
 -- whether the module is run, and main given its arguments
@@ -80,6 +81,7 @@ doing_of (command.Chart log) = Draw picture.Chart
 doing_of (command.Events log) = Draw picture.Events
 doing_of (command.Lanes log from to svg) = Draw (lanes_given from to svg)
 doing_of (command.Page log from to) = Draw (picture.Page (window_given from to))
+doing_of (command.OutcomePage pick limit from to) = OutcomePage (window_given from to) limit pick
 doing_of (command.Where log at) = Where at
 doing_of (command.Span log) = Draw picture.Span
 doing_of (command.Why log step) = Draw (picture.Why step)

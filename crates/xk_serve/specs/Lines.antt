@@ -20,3 +20,7 @@ list_line = codes "x10clock: --expect goes without --log and --pick\n"
 -- they have an outcome to pick, and no log
 abbrev pub pick_line : List ℕ
 pick_line = codes "x10clock: --pick goes with --log\n"
+
+-- they have a page, and it is unclear of which run
+abbrev pub page_line : List ℕ
+page_line = codes "x10clock: page takes either LOG or --outcome, and --limit goes with --outcome\n"

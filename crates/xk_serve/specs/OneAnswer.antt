@@ -18,7 +18,7 @@ use Rattle.xk_program.specs.declared.fault.Fault.TheVariants as fault
 use Rattle.xk_bounds.specs.declared.refusal.Refusal.{Refusal}
 use Rattle.xk_bounds.specs.declared.refusal.Refusal.TheVariants as refusal
 use Rattle.xk_serve.specs.Answer.{Answers, IsSaidOf, Reply, Task, done_reply, fault_reply}
-use Rattle.xk_answers.specs.Results.{Check, Doing, Draw, Expected, Explain, IsLogText, Outcomes, Replay, Run}
+use Rattle.xk_answers.specs.Results.{Check, Doing, Draw, Expected, Explain, IsLogText, OutcomePage, Outcomes, Replay, Run}
 use Rattle.xk_messages.specs.Lines.{kind_text, line}
 use Rattle.xk_program.specs.Programs.{Gives, IsSource, SpellsNone}
 
@@ -55,18 +55,21 @@ ComesToOne (Outcomes sets limit pick kept) = ⊥
 ComesToOne (Expected sets limit) = ⊥
 ComesToOne _ = ⊤
 
--- what goes to standard output is one: what it comes to is, and no refusal is explained, to which there may be several walks
+-- what goes to standard output is one: what it comes to is, and no page is made of an outcome, of which there may be several runs, and no refusal is
+-- explained, to which there may be several walks
 abbrev pub IsDetermined : Doing → Type 0
 IsDetermined (Run (By n) kept) = ⊥
 IsDetermined (Outcomes sets limit pick kept) = ⊥
 IsDetermined (Expected sets limit) = ⊥
+IsDetermined (OutcomePage window limit pick) = ⊥
 IsDetermined (Explain json) = ⊥
 IsDetermined _ = ⊤
 
--- the status is one: no outcomes are looked for, which may be all or not
+-- the status is one: no outcomes are looked for, which may be all or not, and of which one may be there or not
 abbrev pub HasOneStatus : Doing → Type 0
 HasOneStatus (Outcomes sets limit pick kept) = ⊥
 HasOneStatus (Expected sets limit) = ⊥
+HasOneStatus (OutcomePage window limit pick) = ⊥
 HasOneStatus _ = ⊤
 
 -- Two replies to a job are one, but for the walk to a refusal of kinds; where workers take the steps, but for the numbers and the log of the run; where

@@ -17,8 +17,8 @@ use std::alloc::Global;
 use std::sync::Wait;
 use std::thread::Threads;
 use xk_answers::{
-    Done, Picture, drawn, held, lanes_given, listing, raced, replayed, run_as, searched, stood,
-    tallied, window_given,
+    Done, Picture, drawn, held, lanes_given, listing, paged, raced, replayed, run_as, searched,
+    stood, tallied, window_given,
 };
 use xk_cli::{Command, Drive, Job, Order};
 use xk_module::write_module;
@@ -74,6 +74,15 @@ pub(crate) fn answer<R: Threads + Wait + Sync, L: Source>(
         Command::Page { from, to, .. } => {
             let page = Picture::Page(window_given(from, to));
             drawn(alloc, page, job.file, program, arguments, log_in)
+        }
+        Command::OutcomePage {
+            pick,
+            limit,
+            from,
+            to,
+        } => {
+            let window = window_given(from, to);
+            paged(alloc, window, limit, pick, job.file, program, arguments)
         }
         Command::Span { .. } => {
             let span = Picture::Span;

@@ -18,7 +18,9 @@ use std::alloc::Global;
 use std::sync::Wait;
 use std::thread::Threads;
 use xk_answers::{Done, Refused, explained, unsaid};
-use xk_cli::{EXCLUDED_LINE, Job, LIST_LINE, PICK_LINE, RUNS_LINE, SEED_LINE, WordsFault, status};
+use xk_cli::{
+    EXCLUDED_LINE, Job, LIST_LINE, PAGE_LINE, PICK_LINE, RUNS_LINE, SEED_LINE, WordsFault, status,
+};
 use xk_io::{Device, write_all};
 use xk_log::write_entries;
 use xk_messages::MEMORY_LINE;
@@ -291,6 +293,7 @@ pub fn tell_words<O: Sink, E: Sink>(fault: &WordsFault, out: &mut O, err: &mut E
         WordsFault::MisplacedRuns => tell(RUNS_LINE, status::WORDS, err),
         WordsFault::MisplacedList => tell(LIST_LINE, status::WORDS, err),
         WordsFault::PickAlone => tell(PICK_LINE, status::WORDS, err),
+        WordsFault::UnclearPage => tell(PAGE_LINE, status::WORDS, err),
         WordsFault::OutOfMemory => tell(MEMORY_LINE, status::MEMORY, err),
     }
 }

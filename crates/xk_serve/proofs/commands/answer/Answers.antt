@@ -3,7 +3,7 @@ use Rattle.std.specs.Prelude.{unwrap_or}
 use Rattle.xk_answers.specs.declared.picture.Picture.TheVariants as picture
 use Rattle.std.proofs.lemmas.Bool.{false≢true}
 use Rattle.std.proofs.lemmas.Result.{err_from_is_err_and}
-use Rattle.xk_answers.specs.Results.{Check, Compile, Draw, Expected, Outcomes, Races, Replay, Run, Where, way_given}
+use Rattle.xk_answers.specs.Results.{Check, Compile, Draw, Expected, OutcomePage, Outcomes, Races, Replay, Run, Where, way_given}
 use Rattle.xk_cli.specs.CommandAnswers.{explanation, shows_origins}
 use Rattle.xk_serve.specs.Answer.{doing_of, races_by, task_of}
 use Rattle.xk_serve.proofs.TaskLemmas.{against_any, against_list, against_log, against_memory, against_picture, against_refused, against_run_of, against_text, done_of_any, done_of_list, done_of_log, done_of_none, done_of_run, done_of_text, done_of_told}
@@ -99,6 +99,25 @@ pub returns-in-Page-clause-fault : goal.returns-in-Page-clause-fault
 returns-in-Page-clause-fault g c =
     let is = ap doing_of c.in-Page.is ∙ ap (λ window. Draw (picture.Page window)) (sym c.window_given.ensures) in
     against_picture (task_of c.args.job.now) c.args.bytes.now (g.L.Source.remaining c.args.log_in.now) _ _ _ (picture.Page c.window_given.result) c.as_slice-arguments.result.now c.drawn-in-Page.result is c.as_slice-arguments.ensures.value c.in_ok-program.ensures.module c.drawn-in-Page.ensures.fault c.drawn-in-Page.ensures.stands
+
+pub returns-in-OutcomePage-clause-done : goal.returns-in-OutcomePage-clause-done
+returns-in-OutcomePage-clause-done g c =
+    let what = OutcomePage c.window_given-window.result c.in-OutcomePage.limit c.in-OutcomePage.pick in
+    let is = ap doing_of c.in-OutcomePage.is
+    ∙ ap (λ window. OutcomePage window c.in-OutcomePage.limit c.in-OutcomePage.pick) (sym c.window_given-window.ensures) in
+    done_of_told (task_of c.args.job.now) c.args.bytes.now (g.L.Source.remaining c.args.log_in.now) _ what
+    c.as_slice-arguments.result.now c.paged.result is c.as_slice-arguments.ensures.value c.in_ok-program.ensures.module
+    (λ logged. c.paged.ensures.done c.args.job.now.form c.args.bytes.now logged
+    (c.in_ok-program.ensures.from.0, λ _. c.in_ok-program.ensures.from.1 (c.shows_origins.ensures ∙ ap shows_origins c.in-OutcomePage.is)))
+
+pub returns-in-OutcomePage-clause-fault : goal.returns-in-OutcomePage-clause-fault
+returns-in-OutcomePage-clause-fault g c =
+    let what = OutcomePage c.window_given-window.result c.in-OutcomePage.limit c.in-OutcomePage.pick in
+    let is = ap doing_of c.in-OutcomePage.is
+    ∙ ap (λ window. OutcomePage window c.in-OutcomePage.limit c.in-OutcomePage.pick) (sym c.window_given-window.ensures) in
+    against_run_of (task_of c.args.job.now) c.args.bytes.now (g.L.Source.remaining c.args.log_in.now) _ _ what
+    c.as_slice-arguments.result.now c.paged.result is c.as_slice-arguments.ensures.value refl c.in_ok-program.ensures.module
+    c.paged.ensures.fault
 
 pub returns-in-Span-clause-done : goal.returns-in-Span-clause-done
 returns-in-Span-clause-done g c =
