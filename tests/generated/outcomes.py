@@ -9,9 +9,10 @@ all schedules finds it (tests/reference/outcomes.py), each outcome with a log th
 has 2 to 4 activities that print, and mostly shared numbers, clocks and finishes; some are asked about as their modules,
 some take numbers. The program is asked with no limit, for the log of each outcome, or of 8 that are spread evenly, for
 that of one which there isn't, and with a limit; with `--sets` the same where the order of numbers doesn't count. Each
-log is played again by the program, and by the reference. All outcomes are held against lists, too: against what the
-program told, in another order, against that without one line or with another, and with a limit. `--tally` tells how
-often each answer was given; `--only` prints one program alone.
+log is played again by the program, and by the reference. The page of an outcome has to be that of its log, as `page`
+makes it of FILE and LOG, and where there is no such outcome a line says so. All outcomes are held against lists, too:
+against what the program told, in another order, against that without one line or with another, and with a limit.
+`--tally` tells how often each answer was given; `--only` prints one program alone.
 """
 
 from __future__ import annotations
@@ -30,7 +31,7 @@ from tests import harness
 from tests.generated import generated, generated_source, tally
 from tests.generated.generated_source import Tokens, Writer
 from tests.generated.logs import Program, Text
-from tests.reference import outcomes
+from tests.reference import command_line, outcomes
 from tests.reference.modules import Accepted
 from tests.reference.outcomes import Answer, Asked, Walk
 
@@ -149,6 +150,23 @@ class Asker:
         if answer[0] != 0 or asked.told(tuple(map(int, printed))) != lists[pick - 1]:
             yield f"its log is played again: {answer}"
 
+    def paged(self, limit: int | None, pick: int) -> Iterator[str]:
+        """What is wrong with the page of this outcome: it is that of its log, with the same limit."""
+        file, log = self.program.folder / "text", self.program.folder / "made"
+        file.write_bytes(self.case.text.data)
+        given, limits = self.case.text.words(), ["--limit", limit] if limit else []
+        _, out, _ = self.program.call("outcomes", *given, *limits, "--pick", pick, "--log", log, file)
+        lists, _ = outcomes.read(out) or ([], True)
+        told = self.program.call("page", *given, *limits, "--outcome", pick, file)
+        if pick <= len(lists):
+            self.counts["pages of outcomes"] += 1
+            wanted = self.program.call("page", *given, file, log)
+        else:
+            self.counts["pages of no outcome"] += 1
+            wanted = (outcomes.NOT_WHOLE, command_line.no_outcome(pick, out), "")
+        if told != wanted:
+            yield f"page --outcome {pick}, limit {limit}: {told}, and not {wanted}"
+
     def held(self, lines: list[str], limit: int | None, all_lines: frozenset[str] = frozenset()) -> Iterator[str]:
         """What is wrong with an answer where outcomes are held against a list of these lines; the line of an outcome
         that isn't in it is one of all lines, if these are known."""
@@ -243,6 +261,9 @@ class Asker:
             [1, 2, 3, 10, max(1, count - 1), count, count + 1, outcomes.SPARE * self.case.walk.entries + 1]
         )
         yield from self.asked(limit, rng.choice([None, 1, 2, count]))
+        if not self.sets:
+            pick = rng.choice([1, count, rng.randrange(count) + 1, count + 1])
+            yield from self.paged(rng.choice([None, limit]), pick)
         yield from self.lists(rng)
         for order in ORDERS:
             yield from self.raced(order)

@@ -11,9 +11,9 @@ meant, with a word left out, doubled, put in or replaced. Each call is made in a
 the status, standard output, the first line of standard error and what is in the folder then have to be the same. What a
 run by workers prints is compared in any order, and its log is played again; outcomes, which the program tells in an
 order of its own, have to be right (tests/reference/outcomes.py), and so has their log, and what is said of them where
-they are held against a list. `--tally` tells how often each answer was given; `--only` prints the words of one case. It
-fails where something is answered otherwise, and where of 500 calls or more none told outcomes, events, lanes, a page or
-what a step rests on.
+they are held against a list; the page of an outcome has to be that of the log which the program writes of it. `--tally`
+tells how often each answer was given; `--only` prints the words of one case. It fails where something is answered
+otherwise, and where of 500 calls or more none told outcomes, events, lanes, a page or what a step rests on.
 """
 
 from __future__ import annotations
@@ -77,7 +77,7 @@ STRANGE = [
     "--", "-h", "--help", "help", "-", "", "-x", "-5", "-hx", "--module=x", "--help=x", "--modul", "--Module",
     "--orders", "--=", "---", "--version", "-V", "walk", "chek", "run", "check", "--no-module", "--log", "--order",
     "--workers", "--arg", "--seed", "--runs", "--limit", "--pick", "--sets", "--expect", "--from", "--to", "--at",
-    "--svg", "outcome", "V9", "\udcff", "--log=\udcfe", "ü", "--ü", "a b", "=", "@step.x10",
+    "--svg", "--outcome", "outcome", "V9", "\udcff", "--log=\udcfe", "ü", "--ü", "a b", "=", "@step.x10",
 ]  # fmt: skip
 
 
@@ -135,7 +135,14 @@ def meant(rng: random.Random, given: str) -> list[str]:
     command = rng.choice([*command_line.COMMANDS, "run", "run", "run", "run", "outcomes", "why"])
     file = rng.choice(["step.x10", "many.x10", "step.json", "many.json", "-"] if rng.random() < 0.8 else NAMES)
     parts = [[file], *options(rng, command, given if file == "-" else file)]
+    # A page may be made of an outcome in place of a log.
+    is_outcome = command == "page" and rng.random() < 0.5
+    if is_outcome:
+        parts.append(option(rng, "outcome", small(rng)))
+        parts += [option(rng, "limit", small(rng))] if rng.random() < 0.3 else []
     rng.shuffle(parts)
+    if is_outcome:
+        return [command, *(word for part in parts for word in part)]
     if command in runs.COMMANDS or command == "races" and rng.random() < 0.5:
         at = parts.index([file])
         fitting = f"{(given if file == '-' else file)[:4]}.log"
@@ -229,6 +236,8 @@ class Caller:
         job = job_of(words)
         if job and job.command == "outcomes" and {right.status, got.status} <= {outcomes.WHOLE, outcomes.NOT_WHOLE}:
             return got, "; ".join(outcome_faults(job, given, got, left, there)) or None
+        if job and "outcome" in job.values and {right.status, got.status} <= {outcomes.WHOLE, outcomes.NOT_WHOLE}:
+            right = self.page_of_outcome(job, given)
         if got.status == 0 and job and "workers" in job.values:
             played = replayed(job, given, left, there)
             if played is not None and played != got:
@@ -239,6 +248,22 @@ class Caller:
             return got, None
         files = {name for name in {*left, *there} if left.get(name) != there.get(name)}
         return got, f"reference: {right}\n    program:   {got}\n    files that differ: {sorted(files)}"
+
+    def page_of_outcome(self, job: Job, given: str) -> Told:
+        """What the reference tells of the log that the program writes of an outcome, or in place of a page."""
+        file, pick, log = job.values["FILE"], job.values["outcome"], "log of the outcome"
+        options = [*(f"--{flag}" for flag in job.flags), *(f"--arg={number}" for number in job.numbers)]
+        limit, window = valued(job, "limit"), valued(job, "from", "to")
+        listed, there = self.called(["outcomes", *options, *limit, f"--pick={pick}", f"--log={log}", "--", file], given)
+        if not there[log]:
+            return Told(outcomes.NOT_WHOLE, command_line.no_outcome(int(pick), listed.out))
+        with contextlib.chdir(self.folder), open(given, "rb") as stdin:
+            return command_line.told(["page", *options, *window, "--", file, log], stdin)
+
+
+def valued(job: Job, *names: str) -> list[str]:
+    """Those of these options that a job has, with their values."""
+    return [f"--{name}={job.values[name]}" for name in names if name in job.values]
 
 
 def job_of(words: list[str]) -> Job | None:

@@ -38,6 +38,7 @@ SEED_ALONE = "x10clock: --seed goes with --order random"
 RUNS_MISPLACED = "x10clock: --runs goes with --order random, and not with --log"
 LIST_MISPLACED = "x10clock: --expect goes without --log and --pick"
 PICK_ALONE = "x10clock: --pick goes with --log"
+PAGE_UNCLEAR = "x10clock: page takes either LOG or --outcome, and --limit goes with --outcome"
 OVER_FILE = "x10clock: --log would write over FILE"
 OVER_ANSWERS = "x10clock: --log would write over FILE or standard input"
 ASKED_INPUT = "x10clock: --order ask reads standard input, so FILE can't be -"
@@ -96,6 +97,7 @@ OPTIONS = {
     "workers": Option("--workers <N>", WORKERS),
     "limit": Option("--limit <LIMIT>", COUNTS),
     "pick": Option("--pick <K>", COUNTS),
+    "outcome": Option("--outcome <K>", COUNTS),
     "from": Option("--from <STEP>", COUNTS),
     "to": Option("--to <STEP>", COUNTS),
     "at": Option("--at <STEP>", UNSIGNED),
@@ -120,7 +122,7 @@ COMMANDS: dict[str, tuple[set[str], set[str], list[str]]] = {
     "chart": ({"arg"}, {"module"}, ["FILE", "LOG"]),
     "events": ({"arg"}, {"module"}, ["FILE", "LOG"]),
     "lanes": ({"from", "to", "arg"}, {"module", "svg"}, ["FILE", "LOG"]),
-    "page": ({"from", "to", "arg"}, {"module"}, ["FILE", "LOG"]),
+    "page": ({"outcome", "limit", "from", "to", "arg"}, {"module"}, ["FILE", "LOG" + MAYBE]),
     "where": ({"at", "arg"}, {"module"}, ["FILE", "LOG"]),
     "span": ({"arg"}, {"module"}, ["FILE", "LOG"]),
     "why": ({"arg"}, {"module"}, ["FILE", "LOG", "STEP"]),
@@ -309,6 +311,8 @@ def read(words: list[str]) -> Job:
             raise Mistake(LIST_MISPLACED)
         if "pick" in job.values and "log" not in job.values:
             raise Mistake(PICK_ALONE)
+        if first == "page" and is_unclear(job):
+            raise Mistake(PAGE_UNCLEAR)
         return job
     if first == "help":
         raise helped(rest)
@@ -317,6 +321,11 @@ def read(words: list[str]) -> Job:
     if first == "-" or not first.startswith("-"):
         raise unrecognized(first)
     raise of_all(first)
+
+
+def is_unclear(job: Job) -> bool:
+    """Whether `page` is given a log beside what is for an outcome, or neither a log nor an outcome."""
+    return bool({"outcome", "limit"} & {*job.values}) if "LOG" in job.values else "outcome" not in job.values
 
 
 def of_all(word: str) -> Exception:
@@ -460,9 +469,10 @@ def is_too_long(judged: Accepted, way: Way, arguments: Arguments) -> bool:
 
 
 def asked_outcomes(job: Job) -> outcomes.Asked:
-    """How many outcomes at most are asked for, and whose log."""
-    limit, pick = int(job.values.get("limit", outcomes.USUAL_LIMIT)), int(job.values.get("pick", "1"))
-    return outcomes.Asked(limit, pick if "log" in job.values else None, "sets" in job.flags)
+    """How many outcomes at most are asked for, and whose log, or page."""
+    limit = int(job.values.get("limit", outcomes.USUAL_LIMIT))
+    pick = int(job.values.get("outcome", job.values.get("pick", "1")))
+    return outcomes.Asked(limit, pick if {"log", "outcome"} & {*job.values} else None, "sets" in job.flags)
 
 
 def searched(job: Job, judged: Accepted, log: BinaryIO | None) -> Told:
@@ -474,6 +484,20 @@ def searched(job: Job, judged: Accepted, log: BinaryIO | None) -> Told:
     if log:
         log.write(answer.log)
     return Told(answer.status, answer.out)
+
+
+def no_outcome(pick: int, out: str) -> str:
+    """What is told in place of a page, where `outcomes` tells this."""
+    return f"no outcome {pick}: {out.splitlines()[-1]}\n"
+
+
+def outcome_log(job: Job, judged: Accepted) -> bytes | Told:
+    """A log of which the page may be that is made of an outcome, or what is told where there is none."""
+    walk, asked = outcomes.walked(judged.module, tuple(job.numbers)), asked_outcomes(job)
+    if walk is None:
+        raise TooLong
+    answer = outcomes.answer(walk, asked)
+    return answer.log or Told(outcomes.NOT_WHOLE, no_outcome(asked.pick, answer.out))
 
 
 def held(job: Job, judged: Accepted, list_in: BinaryIO | None) -> Told:
@@ -497,6 +521,13 @@ def first_log(judged: Accepted, arguments: Arguments) -> bytes:
     return logs.text_of(logs.log_of(judged.module, way, arguments))
 
 
+def run_log(job: Job, judged: Accepted, log_in: BinaryIO | None) -> bytes | Told:
+    """The log of the run that is told of, or what is told where there is no such run."""
+    if "outcome" in job.values:
+        return outcome_log(job, judged)
+    return contents(log_in) if "LOG" in job.values else first_log(judged, tuple(job.numbers))
+
+
 def answered(job: Job, data: bytes, given: BinaryIO, log_in: BinaryIO | None, log_out: BinaryIO | None) -> Told:
     """What is said of a program's bytes, with this standard input."""
     if job.command in ("compile", "listing"):
@@ -515,7 +546,9 @@ def answered(job: Job, data: bytes, given: BinaryIO, log_in: BinaryIO | None, lo
         return held(job, judged, log_in)
     if job.command in ("run", "outcomes"):
         return ran(job, judged, log_out) if job.command == "run" else searched(job, judged, log_out)
-    log = contents(log_in) if "LOG" in job.values else first_log(judged, tuple(job.numbers))
+    log = run_log(job, judged, log_in)
+    if isinstance(log, Told):
+        return log
     window = range(int(job.values.get("from", "0")), int(job.values.get("to", str(2**64 - 1))) + 1)
     status, out, err = runs.answer(
         job.command,

@@ -30,8 +30,8 @@ struct Picked {
     complete: bool,
 }
 
-/// The page of a run with this outcome of the program with these arguments, counted from 1, or a line where there is no such outcome; if the program
-/// is accepted and main takes as many.
+/// The page of a run with this outcome of the program with these arguments, counted from 1, or a line where there is no such
+/// outcome; if the program is accepted and main takes as many.
 pub fn paged(
     alloc: Global,
     window: Window,
@@ -122,7 +122,8 @@ fn page_by_log(
     }
 }
 
-/// The line where there is no outcome of this number among so many: `no outcome 5: outcomes 2 complete`, or `no outcome 5: outcomes 2 and perhaps more`.
+/// The line where there is no outcome of this number among so many: `no outcome 5: outcomes 2 complete`, or
+/// `no outcome 5: outcomes 2 and perhaps more`.
 fn none_told(alloc: Global, pick: u64, count: usize, complete: bool) -> Result<Tale, AllocError>
     ensures { IfOk result
         (λ tale. (tale.text.items, tale.whole) ≡ none_told pick count complete) }

@@ -13,14 +13,15 @@ ghost use Rattle.xk_cli.specs.declared.job.Form.TheVariants as form;
 ghost use Rattle.xk_cli.specs.CommandLine.{Way};
 ghost use Rattle.xk_cli.specs.Status.{status_done, status_memory};
 
-/// To a job on a module text there is one answer, want of memory aside: the same status, and the same bytes on every device. Left open are: which walk
-/// is told of a refusal of kinds, one of the shortest, and so what `explain` writes to standard output of it; where workers take the steps, which run
-/// they take (then standard output and the log are those of some run, but the status and the line of a fault are determined still); and, where outcomes
-/// are looked for, in which order they are told or numbered, and whether all are. To a job on a source text there is one answer in the same sense, but that of a
-/// text which spells no tree, or has several recursive calls, it is left open which fault is told: the status and the other devices are the same then
-/// too. And what a job on a module comes to where nothing stands against it is one, and so is what is told of a program
-/// and of its runs: what `explain` says of one that is accepted, its listing, charts, events, lanes and pictures, where things stand, races, tallies; but
-/// the page of an outcome, which may be of any run with it.
+/// To a job on a module text there is one answer, want of memory aside: the same status, and the same bytes on every device. Left
+/// open are: which walk is told of a refusal of kinds, one of the shortest, and so what `explain` writes to standard output of it;
+/// where workers take the steps, which run they take (then standard output and the log are those of some run, but the status and
+/// the line of a fault are determined still); and, where outcomes are looked for, in which order they are told or numbered, and
+/// whether all are. To a job on a source text there is one answer in the same sense, but that of a text which spells no tree, or
+/// has several recursive calls, it is left open which fault is told: the status and the other devices are the same then too. And
+/// what a job on a module comes to where nothing stands against it is one, and so is what is told of a program and of its runs:
+/// what `explain` says of one that is accepted, its listing, charts, events, lanes and pictures, where things stand, races,
+/// tallies; but the page of an outcome, which may be of any run with it.
 pub fn one_answer()
     ensures answer { (t : Task) (bytes logged : List ℕ) (r s : Reply) → t.form ≡ form.Module
         → Answers t bytes logged r → Answers t bytes logged s
