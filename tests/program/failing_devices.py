@@ -103,6 +103,8 @@ CALLS = [
     Call("outcomes --expect SECOND -", IN_STEP, BEGINNING, status=3),
     Call("lanes --svg - SECOND", MANY, MANY_LOG, status=6),
     Call("page - SECOND", MANY, MANY_LOG, status=6),
+    Call("page --outcome 2 -", IN_STEP),
+    Call("page --outcome 3 -", IN_STEP, status=6),
     *(Call(f"{command} -", NO_PROGRAM, status=1) for command in ("check", "explain", "explain --json")),
     Call("run --log LOG -", ITSELF, status=1),
     Call("replay - SECOND", IN_STEP, BEGINNING, status=3),

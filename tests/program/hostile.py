@@ -126,6 +126,7 @@ def full_devices(tried: Tried) -> None:
     tried.answers("exec $x events in-step.x10 log > /dev/full", 5, err=DEVICE)
     for command in ("lanes", "lanes --svg", "page", "where", "races", "span"):
         tried.answers(f"exec $x {command} in-step.x10 log > /dev/full", 5, err=DEVICE)
+    tried.answers("exec $x page --outcome 2 in-step.x10 > /dev/full", 5, err=DEVICE)
     tried.answers("exec $x why in-step.x10 log 4 > /dev/full", 5, err=DEVICE)
     tried.answers("exec $x races in-step.x10 > /dev/full", 5, err=DEVICE)
     tried.answers("exec $x run --order random --runs 3 in-step.x10 > /dev/full", 5, err=DEVICE)

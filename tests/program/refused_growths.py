@@ -342,6 +342,21 @@ def each_search(calls: Calls) -> None:
             ["outcomes", *given(row), "--sets", "--limit", limit, "-"],
             row.read_bytes(),
         )
+        paged = calls.ask(
+            f"{name}, the page of an outcome",
+            ["page", *given(row), "--outcome", "1", "--limit", limit, "-"],
+            row.read_bytes(),
+        )
+        if paged.status or not paged.out.startswith(b"<!DOCTYPE html>"):
+            raise Wrong(f"{name}, the page of an outcome: {paged}")
+    calls.need(
+        "no page of an outcome",
+        ["page", "--outcome", "3", "-"],
+        (ROWS / "in-step.x10").read_bytes(),
+        6,
+        b"no outcome 3: outcomes 2 complete\n",
+        b"",
+    )
 
 
 def each_list(calls: Calls, folder: str) -> None:
@@ -437,6 +452,11 @@ def each_mistake(calls: Calls) -> None:
                 "x10clock: --expect goes without --log and --pick",
             ),
             ("a pick without a log", ["outcomes", "--pick", "2", "-"], "x10clock: --pick goes with --log"),
+            (
+                "a page of no run",
+                ["page", "-"],
+                "x10clock: page takes either LOG or --outcome, and --limit goes with --outcome",
+            ),
             ("no outcomes", ["outcomes", "--limit", "0", "-"],
              "error: invalid value '0' for '--limit <LIMIT>': 0 is not in 1..18446744073709551615")):
         calls.begins(name, words, 2, "", err)

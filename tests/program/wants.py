@@ -399,6 +399,9 @@ class Calls:
             yield self.logged(name, text)
             for words in drawn:
                 yield self.on_log(words, name, text, to_draw(2_000))
+        # The last one has one outcome, and one run that speaks for all.
+        most = self.small(text) + to_draw(2_000)
+        yield Call(f"page --outcome 1, {name}", ["page", "--outcome", "1", self.file(text)], most, 4)
 
     def of_races(self) -> Iterator[Call]:
         """Many activities; somewhat more accesses and advances than a power of two, of two activities; many races."""
