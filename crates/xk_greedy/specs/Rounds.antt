@@ -1,10 +1,10 @@
 -- Runs by rounds, as on processors that take a step at the same time, none of which is idle while it could take one: such runs
 -- are called greedy (Graham, "Bounds for certain multiprocessing anomalies", 1966). That an activity takes one instruction a round is this project's own.
-use Rattle.std.specs.Prelude.{◌≡◌, ℕ, ◌<◌, ℤ, List, [], ◌∷◌, length, map, take, Option, Some, None, ⊤}
+use Rattle.std.specs.Prelude.{◌≡◌, ℕ, ◌<◌, ℤ, true, List, [], ◌∷◌, length, map, take, Option, Some, None, ⊤}
 use Rattle.xk_types.specs.declared.world.Entry.{Entry}
 use Rattle.xk_types.specs.Code.{ModuleValue}
 use Rattle.xk_types.specs.World.{World, opening}
-use Rattle.xk_types.specs.Schedule.{Through, run}
+use Rattle.xk_types.specs.Schedule.{Through, all_ended, run}
 use Rattle.xk_types.specs.Logs.{one_step_of}
 use Rattle.xk_scheduler.specs.Choosers.{enabled_in}
 use Rattle.xk_law_rounds.specs.Rounds.{steps_in}
@@ -37,3 +37,8 @@ pub record IsByRounds (processors : Option ℕ) (m : ModuleValue) (args : List �
   pub are : AreRoundsBy processors m (opening m args) rounds last
   pub log_is : log ≡ map one_step_of (steps_in rounds)
   pub as_many : length rounds ≡ count
+
+-- a list of steps is that of so many rounds, which lead from the opening world with these arguments to one in which all have ended
+abbrev pub FollowsRounds : Option ℕ → ModuleValue → List ℤ → ℕ → List ℕ → Type 0
+FollowsRounds processors m args count list =
+    (last : World) × (all_ended last ≡ true) × IsByRounds processors m args (map one_step_of list) last count
