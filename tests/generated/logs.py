@@ -35,7 +35,7 @@ from tests.generated import generated, generated_source, tally
 from tests.harness import TOP
 from tests.reference import events, logs, modules, runs, source
 from tests.reference.logs import Answer, Entry, Fault, Log
-from tests.reference.modules import Accepted, Arguments, ByChance, Order, Refused, Way
+from tests.reference.modules import Accepted, Arguments, ByChance, Greedy, Order, Refused, Way
 
 ROWS = TOP / "tests/program/logs.rows"
 IN_STEP = TOP / "tests/program/rows/in-step.x10"
@@ -224,9 +224,9 @@ def any_text(rng: random.Random) -> Text:
 
 
 def any_way(rng: random.Random) -> Way:
-    """An order, or one by chance from a seed."""
+    """An order, or one by chance from a seed, or by rounds on some processors."""
     seed = rng.choice([0, 1, rng.randrange(2**64), 2**64 - 1])
-    return rng.choice([*Order, ByChance(seed), ByChance(seed)])
+    return rng.choice([*Order, ByChance(seed), ByChance(seed), Greedy(), Greedy(rng.choice([1, 2, 3, 2**64 - 1]))])
 
 
 def accepted_text(rng: random.Random) -> tuple[Text, Accepted]:
@@ -376,7 +376,8 @@ def against_itself(rng: random.Random, text: Text, written: bytes, way: Way) -> 
     """What has to hold of the reference alone, of the log that was written of a run."""
     module, log = text.judged().module, logs.read(written)
     played = logs.replay(module, log, text.arguments)
-    if played.output() != modules.run(module, way, text.arguments).text():
+    ran = modules.run(module, way, text.arguments)
+    if (played.printed, played.steps) != (ran.printed, ran.steps):
         yield f"another run: {written!r}"
     again = logs.replay(module, joined(rng, log), text.arguments)
     for command in runs.OF_RUNS:

@@ -44,7 +44,7 @@ from tests.generated import generated, generated_source, tally
 from tests.harness import TOP
 from tests.reference import events, explain, explain_json, listing, logs, meaning, modules, outcomes, runs, source
 from tests.reference.events import Program
-from tests.reference.modules import Accepted, Arguments, ByChance, Order, Refused, Way
+from tests.reference.modules import Accepted, Arguments, ByChance, Greedy, Order, Refused, Way
 from tests.reference.outcomes import Asked
 
 # Runs of more steps than this are not made at all; those of more steps, or of more steps times activities and clocks,
@@ -216,7 +216,8 @@ def ways(text: bytes, judged: Accepted) -> list[tuple[Way, Arguments]]:
     """The orders in which a program is run, and the numbers that it is given in each, by its text alone."""
     rng = random.Random(text)
     given = [generated.arguments(rng, judged.module.wants) for _ in modules.ORDERS]
-    return list(zip([*Order, ByChance(rng.choice([0, 1, rng.randrange(2**64)]))], given, strict=True))
+    by_chance, by_rounds = ByChance(rng.choice([0, 1, rng.randrange(2**64)])), Greedy(rng.choice([None, None, 1, 2, 3]))
+    return list(zip([*Order, by_chance, by_rounds], given, strict=True))
 
 
 def is_short(text: bytes, judged: Accepted) -> bool:

@@ -30,7 +30,7 @@ from tests.generated import generated, logs
 from tests.generated.mutations import SHORT, Comparer, Summary, in_order, refused
 from tests.harness import TOP
 from tests.reference import modules, source
-from tests.reference.modules import Accepted, ByChance, Order, Role, Way
+from tests.reference.modules import Accepted, ByChance, Greedy, Order, Role, Way
 
 # Two in step; a clock dropped on one of two ways; activities that add; a loop with a limit, whose main takes a number.
 TEXTS = [
@@ -43,7 +43,7 @@ ROW = (
     b'{"version":1,"shared":[],"units":[{"kind":"main","params":"","slots":3,'
     b'"code":[["lit",0,2],["lit",1,3],["add",0,0,1],["make",2],["advance"],["print",0],["ret"]]}]}'
 )
-WAYS: list[Way] = [*Order, ByChance(7)]
+WAYS: list[Way] = [*Order, ByChance(7), Greedy(), Greedy(2)]
 UNSIGNED = (0, 65_535, 65_536, -1)
 SIGNED = (0, -(2**63), -(2**63) - 1, 2**63 - 1, 2**63)
 CHUNK = 50

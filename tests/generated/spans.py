@@ -6,7 +6,8 @@
 200 programs of split phases, seed 1 and crates/x10clock/out/x10clock where nothing else is said; with --reference no
 program is asked. Of a run in each of five orders: no chain of steps is longer than the reference's, where chains can be
 counted one by one; and where there is no race, the run by rounds, in each of which all who can step do so, takes each
-step in the round that the reference says, and all runs have the same span.
+step in the round that the reference says, all runs have the same span, which is the number of rounds that `run` counts,
+and on P processors it counts no more than (work + (P - 1) span) / P.
 """
 
 from __future__ import annotations
@@ -25,6 +26,8 @@ from tests.reference.events import Program
 from tests.reference.logs import Played
 
 ORDERS = ("first", "last", "round", "random:1", "random:2")
+# On so many processors a program without a race is run by rounds.
+PROCESSORS = (None, 1, 2, 3, 8)
 # So many steps may a run have whose chains are counted one by one.
 FEW = 16
 SHOWN = 5
@@ -51,12 +54,33 @@ def rounds(module: modules.Module) -> tuple[Played, list[int]]:
     return played, of
 
 
-def by_rounds(module: modules.Module) -> list[str]:
-    """What is wrong with a run by rounds, if its program has no race."""
+def by_rounds(data: bytes, module: modules.Module, asked: pathlib.Path | None, folder: pathlib.Path) -> list[str]:
+    """What is wrong with runs by rounds, if the program has no race."""
     played, of = rounds(module)
     chains = span.chains(played)
     wrong = [n for n, number in enumerate(of, start=1) if chains[n].length != number]
-    return [f"by rounds step {n} is in round {of[n - 1]}, its chain has {chains[n].length}" for n in wrong]
+    found = [f"by rounds step {n} is in round {of[n - 1]}, its chain has {chains[n].length}" for n in wrong]
+    for processors in PROCESSORS:
+        ran = modules.run(module, modules.Greedy(processors))
+        if not is_greedy(ran, processors, of[-1]):
+            found.append(f"on {processors} processors {ran.steps} steps in {ran.rounds} rounds, and the span is {of[-1]}")
+        if asked:
+            (folder / "text").write_bytes(data)
+            answer = called(asked, "run", *ran_by(processors), folder / "text")
+            found += [f"on {processors} processors {answer}"] if answer != (0, ran.text()) else []
+    return found
+
+
+def ran_by(processors: int | None) -> list[str]:
+    return modules.Greedy(processors).words()
+
+
+def is_greedy(ran: modules.Ran, processors: int | None, span: int) -> bool:
+    """Whether so many rounds are right for a program without a race of this span."""
+    if processors is None:
+        return ran.rounds == span
+    most = (ran.steps + (processors - 1) * span) // processors
+    return max(span, -(-ran.steps // processors)) <= ran.rounds <= most
 
 
 def judged_run(program: Program, played: Played) -> tuple[list[str], tuple[int, int] | None]:
@@ -92,7 +116,7 @@ def tried(
             wrong += [f"order {order}: {answer}, and not {expected}"] if answer != expected else []
     if len(numbers) > 1:
         wrong.append(f"by its runs it has these numbers: {numbers}")
-    return wrong + ([] if None in numbers else by_rounds(module)), None not in numbers
+    return wrong + ([] if None in numbers else by_rounds(data, module, asked, folder)), None not in numbers
 
 
 def main() -> int:

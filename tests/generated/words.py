@@ -72,12 +72,13 @@ NUMBERS = [
     "-9223372036854775808", "-9223372036854775809", "18446744073709551615", "18446744073709551616",
     "+18446744073709551615", "99999999999999999999x", "x", "", "-", "+", "1.5", " 1", "٣", "1e3",
 ]  # fmt: skip
-ORDERS = ["first", "last", "round", "random", "ask", "least", "First", "", "firs", "-", "first "]
+ORDERS = ["first", "last", "round", "random", "ask", "greedy", "least", "First", "", "firs", "-", "first "]
 STRANGE = [
     "--", "-h", "--help", "help", "-", "", "-x", "-5", "-hx", "--module=x", "--help=x", "--modul", "--Module",
     "--orders", "--=", "---", "--version", "-V", "walk", "chek", "run", "check", "--no-module", "--log", "--order",
     "--workers", "--arg", "--seed", "--runs", "--limit", "--pick", "--sets", "--expect", "--from", "--to", "--at",
-    "--svg", "--outcome", "outcome", "V9", "\udcff", "--log=\udcfe", "ü", "--ü", "a b", "=", "@step.x10",
+    "--svg", "--outcome", "--processors", "outcome", "V9", "\udcff", "--log=\udcfe", "ü", "--ü", "a b", "=",
+    "@step.x10",
 ]  # fmt: skip
 
 
@@ -102,11 +103,13 @@ def options(rng: random.Random, command: str, text: str) -> Iterator[list[str]]:
     if command == "explain" and rng.random() < 0.5 or rng.random() < 0.02:
         yield ["--json"]
     if command == "run" and rng.random() < 0.4:
-        order = rng.choice(["random", "random", *ORDERS[:5]] if rng.random() < 0.8 else ORDERS)
+        order = rng.choice(["random", "random", "greedy", *ORDERS[:6]] if rng.random() < 0.8 else ORDERS)
         yield option(rng, "order", order)
         seed = rng.choice(["0", "1", "7", "18446744073709551615"] if rng.random() < 0.6 else NUMBERS)
         yield from [option(rng, "seed", seed)] if rng.random() < (0.7 if order == "random" else 0.1) else []
         yield from [option(rng, "runs", small(rng))] if rng.random() < (0.6 if order == "random" else 0.1) else []
+        limit = option(rng, "processors", small(rng))
+        yield from [limit] if rng.random() < (0.6 if order == "greedy" else 0.05) else []
     # Outcomes that are held against a list have no log.
     is_held = command == "outcomes" and rng.random() < 0.35
     for name in COUNTED.get(command, ()):

@@ -130,6 +130,7 @@ def full_devices(tried: Tried) -> None:
     tried.answers("exec $x why in-step.x10 log 4 > /dev/full", 5, err=DEVICE)
     tried.answers("exec $x races in-step.x10 > /dev/full", 5, err=DEVICE)
     tried.answers("exec $x run --order random --runs 3 in-step.x10 > /dev/full", 5, err=DEVICE)
+    tried.answers("exec $x run --order greedy in-step.x10 > /dev/full", 5, err=DEVICE)
     tried.answers("exec $x explain --json in-step.x10 > /dev/full", 5, err=DEVICE)
     tried.answers("exec $x explain --json bad.x10 > /dev/full", 5, err=DEVICE)
     tried.answers("exec $x check no.x10 2> /dev/full", 5)
@@ -228,7 +229,7 @@ def fifo(tried: Tried) -> None:
 def strange_files(tried: Tried) -> None:
     for command in (
         "check", "explain", "explain --json", "listing", "compile", "run", "outcomes", "outcomes --sets", "races",
-        "run --order random --runs 2", "check --module",
+        "run --order random --runs 2", "run --order greedy", "check --module",
     ):  # fmt: skip
         tried.answers(f"exec $x {command} .", 5, err=unopened(command, ".", FOLDER))
         tried.answers(f"exec $x {command} no-file", 5, err=unopened(command, "no-file", MISSING))
@@ -408,7 +409,8 @@ def little_memory(tried: Tried) -> None:
     many = tried.file("many.x10", MANY)
     words = [
         *(f"{command} {many}" for command in ("check", "listing", "explain --json")),
-        *(f"{run} {many}" for run in ("run", "run --log log", "run --workers 8", "run --workers 64", "outcomes")),
+        *(f"{run} {many}" for run in ("run", "run --log log", "run --order greedy", "run --workers 8", "outcomes")),
+        f"run --workers 64 {many}",
         "outcomes --expect /dev/zero in-step.x10",
         *(f"{command} in-step.x10 kept.log" for command in ("replay", "events", "lanes", "page")),
         "--help",

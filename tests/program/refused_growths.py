@@ -322,7 +322,7 @@ def each_mismatch(calls: Calls, folder: str) -> None:
 
 def each_search(calls: Calls) -> None:
     """All that small programs can print, with a log of one outcome; some of it, where a limit is met; and runs by
-    chance."""
+    chance, and by rounds."""
     for name, limit, status in (("in-step.x10", "100", 0), ("ring.json", "3", 0), ("as-many.x10", "4", 6)):
         row = ROWS / name
         found = calls.ask(
@@ -335,6 +335,9 @@ def each_search(calls: Calls) -> None:
             ["run", *given(row), "--order", "random", "--seed", "5", "--log", LOG, "-"],
             row.read_bytes(),
         )
+        by_rounds = ["run", *given(row), "--order", "greedy", "--processors", "2"]
+        calls.ask(f"{name}, by rounds", [*by_rounds, "-"], row.read_bytes())
+        calls.ask(f"{name}, by rounds, with a log", [*by_rounds, "--log", LOG, "-"], row.read_bytes())
         calls.ask(f"{name}, a tally", ["run", *given(row), "--order", "random", "--runs", "3", "-"], row.read_bytes())
         calls.ask(f"{name}, races", ["races", *given(row), "-"], row.read_bytes())
         calls.ask(
@@ -445,6 +448,11 @@ def each_mistake(calls: Calls) -> None:
                 "a tally without chance",
                 ["run", "--runs", "2", "-"],
                 "x10clock: --runs goes with --order random, and not with --log",
+            ),
+            (
+                "processors without rounds",
+                ["run", "--order", "last", "--processors", "2", "-"],
+                "x10clock: --processors goes with --order greedy",
             ),
             (
                 "a list beside a log",

@@ -77,6 +77,11 @@ def to_log(entries: int) -> int:
     return 16 * entries
 
 
+def to_take_rounds(found: modules.Accepted) -> int:
+    """Its log, and who can step when a round begins."""
+    return to_log(found.bounds.steps) + 4 * found.bounds.activities
+
+
 def to_print(numbers: int) -> int:
     return 16 * numbers
 
@@ -205,6 +210,8 @@ def runs() -> Iterator[tuple[str, list[str], str]]:
     )
     yield "clocks", [], "def main(){for(i in 1..100000){val c=Clock.make();c.drop();}}"
     yield "clocks at once", [], "def main(){for(i in 1..50000)async{val c=Clock.make();Clock.advanceAll();}}"
+    yield "activities by rounds", ["--order", "greedy"], "def main(){for(i in 1..99999)async;}"
+    yield "steps by rounds", ["--order", "greedy"], "def main(){for(i in 1..2200000);}"
     yield "workers", ["--workers", "4"], "def main(){for(i in 1..99999)async;}"
 
 
@@ -257,8 +264,9 @@ class Calls:
         for name, words, text in runs():
             found = judged(text)
             most = to_read(text.encode()) + to_verify(found.module) + to_run(found)
-            threads = 4 * 12 * MEGABYTE if "--workers" in words else 0
-            yield Call(f"run, {name}", ["run", *words, self.file(text)], most + threads)
+            most += 4 * 12 * MEGABYTE if "--workers" in words else 0
+            most += to_take_rounds(found) if "greedy" in words else 0
+            yield Call(f"run, {name}", ["run", *words, self.file(text)], most)
 
     def of_logs(self) -> Iterator[Call]:
         log = self.folder / "log"

@@ -35,6 +35,7 @@ DEVICE = "x10clock: device"
 NO_TEXT = "x10clock: a word is not in UTF-8"
 EXCLUDED = "x10clock: --workers and --order exclude each other"
 SEED_ALONE = "x10clock: --seed goes with --order random"
+PROCESSORS_ALONE = "x10clock: --processors goes with --order greedy"
 RUNS_MISPLACED = "x10clock: --runs goes with --order random, and not with --log"
 LIST_MISPLACED = "x10clock: --expect goes without --log and --pick"
 PICK_ALONE = "x10clock: --pick goes with --log"
@@ -94,6 +95,7 @@ OPTIONS = {
     "order": Option("--order <ORDER>", names=[*modules.ORDERS, ASK]),
     "seed": Option("--seed <SEED>", UNSIGNED),
     "runs": Option("--runs <RUNS>", COUNTS),
+    "processors": Option("--processors <P>", COUNTS),
     "workers": Option("--workers <N>", WORKERS),
     "limit": Option("--limit <LIMIT>", COUNTS),
     "pick": Option("--pick <K>", COUNTS),
@@ -115,7 +117,7 @@ COMMANDS: dict[str, tuple[set[str], set[str], list[str]]] = {
     "explain": (set(), {"module", "json"}, ["FILE"]),
     "compile": (set(), set(), ["FILE"]),
     "listing": (set(), {"module"}, ["FILE"]),
-    "run": ({"order", "seed", "runs", "workers", "log", "arg"}, {"module"}, ["FILE"]),
+    "run": ({"order", "seed", "runs", "processors", "workers", "log", "arg"}, {"module"}, ["FILE"]),
     "outcomes": ({"limit", "pick", "log", "expect", "arg"}, {"module", "sets"}, ["FILE"]),
     "races": ({"arg"}, {"module"}, ["FILE", "LOG" + MAYBE]),
     "replay": ({"arg"}, {"module"}, ["FILE", "LOG"]),
@@ -307,6 +309,8 @@ def read(words: list[str]) -> Job:
             raise Mistake(SEED_ALONE)
         if "runs" in job.values and ("log" in job.values or job.values.get("order") != modules.ByChance.NAME):
             raise Mistake(RUNS_MISPLACED)
+        if "processors" in job.values and job.values.get("order") != modules.Greedy.NAME:
+            raise Mistake(PROCESSORS_ALONE)
         if "expect" in job.values and {"log", "pick"} & {*job.values}:
             raise Mistake(LIST_MISPLACED)
         if "pick" in job.values and "log" not in job.values:
@@ -434,7 +438,9 @@ def accepted(job: Job, data: bytes, line: str) -> str:
 
 def ran(job: Job, judged: Accepted, log: BinaryIO | None) -> Told:
     """What a run prints; by workers as by one of them, and such a run's log isn't told."""
-    way, given = modules.way_of(job.values.get("order", "first"), int(job.values.get("seed", "0"))), tuple(job.numbers)
+    processors = int(job.values["processors"]) if "processors" in job.values else None
+    way = modules.way_of(job.values.get("order", "first"), int(job.values.get("seed", "0")), processors)
+    given = tuple(job.numbers)
     if is_too_long(judged, way, given):
         raise TooLong
     if log and "workers" not in job.values:

@@ -238,7 +238,7 @@ def main(words: list[str]) -> int:
     if line:
         print(f"x10clock: {line}", file=sys.stderr)
         return 1
-    sys.stdout.buffer.write(text_of(log_of(judged.module, modules.way_of(*modules.named(more)), arguments)))
+    sys.stdout.buffer.write(text_of(log_of(judged.module, modules.way_named(more), arguments)))
     return 0
 
 

@@ -1328,12 +1328,28 @@ class ByChance:
             yield mixed ^ mixed >> 31
 
 
-Way = Order | ByChance
-ORDERS = [*(order.value for order in Order), ByChance.NAME]
+@dataclass(frozen=True)
+class Greedy:
+    """By rounds: who can step when a round begins takes a step each, by their numbers; or the first of them, as many as
+    there are processors."""
+
+    NAME = "greedy"
+
+    processors: int | None = None
+
+    def words(self) -> list[str]:
+        limit = [] if self.processors is None else ["--processors", str(self.processors)]
+        return ["--order", self.NAME, *limit]
 
 
-def way_of(name: str, seed: int = 0) -> Way:
-    """The order of this name; the seed is for the one by chance."""
+Way = Order | ByChance | Greedy
+ORDERS = [*(order.value for order in Order), ByChance.NAME, Greedy.NAME]
+
+
+def way_of(name: str, seed: int = 0, processors: int | None = None) -> Way:
+    """The order of this name; the seed is for the one by chance, and the processors are for the one by rounds."""
+    if name == Greedy.NAME:
+        return Greedy(processors)
     return ByChance(seed) if name == ByChance.NAME else Order(name)
 
 
@@ -1343,6 +1359,9 @@ class Chooser:
     def __init__(self, way: Way) -> None:
         self.way, self.before = way, -1
         self.numbers = way.numbers() if isinstance(way, ByChance) else iter(())
+        # Who still has to step in the round, and how many rounds have begun, where there are rounds.
+        self.round: list[int] = []
+        self.rounds = 0 if isinstance(way, Greedy) else None
 
     def candidates(self, count: int, can_step: Callable[[int], object]) -> Iterable[int]:
         """Who takes the next step, of so many: the first of these who can take one."""
@@ -1354,11 +1373,20 @@ class Chooser:
                 return reversed(range(count))
             case Order.ROUND:
                 return itertools.chain(range(before + 1, count), range(before + 1))
+            case Greedy(processors):
+                return self.in_round([who for who in range(count) if can_step(who)][:processors])
         number = next(self.numbers)
         if number % 5 and can_step(before):
             return [before]
         able = [who for who in range(count) if can_step(who)]
         return [able[number // 5 % len(able)]] if able else []
+
+    def in_round(self, able: list[int]) -> list[int]:
+        """Who steps next in the round, or in a new one, of these."""
+        if not self.round and able:
+            self.round, self.rounds = able, self.rounds + 1
+        first, self.round = self.round[:1], self.round[1:]
+        return first
 
     def step(self, module: Module, world: World) -> Step | None:
         """The next step, or None where nobody can step; raises Wrong."""
@@ -1375,9 +1403,12 @@ class Ran:
     printed: list[int]
     steps: int
     ended: bool
+    # How many rounds there were, in a run by rounds.
+    rounds: int | None = None
 
     def text(self) -> str:
-        return "".join(f"{number}\n" for number in self.printed) + f"ended steps {self.steps}\n"
+        rounds = "" if self.rounds is None else f" rounds {self.rounds}"
+        return "".join(f"{number}\n" for number in self.printed) + f"ended steps {self.steps}{rounds}\n"
 
 
 def run(module: Module, way: Way, arguments: Arguments = ()) -> Ran:
@@ -1387,7 +1418,7 @@ def run(module: Module, way: Way, arguments: Arguments = ()) -> Ran:
         world, steps = taken.world, steps + 1
         if taken.printed is not None:
             printed.append(taken.printed)
-    return Ran(printed, steps, world.has_ended)
+    return Ran(printed, steps, world.has_ended, chooser.rounds)
 
 
 # All schedules.
@@ -1540,7 +1571,7 @@ def answer(command: str, judged: Accepted | Refused, more: list[str], arguments:
     if command == "check":
         print(judged.bounds.line())
     elif command == "run":
-        print(run(judged.module, way_of(*named(more)), arguments).text(), end="")
+        print(run(judged.module, way_named(more), arguments).text(), end="")
     else:
         answer_walk(Schedules(judged, int(more[0]) if more else 1_000_000, arguments))
     return 0
@@ -1549,9 +1580,10 @@ def answer(command: str, judged: Accepted | Refused, more: list[str], arguments:
 ARGUMENT = "--arg="
 
 
-def named(more: list[str]) -> tuple[str, int]:
-    """An order and a seed, as the words have them behind a file."""
-    return more[0] if more else Order.FIRST.value, int(more[1]) if len(more) > 1 else 0
+def way_named(more: list[str]) -> Way:
+    """An order, with a seed or a number of processors, as the words have them behind a file."""
+    name, numbers = more[0] if more else Order.FIRST.value, [int(word) for word in more[1:]]
+    return Greedy(*numbers) if name == Greedy.NAME else way_of(name, *numbers)
 
 
 def parted(words: list[str]) -> tuple[list[str], Arguments]:

@@ -1,6 +1,6 @@
 -- Runs in an order, as the run of a chooser gives them.
 use Rattle.std.proofs.Common.{◌≡◌, ◌∙◌, ℕ, ℤ, Bool, Global, Vec, List, Option, None, Some, false, true, ap, refl, subst}
-use Rattle.std.specs.Prelude.{map, option_map, unwrap_or}
+use Rattle.std.specs.Prelude.{map, option_map, unwrap_or, if◌then◌else◌}
 use Rattle.xk_types.specs.declared.world.Entry.{Entry}
 use Rattle.xk_types.specs.Acceptance.{IsAccepted}
 use Rattle.xk_types.specs.Code.{ModuleValue}
@@ -12,7 +12,10 @@ use Rattle.xk_scheduler.specs.Choosers.{Follows}
 use Rattle.xk_scheduler.specs.LoggedRuns.{IsRunOf}
 use Rattle.xk_scheduler.specs.WholeRuns.{IsLogThat, IsRunThat}
 use Rattle.xk_scheduler.proofs.UnloggedRunLemmas.{follows_any, run_weaker}
-use Rattle.xk_cli.specs.CommandLine.{By, In, Way, way_value}
+use Rattle.xk_greedy.specs.Rounds.{IsByRounds}
+use Rattle.xk_greedy.proofs.OneRunLemmas.{log_by_rounds}
+pub use Rattle.xk_greedy.proofs.OneRunLemmas.{follows_rounds_once}
+use Rattle.xk_cli.specs.CommandLine.{By, Greedy, In, Way, way_value}
 use Rattle.xk_cli.specs.declared.job.Drive.{Drive}
 use Rattle.xk_cli.specs.declared.job.Drive.TheVariants as drive
 use Rattle.xk_cli.specs.declared.job.Order.TheVariants as order
@@ -24,7 +27,7 @@ use Rattle.xk_program.specs.declared.program_loader.Provenance.{Provenance}
 use Rattle.xk_program.specs.Origins.{IsFrom}
 use Rattle.xk_answers.specs.Results.{ComesTo, Draw, IsLogText, IsPicture, IsTelling, Run, is_of_whole, picture_told, shows_origins, way_given}
 use Rattle.xk_answers.specs.Explanation.{Tale, events_so_far, image_so_far, lanes_so_far, page_so_far, races_told, span_told, why_told}
-use Rattle.xk_answers.specs.OrderedRun.{IsFinished, IsFinishedBy, IsReplay}
+use Rattle.xk_answers.specs.OrderedRun.{IsFinished, IsLoggedGreedyRun, IsReplay, IsUncountedBy}
 use Rattle.xk_replay.specs.Replay.{IsLegal}
 
 -- ---- choosers without a state
@@ -43,25 +46,36 @@ log_without_state place m args s log numbers steps r = run_weaker _ _ m args num
     (λ list h. record { follows = follows_any place m s list (opening m args) h.follows; stands_for = h.stands_for; single = h.single }) r
 
 -- with the log or without
-pub finished_without_state : {S : Type 0} (place : List ℕ → ℕ) (m : ModuleValue) (args : List ℤ) (s : S) (keeps : Bool) (log : Option (List Entry)) (numbers : List ℤ) (steps : ℕ)
-    → IsFinishedBy (Follows {S = S} (λ z enabled. place enabled) (λ z enabled. z) m s (opening m args)) keeps m args numbers steps log
-    → IsFinishedBy (Follows {S = Unit {0}} (λ z enabled. place enabled) (λ z enabled. z) m tt (opening m args)) keeps m args numbers steps log
-finished_without_state place m args s false None numbers steps r = without_state place m args s numbers steps r
-finished_without_state place m args s false (Some log) numbers steps r = absurd r
-finished_without_state place m args s true None numbers steps r = absurd r
-finished_without_state place m args s true (Some log) numbers steps r = log_without_state place m args s log numbers steps r
+pub finished_without_state : {S : Type 0} (place : List ℕ → ℕ) (m : ModuleValue) (args : List ℤ) (s : S) (keeps : Bool) (rounds : Option ℕ) (log : Option (List Entry)) (numbers : List ℤ) (steps : ℕ)
+    → IsUncountedBy (Follows {S = S} (λ z enabled. place enabled) (λ z enabled. z) m s (opening m args)) keeps m args numbers steps rounds log
+    → IsUncountedBy (Follows {S = Unit {0}} (λ z enabled. place enabled) (λ z enabled. z) m tt (opening m args)) keeps m args numbers steps rounds log
+finished_without_state place m args s false None None numbers steps r = without_state place m args s numbers steps r
+finished_without_state place m args s false None (Some log) numbers steps r = absurd r
+finished_without_state place m args s true None None numbers steps r = absurd r
+finished_without_state place m args s true None (Some log) numbers steps r = log_without_state place m args s log numbers steps r
+finished_without_state place m args s keeps (Some rounds) log numbers steps r = absurd r
 
 -- what such a run is as an answer
-pub finished_run : (way : Way) (keeps : Bool) (m : ModuleValue) (args : List ℤ) (logged : List ℕ) (numbers : Vec ℤ Global) (steps : ℕ) (log : Option (Vec Entry Global)) → IsAccepted m
-    → IsFinished way keeps m args numbers.items steps (option_map (λ es. es.items) log) → ComesTo (Run way keeps) m args logged (done.Ended numbers steps log)
-finished_run (In o) false m args logged numbers steps None accepted r = (accepted, r)
-finished_run (In o) true m args logged numbers steps (Some log) accepted r = (accepted, r)
-finished_run (In o) false m args logged numbers steps (Some log) accepted r = absurd r
-finished_run (In o) true m args logged numbers steps None accepted r = absurd r
-finished_run (By n) false m args logged numbers steps None accepted r = (accepted, r)
-finished_run (By n) true m args logged numbers steps (Some log) accepted r = (accepted, r)
-finished_run (By n) false m args logged numbers steps (Some log) accepted r = absurd r
-finished_run (By n) true m args logged numbers steps None accepted r = absurd r
+pub finished_run : (way : Way) (keeps : Bool) (m : ModuleValue) (args : List ℤ) (logged : List ℕ) (numbers : Vec ℤ Global) (steps : ℕ)
+    (rounds : Option ℕ) (log : Option (Vec Entry Global)) → IsAccepted m
+    → IsFinished way keeps m args numbers.items steps rounds (option_map (λ es. es.items) log)
+    → ComesTo (Run way keeps) m args logged (done.Ended numbers steps rounds log)
+finished_run (In o) false m args logged numbers steps None None accepted r = (accepted, r)
+finished_run (In o) true m args logged numbers steps None (Some log) accepted r = (accepted, r)
+finished_run (In o) false m args logged numbers steps None (Some log) accepted r = absurd r
+finished_run (In o) true m args logged numbers steps None None accepted r = absurd r
+finished_run (In o) keeps m args logged numbers steps (Some rounds) log accepted r = absurd r
+finished_run (Greedy p) false m args logged numbers steps (Some rounds) None accepted r = (accepted, r)
+finished_run (Greedy p) true m args logged numbers steps (Some rounds) (Some log) accepted r = (accepted, r)
+finished_run (Greedy p) false m args logged numbers steps (Some rounds) (Some log) accepted r = absurd r
+finished_run (Greedy p) true m args logged numbers steps (Some rounds) None accepted r = absurd r
+finished_run (Greedy p) keeps m args logged numbers steps None log accepted r = absurd r
+finished_run (By n) false m args logged numbers steps None None accepted r = (accepted, r)
+finished_run (By n) true m args logged numbers steps None (Some log) accepted r = (accepted, r)
+finished_run (By n) false m args logged numbers steps None (Some log) accepted r = absurd r
+finished_run (By n) true m args logged numbers steps None None accepted r = absurd r
+finished_run (By n) false m args logged numbers steps (Some rounds) log accepted r = absurd r
+finished_run (By n) true m args logged numbers steps (Some rounds) log accepted r = absurd r
 
 -- the way that is taken where none is given
 pub way_taken : (given : Option Drive) → way_value (unwrap_or given (drive.Order order.First)) ≡ way_given given
@@ -85,6 +99,24 @@ worked_run m n args log numbers c steps same given run over counted =
       numbers_are = subst (λ xs. numbers ≡ printed m (schedule_of log) (opening m xs)) given run_of.prints;
       steps_are = counted;
     }
+
+-- the same of a run by rounds, with its log
+greedy_run : (p : Option ℕ) (m n : ModuleValue) (args : List ℤ) (log : List Entry) (numbers : List ℤ) (c : CoreValue) (steps rounds : ℕ) → n ≡ m
+    → c.world.arguments ≡ args → IsRunOf n log numbers c → all_ended c.world ≡ true → steps ≡ c.world.steps → IsByRounds p m args log c.world rounds
+    → IsLoggedGreedyRun p m args numbers steps rounds log
+greedy_run p m n args log numbers c steps rounds same given run over counted by = run_weaker _ _ m args numbers steps
+    (λ list is. log_by_rounds p m args log c.world rounds list by over is)
+    (worked_run m n args log numbers c steps same given run over counted)
+
+-- with the log or without
+pub greedy_finished : (p : Option ℕ) (keeps : Bool) (m n : ModuleValue) (args : List ℤ) (log : Vec Entry Global) (numbers : List ℤ) (c : CoreValue) (steps rounds : ℕ)
+    → n ≡ m → c.world.arguments ≡ args → IsRunOf n log.items numbers c → all_ended c.world ≡ true → steps ≡ c.world.steps
+    → IsByRounds p m args log.items c.world rounds
+    → IsFinished (Greedy p) keeps m args numbers steps (Some rounds) (option_map (λ es. es.items) (if keeps then Some log else None))
+greedy_finished p true m n args log numbers c steps rounds same given run over counted by =
+    greedy_run p m n args log.items numbers c steps rounds same given run over counted by
+greedy_finished p false m n args log numbers c steps rounds same given run over counted by = run_weaker _ _ m args numbers steps (λ list is. is.follows)
+    (greedy_run p m n args log.items numbers c steps rounds same given run over counted by)
 
 -- what is told by the origins and names of the bytes is a picture
 pub is_picture : (p : Picture) (kind : Form) (file bytes : List ℕ) (from : Provenance) (m : ModuleValue) (args : List ℤ) (es : List Entry) (last : World) (told : Tale)

@@ -13,4 +13,4 @@ parts_of_text (done.Accepted steps activities clocks) = refl
 parts_of_text (done.Told text whole) = append-nil text.items
 parts_of_text (done.Outcomes text whole log) = append-nil text.items
 parts_of_text (done.Held text found) = append-nil text.items
-parts_of_text (done.Ended printed steps log) = refl
+parts_of_text (done.Ended printed steps rounds log) = refl

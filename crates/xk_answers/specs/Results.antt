@@ -11,7 +11,7 @@ use Rattle.xk_types.specs.Acceptance.{IsAccepted}
 use Rattle.xk_cli.specs.declared.job.Drive.{Drive}
 use Rattle.xk_cli.specs.declared.job.Form.{Form}
 use Rattle.xk_cli.specs.declared.job.Order.TheVariants as order
-use Rattle.xk_cli.specs.CommandLine.{By, In, Way, way_value}
+use Rattle.xk_cli.specs.CommandLine.{By, Greedy, In, Way, way_value}
 use Rattle.xk_module.specs.ModuleText.{module_value}
 use Rattle.xk_answers.specs.declared.job_result.Done.{Done}
 use Rattle.xk_answers.specs.declared.job_result.Done.TheVariants as done
@@ -34,13 +34,13 @@ use Rattle.xk_outcomes.specs.Limits.{GoesFar, limit_of}
 use Rattle.xk_outcomes.specs.Expected.{AreExpected}
 use Rattle.xk_random.specs.Runs.{IsTallyText}
 use Rattle.xk_replay.specs.Replay.{IsLegal, IsStoppedAt, IsUnfinished}
-use Rattle.xk_answers.specs.OrderedRun.{IsLoggedRun, IsOrderedRun, IsReplay, IsSomeRun}
+use Rattle.xk_answers.specs.OrderedRun.{IsGreedyRun, IsLoggedGreedyRun, IsLoggedRun, IsOrderedRun, IsReplay, IsSomeRun}
 use Rattle.xk_program.specs.Origins.{IsByNames, IsByOrigins}
 use Rattle.xk_hints.specs.Words.{HintValue}
 use Rattle.xk_answers.specs.Explanation.{HaveHints, IsProgramListed, Tale, acceptance_told, all_told, events_so_far, image_so_far}
 use Rattle.xk_answers.specs.Explanation.{lanes_so_far, page_so_far, races_told, span_told, where_told, why_told}
 
--- what is to be done with a module; what is explained is a JSON value or not; a run is in an order, or by workers, and has its log kept or not; some
+-- what is to be done with a module; what is explained is a JSON value or not; a run is in an order, by rounds, or by workers, and has its log kept or not; some
 -- picture is drawn of one; it is told how things stand behind a log, or behind so many of its steps, which races the run in the order `first` has, or how often so many runs by chance,
 -- from this seed on, print what; of outcomes, as lists of numbers or without their order, so many are looked for, and of one, counted from 1, the log
 -- is kept or not, or they are held against a list, or of one the page of its run is made
@@ -134,17 +134,20 @@ IsHeldOut m args sets limit bytes (done.Held text found) = AreArguments m args �
 IsHeldOut m args sets limit bytes _ = ⊥
 
 -- What is to be done with a module, whose main is given these arguments where it is run, and with the bytes of a log or a list where one is read, comes
--- to this: for `compile` the text of the module; where the module is accepted, for `check` its bounds, for `run` its run in the order, or, by workers,
--- some run of it, for `replay` the run that the log has, for `outcomes` what it can print.
+-- to this: for `compile` the text of the module; where the module is accepted, for `check` its bounds, for `run` its run in the order, or by rounds, or, by
+-- workers, some run of it, for `replay` the run that the log has, for `outcomes` what it can print.
 abbrev pub ComesTo : Doing → ModuleValue → List ℤ → List ℕ → Done → Type 0
 ComesTo Compile m args logged (done.Compiled text) = string_bytes text ≡ compact_text (module_value m)
 ComesTo Check m args logged (done.Accepted steps activities clocks) =
     IsAccepted m × (steps ≡ steps_bound m) × (activities ≡ activities_bound m) × (clocks ≡ clocks_bound m)
-ComesTo (Run (In o) false) m args logged (done.Ended numbers steps None) = IsAccepted m × IsOrderedRun o m args numbers.items steps
-ComesTo (Run (In o) true) m args logged (done.Ended numbers steps (Some log)) = IsAccepted m × IsLoggedRun o m args numbers.items steps log.items
-ComesTo (Run (By n) false) m args logged (done.Ended numbers steps None) = IsAccepted m × IsSomeRun m args numbers.items steps
-ComesTo (Run (By n) true) m args logged (done.Ended numbers steps (Some log)) = IsAccepted m × IsReplay m args log.items numbers.items steps
-ComesTo Replay m args logged (done.Ended numbers steps None) = IsAccepted m × Replays m args logged numbers.items steps
+ComesTo (Run (In o) false) m args logged (done.Ended numbers steps None None) = IsAccepted m × IsOrderedRun o m args numbers.items steps
+ComesTo (Run (In o) true) m args logged (done.Ended numbers steps None (Some log)) = IsAccepted m × IsLoggedRun o m args numbers.items steps log.items
+ComesTo (Run (Greedy p) false) m args logged (done.Ended numbers steps (Some rounds) None) = IsAccepted m × IsGreedyRun p m args numbers.items steps rounds
+ComesTo (Run (Greedy p) true) m args logged (done.Ended numbers steps (Some rounds) (Some log)) =
+    IsAccepted m × IsLoggedGreedyRun p m args numbers.items steps rounds log.items
+ComesTo (Run (By n) false) m args logged (done.Ended numbers steps None None) = IsAccepted m × IsSomeRun m args numbers.items steps
+ComesTo (Run (By n) true) m args logged (done.Ended numbers steps None (Some log)) = IsAccepted m × IsReplay m args log.items numbers.items steps
+ComesTo Replay m args logged (done.Ended numbers steps None None) = IsAccepted m × Replays m args logged numbers.items steps
 ComesTo (Outcomes sets limit pick keeps) m args logged d = IsAccepted m × IsFoundOut m args sets (limit_of limit (activities_bound m)) pick keeps d
 ComesTo (Expected sets limit) m args logged d = IsAccepted m × IsHeldOut m args sets (limit_of limit (activities_bound m)) logged d
 ComesTo _ m args logged _ = ⊥

@@ -7,15 +7,15 @@ ghost use Rattle.xk_types.specs.Device.{Rose};
 ghost use Rattle.xk_io.specs.Writing.{AppendsBeginning};
 ghost use Rattle.xk_log.specs.LogText.{log_text};
 ghost use Rattle.xk_answers.specs.Printed.{done_status, verdict_status};
-ghost use Rattle.xk_answers.specs.Printed.{done_ending, done_front, done_log, done_text};
+ghost use Rattle.xk_answers.specs.Printed.{done_ending, done_front, done_log, done_text, last_line};
 ghost use Rattle.xk_answers.specs.declared.job_result.Done.TheVariants.{Ended};
-ghost use Rattle.xk_messages.specs.Lines.{accepted_line, ended_line};
+ghost use Rattle.xk_messages.specs.Lines.{accepted_line, ended_line, rounds_line};
 
 use crate::runs::Finished;
 use std::alloc::{AllocError, Global};
 use xk_cli::status;
 use xk_io::{Device, write_all, write_numbers};
-use xk_messages::{accepted_line, ended_line};
+use xk_messages::{accepted_line, ended_line, rounds_line};
 use xk_outcomes::Verdict;
 use xk_types::{Entry, Sink};
 
@@ -41,6 +41,8 @@ pub enum Done {
     Ended {
         printed: Vec<i64>,
         steps: u64,
+        /// How many rounds it took, where it ran by rounds.
+        rounds: Option<u64>,
         /// Who took a step after whom, where that is to be kept.
         log: Option<Vec<Entry>>,
     },
@@ -63,11 +65,12 @@ pub enum Done {
 impl Done {
     /// A run that came to its end.
     pub fn of_run(run: Finished) -> Done
-        ensures { result ≡ Ended run.printed run.steps run.log }
+        ensures { result ≡ Ended run.printed run.steps run.rounds run.log }
     {
         Done::Ended {
             printed: run.printed,
             steps: run.steps,
+            rounds: run.rounds,
             log: run.log,
         }
     }
@@ -118,7 +121,7 @@ impl Done {
             Done::Told { .. } | Done::Outcomes { .. } | Done::Held { .. } => {
                 Ok(String::new(alloc))
             }
-            Done::Ended { steps, .. } => ended_line(alloc, *steps),
+            Done::Ended { steps, rounds, .. } => last_line(alloc, *steps, *rounds),
         }
     }
 
@@ -154,6 +157,16 @@ impl Done {
             Done::Held { text, .. } => write_all(out, text),
             Done::Ended { printed, .. } => write_numbers(printed, out),
         }
+    }
+}
+
+/// The last line of a run, whose rounds were counted or not.
+fn last_line(alloc: Global, steps: u64, rounds: Option<u64>) -> Result<String, AllocError>
+    ensures { IfOk result (λ line. string_bytes line ≡ last_line steps rounds) }
+{
+    match rounds {
+        None => ended_line(alloc, steps),
+        Some(rounds) => rounds_line(alloc, steps, rounds),
     }
 }
 

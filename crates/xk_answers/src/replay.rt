@@ -66,7 +66,7 @@ fn numbers_of(ended: Ended<'_>) -> Done
     ensures { (logged : List ℕ) → IsLogText logged ended.entry.log.items
         → ComesTo Replay ended.entry.module.now ended.entry.core.world.arguments logged result }
 {
-    Done::of_run(finish(false, ended))
+    Done::of_run(finish(false, None, ended))
 }
 
 /// The whole run again with these arguments that the log has.

@@ -1,18 +1,20 @@
-//! Runs of a module to their end: in an order, or by workers.
+//! Runs of a module to their end: in an order, by rounds, or by workers.
 
 ghost use Rattle.std.specs.Prelude.{◌≡◌, IfOk, None, Some, option_map, if◌then◌else◌};
 ghost use Rattle.xk_types.specs.World.{AreArguments, opening};
 ghost use Rattle.xk_scheduler.specs.Choosers.{Follows};
 ghost use Rattle.xk_scheduler.specs.WholeRuns.{IsLogThat, IsRunThat};
-ghost use Rattle.xk_cli.specs.CommandLine.{By, way_value};
-ghost use Rattle.xk_answers.specs.OrderedRun.{IsFinished, IsFinishedBy};
+ghost use Rattle.xk_cli.specs.CommandLine.{By, Greedy, way_value};
+ghost use Rattle.xk_greedy.specs.Rounds.{AreSome};
+ghost use Rattle.xk_answers.specs.OrderedRun.{IsFinished, IsUncountedBy};
 
 use std::alloc::{AllocError, Global};
 use std::sync::Wait;
 use std::thread::Threads;
 use xk_bounds::Verified;
-use xk_cli::{Drive, Order, Workers};
+use xk_cli::{Drive, Order, Processors, Workers};
 use xk_core::Core;
+use xk_greedy::{InRounds, drive_by_rounds};
 use xk_random::Random;
 use xk_scheduler::{Chooser, Ended, First, Last, Round, Summary, drive, drive_unlogged};
 use xk_types::Entry;
@@ -25,6 +27,8 @@ pub struct Finished {
     pub printed: Vec<i64>,
     /// How many steps it took.
     pub steps: u64,
+    /// How many rounds it took, where it ran by rounds.
+    pub rounds: Option<u64>,
     /// Who took how many steps after whom, where that was to be kept.
     pub log: Option<Vec<Entry>>,
 }
@@ -40,7 +44,8 @@ pub fn run_as<R: Threads + Wait + Sync>(
 ) -> Result<Finished, AllocError>
     requires { AreArguments verified.now arguments.now }
     ensures { IfOk result (λ run. IsFinished (way_value drive) keeps_log verified.now
-        arguments.now run.printed.items run.steps (option_map (λ es. es.items) run.log)) }
+        arguments.now run.printed.items run.steps run.rounds
+        (option_map (λ es. es.items) run.log)) }
 {
     match drive {
         Drive::Order(order) => match order {
@@ -57,6 +62,9 @@ pub fn run_as<R: Threads + Wait + Sync>(
                 )
             }
         },
+        Drive::Greedy(processors) => {
+            run_greedy(alloc, processors, keeps_log, verified, arguments)
+        }
         Drive::Workers(workers) => run_with(rt, alloc, workers, keeps_log, verified, arguments),
     }
 }
@@ -70,13 +78,13 @@ fn run_by<C: Chooser>(
     chooser: &mut C,
 ) -> Result<Finished, AllocError>
     requires { AreArguments verified.now arguments.now }
-    ensures { IfOk result (λ run. IsFinishedBy (Follows C.answer C.after verified.now chooser.old
+    ensures { IfOk result (λ run. IsUncountedBy (Follows C.answer C.after verified.now chooser.old
         (opening verified.now arguments.now)) keeps_log verified.now arguments.now
-        run.printed.items run.steps (option_map (λ es. es.items) run.log)) }
+        run.printed.items run.steps run.rounds (option_map (λ es. es.items) run.log)) }
 {
     if keeps_log {
         return match ended_by(alloc, verified, arguments, chooser) {
-            Ok(ended) => Ok(finish(true, ended)),
+            Ok(ended) => Ok(finish(true, None, ended)),
             Err(e) => Err(e),
         };
     }
@@ -107,6 +115,37 @@ pub(crate) fn ended_by<'m, C: Chooser>(
     }
 }
 
+/// The run by rounds: whoever can take a step when a round begins takes one, or so many of these as there are processors.
+fn run_greedy(
+    alloc: Global,
+    processors: Option<Processors>,
+    keeps_log: bool,
+    verified: &Verified,
+    arguments: &[i64],
+) -> Result<Finished, AllocError>
+    requires { AreArguments verified.now arguments.now }
+    ensures { IfOk result (λ run. IsFinished (Greedy (option_map (λ p. p.count) processors))
+        keeps_log verified.now arguments.now run.printed.items run.steps run.rounds
+        (option_map (λ es. es.items) run.log)) }
+{
+    let start = Core::open(alloc, verified, arguments)?;
+    match drive_by_rounds(alloc, start, count_of(processors)) {
+        Ok(InRounds { ended, rounds }) => Ok(finish(keeps_log, Some(rounds), ended)),
+        Err(e) => Err(e),
+    }
+}
+
+/// How many processors there are, where they are limited.
+fn count_of(processors: Option<Processors>) -> Option<u64>
+    ensures same { result ≡ option_map (λ p. p.count) processors }
+    ensures some { AreSome result }
+{
+    match processors {
+        Some(processors) => Some(processors.count()),
+        None => None,
+    }
+}
+
 /// Some run, whose steps so many workers take.
 fn run_with<R: Threads + Wait + Sync>(
     rt: &R,
@@ -118,24 +157,27 @@ fn run_with<R: Threads + Wait + Sync>(
 ) -> Result<Finished, AllocError>
     requires { AreArguments verified.now arguments.now }
     ensures { IfOk result (λ run. IsFinished (By workers.count) keeps_log verified.now
-        arguments.now run.printed.items run.steps (option_map (λ es. es.items) run.log)) }
+        arguments.now run.printed.items run.steps run.rounds
+        (option_map (λ es. es.items) run.log)) }
 {
     let start = Core::open(alloc, verified, arguments)?;
     match run_workers(rt, alloc, start, workers.count(), &Direct) {
-        Ok(ended) => Ok(finish(keeps_log, ended)),
+        Ok(ended) => Ok(finish(keeps_log, None, ended)),
         Err(_) => Err(AllocError),
     }
 }
 
-/// What is kept of a run.
-pub(crate) fn finish(keeps_log: bool, ended: Ended<'_>) -> Finished
+/// What is kept of a run, whose rounds were counted or not.
+pub(crate) fn finish(keeps_log: bool, rounds: Option<u64>, ended: Ended<'_>) -> Finished
     ensures printed { result.printed ≡ ended.entry.printed }
     ensures steps { result.steps ≡ ended.entry.core.world.steps }
+    ensures rounds { result.rounds ≡ rounds }
     ensures log { result.log ≡ if keeps_log then Some ended.entry.log else None }
 {
     Finished {
         printed: ended.printed,
         steps: steps_of(ended.core),
+        rounds,
         log: if keeps_log { Some(ended.log) } else { None },
     }
 }
@@ -144,11 +186,13 @@ pub(crate) fn finish(keeps_log: bool, ended: Ended<'_>) -> Finished
 fn without_log(run: Summary) -> Finished
     ensures printed { result.printed ≡ run.printed }
     ensures steps { result.steps ≡ run.steps }
+    ensures rounds { result.rounds ≡ None }
     ensures log { result.log ≡ None }
 {
     Finished {
         printed: run.printed,
         steps: run.steps,
+        rounds: None,
         log: None,
     }
 }

@@ -8,7 +8,7 @@ use Rattle.xk_cli.specs.CommandLine.{AreLocal, HasNoGlobals, Names, WithOrders, 
 
 -- the names of the orders lie somewhere
 pub some_names : WithOrders (λ names. Unit {0})
-some_names = (record { ref_ptr = (0, 0); now = map (λ t. record { ref_ptr = (0, 0); now = t }) (codes "first" ∷ codes "last" ∷ codes "round" ∷ codes "random" ∷ codes "ask" ∷ []) }, refl, tt)
+some_names = (record { ref_ptr = (0, 0); now = map (λ t. record { ref_ptr = (0, 0); now = t }) (codes "first" ∷ codes "last" ∷ codes "round" ∷ codes "random" ∷ codes "greedy" ∷ codes "ask" ∷ []) }, refl, tt)
 
 -- a command that takes one of these names takes one of the same names, whether there was memory for it or not
 pub names_of : {E : Type 0} (r : Result Command E) (shape : Names → App) → IfOk r (λ c. WithOrders (λ names. app_of c ≡ shape names))

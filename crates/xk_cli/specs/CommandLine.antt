@@ -12,7 +12,7 @@ use Rattle.clap.specs.declared.builder.action.ArgAction.TheVariants as action
 use Rattle.clap.specs.declared.builder.value_parser.ValueParser.TheVariants as parser
 use Rattle.clap.specs.declared.error.kind.ErrorKind.{ErrorKind}
 use Rattle.clap.specs.declared.error.kind.ErrorKind.TheVariants as kind
-use Rattle.xk_cli.specs.WorkerCount.{count_within, most_workers}
+use Rattle.xk_cli.specs.WorkerCount.{count_within, most_workers, some_processors}
 use Rattle.xk_cli.specs.Numbers.{count_named, is_numeral, least_number, most_count, most_number, numbers_named}
 use Rattle.xk_cli.specs.Status.{status_done, status_memory, status_words}
 use Rattle.xk_cli.specs.declared.job.Command.{Command}
@@ -140,10 +140,11 @@ compile_line = on_file (codes "compile") []
 abbrev pub listing_line : App
 listing_line = on_file (codes "listing") (module_flag ∷ [])
 
--- runs in an order, maybe by chance from a seed and so many times, or by workers
+-- runs in an order, maybe by chance from a seed and so many times, or by rounds on so many processors, or by workers
 abbrev pub run_line : Names → App
 run_line names = on_file (codes "run")
-    (module_flag ∷ order_option names ∷ seed_option ∷ count_option (codes "RUNS") (codes "runs") ∷ workers_option ∷ log_option ∷ arg_option ∷ [])
+    (module_flag ∷ order_option names ∷ seed_option ∷ count_option (codes "RUNS") (codes "runs") ∷ count_option (codes "P") (codes "processors")
+    ∷ workers_option ∷ log_option ∷ arg_option ∷ [])
 
 -- prints outcomes, so many at most, of which one may be picked, or holds them against a list
 abbrev pub outcomes_line : App
@@ -208,7 +209,8 @@ texts words = map (λ w. w.now) words
 
 -- the names of the orders
 abbrev pub AreOrders : Names → Type 0
-AreOrders names = texts names.now ≡ codes "first" ∷ codes "last" ∷ codes "round" ∷ codes "random" ∷ codes "ask" ∷ []
+AreOrders names =
+    texts names.now ≡ codes "first" ∷ codes "last" ∷ codes "round" ∷ codes "random" ∷ codes "greedy" ∷ codes "ask" ∷ []
 
 -- This holds of the names of the orders. `clap` is told of a list of names by where it lies in memory; nothing that is said here looks at
 -- that.
@@ -221,13 +223,15 @@ faults_in names words = fault_of (command_line names) words
 
 -- ---- what the words ask for
 
--- who takes the steps of a run: whom an order names, or so many workers
+-- who takes the steps of a run: whom an order names; by rounds whoever can, or so many of these; or so many workers
 pub data Way : Type 0 where
   In : Order → Way
+  Greedy : Option ℕ → Way
   By : ℕ → Way
 
 abbrev pub way_value : Drive → Way
 way_value (drive.Order o) = In o
+way_value (drive.Greedy processors) = Greedy (option_map (λ p. p.count) processors)
 way_value (drive.Workers w) = By w.count
 
 -- A command without where its texts lie in memory. What is explained may be a JSON value. A run has who takes its steps, and the log's
@@ -315,7 +319,7 @@ count_in name given = option_and_then count_named (first_of name given)
 abbrev pub seed_in : List Row → ℕ
 seed_in given = unwrap_or (count_in (codes "SEED") given) 0
 
--- the order of a name, where by chance from this seed; one that is asked for has none
+-- the order of a name, where by chance from this seed; one that is asked for has none, nor has one by rounds
 abbrev pub order_named : Text → ℕ → Option Order
 order_named name seed =
     if bytes_eq name (codes "first") then Some order.First
@@ -338,6 +342,10 @@ is_random given = is_order (codes "random") given
 abbrev pub is_asked : List Row → Bool
 is_asked given = is_order (codes "ask") given
 
+-- whether the order was given that goes by rounds
+abbrev pub is_greedy : List Row → Bool
+is_greedy given = is_order (codes "greedy") given
+
 -- a seed was given, and no order by chance
 abbrev pub is_seed_alone : List Row → Bool
 is_seed_alone given = is_some (first_of (codes "SEED") given) && not (is_random given)
@@ -345,6 +353,14 @@ is_seed_alone given = is_some (first_of (codes "SEED") given) && not (is_random 
 -- a number of runs was given, and no order by chance or a log's path
 abbrev pub are_runs_misplaced : List Row → Bool
 are_runs_misplaced given = is_some (first_of (codes "RUNS") given) && (not (is_random given) || is_some (first_of (codes "PATH") given))
+
+-- a number of processors was given, and no order by rounds
+abbrev pub are_processors_alone : List Row → Bool
+are_processors_alone given = is_some (first_of (codes "P") given) && not (is_greedy given)
+
+-- the processors that were given
+abbrev pub processors_in : List Row → Option ℕ
+processors_in given = option_and_then some_processors (count_in (codes "P") given)
 
 -- so many workers as a numeral says, before which a plus may stand
 abbrev pub workers_named : Text → Option ℕ
@@ -369,7 +385,7 @@ way_of None n = option_map By n
 
 -- who takes the steps, where that was given
 abbrev pub drive_in : List Row → Option Way
-drive_in given = way_of (order_in given) (workers_in given)
+drive_in given = if is_greedy given then Some (Greedy (processors_in given)) else way_of (order_in given) (workers_in given)
 
 -- so many runs from this seed on, or else one
 abbrev pub runs_of : Option ℕ → ℕ → Option Way → Option Text → Task
@@ -384,9 +400,11 @@ run_in given = runs_of (count_in (codes "RUNS") given) (seed_in given) (drive_in
 abbrev pub run_asked : List Row → Task
 run_asked given = if is_asked given then ByHand (first_of (codes "PATH") given) else run_in given
 
--- An order and workers exclude each other, a seed is for an order by chance, and so is a number of runs, which have no log.
+-- An order and workers exclude each other, a seed is for an order by chance, and so is a number of runs, which have no log; processors
+-- are for an order by rounds.
 abbrev pub run_by : List Row → Option Task
-run_by given = if is_both given || is_seed_alone given || are_runs_misplaced given then None else Some (run_asked given)
+run_by given =
+    if is_both given || is_seed_alone given || are_runs_misplaced given || are_processors_alone given then None else Some (run_asked given)
 
 -- a list was given, and an outcome to pick or a log's path
 abbrev pub is_list_misplaced : List Row → Bool
@@ -520,6 +538,14 @@ misplaces_by found = option_map_or (λ p. are_runs_misplaced p.1) found false
 unfoldable pub misplaces_in : Names → List Text → Bool
 misplaces_in names words = misplaces_by (subcommand_of (command_line names) words)
 
+-- a number of processors was given to the command that was found, and no order by rounds
+abbrev pub idles_by : Option (Text × List Row) → Bool
+idles_by found = option_map_or (λ p. are_processors_alone p.1) found false
+
+-- the words have a number of processors for no order by rounds, as `clap` takes them apart
+unfoldable pub idles_in : Names → List Text → Bool
+idles_in names words = idles_by (subcommand_of (command_line names) words)
+
 -- a list was given to the command that was found, and an outcome to pick or a log's path
 abbrev pub crowds_by : Option (Text × List Row) → Bool
 crowds_by found = option_map_or (λ p. is_list_misplaced p.1) found false
@@ -553,6 +579,7 @@ FitsKind k (fault.NotUnderstood text) = (k ≢ kind.DisplayHelp) × (k ≢ kind.
 FitsKind k fault.OrderAndWorkers = ⊥
 FitsKind k fault.SeedAlone = ⊥
 FitsKind k fault.MisplacedRuns = ⊥
+FitsKind k fault.ProcessorsAlone = ⊥
 FitsKind k fault.MisplacedList = ⊥
 FitsKind k fault.PickAlone = ⊥
 FitsKind k fault.UnclearPage = ⊥
@@ -563,23 +590,24 @@ abbrev pub HasMistake : Kinds → Type 0
 HasMistake kinds = (k : ErrorKind) × IsAmong k kinds × (k ≢ kind.DisplayHelp) × (k ≢ kind.DisplayVersion)
 
 -- Help is told only where it was asked for, words are called not understood only where `clap` finds a mistake in them, or where it
--- finds nothing wrong and no job. The order and the workers are called to exclude each other only where both were given, a seed to
--- stand alone only where it does, a number of runs or a list to be misplaced only where it is, an outcome to be picked for no log only
--- where that is so, and a page to be of no clear run only where it is, and nothing is wrong else.
-abbrev pub IsRefused : Kinds → Option Asked → Bool → Bool → Bool → Bool → Bool → Bool → WordsFault → Type 0
-IsRefused kinds asked both alone misplaced crowded unlogged unclear (fault.Help text) =
+-- finds nothing wrong and no job. The order and the workers are called to exclude each other only where both were given, a seed or
+-- processors to stand alone only where they do, a number of runs or a list to be misplaced only where it is, an outcome to be picked
+-- for no log only where that is so, and a page to be of no clear run only where it is, and nothing is wrong else.
+abbrev pub IsRefused : Kinds → Option Asked → Bool → Bool → Bool → Bool → Bool → Bool → Bool → WordsFault → Type 0
+IsRefused kinds asked both alone misplaced crowded unlogged unclear idle (fault.Help text) =
     IsAmong kind.DisplayHelp kinds ⊎ IsAmong kind.DisplayVersion kinds
-IsRefused kinds asked both alone misplaced crowded unlogged unclear (fault.NotUnderstood text) =
+IsRefused kinds asked both alone misplaced crowded unlogged unclear idle (fault.NotUnderstood text) =
     HasMistake kinds
     ⊎ ((kinds ≡ []) × (asked ≡ None) × (both ≡ false) × (alone ≡ false) × (misplaced ≡ false) × (crowded ≡ false) × (unlogged ≡ false)
-    × (unclear ≡ false))
-IsRefused kinds asked both alone misplaced crowded unlogged unclear fault.OrderAndWorkers = (kinds ≡ []) × (both ≡ true)
-IsRefused kinds asked both alone misplaced crowded unlogged unclear fault.SeedAlone = (kinds ≡ []) × (alone ≡ true)
-IsRefused kinds asked both alone misplaced crowded unlogged unclear fault.MisplacedRuns = (kinds ≡ []) × (misplaced ≡ true)
-IsRefused kinds asked both alone misplaced crowded unlogged unclear fault.MisplacedList = (kinds ≡ []) × (crowded ≡ true)
-IsRefused kinds asked both alone misplaced crowded unlogged unclear fault.PickAlone = (kinds ≡ []) × (unlogged ≡ true)
-IsRefused kinds asked both alone misplaced crowded unlogged unclear fault.UnclearPage = (kinds ≡ []) × (unclear ≡ true)
-IsRefused kinds asked both alone misplaced crowded unlogged unclear fault.OutOfMemory = ⊤
+    × (unclear ≡ false) × (idle ≡ false))
+IsRefused kinds asked both alone misplaced crowded unlogged unclear idle fault.OrderAndWorkers = (kinds ≡ []) × (both ≡ true)
+IsRefused kinds asked both alone misplaced crowded unlogged unclear idle fault.SeedAlone = (kinds ≡ []) × (alone ≡ true)
+IsRefused kinds asked both alone misplaced crowded unlogged unclear idle fault.MisplacedRuns = (kinds ≡ []) × (misplaced ≡ true)
+IsRefused kinds asked both alone misplaced crowded unlogged unclear idle fault.ProcessorsAlone = (kinds ≡ []) × (idle ≡ true)
+IsRefused kinds asked both alone misplaced crowded unlogged unclear idle fault.MisplacedList = (kinds ≡ []) × (crowded ≡ true)
+IsRefused kinds asked both alone misplaced crowded unlogged unclear idle fault.PickAlone = (kinds ≡ []) × (unlogged ≡ true)
+IsRefused kinds asked both alone misplaced crowded unlogged unclear idle fault.UnclearPage = (kinds ≡ []) × (unclear ≡ true)
+IsRefused kinds asked both alone misplaced crowded unlogged unclear idle fault.OutOfMemory = ⊤
 
 -- the status that the program ends with
 abbrev pub status_of : WordsFault → ℕ
@@ -588,6 +616,7 @@ status_of (fault.NotUnderstood text) = status_words
 status_of fault.OrderAndWorkers = status_words
 status_of fault.SeedAlone = status_words
 status_of fault.MisplacedRuns = status_words
+status_of fault.ProcessorsAlone = status_words
 status_of fault.MisplacedList = status_words
 status_of fault.PickAlone = status_words
 status_of fault.UnclearPage = status_words

@@ -123,6 +123,12 @@ fn run_line<'a>(alloc: Global) -> Result<clap::Command<'a>, AllocError>
             "runs",
             "So many runs where the order is random, each from the next seed: tells how often what was printed",
         ),
+        count_option(
+            alloc,
+            "P",
+            "processors",
+            "So many steps at most in a round where the order is greedy: as many as can be taken where nothing is said",
+        ),
         workers_option(alloc),
         log_option(alloc),
         arg_option(alloc),

@@ -2,11 +2,12 @@
 
 ghost use Rattle.std.specs.Prelude.{◌≡◌, IfOk, option_map};
 ghost use Rattle.clap.specs.Words.{first_of, found_of, rows_of};
-ghost use Rattle.xk_cli.specs.CommandLine.{are_runs_misplaced, arguments_in, count_in, drive_in, form_in, is_both};
+ghost use Rattle.xk_cli.specs.CommandLine.{are_processors_alone, are_runs_misplaced, arguments_in, count_in, drive_in, form_in, is_both};
 ghost use Rattle.xk_cli.specs.CommandLine.{is_flagged, is_list_misplaced, is_order, is_pick_alone, is_seed_alone, order_in};
-ghost use Rattle.xk_cli.specs.CommandLine.{is_page_unclear, is_run_unclear, order_named, seed_in, way_value, workers_in, workers_named};
+ghost use Rattle.xk_cli.specs.CommandLine.{is_page_unclear, is_run_unclear, order_named, processors_in, seed_in};
+ghost use Rattle.xk_cli.specs.CommandLine.{way_value, workers_in, workers_named};
 
-use crate::job::{Drive, Form, Order, Workers};
+use crate::job::{Drive, Form, Order, Processors, Workers};
 use crate::numbers::{count_named, numbers_named};
 use clap::ArgMatches;
 use std::alloc::{AllocError, Global};
@@ -80,6 +81,13 @@ pub(crate) fn are_runs_misplaced(given: &ArgMatches<'_>) -> bool
         && (!is_order(given, "random") || given_in(given, "PATH").is_some())
 }
 
+/// Whether a number of processors was given, and no order by rounds.
+pub(crate) fn are_processors_alone(given: &ArgMatches<'_>) -> bool
+    ensures { result ≡ are_processors_alone (rows_of (found_of given.now)) }
+{
+    given_in(given, "P").is_some() && !is_order(given, "greedy")
+}
+
 /// Whether the order of this name was given.
 pub(crate) fn is_order(given: &ArgMatches<'_>, name: &str) -> bool
     ensures { result ≡ is_order name.now (rows_of (found_of given.now)) }
@@ -108,17 +116,20 @@ pub(crate) fn seed_in(given: &ArgMatches<'_>) -> u64
     }
 }
 
-/// How the steps are taken, where that was given: in an order, or by workers.
+/// How the steps are taken, where that was given: by rounds, in another order, or by workers.
 pub(crate) fn drive_in(given: &ArgMatches<'_>) -> Option<Drive>
     ensures { option_map way_value result ≡ drive_in (rows_of (found_of given.now)) }
 {
+    if is_order(given, "greedy") {
+        return Some(Drive::Greedy(processors_in(given)));
+    }
     match order_in(given) {
         Some(order) => Some(Drive::Order(order)),
         None => Some(Drive::Workers(workers_in(given)?)),
     }
 }
 
-/// The order that was given, where by chance from the seed that was. None of one that a person is asked for.
+/// The order that was given, where by chance from the seed that was. None of one that a person is asked for, or by rounds.
 fn order_in(given: &ArgMatches<'_>) -> Option<Order>
     ensures { result ≡ order_in (rows_of (found_of given.now)) }
 {
@@ -130,6 +141,14 @@ fn order_in(given: &ArgMatches<'_>) -> Option<Order>
         "random" => Some(Order::Random(seed_in(given))),
         _ => None,
     }
+}
+
+/// The processors that were given.
+fn processors_in(given: &ArgMatches<'_>) -> Option<Processors>
+    ensures { option_map (λ p. p.count) result ≡ processors_in (rows_of (found_of given.now)) }
+{
+    let count = count_in(given, "P")?;
+    Processors::new(count)
 }
 
 /// The workers that were given.

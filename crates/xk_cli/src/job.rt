@@ -1,7 +1,7 @@
 //! What the words ask for.
 
 ghost use Rattle.std.specs.Prelude.{◌≡◌, ◌≤◌, option_map};
-ghost use Rattle.xk_cli.specs.WorkerCount.{count_within, most_workers};
+ghost use Rattle.xk_cli.specs.WorkerCount.{count_within, most_workers, some_processors};
 
 /// What is to be done with FILE.
 #[derive(Clone, Copy, Debug, PartialEq, Eq)]
@@ -245,6 +245,9 @@ pub enum Form {
 pub enum Drive {
     /// `--order`: whom the order names.
     Order(Order),
+    /// `--order greedy`: by rounds whoever can take a step when the round begins, or so many of these as there are processors,
+    /// where that was given.
+    Greedy(Option<Processors>),
     /// `--workers`: worker threads, whoever comes first.
     Workers(Workers),
 }
@@ -289,6 +292,33 @@ impl Workers {
         ensures same { result ≡ self.count }
         ensures some { 1 ≤ result }
         ensures few { result ≤ most_workers }
+    {
+        self.count
+    }
+}
+
+/// A number of processors: at least 1.
+#[derive(Clone, Copy, Debug, PartialEq, Eq)]
+pub struct Processors {
+    count: u64,
+    ghost some: { 1 ≤ count },
+}
+
+impl Processors {
+    /// So many processors. None where there is none.
+    pub fn new(count: u64) -> Option<Processors>
+        ensures { option_map (λ p. p.count) result ≡ some_processors count }
+    {
+        if count < 1 {
+            return None;
+        }
+        Some(Processors { count })
+    }
+
+    /// How many they are.
+    pub fn count(self) -> u64
+        ensures same { result ≡ self.count }
+        ensures some { 1 ≤ result }
     {
         self.count
     }

@@ -12,7 +12,7 @@ use clap::{Arg, ArgAction};
 use std::alloc::Global;
 
 /// The names of the orders.
-static ORDERS: [&str; 5] = ["first", "last", "round", "random", "ask"];
+static ORDERS: [&str; 6] = ["first", "last", "round", "random", "greedy", "ask"];
 
 /// `--arg N`, once for each number.
 pub(crate) fn arg_option<'a>(alloc: Global) -> Arg<'a>
@@ -156,7 +156,7 @@ pub(crate) fn order_option<'a>(alloc: Global) -> Arg<'a>
         alloc,
         "ORDER",
         "order",
-        "Who steps next: the least activity that can (the default), the greatest, each in turn, by chance, or whom standard input names",
+        "Who steps next: the least that can (the default), the greatest, each in turn, by chance, by rounds, or whom standard input names",
     );
     order.value_parser(ORDERS.as_slice())
 }

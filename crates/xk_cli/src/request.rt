@@ -2,19 +2,19 @@
 
 ghost use Rattle.std.specs.Prelude.{◌≡◌, [], false, Some, None, IfOk, OnOk, IfErr, option_map};
 ghost use Rattle.clap.specs.Words.{found_of, kind_of, rows_of, subcommand_rows_of};
-ghost use Rattle.xk_cli.specs.CommandLine.{FitsKind, IsRefused, WithOrders, are_runs_misplaced, asked_by, asked_in};
+ghost use Rattle.xk_cli.specs.CommandLine.{FitsKind, IsRefused, WithOrders, are_processors_alone, are_runs_misplaced, asked_by, asked_in};
 ghost use Rattle.xk_cli.specs.CommandLine.{asked_of, asked_value, command_by, command_by_log, command_on, crowds_by};
 ghost use Rattle.xk_cli.specs.CommandLine.{crowds_in, excludes_by, excludes_in, faults_in, found_task, is_both};
-ghost use Rattle.xk_cli.specs.CommandLine.{blurs_by, blurs_in, is_page_unclear, outcome_page_of, page_by};
+ghost use Rattle.xk_cli.specs.CommandLine.{blurs_by, blurs_in, idles_by, idles_in, is_page_unclear, outcome_page_of, page_by};
 ghost use Rattle.xk_cli.specs.CommandLine.{is_list_misplaced, is_pick_alone, is_seed_alone, job_of, misplaces_by, misplaces_in};
 ghost use Rattle.xk_cli.specs.CommandLine.{outcomes_by, outcomes_in, picks_by, picks_in, run_asked, run_by, run_in, strays_by, strays_in};
 ghost use Rattle.xk_cli.specs.CommandLine.{task_by, task_value, texts, why_on};
 
 use crate::commands::line;
 use crate::given::{
-    are_runs_misplaced, arguments_in, count_in, drive_in, form_in, given_in, is_both, is_flagged,
-    is_list_misplaced, is_order, is_page_unclear, is_pick_alone, is_run_unclear, is_seed_alone,
-    seed_in,
+    are_processors_alone, are_runs_misplaced, arguments_in, count_in, drive_in, form_in, given_in,
+    is_both, is_flagged, is_list_misplaced, is_order, is_page_unclear, is_pick_alone,
+    is_run_unclear, is_seed_alone, seed_in,
 };
 use crate::job::{Command, Form, HandRun, Job, Request};
 use crate::words_fault::WordsFault;
@@ -44,7 +44,8 @@ pub fn read_job<'a>(alloc: Global, words: &'a [&'a str]) -> Result<Request<'a>, 
         (misplaces_in names (texts words.entry.now))
         (crowds_in names (texts words.entry.now))
         (picks_in names (texts words.entry.now))
-        (blurs_in names (texts words.entry.now)) fault)) }
+        (blurs_in names (texts words.entry.now))
+        (idles_in names (texts words.entry.now)) fault)) }
 {
     let command_line = line(alloc)?;
     match command_line.try_get_matches_from(words) {
@@ -63,7 +64,8 @@ fn asked<'a>(alloc: Global, matches: &ArgMatches<'a>) -> Result<Request<'a>, Wor
         (misplaces_by (subcommand_rows_of matches.now))
         (crowds_by (subcommand_rows_of matches.now))
         (picks_by (subcommand_rows_of matches.now))
-        (blurs_by (subcommand_rows_of matches.now))) }
+        (blurs_by (subcommand_rows_of matches.now))
+        (idles_by (subcommand_rows_of matches.now))) }
 {
     match matches.subcommand() {
         Some((name, given)) => asked_by(alloc, name, given),
@@ -86,7 +88,8 @@ fn asked_by<'a>(
         (are_runs_misplaced (rows_of (found_of given.now)))
         (is_list_misplaced (rows_of (found_of given.now)))
         (is_pick_alone (rows_of (found_of given.now)))
-        (is_page_unclear name.now (rows_of (found_of given.now)))) }
+        (is_page_unclear name.now (rows_of (found_of given.now)))
+        (are_processors_alone (rows_of (found_of given.now)))) }
 {
     match request_by(alloc, name, given)? {
         Some(request) => Ok(request),
@@ -163,12 +166,16 @@ fn task_by<'a>(name: &str, given: &ArgMatches<'a>) -> Option<Found<'a>>
     }
 }
 
-/// The command `run` with what was given to it. None where both an order and workers were, or a seed or a number of
-/// runs that has no place there.
+/// The command `run` with what was given to it. None where both an order and workers were, or a seed, or a number of
+/// runs or of processors, that has no place there.
 fn run_by<'a>(given: &ArgMatches<'a>) -> Option<Found<'a>>
     ensures { option_map found_task result ≡ run_by (rows_of (found_of given.now)) }
 {
-    if is_both(given) || is_seed_alone(given) || are_runs_misplaced(given) {
+    if is_both(given)
+        || is_seed_alone(given)
+        || are_runs_misplaced(given)
+        || are_processors_alone(given)
+    {
         return None;
     }
     if is_order(given, "ask") {
@@ -300,15 +307,16 @@ fn outcomes_by<'a>(given: &ArgMatches<'a>) -> Option<Command<'a>>
     }
 }
 
-/// Why a command with what was given to it is no job: an order stands beside workers, or a seed, a number of runs, a
-/// list or an outcome to pick has no place there, or it is unclear of which run a page is to be.
+/// Why a command with what was given to it is no job: an order stands beside workers, or a seed, a number of runs or of
+/// processors, a list or an outcome to pick has no place there, or it is unclear of which run a page is to be.
 fn no_job(alloc: Global, name: &str, given: &ArgMatches<'_>) -> WordsFault
     ensures { IsRefused [] None (is_both (rows_of (found_of given.now)))
         (is_seed_alone (rows_of (found_of given.now)))
         (are_runs_misplaced (rows_of (found_of given.now)))
         (is_list_misplaced (rows_of (found_of given.now)))
         (is_pick_alone (rows_of (found_of given.now)))
-        (is_page_unclear name.now (rows_of (found_of given.now))) result }
+        (is_page_unclear name.now (rows_of (found_of given.now)))
+        (are_processors_alone (rows_of (found_of given.now))) result }
 {
     if is_both(given) {
         return WordsFault::OrderAndWorkers;
@@ -318,6 +326,9 @@ fn no_job(alloc: Global, name: &str, given: &ArgMatches<'_>) -> WordsFault
     }
     if are_runs_misplaced(given) {
         return WordsFault::MisplacedRuns;
+    }
+    if are_processors_alone(given) {
+        return WordsFault::ProcessorsAlone;
     }
     if is_list_misplaced(given) {
         return WordsFault::MisplacedList;
@@ -333,7 +344,7 @@ fn no_job(alloc: Global, name: &str, given: &ArgMatches<'_>) -> WordsFault
 
 /// The fault where `clap` took the words, nothing in them excludes anything else, and they name no job. It doesn't come to that.
 fn not_a_job(alloc: Global) -> WordsFault
-    ensures { IsRefused [] None false false false false false false result }
+    ensures { IsRefused [] None false false false false false false false result }
 {
     match String::from_str(alloc, "error: no command on a file was given\n") {
         Ok(text) => WordsFault::NotUnderstood(text),

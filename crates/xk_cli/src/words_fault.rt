@@ -15,6 +15,9 @@ pub const SEED_LINE: &str = "x10clock: --seed goes with --order random\n";
 /// The line of words that have a number of runs, and no order by chance, or a log.
 pub const RUNS_LINE: &str = "x10clock: --runs goes with --order random, and not with --log\n";
 
+/// The line of words that have a number of processors, and no order by rounds.
+pub const PROCESSORS_LINE: &str = "x10clock: --processors goes with --order greedy\n";
+
 /// The line of words that have a list of outcomes, and an outcome to pick, or a log.
 pub const LIST_LINE: &str = "x10clock: --expect goes without --log and --pick\n";
 
@@ -43,6 +46,9 @@ pub enum WordsFault {
     /// `--runs` stands without `--order random`, or beside `--log`.
     #[error("{line}", line = RUNS_LINE)]
     MisplacedRuns,
+    /// `--processors` stands without `--order greedy`.
+    #[error("{line}", line = PROCESSORS_LINE)]
+    ProcessorsAlone,
     /// `--expect` stands beside `--log` or `--pick`.
     #[error("{line}", line = LIST_LINE)]
     MisplacedList,
@@ -70,6 +76,7 @@ impl WordsFault {
             | WordsFault::OrderAndWorkers
             | WordsFault::SeedAlone
             | WordsFault::MisplacedRuns
+            | WordsFault::ProcessorsAlone
             | WordsFault::MisplacedList
             | WordsFault::PickAlone
             | WordsFault::UnclearPage => status::WORDS,

@@ -2,3 +2,4 @@ pub mod StillLemmas
 pub mod StepLemmas
 pub mod RoundLemmas
 pub mod GreedyLemmas
+pub mod OneRunLemmas

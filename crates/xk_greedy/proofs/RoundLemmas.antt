@@ -1,6 +1,7 @@
 -- Rounds one after another, and their steps.
-use Rattle.std.proofs.Common.{◌≡◌, ◌∙◌, ℕ, ◌+◌, ◌-◌, ◌<◌, ◌≤◌, ℤ, List, [], ◌∷◌, ◌++◌, append-nil, append_assoc, length}
+use Rattle.std.proofs.Common.{◌≡◌, ◌∙◌, ℕ, ◌+◌, ◌-◌, ◌<◌, ◌≤◌, ℤ, List, [], ◌∷◌, ◌++◌, append-nil, append_assoc, length, map}
 use Rattle.std.proofs.Common.{Option, refl, sym, ap, subst, arith}
+use Rattle.std.proofs.lemmas.List.{map-append}
 use Rattle.xk_types.specs.declared.world.Entry.{Entry}
 use Rattle.xk_types.specs.declared.world.Event.{Event}
 use Rattle.xk_types.specs.Code.{ModuleValue}
@@ -8,7 +9,7 @@ use Rattle.xk_types.specs.World.{World, opening}
 use Rattle.xk_types.specs.Bound.{steps_bound}
 use Rattle.xk_types.specs.Step.{Stepped, step}
 use Rattle.xk_types.specs.Schedule.{Through, run, is_enabled}
-use Rattle.xk_types.specs.Logs.{schedule_of, one_step_of}
+use Rattle.xk_types.specs.Logs.{one_step_of}
 use Rattle.xk_law_rounds.specs.Rounds.{steps_in}
 use Rattle.xk_scheduler.specs.Choosers.{enabled_in}
 use Rattle.xk_law_schedules.proofs.ReachabilityLemmas.{run_arguments}
@@ -31,12 +32,13 @@ length_more [] r = refl
 length_more (q ∷ rs) r = let rest = length_more rs r in omega (arith, rest)
 
 by_rounds_more : (p : Option ℕ) (m : ModuleValue) (args : List ℤ) (log more : List Entry) (v z : World) (n : ℕ) (r : List ℕ)
-    → IsByRounds p m args log v n → IsRoundBy p m v r z → schedule_of more ≡ schedule_of log ++ r
+    → IsByRounds p m args log v n → IsRoundBy p m v r z → more ≡ log ++ map one_step_of r
     → IsByRounds p m args more z (n + 1)
 by_rounds_more p m args log more v z n r h round is = record {
   rounds = h.rounds ++ r ∷ [];
   are = rounds_more p m (opening m args) v z h.rounds r h.are round;
-  steps_are = is ∙ ap (λ l. l ++ r) h.steps_are ∙ sym (steps_more h.rounds r);
+  log_is = is ∙ ap (λ l. l ++ map one_step_of r) h.log_is ∙ sym (map-append one_step_of (steps_in h.rounds) r)
+      ∙ ap (map one_step_of) (sym (steps_more h.rounds r));
   as_many = length_more h.rounds r ∙ ap (λ k. k + 1) h.as_many;
 }
 
@@ -46,7 +48,7 @@ no_rounds : (p : Option ℕ) (m : ModuleValue) (args : List ℤ) (w : World) (lo
 no_rounds p m args w log none is = record {
   rounds = [];
   are = is;
-  steps_are = ap schedule_of none;
+  log_is = none;
   as_many = refl;
 }
 

@@ -1,9 +1,9 @@
 -- Steps of some activities, one after another.
 use Rattle.std.proofs.Common.{◌≡◌, ◌∙◌, ℕ, zero, suc, ◌+◌, ◌<◌, ◌≤◌, true, false, true≢false, List, [], ◌∷◌, ◌++◌}
-use Rattle.std.proofs.Common.{append-nil, append_assoc, add-one, length, replicate, take, get_or, Option, Some, None, Result, Ok, Err}
+use Rattle.std.proofs.Common.{append-nil, append_assoc, add-one, length, map, take, get_or, Option, Some, None, Result, Ok, Err}
 use Rattle.std.proofs.Common.{slice_get, refl, sym, ap, subst, arith}
 use Rattle.std.specs.Prelude.{OnOk}
-use Rattle.std.proofs.lemmas.List.Concat.{flat_map-append}
+use Rattle.std.proofs.lemmas.List.{map-append}
 use Rattle.std.proofs.lemmas.Option.{none-some, slice_get-get_or}
 use Rattle.xk_types.specs.declared.world.Entry.{Entry}
 use Rattle.xk_types.specs.declared.world.Event.{Event}
@@ -12,7 +12,7 @@ use Rattle.xk_types.specs.World.{World}
 use Rattle.xk_types.specs.Bound.{steps_bound}
 use Rattle.xk_types.specs.Step.{Stepped, step}
 use Rattle.xk_types.specs.Schedule.{Through, all_ended, run, is_enabled}
-use Rattle.xk_types.specs.Logs.{schedule_of, one_step_of}
+use Rattle.xk_types.specs.Logs.{one_step_of}
 use Rattle.xk_collections.specs.NumberSets.{IsRising}
 use Rattle.xk_collections.proofs.RisingListLemmas.{rising_far}
 use Rattle.xk_core.specs.Core.{CoreValue, IsCore}
@@ -28,7 +28,7 @@ pub on_start : (c : CoreValue) (log : List Entry) (acts : List ℕ) → IsOn c l
 on_start c log acts = record {
   same_module = refl;
   leads = refl;
-  logged = sym (append-nil (schedule_of log));
+  logged = sym (append-nil log);
   counted = omega arith;
   bound = λ some. absurd (omega (arith, some));
 }
@@ -56,10 +56,10 @@ on_more c d x log mid more acts i e lt on stepped same is counted bound = record
   same_module = same ∙ on.same_module;
   leads = leads_more c.module_run acts c.world d.world x.world i 0 e lt on.leads
       (subst (λ m. step m d.world (get_or acts i 0) ≡ Stepped x.world e) on.same_module stepped);
-  logged = ap schedule_of is ∙ flat_map-append (λ (y : Entry). replicate y.steps y.act) mid (one_step_of (get_or acts i 0) ∷ [])
-      ∙ ap (λ l. l ++ get_or acts i 0 ∷ []) on.logged
-      ∙ append_assoc (schedule_of log) (take i acts) (get_or acts i 0 ∷ [])
-      ∙ ap (λ l. schedule_of log ++ l) (sym (take_more acts i lt));
+  logged = is ∙ ap (λ l. l ++ one_step_of (get_or acts i 0) ∷ []) on.logged
+      ∙ append_assoc log (map one_step_of (take i acts)) (one_step_of (get_or acts i 0) ∷ [])
+      ∙ ap (λ l. log ++ l)
+      (sym (ap (map one_step_of) (take_more acts i lt) ∙ map-append one_step_of (take i acts) (get_or acts i 0 ∷ [])));
   counted = omega (arith, counted, on.counted, ap length (take_more acts i lt), length_push (take i acts) (get_or acts i 0));
   bound = λ some. subst (λ m. x.world.steps ≤ steps_bound m) (same ∙ on.same_module) bound;
 }
@@ -80,7 +80,7 @@ take_get (suc n) [] i x e = e
 take_get (suc n) (y ∷ xs) zero x e = e
 take_get (suc n) (y ∷ xs) (suc i) x e = take_get n xs i x e
 
-chosen_get : (p : Option ℕ) (xs : List ℕ) (i x : ℕ) → slice_get (chosen p xs) i ≡ Some x → slice_get xs i ≡ Some x
+pub chosen_get : (p : Option ℕ) (xs : List ℕ) (i x : ℕ) → slice_get (chosen p xs) i ≡ Some x → slice_get xs i ≡ Some x
 chosen_get None xs i x e = e
 chosen_get (Some n) xs i x e = take_get n xs i x e
 

@@ -1,11 +1,11 @@
 -- Runs by rounds, as on processors that take a step at the same time, none of which is idle while it could take one: such runs
 -- are called greedy (Graham, "Bounds for certain multiprocessing anomalies", 1966). That an activity takes one instruction a round is this project's own.
-use Rattle.std.specs.Prelude.{◌≡◌, ℕ, ◌<◌, ℤ, List, [], ◌∷◌, length, take, Option, Some, None, ⊤}
+use Rattle.std.specs.Prelude.{◌≡◌, ℕ, ◌<◌, ℤ, true, List, [], ◌∷◌, length, map, take, Option, Some, None, ⊤}
 use Rattle.xk_types.specs.declared.world.Entry.{Entry}
 use Rattle.xk_types.specs.Code.{ModuleValue}
 use Rattle.xk_types.specs.World.{World, opening}
-use Rattle.xk_types.specs.Schedule.{Through, run}
-use Rattle.xk_types.specs.Logs.{schedule_of}
+use Rattle.xk_types.specs.Schedule.{Through, all_ended, run}
+use Rattle.xk_types.specs.Logs.{one_step_of}
 use Rattle.xk_scheduler.specs.Choosers.{enabled_in}
 use Rattle.xk_law_rounds.specs.Rounds.{steps_in}
 
@@ -30,10 +30,15 @@ abbrev pub AreRoundsBy : Option ℕ → ModuleValue → World → List (List ℕ
 AreRoundsBy processors m w [] z = w ≡ z
 AreRoundsBy processors m w (r ∷ rs) z = (v : World) × IsRoundBy processors m w r v × AreRoundsBy processors m v rs z
 
--- A log stands for so many rounds from the opening world with these arguments, which lead to this one.
+-- A log has an entry for each step of so many rounds, which lead from the opening world with these arguments to this one.
 pub record IsByRounds (processors : Option ℕ) (m : ModuleValue) (args : List ℤ) (log : List Entry) (last : World) (count : ℕ)
     : Type 0 where
   pub rounds : List (List ℕ)
   pub are : AreRoundsBy processors m (opening m args) rounds last
-  pub steps_are : schedule_of log ≡ steps_in rounds
+  pub log_is : log ≡ map one_step_of (steps_in rounds)
   pub as_many : length rounds ≡ count
+
+-- a list of steps is that of so many rounds, which lead from the opening world with these arguments to one in which all have ended
+abbrev pub FollowsRounds : Option ℕ → ModuleValue → List ℤ → ℕ → List ℕ → Type 0
+FollowsRounds processors m args count list =
+    (last : World) × (all_ended last ≡ true) × IsByRounds processors m args (map one_step_of list) last count

@@ -1,11 +1,11 @@
 -- A step of each of some activities, one after another. This project's own.
-use Rattle.std.specs.Prelude.{◌≡◌, ℕ, ◌+◌, ◌<◌, ◌≤◌, true, List, ◌++◌, length, Option, get_or}
+use Rattle.std.specs.Prelude.{◌≡◌, ℕ, ◌+◌, ◌<◌, ◌≤◌, true, List, ◌++◌, length, map, Option, get_or}
 use Rattle.xk_types.specs.declared.world.Entry.{Entry}
 use Rattle.xk_types.specs.Code.{ModuleValue}
 use Rattle.xk_types.specs.World.{World}
 use Rattle.xk_types.specs.Bound.{steps_bound}
 use Rattle.xk_types.specs.Schedule.{Through, run, is_enabled}
-use Rattle.xk_types.specs.Logs.{schedule_of}
+use Rattle.xk_types.specs.Logs.{one_step_of}
 use Rattle.xk_core.specs.Core.{CoreValue}
 use Rattle.xk_greedy.specs.Rounds.{IsRoundBy}
 
@@ -17,7 +17,7 @@ AreEnabled m w i acts = (j : ℕ) → i ≤ j → j < length acts → is_enabled
 pub record IsOn (c : CoreValue) (log : List Entry) (acts : List ℕ) (d : CoreValue) (more : List Entry) : Type 0 where
   pub same_module : d.module_run ≡ c.module_run
   pub leads : run c.module_run acts c.world ≡ Through d.world
-  pub logged : schedule_of more ≡ schedule_of log ++ acts
+  pub logged : more ≡ log ++ map one_step_of acts
   pub counted : d.world.steps ≡ c.world.steps + length acts
   pub bound : 0 < length acts → d.world.steps ≤ steps_bound c.module_run
 

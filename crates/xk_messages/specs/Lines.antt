@@ -79,6 +79,10 @@ accepted_line steps activities clocks =
 abbrev pub ended_line : ℕ → List ℕ
 ended_line steps = codes "ended steps " ++ (decimal steps ++ codes "\n")
 
+-- one by rounds: `ended steps 8 rounds 3`
+abbrev pub rounds_line : ℕ → ℕ → List ℕ
+rounds_line steps rounds = codes "ended steps " ++ (decimal steps ++ (codes " rounds " ++ (decimal rounds ++ codes "\n")))
+
 -- a log that ends before the step that was asked for: `the log ends after step 8`
 abbrev pub log_end_line : ℕ → List ℕ
 log_end_line steps = codes "the log ends after step " ++ (decimal steps ++ codes "\n")

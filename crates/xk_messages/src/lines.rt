@@ -2,7 +2,7 @@
 
 ghost use Rattle.std.specs.Prelude.{◌≡◌, IfOk, string_bytes};
 ghost use Rattle.xk_module.specs.Faults.{fault_label};
-ghost use Rattle.xk_messages.specs.Lines.{accepted_line, arguments_line, bound_text, ended_line, front_text, grammar_line, kind_text, label_line, line, local_line, log_end_line, no_outcome_line, not_enabled_line, place_text, refusal_line, rule_text, walk_text};
+ghost use Rattle.xk_messages.specs.Lines.{accepted_line, arguments_line, bound_text, ended_line, front_text, grammar_line, kind_text, label_line, line, local_line, log_end_line, no_outcome_line, not_enabled_line, place_text, refusal_line, rounds_line, rule_text, walk_text};
 
 use std::alloc::{AllocError, Global};
 use xk_bounds::{BoundFault, KindFault, Refusal};
@@ -161,6 +161,13 @@ pub fn ended_line(alloc: Global, steps: u64) -> Result<String, AllocError>
     ensures { IfOk result (λ text. string_bytes text ≡ ended_line steps) }
 {
     format!(in alloc; "ended steps {steps}\n")
+}
+
+/// `ended steps 8 rounds 3`. Err where memory was refused.
+pub fn rounds_line(alloc: Global, steps: u64, rounds: u64) -> Result<String, AllocError>
+    ensures { IfOk result (λ text. string_bytes text ≡ rounds_line steps rounds) }
+{
+    format!(in alloc; "ended steps {steps} rounds {rounds}\n")
 }
 
 /// `the log ends after step 8`. Err where memory was refused.

@@ -25,7 +25,7 @@ use Rattle.xk_replay.proofs.VerdictLemmas.{legal_not_stopped}
 use Rattle.xk_tree.specs.declared.fault.FrontFault.{FrontFault}
 use Rattle.xk_cli.specs.declared.job.Form.{Form}
 use Rattle.xk_cli.specs.declared.job.Form.TheVariants as form
-use Rattle.xk_cli.specs.CommandLine.{By, In}
+use Rattle.xk_cli.specs.CommandLine.{By, Greedy, In}
 use Rattle.xk_answers.specs.declared.job_result.Done.{Done}
 use Rattle.xk_answers.specs.declared.job_result.Done.TheVariants as done
 use Rattle.xk_program.specs.declared.fault.Fault.{Fault}
@@ -39,13 +39,13 @@ use Rattle.xk_answers.specs.Explanation.{Tale}
 use Rattle.xk_answers.specs.declared.picture.Picture.{Picture}
 use Rattle.xk_io.specs.Lines.{number_lines}
 use Rattle.xk_program.specs.Lines.{fault_line, status_of}
-use Rattle.xk_messages.specs.Lines.{accepted_line, ended_line, refusal_status, arguments_line, no_outcome_line}
+use Rattle.xk_messages.specs.Lines.{accepted_line, ended_line, rounds_line, refusal_status, arguments_line, no_outcome_line}
 use Rattle.xk_serve.specs.OneAnswer.{ComesToOne, HasOneStatus, IsDetermined, IsLeftOpen, IsReplyOf, IsSameLine, IsSameReply, TellFaults}
-use Rattle.xk_answers.specs.OrderedRun.{IsLoggedRun, IsOrderedRun, IsReplay}
+use Rattle.xk_answers.specs.OrderedRun.{IsGreedyRun, IsLoggedGreedyRun, IsLoggedRun, IsOrderedRun, IsReplay}
 use Rattle.xk_program.specs.Programs.{Gives, IsCompiledTo, IsNoModule, IsNoSource, IsUnread, longest_module}
 use Rattle.xk_serve.proofs.LogUniquenessLemmas.{no_run_once, text_not_cut, text_not_wrong, text_once, whole_not_refused}
 use Rattle.xk_serve.proofs.RefusalUniquenessLemmas.{not_accepted, refusal_once, refused_status}
-use Rattle.xk_serve.proofs.RunUniquenessLemmas.{list_once, logged_once, ordered_once, run_taken}
+use Rattle.xk_serve.proofs.RunUniquenessLemmas.{greedy_logged_once, greedy_once, list_once, logged_once, ordered_once, run_taken}
 use Rattle.xk_serve.proofs.TaskLemmas.{MayStand}
 use Rattle.xk_serve.proofs.TellingUniquenessLemmas.{telling_once}
 use Rattle.xk_serve.proofs.TextUniquenessLemmas.{one_text, unfit_none, unfit_once}
@@ -62,6 +62,12 @@ Prints (Run (In o) false) m args logged out log =
     IsAccepted m × (numbers : List ℤ) × (steps : ℕ) × IsOrderedRun o m args numbers steps × (out ≡ number_lines numbers ++ ended_line steps) × (log ≡ [])
 Prints (Run (In o) true) m args logged out log =
     IsAccepted m × (numbers : List ℤ) × (steps : ℕ) × (es : List Entry) × IsLoggedRun o m args numbers steps es × (out ≡ number_lines numbers ++ ended_line steps) × (log ≡ log_text es)
+Prints (Run (Greedy p) false) m args logged out log =
+    IsAccepted m × (numbers : List ℤ) × (steps : ℕ) × (rounds : ℕ) × IsGreedyRun p m args numbers steps rounds
+    × (out ≡ number_lines numbers ++ rounds_line steps rounds) × (log ≡ [])
+Prints (Run (Greedy p) true) m args logged out log =
+    IsAccepted m × (numbers : List ℤ) × (steps : ℕ) × (rounds : ℕ) × (es : List Entry) × IsLoggedGreedyRun p m args numbers steps rounds es
+    × (out ≡ number_lines numbers ++ rounds_line steps rounds) × (log ≡ log_text es)
 Prints (Run (By n) kept) m args logged out log = IsAccepted m × AreArguments m args
 Prints Replay m args logged out log =
     IsAccepted m × (numbers : List ℤ) × (steps : ℕ) × (es : List Entry) × IsLogText logged es × IsReplay m args es numbers steps × (out ≡ number_lines numbers ++ ended_line steps) × (log ≡ [])
@@ -82,15 +88,20 @@ prints Check m args logged (done.Accepted steps activities clocks) h =
 prints Check m args logged _ h = absurd h
 prints (Explain json) m args logged d h = absurd h
 prints Listing m args logged d h = absurd h
-prints (Run (In o) false) m args logged (done.Ended numbers steps None) h = (h.0, numbers.items, steps, h.1, refl, refl)
+prints (Run (In o) false) m args logged (done.Ended numbers steps None None) h = (h.0, numbers.items, steps, h.1, refl, refl)
 prints (Run (In o) false) m args logged _ h = absurd h
-prints (Run (In o) true) m args logged (done.Ended numbers steps (Some es)) h = (h.0, numbers.items, steps, es.items, h.1, refl, refl)
+prints (Run (In o) true) m args logged (done.Ended numbers steps None (Some es)) h = (h.0, numbers.items, steps, es.items, h.1, refl, refl)
 prints (Run (In o) true) m args logged _ h = absurd h
-prints (Run (By n) false) m args logged (done.Ended numbers steps None) h = (h.0, run_taken _ m args numbers.items steps h.1)
+prints (Run (Greedy p) false) m args logged (done.Ended numbers steps (Some rounds) None) h = (h.0, numbers.items, steps, rounds, h.1, refl, refl)
+prints (Run (Greedy p) false) m args logged _ h = absurd h
+prints (Run (Greedy p) true) m args logged (done.Ended numbers steps (Some rounds) (Some es)) h =
+    (h.0, numbers.items, steps, rounds, es.items, h.1, refl, refl)
+prints (Run (Greedy p) true) m args logged _ h = absurd h
+prints (Run (By n) false) m args logged (done.Ended numbers steps None None) h = (h.0, run_taken _ m args numbers.items steps h.1)
 prints (Run (By n) false) m args logged _ h = absurd h
-prints (Run (By n) true) m args logged (done.Ended numbers steps (Some es)) h = (h.0, run_taken _ m args numbers.items steps h.1)
+prints (Run (By n) true) m args logged (done.Ended numbers steps None (Some es)) h = (h.0, run_taken _ m args numbers.items steps h.1)
 prints (Run (By n) true) m args logged _ h = absurd h
-prints Replay m args logged (done.Ended numbers steps None) h = (h.0, numbers.items, steps, h.1.0, h.1.1, h.1.2, refl, refl)
+prints Replay m args logged (done.Ended numbers steps None None) h = (h.0, numbers.items, steps, h.1.0, h.1.1, h.1.2, refl, refl)
 prints Replay m args logged _ h = absurd h
 prints (Draw picture) m args logged d h = absurd h
 prints (Where at) m args logged d h = absurd h
@@ -111,6 +122,8 @@ done_zero (Explain json) m args logged (done.Outcomes t whole log) one h = absur
 done_zero Listing m args logged (done.Outcomes t whole log) one h = absurd h
 done_zero (Run (In o) false) m args logged (done.Outcomes t whole log) one h = absurd h
 done_zero (Run (In o) true) m args logged (done.Outcomes t whole log) one h = absurd h
+done_zero (Run (Greedy p) false) m args logged (done.Outcomes t whole log) one h = absurd h
+done_zero (Run (Greedy p) true) m args logged (done.Outcomes t whole log) one h = absurd h
 done_zero (Run (By n) false) m args logged (done.Outcomes t whole log) one h = absurd h
 done_zero (Run (By n) true) m args logged (done.Outcomes t whole log) one h = absurd h
 done_zero Replay m args logged (done.Outcomes t whole log) one h = absurd h
@@ -127,6 +140,8 @@ done_zero (Explain json) m args logged (done.Held t found) one h = absurd h
 done_zero Listing m args logged (done.Held t found) one h = absurd h
 done_zero (Run (In o) false) m args logged (done.Held t found) one h = absurd h
 done_zero (Run (In o) true) m args logged (done.Held t found) one h = absurd h
+done_zero (Run (Greedy p) false) m args logged (done.Held t found) one h = absurd h
+done_zero (Run (Greedy p) true) m args logged (done.Held t found) one h = absurd h
 done_zero (Run (By n) false) m args logged (done.Held t found) one h = absurd h
 done_zero (Run (By n) true) m args logged (done.Held t found) one h = absurd h
 done_zero Replay m args logged (done.Held t found) one h = absurd h
@@ -145,6 +160,8 @@ done_zero (Explain json) m args logged (done.Told t whole) one h = absurd h
 done_zero Listing m args logged (done.Told t whole) one h = absurd h
 done_zero (Run (In o) false) m args logged (done.Told t whole) one h = absurd h
 done_zero (Run (In o) true) m args logged (done.Told t whole) one h = absurd h
+done_zero (Run (Greedy p) false) m args logged (done.Told t whole) one h = absurd h
+done_zero (Run (Greedy p) true) m args logged (done.Told t whole) one h = absurd h
 done_zero (Run (By n) false) m args logged (done.Told t whole) one h = absurd h
 done_zero (Run (By n) true) m args logged (done.Told t whole) one h = absurd h
 done_zero Replay m args logged (done.Told t whole) one h = absurd h
@@ -155,7 +172,7 @@ done_zero (Tally seed runs) m args logged (done.Told t whole) one h = absurd h
 done_zero (OutcomePage window limit pick) m args logged (done.Told t whole) one h = absurd h
 done_zero (Outcomes sets limit pick kept) m args logged (done.Told t whole) one h = absurd h.1
 done_zero (Expected sets limit) m args logged (done.Told t whole) one h = absurd h.1
-done_zero what m args logged (done.Ended numbers steps log) one h = refl
+done_zero what m args logged (done.Ended numbers steps rounds log) one h = refl
 
 -- what asks the verifier prints nothing of another module than one that is accepted
 prints_accepted : (what : Doing) (m : ModuleValue) (args : List ℤ) (logged out log : List ℕ) → asks_verifier what ≡ true
@@ -166,6 +183,8 @@ prints_accepted (Explain json) m args logged out log asks h = absurd h
 prints_accepted Listing m args logged out log asks h = absurd h
 prints_accepted (Run (In o) false) m args logged out log asks h = h.0
 prints_accepted (Run (In o) true) m args logged out log asks h = h.0
+prints_accepted (Run (Greedy p) false) m args logged out log asks h = h.0
+prints_accepted (Run (Greedy p) true) m args logged out log asks h = h.0
 prints_accepted (Run (By n) kept) m args logged out log asks h = h.0
 prints_accepted Replay m args logged out log asks h = h.0
 prints_accepted (Draw picture) m args logged out log asks h = absurd h
@@ -185,6 +204,8 @@ prints_taken (Explain json) m args logged out log run h = absurd h
 prints_taken Listing m args logged out log run h = absurd h
 prints_taken (Run (In o) false) m args logged out log run h = run_taken _ m args h.1 h.2 h.3
 prints_taken (Run (In o) true) m args logged out log run h = run_taken _ m args h.1 h.2 h.4
+prints_taken (Run (Greedy p) false) m args logged out log run h = run_taken _ m args h.1 h.2 h.4
+prints_taken (Run (Greedy p) true) m args logged out log run h = run_taken _ m args h.1 h.2 h.5
 prints_taken (Run (By n) kept) m args logged out log run h = h.1
 prints_taken Replay m args logged out log run h = run_taken _ m args h.1 h.2 h.5
 prints_taken (Draw picture) m args logged out log run h = absurd h
@@ -222,6 +243,12 @@ same_lines : (numbers others : List ℤ) (n k : ℕ) → numbers ≡ others → 
     → number_lines numbers ++ ended_line n ≡ number_lines others ++ ended_line k
 same_lines numbers others n k e d = ap (λ xs. number_lines xs ++ ended_line n) e ∙ ap (λ j. number_lines others ++ ended_line j) d
 
+-- those of one by rounds
+same_rounds : (numbers others : List ℤ) (n k rounds tally : ℕ) → numbers ≡ others → n ≡ k → rounds ≡ tally
+    → number_lines numbers ++ rounds_line n rounds ≡ number_lines others ++ rounds_line k tally
+same_rounds numbers others n k rounds tally e d f = ap (λ xs. number_lines xs ++ rounds_line n rounds) e
+    ∙ ap (λ j. number_lines others ++ rounds_line j rounds) d ∙ ap (λ j. number_lines others ++ rounds_line k j) f
+
 -- one thing is printed, and one log
 pub prints_once : (what : Doing) (m : ModuleValue) (args : List ℤ) (logged out log other kept : List ℕ) → ComesToOne what
     → Prints what m args logged out log
@@ -236,6 +263,12 @@ prints_once (Run (In o) false) m args logged out log other kept none p q =
 prints_once (Run (In o) true) m args logged out log other kept none p q =
     let same = logged_once o m args p.1 q.1 p.2 q.2 p.3 q.3 p.4 q.4 in
     (p.5 ∙ same_lines p.1 q.1 p.2 q.2 same.0 same.1 ∙ sym q.5, p.6 ∙ ap log_text same.2 ∙ sym q.6)
+prints_once (Run (Greedy p) false) m args logged out log other kept none g h =
+    let same = greedy_once p m args g.1 h.1 g.2 h.2 g.3 h.3 g.4 h.4 in
+    (g.5 ∙ same_rounds g.1 h.1 g.2 h.2 g.3 h.3 same.0 same.1 same.2 ∙ sym h.5, g.6 ∙ sym h.6)
+prints_once (Run (Greedy p) true) m args logged out log other kept none g h =
+    let same = greedy_logged_once p m args g.1 h.1 g.2 h.2 g.3 h.3 g.4 h.4 g.5 h.5 in
+    (g.6 ∙ same_rounds g.1 h.1 g.2 h.2 g.3 h.3 same.0 same.1 same.2 ∙ sym h.6, g.7 ∙ ap log_text same.3 ∙ sym h.7)
 prints_once (Run (By n) kept) m args logged out log other written none p q = absurd none
 prints_once Replay m args logged out log other kept none p q =
     let es = text_once logged p.3 q.3 p.4 q.4 in
@@ -387,7 +420,7 @@ text_told P (done.Compiled text) h = absurd h
 text_told P (done.Accepted steps activities clocks) h = absurd h
 text_told P (done.Outcomes text whole log) h = absurd h
 text_told P (done.Held text found) h = absurd h
-text_told P (done.Ended numbers steps log) h = absurd h
+text_told P (done.Ended numbers steps rounds log) h = absurd h
 
 -- what is told of the same bytes is one
 pub told_once : (t : Task) (bytes logged : List ℕ) (m : ModuleValue) (d e : Done) → HasOneStatus t.doing → Gives t.form bytes m
@@ -479,6 +512,7 @@ determined Check one = tt
 determined Compile one = tt
 determined Listing one = tt
 determined (Run (In o) kept) one = tt
+determined (Run (Greedy p) kept) one = tt
 determined (Run (By n) kept) one = absurd one
 determined Replay one = tt
 determined (Draw picture) one = tt

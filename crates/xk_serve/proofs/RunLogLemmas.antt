@@ -13,7 +13,7 @@ use Rattle.xk_replay.specs.Chart.{chart_text}
 use Rattle.xk_replay.proofs.RunLogLemmas.{run_is_log}
 use Rattle.xk_cli.specs.declared.job.Form.{Form}
 use Rattle.xk_cli.specs.declared.job.Form.TheVariants as form
-use Rattle.xk_cli.specs.CommandLine.{By, In, Way}
+use Rattle.xk_cli.specs.CommandLine.{By, Greedy, In, Way}
 use Rattle.xk_answers.specs.declared.job_result.Done.{Done}
 use Rattle.xk_answers.specs.declared.job_result.Done.TheVariants as done
 use Rattle.xk_program.specs.declared.fault.Fault.{Fault}
@@ -23,7 +23,7 @@ use Rattle.xk_answers.specs.Results.{ComesTo, IsLogText, IsTelling, IsText, Repl
 use Rattle.xk_answers.specs.Printed.{whole_status, done_log, done_text}
 use Rattle.xk_answers.specs.Explanation.{Tale}
 use Rattle.xk_program.specs.Lines.{status_of}
-use Rattle.xk_serve.specs.OneAnswer.{IsChartOf, IsCharted, MayChart, charting, done_with, replaying}
+use Rattle.xk_serve.specs.OneAnswer.{IsChartOf, IsCharted, MayChart, PrintsAgain, charting, done_with, replaying}
 use Rattle.xk_answers.specs.OrderedRun.{IsReplay, IsWholeRun}
 use Rattle.xk_replay.specs.Replay.{IsLegal}
 use Rattle.xk_program.specs.Programs.{Gives}
@@ -44,33 +44,45 @@ text_replays f bytes logged m args numbers steps es given accepted e r =
     (es, (run_is_log m (given_limits f bytes m given) accepted es r.last leads, e), r)
 
 -- a run was done, and what it wrote for a log has that run
-record IsWritten (t : Task) (bytes : List ℕ) (r : Reply) : Type 0 where
+record IsWritten (t : Task) (way : Way) (bytes : List ℕ) (r : Reply) : Type 0 where
   of : ModuleValue
   given : Gives t.form bytes of
   again : Done
   comes : ComesTo Replay of t.arguments r.log again
-  out : r.out ≡ done_text again
+  out : PrintsAgain way r.out (done_text again)
 
 written : (t : Task) (way : Way) (bytes logged : List ℕ) (r : Reply) (d : Done) (m : ModuleValue) → Gives t.form bytes m
-    → ComesTo (Run way true) m t.arguments logged d → r ≡ done_reply d → IsWritten t bytes r
-written t (In o) bytes logged r (done.Ended numbers steps (Some log)) m given h e = record {
+    → ComesTo (Run way true) m t.arguments logged d → r ≡ done_reply d → IsWritten t way bytes r
+written t (In o) bytes logged r (done.Ended numbers steps None (Some log)) m given h e = record {
   of = m;
   given = given;
-  again = done.Ended numbers steps None;
+  again = done.Ended numbers steps None None;
   comes = (
     h.0,
     text_replays t.form bytes r.log m t.arguments numbers.items steps log.items given h.0 (ap (λ (z : Reply). z.log) e)
         (run_weaker _ _ m t.arguments numbers.items steps (λ list f. f.stands_for) h.1),
   );
-  out = ap (λ (z : Reply). z.out) e;
+  out = sym (ap (λ (z : Reply). z.out) e);
 }
 written t (In o) bytes logged r _ m given h e = absurd h
-written t (By n) bytes logged r (done.Ended numbers steps (Some log)) m given h e = record {
+written t (Greedy p) bytes logged r (done.Ended numbers steps (Some rounds) (Some log)) m given h e = record {
   of = m;
   given = given;
-  again = done.Ended numbers steps None;
+  again = done.Ended numbers steps None None;
+  comes = (
+    h.0,
+    text_replays t.form bytes r.log m t.arguments numbers.items steps log.items given h.0 (ap (λ (z : Reply). z.log) e)
+        (run_weaker _ _ m t.arguments numbers.items steps (λ list f. f.stands_for) h.1),
+  );
+  out = (numbers.items, steps, rounds, ap (λ (z : Reply). z.out) e, refl);
+}
+written t (Greedy p) bytes logged r _ m given h e = absurd h
+written t (By n) bytes logged r (done.Ended numbers steps None (Some log)) m given h e = record {
+  of = m;
+  given = given;
+  again = done.Ended numbers steps None None;
   comes = (h.0, text_replays t.form bytes r.log m t.arguments numbers.items steps log.items given h.0 (ap (λ (z : Reply). z.log) e) h.1);
-  out = ap (λ (z : Reply). z.out) e;
+  out = sym (ap (λ (z : Reply). z.out) e);
 }
 written t (By n) bytes logged r _ m given h e = absurd h
 
@@ -104,7 +116,7 @@ ran t way bytes logged m d is (inr h) = absurd (untold d (subst (λ what. IsText
     untold (done.Told text whole) h = h
     untold _ h = h
 
-written_of : (t : Task) (way : Way) (bytes logged : List ℕ) (r : Reply) → t.doing ≡ Run way true → Answers t bytes logged r → r.status ≡ 0 → IsWritten t bytes r
+written_of : (t : Task) (way : Way) (bytes logged : List ℕ) (r : Reply) → t.doing ≡ Run way true → Answers t bytes logged r → r.status ≡ 0 → IsWritten t way bytes r
 written_of t way bytes logged r is (inl (d, s, e)) zero =
     written t way bytes logged r d s.of s.given (ran t way bytes logged s.of d is s.done) e
 written_of t way bytes logged r is (inr (f, h, e)) zero = absurd (never_done f (sym (ap (λ (z : Reply). z.status) e.2) ∙ zero))
@@ -134,20 +146,24 @@ charts t bytes logged m es given accepted log whole (done.Told found all) is =
 charts t bytes logged m es given accepted log whole _ is = absurd is
 
 module _ (t : Task) (way : Way) (bytes logged : List ℕ) (r : Reply) (is : t.doing ≡ Run way true) (answers : Answers t bytes logged r) (zero : r.status ≡ 0) where
-  -- `replay` may print the same
-  pub replayed : Answers (replaying t) bytes r.log (done_with r.out)
+  -- `replay` may print the same again
+  pub replayed : (again : List ℕ) × PrintsAgain way r.out again × Answers (replaying t) bytes r.log (done_with again)
   replayed =
       let w = written_of t way bytes logged r is answers zero in
-      let p = prints Replay w.of t.arguments r.log w.again w.comes in
-      inl (
-        w.again,
-        record { of = w.of; given = w.given; done = inl w.comes },
-        ap (λ o. done_with o) w.out ∙ ap (λ l. reply 0 (done_text w.again) [] l) (sym p.7)
-            ∙ ap (λ n. reply n (done_text w.again) [] (done_log w.again)) (sym (done_zero Replay w.of t.arguments r.log w.again tt w.comes)),
+      let p = prints Replay w.of t.arguments r.log w.again w.comes in (
+        done_text w.again,
+        w.out,
+        inl (
+          w.again,
+          record { of = w.of; given = w.given; done = inl w.comes },
+          ap (λ l. reply 0 (done_text w.again) [] l) (sym p.7)
+              ∙ ap (λ n. reply n (done_text w.again) [] (done_log w.again)) (sym (done_zero Replay w.of t.arguments r.log w.again tt w.comes)),
+        ),
       )
 
   -- and prints nothing else
-  pub replayed_alone : (s : Reply) → Answers (replaying t) bytes r.log s → s.status ≢ 4 → s ≡ done_with r.out
+  pub replayed_alone : (s : Reply) → Answers (replaying t) bytes r.log s → s.status ≢ 4
+      → (again : List ℕ) × PrintsAgain way r.out again × (s ≡ done_with again)
   replayed_alone s again not4 =
       let w = written_of t way bytes logged r is answers zero in
       let p = prints Replay w.of t.arguments r.log w.again w.comes in
@@ -155,7 +171,7 @@ module _ (t : Task) (way : Way) (bytes logged : List ℕ) (r : Reply) (is : t.do
       elim q.1 [
         | inl printed ↦
             let same = prints_once Replay w.of t.arguments r.log s.out s.log (done_text w.again) (done_log w.again) tt printed.1 p in
-            reply_is s r.out (printed.0 tt) (same.0 ∙ sym w.out) q.0 (same.1 ∙ p.7)
+            (done_text w.again, w.out, reply_is s (done_text w.again) (printed.0 tt) same.0 q.0 (same.1 ∙ p.7))
         | inr told ↦ absurd told.2
       ]
 

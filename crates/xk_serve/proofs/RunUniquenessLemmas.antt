@@ -1,5 +1,5 @@
 -- An order determines its run, and a log the run that it has.
-use Rattle.std.proofs.Common.{◌≡◌, ◌∙◌, ℕ, ℤ, ◌-◌, ◌<◌, List, [], ◌∷◌, ◌++◌, length, map, replicate, All, None, true, refl, sym, ap, subst}
+use Rattle.std.proofs.Common.{◌≡◌, ◌∙◌, ℕ, ℤ, ◌-◌, ◌<◌, List, [], ◌∷◌, ◌++◌, length, map, replicate, All, Option, None, true, refl, sym, ap, subst}
 use Rattle.std.specs.List.{AllByRecursion}
 use Rattle.std.proofs.lemmas.Bool.{true≢false}
 use Rattle.std.proofs.lemmas.List.Concat.{flat_map-cons}
@@ -21,7 +21,8 @@ use Rattle.xk_scheduler.proofs.EnabledSetLemmas.{going}
 use Rattle.xk_replay.proofs.VerdictLemmas.{leads_from}
 use Rattle.xk_cli.specs.declared.job.Order.{Order}
 use Rattle.xk_cli.specs.declared.job.Order.TheVariants as order
-use Rattle.xk_answers.specs.OrderedRun.{FollowsOrder, IsLoggedRun, IsOrderedRun}
+use Rattle.xk_answers.specs.OrderedRun.{FollowsOrder, IsGreedyRun, IsLoggedGreedyRun, IsLoggedRun, IsOrderedRun}
+use Rattle.xk_answers.proofs.OrderedRunLemmas.{follows_rounds_once}
 use Rattle.xk_replay.specs.Replay.{IsLegal}
 
 -- ---- whoever chooses
@@ -123,3 +124,24 @@ logged_once o m args numbers others n k es fs p q =
     let same = ordered_list _ _ o m args numbers others n k p q p.follows.follows q.follows.follows in
     let both = list_once _ _ m args numbers others n k p q same in
     (both.0, both.1, single_once es fs p.follows.single q.follows.single (sym p.follows.stands_for ∙ same ∙ q.follows.stands_for))
+
+-- ---- by rounds
+
+pub greedy_once : (p : Option ℕ) (m : ModuleValue) (args numbers others : List ℤ) (n k rounds tally : ℕ) → IsGreedyRun p m args numbers n rounds
+    → IsGreedyRun p m args others k tally → (numbers ≡ others) × (n ≡ k) × (rounds ≡ tally)
+greedy_once p m args numbers others n k rounds tally g h =
+    let same = follows_rounds_once p m args rounds tally g.list h.list g.follows h.follows in
+    let both = list_once _ _ m args numbers others n k g h same.0 in
+    (both.0, both.1, same.1)
+
+pub greedy_logged_once : (p : Option ℕ) (m : ModuleValue) (args numbers others : List ℤ) (n k rounds tally : ℕ) (es fs : List Entry)
+    → IsLoggedGreedyRun p m args numbers n rounds es → IsLoggedGreedyRun p m args others k tally fs
+    → (numbers ≡ others) × (n ≡ k) × (rounds ≡ tally) × (es ≡ fs)
+greedy_logged_once p m args numbers others n k rounds tally es fs g h =
+    let same = follows_rounds_once p m args rounds tally g.list h.list g.follows.follows h.follows.follows in
+    let both = list_once _ _ m args numbers others n k g h same.0 in (
+      both.0,
+      both.1,
+      same.1,
+      single_once es fs g.follows.single h.follows.single (sym g.follows.stands_for ∙ same.0 ∙ h.follows.stands_for),
+    )

@@ -17,7 +17,7 @@ use Rattle.xk_answers.specs.Results.{Doing, longest_list}
 use Rattle.xk_program.specs.Bytes.{LosesAtMost, kept}
 use Rattle.xk_program.specs.Lines.{device_line, fault_line, status_of}
 use Rattle.xk_answers.specs.Printed.{done_log, done_text}
-use Rattle.xk_serve.specs.Lines.{excluded_line, list_line, page_line, pick_line, runs_line, seed_line}
+use Rattle.xk_serve.specs.Lines.{excluded_line, list_line, page_line, pick_line, processors_line, runs_line, seed_line}
 use Rattle.xk_messages.specs.Lines.{memory_line}
 
 -- all that is printed of it went to standard output, and its log to the log's device
@@ -156,6 +156,7 @@ TellsWords (words.NotUnderstood text) On_out On_err = On_err (string_bytes text)
 TellsWords words.OrderAndWorkers On_out On_err = On_err excluded_line status_words
 TellsWords words.SeedAlone On_out On_err = On_err seed_line status_words
 TellsWords words.MisplacedRuns On_out On_err = On_err runs_line status_words
+TellsWords words.ProcessorsAlone On_out On_err = On_err processors_line status_words
 TellsWords words.MisplacedList On_out On_err = On_err list_line status_words
 TellsWords words.PickAlone On_out On_err = On_err pick_line status_words
 TellsWords words.UnclearPage On_out On_err = On_err page_line status_words

@@ -13,6 +13,10 @@ seed_line = codes "x10clock: --seed goes with --order random\n"
 abbrev pub runs_line : List ℕ
 runs_line = codes "x10clock: --runs goes with --order random, and not with --log\n"
 
+-- they have a number of processors, and no order by rounds
+abbrev pub processors_line : List ℕ
+processors_line = codes "x10clock: --processors goes with --order greedy\n"
+
 -- they have a list, and an outcome to pick, or a log
 abbrev pub list_line : List ℕ
 list_line = codes "x10clock: --expect goes without --log and --pick\n"

@@ -1,13 +1,14 @@
 -- When two answers to one job are the same. Which walk to a refusal of kinds is told is left open, and so is what `explain` writes to standard output of
 -- a refusal, which run workers take, and which fault is told of a source text that spells no tree, or has several recursive calls. This project's own.
-use Rattle.std.specs.Prelude.{◌≡◌, ℕ, ⊤, ◌⊎◌, true, List, [], length}
+use Rattle.std.specs.Prelude.{◌≡◌, ℕ, ℤ, ⊤, ◌⊎◌, true, List, [], ◌++◌, length}
 use Rattle.xk_types.specs.declared.world.Entry.{Entry}
 use Rattle.xk_types.specs.Code.{ModuleValue}
 use Rattle.xk_tree.specs.Tree.{TreeValue}
 use Rattle.xk_tree.specs.declared.fault.FrontFault.{FrontFault}
 use Rattle.xk_codegen.specs.Faults.{AreRecursive}
 use Rattle.xk_typestate.specs.declared.fault.KindFault.{KindFault}
-use Rattle.xk_cli.specs.CommandLine.{By}
+use Rattle.xk_cli.specs.CommandLine.{By, Greedy, In, Way}
+use Rattle.xk_io.specs.Lines.{number_lines}
 use Rattle.xk_cli.specs.Status.{status_done}
 use Rattle.xk_replay.specs.Chart.{chart_text}
 use Rattle.xk_answers.specs.declared.job_result.Done.{Done}
@@ -19,7 +20,7 @@ use Rattle.xk_bounds.specs.declared.refusal.Refusal.{Refusal}
 use Rattle.xk_bounds.specs.declared.refusal.Refusal.TheVariants as refusal
 use Rattle.xk_serve.specs.Answer.{Answers, IsSaidOf, Reply, Task, done_reply, fault_reply}
 use Rattle.xk_answers.specs.Results.{Check, Doing, Draw, Expected, Explain, IsLogText, OutcomePage, Outcomes, Replay, Run}
-use Rattle.xk_messages.specs.Lines.{kind_text, line}
+use Rattle.xk_messages.specs.Lines.{ended_line, kind_text, line, rounds_line}
 use Rattle.xk_program.specs.Programs.{Gives, IsSource, SpellsNone}
 
 -- one slot is refused at one place, where it is of one kind, by one rule, and neither fault has a longer walk there
@@ -128,6 +129,13 @@ abbrev pub MayCheck : Task → List ℕ → List ℕ → Reply → Type 0
 MayCheck t bytes logged r = (s : Reply) × Answers (checking t) bytes logged s × (s.status ≡ r.status) × (s.err ≡ r.err)
 
 -- ---- the log of a run
+
+-- What `replay` prints where a run in this way printed that: the same, but for the number of rounds.
+abbrev pub PrintsAgain : Way → List ℕ → List ℕ → Type 0
+PrintsAgain (Greedy p) out again = (numbers : List ℤ) × (steps : ℕ) × (rounds : ℕ) × (out ≡ number_lines numbers ++ rounds_line steps rounds)
+    × (again ≡ number_lines numbers ++ ended_line steps)
+PrintsAgain (In o) out again = again ≡ out
+PrintsAgain (By n) out again = again ≡ out
 
 -- the same job with the log of a run in place of the run
 abbrev pub replaying : Task → Task

@@ -19,7 +19,8 @@ use std::sync::Wait;
 use std::thread::Threads;
 use xk_answers::{Done, Refused, explained, unsaid};
 use xk_cli::{
-    EXCLUDED_LINE, Job, LIST_LINE, PAGE_LINE, PICK_LINE, RUNS_LINE, SEED_LINE, WordsFault, status,
+    EXCLUDED_LINE, Job, LIST_LINE, PAGE_LINE, PICK_LINE, PROCESSORS_LINE, RUNS_LINE, SEED_LINE,
+    WordsFault, status,
 };
 use xk_io::{Device, write_all};
 use xk_log::write_entries;
@@ -291,6 +292,7 @@ pub fn tell_words<O: Sink, E: Sink>(fault: &WordsFault, out: &mut O, err: &mut E
         WordsFault::OrderAndWorkers => tell(EXCLUDED_LINE, status::WORDS, err),
         WordsFault::SeedAlone => tell(SEED_LINE, status::WORDS, err),
         WordsFault::MisplacedRuns => tell(RUNS_LINE, status::WORDS, err),
+        WordsFault::ProcessorsAlone => tell(PROCESSORS_LINE, status::WORDS, err),
         WordsFault::MisplacedList => tell(LIST_LINE, status::WORDS, err),
         WordsFault::PickAlone => tell(PICK_LINE, status::WORDS, err),
         WordsFault::UnclearPage => tell(PAGE_LINE, status::WORDS, err),

@@ -5,7 +5,7 @@ ghost use Rattle.xk_answers.specs.declared.job_result.Done.{Done};
 ghost use Rattle.xk_serve.specs.Answer.{Answers, IsSaidOf, Reply, Task};
 ghost use Rattle.xk_answers.specs.Results.{ComesTo, Doing, Explain, IsTelling, IsText, Run};
 ghost use Rattle.xk_answers.specs.Printed.{done_log, done_text};
-ghost use Rattle.xk_serve.specs.OneAnswer.{ComesToOne, ExplainFaults, HasOneStatus, IsCharted, IsSameReply, MayChart, MayCheck, TellFaults, charting, done_with, replaying};
+ghost use Rattle.xk_serve.specs.OneAnswer.{ComesToOne, ExplainFaults, HasOneStatus, IsCharted, IsSameReply, MayChart, MayCheck, PrintsAgain, TellFaults, charting, done_with, replaying};
 ghost use Rattle.xk_program.specs.Programs.{Gives};
 ghost use Rattle.xk_program.specs.declared.fault.Fault.{Fault};
 ghost use Rattle.xk_types.specs.Code.{ModuleValue};
@@ -55,16 +55,17 @@ pub fn explanations()
 {}
 
 /// The log that `run` has written tells that run. Of the same FILE, the same arguments and that log `replay` may print what the run printed, with
-/// the same number of steps, and `chart` the chart of that run; and they answer nothing else, want of memory aside.
+/// the same number of steps, but for how many rounds there were, and `chart` the chart of that run; and they answer nothing else, want of memory aside.
 pub fn a_log_tells_its_run()
     ensures replayed { (t : Task) (way : Way) (bytes logged : List ℕ) (r : Reply)
         → t.doing ≡ Run way true → Answers t bytes logged r → r.status ≡ status_done
-        → Answers (replaying t) bytes r.log (done_with r.out) }
+        → (again : List ℕ) × PrintsAgain way r.out again
+        × Answers (replaying t) bytes r.log (done_with again) }
     ensures replayed_alone { (t : Task) (way : Way) (bytes logged : List ℕ) (r s : Reply)
         → t.doing ≡ Run way true
         → Answers t bytes logged r → r.status ≡ status_done
         → Answers (replaying t) bytes r.log s → s.status ≢ status_memory
-        → s ≡ done_with r.out }
+        → (again : List ℕ) × PrintsAgain way r.out again × (s ≡ done_with again) }
     ensures charted { (t : Task) (way : Way) (bytes logged : List ℕ) (r : Reply)
         → t.doing ≡ Run way true → Answers t bytes logged r → r.status ≡ status_done
         → MayChart t bytes r.log }

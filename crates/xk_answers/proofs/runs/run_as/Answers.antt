@@ -7,10 +7,10 @@ use Rattle.xk_answers.proofs.runs.run_as.Goals as goal
 pub returns-in-First : goal.returns-in-First
 returns-in-First g c =
     IfOk-weaker c.run_by.result _ _
-    (λ run h. rw (c.in-Order.is, c.in-First.is) (finished_without_state (λ enabled. 0) c.args.verified.now c.args.arguments.now _ c.args.keeps_log (option_map (λ es. es.items) run.log) run.printed.items run.steps h)) c.run_by.ensures
+    (λ run h. rw (c.in-Order.is, c.in-First.is) (finished_without_state (λ enabled. 0) c.args.verified.now c.args.arguments.now _ c.args.keeps_log run.rounds (option_map (λ es. es.items) run.log) run.printed.items run.steps h)) c.run_by.ensures
 
 pub returns-in-Last : goal.returns-in-Last
 returns-in-Last g c =
     IfOk-weaker c.run_by-in-Last.result _ _
     (λ run h. rw (c.in-Order.is, c.in-Last.is)
-    (finished_without_state (λ enabled. length enabled - 1) c.args.verified.now c.args.arguments.now _ c.args.keeps_log (option_map (λ es. es.items) run.log) run.printed.items run.steps h)) c.run_by-in-Last.ensures
+    (finished_without_state (λ enabled. length enabled - 1) c.args.verified.now c.args.arguments.now _ c.args.keeps_log run.rounds (option_map (λ es. es.items) run.log) run.printed.items run.steps h)) c.run_by-in-Last.ensures

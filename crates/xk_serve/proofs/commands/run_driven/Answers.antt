@@ -14,6 +14,6 @@ returns-clause-done g c = λ logged.
     let log = option_map (λ es. es.items) run.log in
     let accepted = c.in_ok-verified.ensures.accepted in
     let driven = ap way_value c.unwrap_or-drive.ensures ∙ way_taken c.args.drive in
-    let of_module = subst (λ m. IsFinished (way_value c.unwrap_or-drive.result) keeps m args run.printed.items run.steps log) accepted.0 c.in_ok-run.ensures in
-    rw c.of_run.ensures (finished_run (way_given c.args.drive) keeps c.args.m args logged run.printed run.steps run.log accepted.1
-    (subst (λ way. IsFinished way keeps c.args.m args run.printed.items run.steps log) driven of_module))
+    let of_module = subst (λ m. IsFinished (way_value c.unwrap_or-drive.result) keeps m args run.printed.items run.steps run.rounds log) accepted.0 c.in_ok-run.ensures in
+    rw c.of_run.ensures (finished_run (way_given c.args.drive) keeps c.args.m args logged run.printed run.steps run.rounds run.log accepted.1
+    (subst (λ way. IsFinished way keeps c.args.m args run.printed.items run.steps run.rounds log) driven of_module))
