@@ -63,7 +63,8 @@ def by_rounds(data: bytes, module: modules.Module, asked: pathlib.Path | None, f
     for processors in PROCESSORS:
         ran = modules.run(module, modules.Greedy(processors))
         if not is_greedy(ran, processors, of[-1]):
-            found.append(f"on {processors} processors {ran.steps} steps in {ran.rounds} rounds, and the span is {of[-1]}")
+            told = f"{ran.steps} steps in {ran.rounds} rounds, and the span is {of[-1]}"
+            found.append(f"on {processors} processors {told}")
         if asked:
             (folder / "text").write_bytes(data)
             answer = called(asked, "run", *ran_by(processors), folder / "text")

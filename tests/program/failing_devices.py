@@ -81,8 +81,8 @@ CALLS = [
     *(Call(f"{command} -", IN_STEP) for command in (
         "check", "explain", "explain --json", "compile", "listing", "run", "run --log LOG",
         "run --order last --log LOG", "run --workers 1 --log LOG",
-        "run --order greedy --log LOG", "run --order random --runs 4", "races", "outcomes", "outcomes --sets", "outcomes --log LOG",
-        "outcomes --pick 2 --log LOG")),
+        "run --order greedy --log LOG", "run --order random --runs 4",
+        "races", "outcomes", "outcomes --sets", "outcomes --log LOG", "outcomes --pick 2 --log LOG")),
     *(
         Call(f"{command} --module -", MODULE)
         for command in ("check", "explain", "listing", "run --log LOG", "outcomes --log LOG")
