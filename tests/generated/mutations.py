@@ -157,7 +157,7 @@ def row_texts(path: pathlib.Path) -> list[bytes]:
     rows = [
         line
         for line in path.read_text().split("\n")
-        if line and not re.match("#|(run|last|round|every|not run|compile): |args:", line)
+        if line and not re.match(r"#|(run|last|rounds?|on \d+|every|not run|compile): |args:", line)
     ]
     return [row_text(row) for row in rows[::2]]
 

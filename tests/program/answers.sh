@@ -8,7 +8,7 @@
 # output with status 0 where it begins with `accepted`, else on standard error with status 1, and then `x10clock run`
 # answers the same. Below an accepted module there may be lines of what a run prints, with a comma where a line ends:
 # `run: ` without an order and in the order `first`, `last: ` and `round: ` in these orders, and `every: ` in each of
-# them. A line `args: ` with numbers gives `--arg` for each of them to the calls below it, up to the next such line or
+# them; `rounds: ` by rounds (`--order greedy`), and `on 2: ` so on two processors. A line `args: ` with numbers gives `--arg` for each of them to the calls below it, up to the next such line or
 # the next row. `not run: ` has the line that `run`, `replay` and `chart` answer with status 1, whatever their log
 # holds. In the text, `\n`, `\t`, `\\` and `\0OOO` (a byte in octal) stand for themselves as with printf's %b, and `\c`
 # alone for an empty text. Lines that begin with `#`, and empty ones, are between rows.
@@ -115,6 +115,11 @@ asked() {
                 ;;
             'last: '*) prints "${text#last: }" --order last ;;
             'round: '*) prints "${text#round: }" --order round ;;
+            'rounds: '*) prints "${text#rounds: }" --order greedy ;;
+            'on '[0-9]*': '*)
+                processors=${text%%: *}
+                prints "${text#*: }" --order greedy --processors "${processors#on }"
+                ;;
             *)
                 IFS= read -r answer || fail "no answer"
                 line=$((line + 1))
