@@ -5,14 +5,13 @@ ghost use Rattle.xk_serve.specs.Answer.{doing_of};
 ghost use Rattle.xk_serve.specs.Devices.{IsQuiet, Tells};
 ghost use Rattle.xk_serve.specs.Notes.{may_note, note_of};
 
+use crate::devices::tell;
 use std::alloc::Global;
 use xk_answers::{Refused, unsaid};
 use xk_cli::{Command, status};
 use xk_io::write_all;
 use xk_program::Fault;
 use xk_types::Sink;
-
-use crate::devices::tell;
 
 /// The first line of a log.
 const FIRST_LINE: &[u8] = b"x10log 1\n";
