@@ -30,6 +30,7 @@ use Rattle.xk_answers.specs.declared.job_result.Done.{Done}
 use Rattle.xk_answers.specs.declared.job_result.Done.TheVariants as done
 use Rattle.xk_program.specs.declared.fault.Fault.{Fault}
 use Rattle.xk_program.specs.declared.fault.Fault.TheVariants as fault
+use Rattle.xk_serve.specs.Notes.{told_of}
 use Rattle.xk_serve.specs.Answer.{Answers, IsSaidBy, Reply, Task, asks_verifier, done_reply, fault_reply, reads_list, reads_log, runs}
 use Rattle.xk_answers.specs.Results.{Check, ComesTo, Compile, Doing, Draw, Expected, Explain, IsLogText, IsNoRun, IsTelling}
 use Rattle.xk_answers.specs.Results.{IsText, Listing, OutcomePage, Outcomes, Races, Replay, Run, Tally, Where, is_of_whole, list_in}
@@ -490,10 +491,11 @@ pub data Said (t : Task) (bytes : List ℕ) (m : ModuleValue) (logged : List ℕ
 -- the replies of two faults that have one line, but for a walk
 same_faults : (t : Task) (bytes : List ℕ) (r s : Reply) (f g : Fault) → IsReplyOf t bytes f r → IsReplyOf t bytes g s
     → status_of f ≡ status_of g
-    → IsSameLine (fault_line f) (fault_line g) → IsSameReply t.doing r s
+    → IsSameLine (told_of t.doing bytes f) (told_of t.doing bytes g) → IsSameReply t.doing r s
 same_faults t bytes r s f g e d same lines = record {
   status = λ one. ap (λ (z : Reply). z.status) e.2 ∙ same ∙ sym (ap (λ (z : Reply). z.status) d.2);
-  err = subst (λ (z : Reply). IsSameLine z.err s.err) (sym e.2) (subst (λ (z : Reply). IsSameLine (fault_line f) z.err) (sym d.2) lines);
+  err = subst (λ (z : Reply). IsSameLine z.err s.err) (sym e.2)
+      (subst (λ (z : Reply). IsSameLine (told_of t.doing bytes f) z.err) (sym d.2) lines);
   out = λ one. ap (λ (z : Reply). z.out) e.2
       ∙ (said_determined t.doing t.form t.file bytes e.0 f e.1 one ∙ sym (said_determined t.doing t.form t.file bytes d.0 g d.1 one))
       ∙ sym (ap (λ (z : Reply). z.out) d.2);
@@ -562,7 +564,7 @@ module _ (t : Task) (bytes : List ℕ) (m : ModuleValue) (logged : List ℕ) (r 
   same_said (NoRun f reads ok taken p n e) (Misfit wants has run fine q d) = absurd (q.misfit taken)
   same_said (NoRun f reads ok taken p n e) (NoRun g again fine fits q k d) =
       let same = no_run_once m t.arguments logged f g p.0 q.0 n k in
-      same_faults t bytes r s f g e d (ap status_of same) (inl (ap fault_line same))
+      same_faults t bytes r s f g e d (ap status_of same) (inl (ap (told_of t.doing bytes) same))
   same_said (NoRun f reads ok taken p n e) (Astray line lists fine fits q d) = absurd (list_or_log t.doing lists reads)
   same_said (NoRun f reads ok taken p n e) (Does zero quiet q) =
       let whole = prints_whole t.doing m t.arguments logged s.out s.log reads q in absurd (whole_not_refused m t.arguments logged f whole.0 p.0 n whole.1 whole.2)
@@ -613,8 +615,9 @@ pub data Case (t : Task) (bytes logged : List ℕ) (r : Reply) : Type 0 where
   Read : (m : ModuleValue) → Gives t.form bytes m → Said t bytes m logged r → Case t bytes logged r
 
 -- of a fault that is told where a module is given
-status_not : (r : Reply) (f : Fault) (said : List ℕ) → r ≡ fault_reply said f → r.status ≢ 4 → status_of f ≢ 4
-status_not r f said e not4 = λ is. not4 (ap (λ (z : Reply). z.status) e ∙ is)
+status_not : (t : Task) (bytes : List ℕ) (r : Reply) (f : Fault) (said : List ℕ) → r ≡ fault_reply t bytes said f → r.status ≢ 4
+    → status_of f ≢ 4
+status_not t bytes r f said e not4 = λ is. not4 (ap (λ (z : Reply). z.status) e ∙ is)
 
 pub no_source : (t : Task) → t.form ≡ form.Module → t.form ≡ form.Source → ⊥
 no_source t e d = let both : form.Module ≡ form.Source = sym e ∙ d in cc
@@ -633,22 +636,22 @@ case_of t bytes logged r not4 (inl (d, s, e)) = Read s.of s.given (done_said t b
 case_of t bytes logged r not4 (inr (fault.Text f, h, e)) = Unread f h.0 h.1 e
 case_of t bytes logged r not4 (inr (fault.Front f, h, e)) = Unfit f h.0 h.1 e
 case_of t bytes logged r not4 (inr (fault.Refused (refusal.Shape f), h, e)) =
-    Read h.1.0 h.1.1 (Refusing (refusal.Shape f) h.0 h.1.2 (status_not r (fault.Refused (refusal.Shape f)) e.0 e.2 not4) e)
+    Read h.1.0 h.1.1 (Refusing (refusal.Shape f) h.0 h.1.2 (status_not t bytes r (fault.Refused (refusal.Shape f)) e.0 e.2 not4) e)
 case_of t bytes logged r not4 (inr (fault.Refused (refusal.Kind f), h, e)) =
-    Read h.1.0 h.1.1 (Refusing (refusal.Kind f) h.0 h.1.2 (status_not r (fault.Refused (refusal.Kind f)) e.0 e.2 not4) e)
+    Read h.1.0 h.1.1 (Refusing (refusal.Kind f) h.0 h.1.2 (status_not t bytes r (fault.Refused (refusal.Kind f)) e.0 e.2 not4) e)
 case_of t bytes logged r not4 (inr (fault.Refused (refusal.Bound f), h, e)) =
-    Read h.1.0 h.1.1 (Refusing (refusal.Bound f) h.0 h.1.2 (status_not r (fault.Refused (refusal.Bound f)) e.0 e.2 not4) e)
+    Read h.1.0 h.1.1 (Refusing (refusal.Bound f) h.0 h.1.2 (status_not t bytes r (fault.Refused (refusal.Bound f)) e.0 e.2 not4) e)
 case_of t bytes logged r not4 (inr (fault.Refused refusal.OutOfMemory, h, e)) = absurd h
 case_of t bytes logged r not4 (inr (fault.Arguments wants has, h, e)) = Read h.1.0 h.1.1 (Misfit wants has h.0 h.1.2 h.1.3 e)
 case_of t bytes logged r not4 (inr (fault.Grammar line, h, e)) =
-    Read h.1.0 h.1.1 (NoRun (fault.Grammar line) h.0 h.1.2 h.1.3.0 (h.1.3.1, tt) (status_not r (fault.Grammar line) e.0 e.2 not4) e)
+    Read h.1.0 h.1.1 (NoRun (fault.Grammar line) h.0 h.1.2 h.1.3.0 (h.1.3.1, tt) (status_not t bytes r (fault.Grammar line) e.0 e.2 not4) e)
 case_of t bytes logged r not4 (inr (fault.Truncated, h, e)) =
-    Read h.1.0 h.1.1 (NoRun fault.Truncated h.0 h.1.2 h.1.3.0 (h.1.3.1, tt) (status_not r fault.Truncated e.0 e.2 not4) e)
+    Read h.1.0 h.1.1 (NoRun fault.Truncated h.0 h.1.2 h.1.3.0 (h.1.3.1, tt) (status_not t bytes r fault.Truncated e.0 e.2 not4) e)
 case_of t bytes logged r not4 (inr (fault.NotEnabled i, h, e)) =
-    Read h.1.1.0 h.1.1.1 (NoRun (fault.NotEnabled i) h.1.0 h.1.1.2 h.1.1.3.0 (h.1.1.3.1, h.0) (status_not r (fault.NotEnabled i) e.0 e.2
+    Read h.1.1.0 h.1.1.1 (NoRun (fault.NotEnabled i) h.1.0 h.1.1.2 h.1.1.3.0 (h.1.1.3.1, h.0) (status_not t bytes r (fault.NotEnabled i) e.0 e.2
     not4) e)
 case_of t bytes logged r not4 (inr (fault.NotEnded, h, e)) =
-    Read h.1.1.0 h.1.1.1 (NoRun fault.NotEnded h.1.0 h.1.1.2 h.1.1.3.0 (h.1.1.3.1, h.0) (status_not r fault.NotEnded e.0 e.2 not4) e)
+    Read h.1.1.0 h.1.1.1 (NoRun fault.NotEnded h.1.0 h.1.1.2 h.1.1.3.0 (h.1.1.3.1, h.0) (status_not t bytes r fault.NotEnded e.0 e.2 not4) e)
 case_of t bytes logged r not4 (inr (fault.NoOutcome line, h, e)) =
     Read h.1.0 h.1.1 (Astray line h.0 h.1.2 h.1.3.0 h.1.3.1 e)
 case_of t bytes logged r not4 (inr (fault.OutOfMemory, h, e)) = absurd (not4 (ap (λ (z : Reply). z.status) e.2))
@@ -731,8 +734,8 @@ one_answer t bytes logged r s of p q n k = same_case t bytes logged r s of (case
 same_unfit : (t : Task) (bytes : List ℕ) (r s : Reply) (f g : FrontFault) → IsReplyOf t bytes (fault.Front f) r
     → IsReplyOf t bytes (fault.Front g) s → (f ≡ g) ⊎ IsLeftOpen bytes f g → IsSameReply t.doing r s ⊎ TellFaults t bytes r s
 same_unfit t bytes r s f g e d (inl same) =
-    inl (same_faults t bytes r s (fault.Front f) (fault.Front g) e d (ap (λ k. status_of (fault.Front k)) same) (inl (ap (λ k. fault_line
-    (fault.Front k)) same)))
+    inl (same_faults t bytes r s (fault.Front f) (fault.Front g) e d (ap (λ k. status_of (fault.Front k)) same) (inl (ap (λ k. told_of
+    t.doing bytes (fault.Front k)) same)))
 same_unfit t bytes r s f g e d (inr left) = inr (record {
   here = f;
   there = g;

@@ -1,5 +1,5 @@
 -- What `explain` says is one, but of a fault of which it is left open whether it is told; and `check` may tell the same line.
-use Rattle.std.proofs.Common.{◌≡◌, ◌≢◌, ◌∙◌, ℕ, Bool, true, false, List, [], Option, Some, None, inl, inr, refl, sym, ap, subst}
+use Rattle.std.proofs.Common.{◌≡◌, ◌≢◌, ◌∙◌, ℕ, Bool, true, false, List, [], ◌++◌, Option, Some, None, inl, inr, refl, sym, ap, subst}
 use Rattle.std.specs.Prelude.{◌⊎◌}
 use Rattle.std.proofs.lemmas.Bool.{false≢true}
 use Rattle.xk_types.specs.Acceptance.{IsAccepted}
@@ -13,6 +13,7 @@ use Rattle.xk_bounds.specs.declared.refusal.Refusal.{Refusal}
 use Rattle.xk_bounds.specs.declared.refusal.Refusal.TheVariants as refusal
 use Rattle.xk_bounds.specs.Refusals.{Refuses}
 use Rattle.xk_messages.specs.Lines.{refusal_status}
+use Rattle.xk_program.specs.Lines.{fault_line}
 use Rattle.xk_cli.specs.declared.job.Form.{Form}
 use Rattle.xk_cli.specs.declared.job.Form.TheVariants as form
 use Rattle.xk_program.specs.Origins.{GiveProgram, HaveTree, Program}
@@ -25,6 +26,8 @@ use Rattle.xk_answers.specs.Explanation.{IsExplanation, Tale, fault_said, refusa
 use Rattle.xk_answers.specs.Printed.{done_status, done_text, whole_status}
 use Rattle.xk_answers.specs.Results.{Check, ComesTo, Compile, Doing, Draw, Expected, Explain, IsTelling}
 use Rattle.xk_answers.specs.Results.{IsText, Listing, OutcomePage, Outcomes, Races, Replay, Run, Tally, Where}
+use Rattle.xk_serve.specs.Notes.{may_note}
+use Rattle.xk_serve.proofs.NoteLemmas.{unnoted}
 use Rattle.xk_serve.specs.Answer.{Answers, FailsBy, IsSaidBy, IsSaidOf, Reply, Task, done_reply, fault_reply, reads_list, reads_log, runs}
 use Rattle.xk_serve.specs.OneAnswer.{AreWalks, ExplainFaults, HasOneStatus, IsLeftOpen, IsReplyOf, MayCheck, checking}
 use Rattle.xk_serve.proofs.AnswerUniquenessLemmas.{Case, Does, Misfit, NoRun, Astray, Prints, Read, Refusing, Said, Telling, Unfit, Unread, case_of, given_once, given_source, given_text, no_source, said_of, text_told, unread_none, unread_once}
@@ -211,8 +214,9 @@ checked t json bytes logged r is (inl (d, found, e)) =
       sym (ap (λ (z : Reply). z.err) e),
     )
 checked t json bytes logged r is (inr (f, h, told)) = (
-  fault_reply [] f,
+  fault_reply (checking t) bytes [] f,
   inr (f, fails_check t bytes logged f json is h, ([], refl, refl)),
   sym (ap (λ (z : Reply). z.status) told.2),
-  sym (ap (λ (z : Reply). z.err) told.2),
+  ap (λ before. before ++ fault_line f) (unnoted Check bytes f refl ∙ sym (unnoted t.doing bytes f (ap may_note is)))
+      ∙ sym (ap (λ (z : Reply). z.err) told.2),
 )

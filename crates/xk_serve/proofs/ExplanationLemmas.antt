@@ -1,9 +1,8 @@
 -- Of want of memory and of devices nothing is said on standard output.
-use Rattle.std.proofs.Common.{ℕ, Bool, List, Result, Ok, Err, IfErr, inl, inr}
+use Rattle.std.proofs.Common.{ℕ, Bool, List, inl, inr}
 use Rattle.xk_bounds.specs.declared.refusal.Refusal.TheVariants as refusal
 use Rattle.xk_cli.specs.declared.job.Form.{Form}
 use Rattle.xk_module.specs.declared.fault.ModuleFault.TheVariants as text
-use Rattle.xk_answers.specs.declared.explanation.Refused.{Refused}
 use Rattle.xk_program.specs.declared.fault.Fault.{Fault}
 use Rattle.xk_program.specs.declared.fault.Fault.TheVariants as fault
 use Rattle.xk_answers.specs.Results.{Check, Compile, Doing, Draw, Expected, Explain, Listing}
@@ -54,6 +53,5 @@ quiet_by (OutcomePage window limit pick) kind file bytes said f h = λ e. h
 quiet_by (Outcomes sets limit pick kept) kind file bytes said f h = λ e. h
 quiet_by (Expected sets limit) kind file bytes said f h = λ e. h
 
-pub quiet_of : {A : Type 0} (t : Task) (bytes : List ℕ) (r : Result A Refused) → IfErr r (λ x. IsSaidOf t bytes x.fault x.said.items) → IfErr r (λ x. IsQuiet x.fault x.said.items)
-quiet_of t bytes (Ok d) h = tt
-quiet_of t bytes (Err x) h = quiet_by t.doing t.form t.file bytes x.said.items x.fault h
+pub quiet_of : (t : Task) (bytes : List ℕ) (f : Fault) (said : List ℕ) → IsSaidOf t bytes f said → IsQuiet f said
+quiet_of t bytes f said h = quiet_by t.doing t.form t.file bytes said f h

@@ -4,6 +4,7 @@ pub mod AnswerUniquenessLemmas
 pub mod LogUniquenessLemmas
 pub mod RefusalUniquenessLemmas
 pub mod RunUniquenessLemmas
+pub mod NoteLemmas
 pub mod ReplyLemmas
 pub mod RunLogLemmas
 pub mod SomeBytesLemmas

@@ -1,5 +1,5 @@
 -- Of a text that is too long no more than one byte too many is kept: what stands against that stands against the whole text.
-use Rattle.std.proofs.Common.{◌≡◌, ◌+◌, ◌<◌, ◌≤◌, ℕ, Bool, true, false, if◌then◌else◌, List, [], length, take, min, Option, Some, None, Result, Ok, Err, IfErr, inl, inr, refl, sym, arith, ap, ◌∙◌, subst}
+use Rattle.std.proofs.Common.{◌≡◌, ◌+◌, ◌<◌, ◌≤◌, ℕ, Bool, true, false, if◌then◌else◌, List, [], length, take, min, Option, Some, None, inl, inr, refl, sym, arith, ap, ◌∙◌, subst}
 use Rattle.std.proofs.lemmas.Bool.{false≢true}
 use Rattle.std.proofs.lemmas.List.{length-take, take_all}
 use Rattle.std.specs.Prelude.{◌⊎◌, IfSome}
@@ -10,7 +10,6 @@ use Rattle.xk_cli.specs.declared.job.Form.TheVariants as form
 use Rattle.xk_bounds.specs.declared.refusal.Refusal.{Refusal}
 use Rattle.xk_bounds.specs.declared.refusal.Refusal.TheVariants as refusal
 use Rattle.xk_answers.specs.declared.job_result.Done.{Done}
-use Rattle.xk_answers.specs.declared.explanation.Refused.{Refused}
 use Rattle.xk_program.specs.declared.fault.Fault.{Fault}
 use Rattle.xk_program.specs.declared.fault.Fault.TheVariants as fault
 use Rattle.xk_module.specs.declared.fault.ModuleFault.{ModuleFault}
@@ -228,10 +227,3 @@ told_stands t known logged bytes n fault.NotEnded said s e h is = stands t known
 told_stands t known logged bytes n (fault.NoOutcome line) said s e h is = stands t known logged bytes n (fault.NoOutcome line) said s h.0 e h.1 is
 told_stands t known logged bytes n fault.OutOfMemory said s e h is = stands t known logged bytes n fault.OutOfMemory said s h.0 e h.1 is
 told_stands t known logged bytes n fault.Device said s e h is = (inr h, device_unsaid t.doing t.form t.file bytes said is)
-
--- what stands against the task on the bytes kept stands against it on those that are known, and what is said of it is the same
-pub kept_stands : {A : Type 0} (t : Task) (known logged : Option (List ℕ)) (bytes : List ℕ) (n : Reads) (r : Result A Refused) → n.program_new ≡ n.program_old
-    → IfSome known (λ k. bytes ≡ kept t.form k) → IfErr r (λ x. AgainstLog t bytes logged n.log_old n.log_new x.fault)
-    → IfErr r (λ x. IsSaidOf t bytes x.fault x.said.items) → IfErr r (λ x. StandsAgainst t known logged n x.fault x.said.items)
-kept_stands t known logged bytes n (Ok d) s e h is = tt
-kept_stands t known logged bytes n (Err x) s e h is = told_stands t known logged bytes n x.fault x.said.items s e h is

@@ -1,5 +1,5 @@
 -- From a fault and how it was told to the clauses of the whole program.
-use Rattle.std.proofs.Common.{◌≡◌, ◌≢◌, ◌⊎◌, ℕ, zero, suc, List, [], length, take, Option, Some, None, inl, inr, refl, sym, ap, subst, ◌∙◌}
+use Rattle.std.proofs.Common.{◌≡◌, ◌≢◌, ◌⊎◌, ℕ, zero, suc, List, [], ◌++◌, length, take, Option, Some, None, inl, inr, refl, sym, ap, subst, ◌∙◌}
 use Rattle.std.proofs.Math.Seq.{take-length}
 use Rattle.std.proofs.lemmas.List.{append-nil}
 use Rattle.std.specs.Prelude.{IfSome}
@@ -14,7 +14,8 @@ use Rattle.xk_answers.specs.Printed.{done_status}
 use Rattle.xk_io.specs.Writing.{AppendsBeginning}
 use Rattle.xk_program.specs.Lines.{device_line, fault_line, status_of}
 use Rattle.xk_messages.specs.Lines.{memory_line}
-use Rattle.xk_serve.specs.Devices.{Answered, ErrBegins, Explained, IfKnown, IsBegun, IsTold, IsWritten, OutBegins, Reads, Reports, StandsAgainst, StandsOn, Tells, read_of}
+use Rattle.xk_serve.specs.Notes.{note_of, told_of}
+use Rattle.xk_serve.specs.Devices.{Answered, ErrBegins, Explained, IfKnown, IsBegun, IsNoted, IsTold, IsWritten, OutBegins, Reads, Reports, StandsAgainst, StandsOn, Tells, read_of}
 
 -- nothing was written
 pub appends_none : (a : Option (List ℕ)) → Appends a a []
@@ -34,6 +35,12 @@ weaker (Some xs) P Q f h = f xs h
 pub of_known : (t : Task) (program known : Option (List ℕ)) (P : List ℕ → List ℕ → Type 0) → ((bytes logged : List ℕ) → P bytes logged) → IfKnown t program known P
 of_known t None known P h = tt
 of_known t (Some bytes) known P h = if_known (read_of t known) (P bytes) (λ logged e. h bytes logged)
+
+-- what holds for all bytes of FILE of which this does
+of_noted : (t : Task) (program known : Option (List ℕ)) (Q : List ℕ → Type 0) (P : List ℕ → List ℕ → Type 0)
+    → ((bytes logged : List ℕ) → Q bytes → P bytes logged) → IfSome program Q → IfKnown t program known P
+of_noted t None known Q P h q = tt
+of_noted t (Some bytes) known Q P h q = if_known (read_of t known) (P bytes) (λ logged e. h bytes logged q)
 
 -- a result that was written is an answer
 pub written_answer : (t : Task) (bytes logged : List ℕ) (d : Done) (out_old out_new err_old err_new log_old log_new : Option (List ℕ)) (result : ℕ)
@@ -55,6 +62,13 @@ pub known_weaker : (t : Task) (program known : Option (List ℕ)) (P Q : List �
     → ((bytes logged : List ℕ) → P bytes logged → Q bytes logged) → IfKnown t program known P → IfKnown t program known Q
 known_weaker t None known P Q f h = tt
 known_weaker t (Some bytes) known P Q f h = weaker (read_of t known) (P bytes) (Q bytes) (f bytes) h
+
+-- and from what holds of the bytes of FILE
+noted_weaker : (t : Task) (program known : Option (List ℕ)) (Q : List ℕ → Type 0) (P R : List ℕ → List ℕ → Type 0)
+    → ((bytes logged : List ℕ) → Q bytes → P bytes logged → R bytes logged) → IfSome program Q → IfKnown t program known P
+    → IfKnown t program known R
+noted_weaker t None known Q P R f q h = tt
+noted_weaker t (Some bytes) known Q P R f q h = weaker (read_of t known) (P bytes) (R bytes) (λ logged. f bytes logged q) h
 
 -- the same, whether the bytes are known or not
 pub written_answers : (t : Task) (program known : Option (List ℕ)) (d : Done) (out_old out_new err_old err_new log_old log_new : Option (List ℕ))
@@ -119,64 +133,77 @@ one_of t bytes logged n (fault.NoOutcome line) said h = inr h.1
 one_of t bytes logged n fault.OutOfMemory said h = inr h.1
 one_of t bytes logged n fault.Device said h = inl (refl, h.1)
 
-module _ (said : List ℕ) (f : Fault) (out_old out_new : Option (List ℕ)) (out_faults out_after : ℕ) (err_old err_new : Option (List ℕ)) (err_faults err_after result : ℕ) where
+module _ (said note : List ℕ) (f : Fault) (out_old out_new : Option (List ℕ)) (out_faults out_after : ℕ) (err_old err_new : Option (List ℕ)) (err_faults err_after result : ℕ) where
   -- a device's fault has the status of a device
-  device_told : f ≡ fault.Device → Explained said f out_old out_new out_faults out_after err_old err_new err_faults err_after result → result ≡ 5
+  device_told : f ≡ fault.Device → Explained said note f out_old out_new out_faults out_after err_old err_new err_faults err_after result → result ≡ 5
   device_told e (inl (out, same, inl p)) = p.0 ∙ ap status_of e
   device_told e (inl (out, same, inr p)) = p.0
   device_told e (inr (inl (out, same, device, told))) = absurd (device e)
   device_told e (inr (inr (out, rose, inl p))) = p.0
   device_told e (inr (inr (out, rose, inr p))) = p.0
 
+  -- what is told of it
+  told_is : (t : Task) (bytes : List ℕ) → note ≡ note_of t.doing bytes f → note ++ fault_line f ≡ told_of t.doing bytes f
+  told_is t bytes is = ap (λ before. before ++ fault_line f) is
+
   -- a fault that was told is an answer
-  explained_answer : (t : Task) (bytes logged : List ℕ) (log : Option (List ℕ)) → FailsBy t bytes logged f × IsSaidOf t bytes f said
-      → Explained said f out_old out_new out_faults out_after err_old err_new err_faults err_after result
+  explained_answer : (t : Task) (bytes logged : List ℕ) (log : Option (List ℕ)) → note ≡ note_of t.doing bytes f
+      → FailsBy t bytes logged f × IsSaidOf t bytes f said
+      → Explained said note f out_old out_new out_faults out_after err_old err_new err_faults err_after result
       → result ≢ 4 → result ≢ 5 → Answered t bytes logged result out_old out_new err_old err_new log log
-  explained_answer t bytes logged log h (inl (out, same, inl p)) not4 not5 = record {
-    reply = fault_reply said f;
+  explained_answer t bytes logged log is h (inl (out, same, inl p)) not4 not5 = record {
+    reply = fault_reply t bytes said f;
     answers = inr (f, h.0, (said, h.1, refl));
     status_is = p.0;
     out_is = out;
-    err_is = p.1;
+    err_is = subst (Appends err_old err_new) (told_is t bytes is) p.1;
     log_is = appends_none log;
   }
-  explained_answer t bytes logged log h (inl (out, same, inr p)) not4 not5 = absurd (not5 p.0)
-  explained_answer t bytes logged log h (inr (inl (out, same, device, inl p))) not4 not5 = absurd (not4 p.0)
-  explained_answer t bytes logged log h (inr (inl (out, same, device, inr p))) not4 not5 = absurd (not5 p.0)
-  explained_answer t bytes logged log h (inr (inr (out, rose, inl p))) not4 not5 = absurd (not5 p.0)
-  explained_answer t bytes logged log h (inr (inr (out, rose, inr p))) not4 not5 = absurd (not5 p.0)
+  explained_answer t bytes logged log is h (inl (out, same, inr p)) not4 not5 = absurd (not5 p.0)
+  explained_answer t bytes logged log is h (inr (inl (out, same, device, inl p))) not4 not5 = absurd (not4 p.0)
+  explained_answer t bytes logged log is h (inr (inl (out, same, device, inr p))) not4 not5 = absurd (not5 p.0)
+  explained_answer t bytes logged log is h (inr (inr (out, rose, inl p))) not4 not5 = absurd (not5 p.0)
+  explained_answer t bytes logged log is h (inr (inr (out, rose, inr p))) not4 not5 = absurd (not5 p.0)
 
   -- standard output got a beginning of what is said
-  explained_begins : Explained said f out_old out_new out_faults out_after err_old err_new err_faults err_after result → AppendsBeginning out_old out_new said
+  explained_begins : Explained said note f out_old out_new out_faults out_after err_old err_new err_faults err_after result → AppendsBeginning out_old out_new said
   explained_begins (inl (out, same, told)) = (length said, rw (take-length said) out)
   explained_begins (inr (inl (out, same, device, told))) = (0, out)
   explained_begins (inr (inr (out, rose, told))) = out
 
-  -- standard error got a beginning of a line
-  explained_line : (t : Task) (bytes logged : List ℕ) → IsTold t bytes logged f
-      → Explained said f out_old out_new out_faults out_after err_old err_new err_faults err_after result → ErrBegins t bytes logged err_old err_new
-  explained_line t bytes logged told (inl (out, same, p)) = (f, told, tells_begins (fault_line f) _ err_old err_new _ _ _ p)
-  explained_line t bytes logged told (inr (inl (out, same, device, p))) = (fault.OutOfMemory, inr tt, tells_begins memory_line _ err_old err_new _ _ _ p)
-  explained_line t bytes logged told (inr (inr (out, rose, p))) = (fault.Device, inl refl, tells_begins device_line _ err_old err_new _ _ _ p)
+  -- standard error got a beginning of a line, and of what stands before it
+  explained_line : (t : Task) (bytes logged : List ℕ) → note ≡ note_of t.doing bytes f → IsTold t bytes logged f
+      → Explained said note f out_old out_new out_faults out_after err_old err_new err_faults err_after result → ErrBegins t bytes logged err_old err_new
+  explained_line t bytes logged is told (inl (out, same, p)) = (
+    f,
+    told,
+    subst (AppendsBeginning err_old err_new) (told_is t bytes is) (tells_begins (note ++ fault_line f) _ err_old err_new _ _ _ p),
+  )
+  explained_line t bytes logged is told (inr (inl (out, same, device, p))) = (fault.OutOfMemory, inr tt, tells_begins memory_line _ err_old err_new _ _ _ p)
+  explained_line t bytes logged is told (inr (inr (out, rose, p))) = (fault.Device, inl refl, tells_begins device_line _ err_old err_new _ _ _ p)
 
-  module _ (t : Task) (bytes : List ℕ) (logged : Option (List ℕ)) (n : Reads) (stands : StandsOn t bytes logged n f said)
-      (explained : Explained said f out_old out_new out_faults out_after err_old err_new err_faults err_after result) (log : Option (List ℕ)) where
+  module _ (t : Task) (bytes : List ℕ) (logged : Option (List ℕ)) (n : Reads) (stands : StandsOn t bytes logged n f said) (noted : note ≡ note_of t.doing bytes f)
+      (explained : Explained said note f out_old out_new out_faults out_after err_old err_new err_faults err_after result) (log : Option (List ℕ)) where
     -- the answer on these bytes of FILE
     pub some_answers : result ≢ 4 → result ≢ 5 → OfSome (read_of t logged) (λ one. Answered t bytes one result out_old out_new err_old err_new log log)
     some_answers not4 not5 = elim (one_of t bytes logged n f said stands) [
       | inl d ↦ absurd (not5 (device_told d.0 explained))
       | inr k ↦ some_each (λ one. FailsBy t bytes one f × IsSaidOf t bytes f said) (λ one. Answered t bytes one result out_old out_new err_old err_new log log)
-          (read_of t logged) (λ one h. explained_answer t bytes one log h explained not4 not5) k
+          (read_of t logged) (λ one h. explained_answer t bytes one log noted h explained not4 not5) k
     ]
 
-  module _ (t : Task) (program known : Option (List ℕ)) (n : Reads) (stands : StandsAgainst t program known n f said)
-      (explained : Explained said f out_old out_new out_faults out_after err_old err_new err_faults err_after result) (log : Option (List ℕ)) where
+  module _ (t : Task) (program known : Option (List ℕ)) (n : Reads) (stands : StandsAgainst t program known n f said) (noted : IsNoted t program f note)
+      (explained : Explained said note f out_old out_new out_faults out_after err_old err_new err_faults err_after result) (log : Option (List ℕ)) where
+    -- what stands before the line
+    is_noted : List ℕ → Type 0
+    is_noted bytes = note ≡ note_of t.doing bytes f
+
     -- the answer, whether the bytes are known or not
     pub told_answers : IfKnown t program known (λ bytes logged. result ≢ 4 → result ≢ 5 → Answered t bytes logged result out_old out_new err_old err_new log log)
     told_answers = elim (either t program known n f said stands) [
       | inl d ↦ of_known t program known (λ bytes logged. result ≢ 4 → result ≢ 5 → Answered t bytes logged result out_old out_new err_old err_new log log)
           (λ bytes logged not4 not5. absurd (not5 (device_told d.0 explained)))
-      | inr k ↦ known_weaker t program known _ _ (λ bytes logged h not4 not5. explained_answer t bytes logged log h explained not4 not5) k
+      | inr k ↦ noted_weaker t program known is_noted _ _ (λ bytes logged is h not4 not5. explained_answer t bytes logged log is h explained not4 not5) noted k
     ]
 
     -- standard output, and the log
@@ -191,8 +218,9 @@ module _ (said : List ℕ) (f : Fault) (out_old out_new : Option (List ℕ)) (ou
     -- standard error
     pub line_begins : IfKnown t program known (λ bytes logged. ErrBegins t bytes logged err_old err_new)
     line_begins = elim (either t program known n f said stands) [
-      | inl d ↦ of_known t program known (λ bytes logged. ErrBegins t bytes logged err_old err_new) (λ bytes logged. explained_line t bytes logged (inl d.0) explained)
-      | inr k ↦ known_weaker t program known _ _ (λ bytes logged h. explained_line t bytes logged (inr h.0) explained) k
+      | inl d ↦ of_noted t program known is_noted (λ bytes logged. ErrBegins t bytes logged err_old err_new)
+          (λ bytes logged is. explained_line t bytes logged is (inl d.0) explained) noted
+      | inr k ↦ noted_weaker t program known is_noted _ _ (λ bytes logged is h. explained_line t bytes logged is (inr h.0) explained) noted k
     ]
 
 -- a device's fault was told

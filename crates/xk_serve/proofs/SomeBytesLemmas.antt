@@ -4,7 +4,6 @@ use Rattle.std.specs.Prelude.{IfErr, IfOk}
 use Rattle.xk_log.specs.SomeBytes.{OfSome}
 use Rattle.std.specs.Io.KnownBytes.{Appends}
 use Rattle.xk_cli.specs.declared.job.Form.{Form}
-use Rattle.xk_answers.specs.declared.explanation.Refused.{Refused}
 use Rattle.xk_answers.specs.declared.job_result.Done.{Done}
 use Rattle.xk_answers.specs.Printed.{done_status}
 use Rattle.xk_answers.specs.Results.{Check, Compile, Doing, Draw, Expected, Explain, Listing}
@@ -13,6 +12,8 @@ use Rattle.xk_answers.proofs.LogLemmas.{some_any, some_each}
 use Rattle.xk_program.specs.Bytes.{FailsRead, kept}
 use Rattle.xk_program.specs.declared.fault.Fault.{Fault}
 use Rattle.xk_program.specs.declared.fault.Fault.TheVariants as fault
+use Rattle.xk_serve.specs.declared.refusal.Refusal.{Refusal}
+use Rattle.xk_serve.specs.Notes.{note_of}
 use Rattle.xk_serve.specs.Answer.{FailsBy, IsSaidBy, IsSaidOf, Succeeds, Task}
 use Rattle.xk_serve.specs.Devices.{AgainstLog, Answered, AnsweredBySome, AreKeptOf, Explained, IsOutcomeOfSome, IsRead, IsWritten, Reads, StandsOn, read_of}
 use Rattle.xk_serve.proofs.LongTextLemmas.{device_unsaid}
@@ -93,18 +94,10 @@ read_stands t bytes logged n (fault.NoOutcome line) said s h is = stands_on t by
 read_stands t bytes logged n fault.OutOfMemory said s h is = stands_on t bytes logged n fault.OutOfMemory said s h.0 h.1 is
 read_stands t bytes logged n fault.Device said s h is = (inr h, device_unsaid t.doing t.form t.file bytes said is)
 
--- the same of a result
-pub result_stands : (t : Task) (bytes : List ℕ) (logged : Option (List ℕ)) (n : Reads) (r : Result Done Refused)
-    → n.program_new ≡ n.program_old
-    → IfErr r (λ x. AgainstLog t bytes logged n.log_old n.log_new x.fault) → IfErr r (λ x. IsSaidOf t bytes x.fault x.said.items)
-    → IfErr r (λ x. StandsOn t bytes logged n x.fault x.said.items)
-result_stands t bytes logged n (Ok d) s h is = tt
-result_stands t bytes logged n (Err x) s h is = read_stands t bytes logged n x.fault x.said.items s h is
-
 -- ---- what is answered
 
 -- a result that was written
-pub written_by_some : (t : Task) (program logged : Option (List ℕ)) (n : Reads) (r : Result Done Refused)
+pub written_by_some : (t : Task) (program logged : Option (List ℕ)) (n : Reads) (r : Result Done Refusal)
     (out_old out_new err_old err_new log_old log_new : Option (List ℕ)) (result : ℕ) (d : Done) (Failing : Type 0) → r ≡ Ok d
     → IsOutcomeOfSome t program logged n r
     → ((result ≡ done_status d) × IsWritten d out_old out_new log_old log_new × Appends err_old err_new []) ⊎ ((result ≡ 5) × Failing)
@@ -122,19 +115,21 @@ written_by_some t program logged n r out_old out_new err_old err_new log_old log
     }
 
 -- a fault that was told
-pub told_by_some : (t : Task) (program logged : Option (List ℕ)) (n : Reads) (r : Result Done Refused) (x : Refused) (out_old out_new :
+pub told_by_some : (t : Task) (program logged : Option (List ℕ)) (n : Reads) (r : Result Done Refusal) (x : Refusal) (out_old out_new :
     Option (List ℕ))
     (out_faults out_after : ℕ) (err_old err_new : Option (List ℕ)) (err_faults err_after result : ℕ) (log : Option (List ℕ)) → r ≡ Err x
     → IsOutcomeOfSome t program logged n r
-    → Explained x.said.items x.fault out_old out_new out_faults out_after err_old err_new err_faults err_after result
+    → Explained x.refused.said.items x.note.now x.refused.fault out_old out_new out_faults out_after err_old err_new err_faults err_after result
     → result ≢ 4 → result ≢ 5 → AnsweredBySome t program logged result out_old out_new err_old err_new log log
 told_by_some t program logged n r x out_old out_new out_faults out_after err_old err_new err_faults err_after result log e o told memory
     device =
-    let stands : StandsOn t o.bytes logged n x.fault x.said.items =
-    subst (λ z. IfErr z (λ y. StandsOn t o.bytes logged n y.fault y.said.items)) e o.against in
+    let stands : StandsOn t o.bytes logged n x.refused.fault x.refused.said.items =
+    subst (λ z. IfErr z (λ y. StandsOn t o.bytes logged n y.refused.fault y.refused.said.items)) e o.against in
+    let noted : x.note.now ≡ note_of t.doing o.bytes x.refused.fault =
+    subst (λ z. IfErr z (λ y. y.note.now ≡ note_of t.doing o.bytes y.refused.fault)) e o.noted in
     record {
       bytes = o.bytes;
       are = o.are;
-      answered = some_answers x.said.items x.fault out_old out_new out_faults out_after err_old err_new err_faults err_after result t o.bytes logged
-          n stands told log memory device;
+      answered = some_answers x.refused.said.items x.note.now x.refused.fault out_old out_new out_faults out_after err_old err_new err_faults
+          err_after result t o.bytes logged n stands noted told log memory device;
     }

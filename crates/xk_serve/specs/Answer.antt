@@ -16,7 +16,8 @@ use Rattle.xk_program.specs.declared.fault.Fault.{Fault}
 use Rattle.xk_program.specs.declared.fault.Fault.TheVariants as fault
 use Rattle.xk_outcomes.specs.Expected.{stray_line}
 use Rattle.xk_answers.specs.Printed.{done_log, done_text, done_status}
-use Rattle.xk_program.specs.Lines.{fault_line, status_of}
+use Rattle.xk_program.specs.Lines.{status_of}
+use Rattle.xk_serve.specs.Notes.{told_of}
 use Rattle.xk_program.specs.Programs.{Gives, IsNoModule, IsNoSource}
 use Rattle.xk_answers.specs.Explanation.{IsExplanation}
 use Rattle.xk_answers.specs.Results.{Doing, way_given, window_given, lanes_given, list_in, ComesTo, IsTelling, IsText, IsNoRun, is_of_whole, Check, Explain, Compile, Listing, Run, Replay, Draw, Where, Races, Tally, Outcomes, Expected}
@@ -155,10 +156,11 @@ pub record Reply : Type 0 where
 abbrev pub done_reply : Done → Reply
 done_reply d = record { status = done_status d; out = done_text d; err = []; log = done_log d }
 
-abbrev pub fault_reply : List ℕ → Fault → Reply
-fault_reply said f = record { status = status_of f; out = said; err = fault_line f; log = [] }
+-- of a fault of which this is said on standard output, of a task on these bytes
+abbrev pub fault_reply : Task → List ℕ → List ℕ → Fault → Reply
+fault_reply t bytes said f = record { status = status_of f; out = said; err = told_of t.doing bytes f; log = [] }
 
 -- the program may answer so
 abbrev pub Answers : Task → List ℕ → List ℕ → Reply → Type 0
 Answers t bytes logged r =
-    ((d : Done) × Succeeds t bytes logged d × (r ≡ done_reply d)) ⊎ ((f : Fault) × FailsBy t bytes logged f × ((said : List ℕ) × IsSaidOf t bytes f said × (r ≡ fault_reply said f)))
+    ((d : Done) × Succeeds t bytes logged d × (r ≡ done_reply d)) ⊎ ((f : Fault) × FailsBy t bytes logged f × ((said : List ℕ) × IsSaidOf t bytes f said × (r ≡ fault_reply t bytes said f)))

@@ -1,5 +1,5 @@
 -- What the program does with its devices. This project's own.
-use Rattle.std.specs.Prelude.{◌≡◌, ◌≢◌, ℕ, ◌⊎◌, true, List, [], Option, Some, Result, IfErr, IfOk, IfSome, string_bytes, if◌then◌else◌}
+use Rattle.std.specs.Prelude.{◌≡◌, ◌≢◌, ℕ, ◌⊎◌, true, List, [], ◌++◌, Option, Some, Result, IfErr, IfOk, IfSome, string_bytes, if◌then◌else◌}
 use Rattle.std.specs.Io.KnownBytes.{Appends}
 use Rattle.xk_types.specs.Device.{Rose}
 use Rattle.xk_log.specs.SomeBytes.{OfSome}
@@ -7,11 +7,12 @@ use Rattle.xk_cli.specs.Status.{status_device, status_done, status_memory, statu
 use Rattle.xk_cli.specs.declared.words_fault.WordsFault.{WordsFault}
 use Rattle.xk_cli.specs.declared.words_fault.WordsFault.TheVariants as words
 use Rattle.xk_cli.specs.declared.job.Form.{Form}
-use Rattle.xk_answers.specs.declared.explanation.Refused.{Refused}
 use Rattle.xk_answers.specs.declared.job_result.Done.{Done}
 use Rattle.xk_program.specs.declared.fault.Fault.{Fault}
 use Rattle.xk_program.specs.declared.fault.Fault.TheVariants as fault
 use Rattle.xk_io.specs.Writing.{AppendsBeginning}
+use Rattle.xk_serve.specs.declared.refusal.Refusal.{Refusal}
+use Rattle.xk_serve.specs.Notes.{note_of, told_of}
 use Rattle.xk_serve.specs.Answer.{Answers, FailsBy, Reply, Succeeds, Task, IsSaidOf, reads_list, reads_more}
 use Rattle.xk_answers.specs.Results.{Doing, longest_list}
 use Rattle.xk_program.specs.Bytes.{LosesAtMost, kept}
@@ -75,13 +76,18 @@ StandsOn t bytes logged n f said = IsRead n × OfSome (read_of t logged) (λ log
 abbrev pub AreKeptOf : Form → Option (List ℕ) → List ℕ → Type 0
 AreKeptOf form program bytes = IfSome program (λ all. bytes ≡ kept form all)
 
+-- Where the bytes of FILE are known, this stands before the line of a fault.
+abbrev pub IsNoted : Task → Option (List ℕ) → Fault → List ℕ → Type 0
+IsNoted t program f note = IfSome program (λ bytes. note ≡ note_of t.doing bytes f)
+
 -- On some bytes of FILE, and of the log or the list that is read, each known or not, the task comes to what it is said to come to, or what is said
--- to stand against it does.
-pub record IsOutcomeOfSome (t : Task) (program logged : Option (List ℕ)) (n : Reads) (r : Result Done Refused) : Type 0 where
+-- to stand against it does, and what stands before its line is that of these bytes.
+pub record IsOutcomeOfSome (t : Task) (program logged : Option (List ℕ)) (n : Reads) (r : Result Done Refusal) : Type 0 where
   pub bytes : List ℕ
   pub are : AreKeptOf t.form program bytes
   pub done : IfOk r (λ d. OfSome (read_of t logged) (λ log. Succeeds t bytes log d))
-  pub against : IfErr r (λ x. StandsOn t bytes logged n x.fault x.said.items)
+  pub against : IfErr r (λ x. StandsOn t bytes logged n x.refused.fault x.refused.said.items)
+  pub noted : IfErr r (λ x. x.note.now ≡ note_of t.doing bytes x.refused.fault)
 
 -- What stands against a task on these bytes, of which the log may still have been read: the numbers are the failures of the log's source.
 abbrev pub AgainstLog : Task → List ℕ → Option (List ℕ) → ℕ → ℕ → Fault → Type 0
@@ -101,15 +107,15 @@ Reports f old new faults_old faults_new result =
     Tells (fault_line f) (status_of f) old new faults_old faults_new result
     ⊎ ((f ≢ fault.Device) × Tells memory_line status_memory old new faults_old faults_new result)
 
--- All that is said of a fault was written to standard output, and then its line was told; or want of memory was, and nothing was written before;
--- or a write failed: to standard output, which got a beginning, and then a device is told, or to standard error.
-abbrev pub Explained : List ℕ → Fault → Option (List ℕ) → Option (List ℕ) → ℕ → ℕ → Option (List ℕ) → Option (List ℕ) → ℕ → ℕ → ℕ → Type 0
-Explained said f out_old out_new out_faults out_after err_old err_new err_faults err_after result =
-    (Appends out_old out_new said × (out_after ≡ out_faults) × Tells (fault_line f) (status_of f) err_old err_new err_faults err_after result)
+-- All that is said of a fault was written to standard output, and then what stands before its line, and the line, were told; or want of memory was,
+-- and nothing was written before; or a write failed: to standard output, which got a beginning, and then a device is told, or to standard error.
+abbrev pub Explained : List ℕ → List ℕ → Fault → Option (List ℕ) → Option (List ℕ) → ℕ → ℕ → Option (List ℕ) → Option (List ℕ) → ℕ → ℕ → ℕ → Type 0
+Explained said note f out_old out_new out_faults out_after err_old err_new err_faults err_after result =
+    (Appends out_old out_new said × (out_after ≡ out_faults) × Tells (note ++ fault_line f) (status_of f) err_old err_new err_faults err_after result)
     ⊎ ((Appends out_old out_new [] × (out_after ≡ out_faults) × (f ≢ fault.Device) × Tells memory_line status_memory err_old err_new err_faults err_after result)
     ⊎ (AppendsBeginning out_old out_new said × Rose out_faults out_after × Tells device_line status_device err_old err_new err_faults err_after result))
 
--- where a fault is want of memory or a device's, nothing is said
+-- where a fault is want of memory or a device's, nothing is said beside its line
 abbrev pub IsQuiet : Fault → List ℕ → Type 0
 IsQuiet f said = (status_of f ≡ status_memory) ⊎ (status_of f ≡ status_device) → said ≡ []
 
@@ -144,9 +150,9 @@ OutBegins t bytes logged out_old out_new log_old log_new = (Appends out_old out_
 abbrev pub IsTold : Task → List ℕ → List ℕ → Fault → Type 0
 IsTold t bytes logged f = (f ≡ fault.Device) ⊎ FailsBy t bytes logged f
 
--- standard error got a beginning of one such line
+-- standard error got a beginning of one such line, and of what stands before it
 abbrev pub ErrBegins : Task → List ℕ → List ℕ → Option (List ℕ) → Option (List ℕ) → Type 0
-ErrBegins t bytes logged old new = (f : Fault) × IsTold t bytes logged f × AppendsBeginning old new (fault_line f)
+ErrBegins t bytes logged old new = (f : Fault) × IsTold t bytes logged f × AppendsBeginning old new (told_of t.doing bytes f)
 
 -- How words that are no job are told, where the first predicate says what standard output got and with which status,
 -- and the second one the same of standard error: help goes to the one, all else to the other.

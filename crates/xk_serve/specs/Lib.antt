@@ -1,4 +1,5 @@
 pub mod Lines
+pub mod Notes
 pub mod Answer
 pub mod Devices
 pub mod OneAnswer

@@ -84,7 +84,7 @@ pub record IsSameReply (what : Doing) (r s : Reply) : Type 0 where
 
 -- the reply tells this fault, and what is said of it
 abbrev pub IsReplyOf : Task → List ℕ → Fault → Reply → Type 0
-IsReplyOf t bytes f r = (said : List ℕ) × IsSaidOf t bytes f said × (r ≡ fault_reply said f)
+IsReplyOf t bytes f r = (said : List ℕ) × IsSaidOf t bytes f said × (r ≡ fault_reply t bytes said f)
 
 -- ---- source texts
 
@@ -101,8 +101,8 @@ pub record TellFaults (t : Task) (bytes : List ℕ) (r s : Reply) : Type 0 where
   pub said_there : List ℕ
   pub of_here : IsSaidOf t bytes (fault.Front here) said_here
   pub of_there : IsSaidOf t bytes (fault.Front there) said_there
-  pub told_here : r ≡ fault_reply said_here (fault.Front here)
-  pub told_there : s ≡ fault_reply said_there (fault.Front there)
+  pub told_here : r ≡ fault_reply t bytes said_here (fault.Front here)
+  pub told_there : s ≡ fault_reply t bytes said_there (fault.Front there)
 
 -- ---- what is explained
 

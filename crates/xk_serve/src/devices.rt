@@ -1,19 +1,21 @@
 //! The program between its devices.
 
-ghost use Rattle.std.specs.Prelude.{◌≡◌, ◌≢◌, ◌⊎◌, false, [], IfOk, IfErr, OnOk, OnErr};
+ghost use Rattle.std.specs.Prelude.{◌≡◌, ◌≢◌, ◌⊎◌, ◌++◌, false, [], IfOk, IfErr, OnOk, OnErr};
 ghost use Rattle.std.specs.Io.KnownBytes.{Appends};
 ghost use Rattle.xk_types.specs.Device.{Rose};
 ghost use Rattle.xk_io.specs.Writing.{AppendsBeginning};
 ghost use Rattle.xk_cli.specs.Status.{status_device, status_done, status_memory, status_partial, status_program, status_refuted};
-ghost use Rattle.xk_serve.specs.Answer.{Succeeds, reads_more, task_of};
+ghost use Rattle.xk_log.specs.SomeBytes.{OfSome};
+ghost use Rattle.xk_serve.specs.Answer.{IsSaidOf, Succeeds, reads_more, task_of};
 ghost use Rattle.xk_answers.specs.Printed.{done_status};
 ghost use Rattle.xk_program.specs.Bytes.{IsReadToLimit};
-ghost use Rattle.xk_program.specs.Lines.{device_line, status_of};
+ghost use Rattle.xk_program.specs.Lines.{device_line, fault_line, status_of};
 ghost use Rattle.xk_answers.specs.Printed.{done_ending, done_log};
 ghost use Rattle.xk_messages.specs.Lines.{memory_line};
-ghost use Rattle.xk_serve.specs.Devices.{Answered, AnsweredBySome, ErrBegins, Explained, IfKnown, IsBegun, IsListReadToLimit, IsOutcomeOfSome, IsQuiet, IsWritten, OutBegins, Reports, StandsAgainst, Tells, TellsWords, reads};
+ghost use Rattle.xk_serve.specs.Devices.{AgainstLog, Answered, AnsweredBySome, ErrBegins, Explained, IfKnown, IsBegun, IsListReadToLimit, IsNoted, IsOutcomeOfSome, IsQuiet, IsWritten, OutBegins, Reports, StandsAgainst, Tells, TellsWords, read_of, reads};
 
 use crate::commands::answer;
+use crate::refusal::{Refusal, noted, tell_noted, unnoted};
 use std::alloc::Global;
 use std::sync::Wait;
 use std::thread::Threads;
@@ -29,12 +31,12 @@ use xk_program::{DEVICE_LINE, Fault, read_program};
 use xk_types::{Sink, Source};
 
 /// Reads the program, does the job, and writes what comes of it: its result to `out` and then the log of a run that is to have one to
-/// `log_out`, or one line to `err`. The answer is the exit status: 0 where the job is done, 6 where it is done but its answer isn't whole,
+/// `log_out`, or one line to `err`, before which another may say that FILE is a log. The answer is the exit status: 0 where the job is done, 6 where it is done but its answer isn't whole,
 /// 7 where an outcome isn't in the list, 1 where the program is refused, or is to be run and its main takes another number of arguments
 /// than it is given, 3 where the log or the list of outcomes is refused, 4 where memory ran out, 5 where a device failed. A run by workers
 /// is some run of the program: a call with such a job may wait for them, and what is said here holds where it returns. Whatever the answer
 /// but 5, no read or write failed. The result is written piece by piece, once all is known and no more memory is wanted, so `out` and
-/// `log_out` stay empty but at 0, 6, 7 and 5, and at 1 where `explain` says more of a fault; and `err` never gets more than one line.
+/// `log_out` stay empty but at 0, 6, 7 and 5, and at 1 where `explain` says more of a fault; and `err` never gets more than these lines.
 pub fn serve<R: Threads + Wait + Sync, P: Source, L: Source, O: Sink, E: Sink, K: Sink>(
     rt: &R,
     alloc: Global,
@@ -101,18 +103,18 @@ pub fn serve<R: Threads + Wait + Sync, P: Source, L: Source, O: Sink, E: Sink, K
             Ok(ending) => print(alloc, &done, ending.as_str(), out, err, log_out),
             Err(_) => report(alloc, &Fault::OutOfMemory, err),
         },
-        Err(refused) => refuse(alloc, &refused, out, err),
+        Err(refusal) => refuse(alloc, &refusal, out, err),
     }
 }
 
-/// What the job comes to, or what stands against it, with what is said of that: only `explain` says more than the line.
+/// What the job comes to, or what stands against it, with what is said of that beside its line.
 fn outcome<R: Threads + Wait + Sync, P: Source, L: Source>(
     rt: &R,
     alloc: Global,
     job: &Job<'_>,
     program: &mut P,
     log_in: &mut L,
-) -> Result<Done, Refused>
+) -> Result<Done, Refusal>
     ensures done { IfOk result (λ d.
         IfKnown (task_of job.now) (P.remaining program.old) (L.remaining log_in.old)
         (λ bytes logged. Succeeds (task_of job.now) bytes logged d)) }
@@ -121,14 +123,18 @@ fn outcome<R: Threads + Wait + Sync, P: Source, L: Source>(
     ensures fault { IfErr result (λ r.
         StandsAgainst (task_of job.now) (P.remaining program.old) (L.remaining log_in.old)
         (reads (P.fault_count program.old) (P.fault_count program.new)
-        (L.fault_count log_in.old) (L.fault_count log_in.new)) r.fault r.said.items) }
+        (L.fault_count log_in.old) (L.fault_count log_in.new))
+        r.refused.fault r.refused.said.items) }
+    ensures noted { IfErr result (λ r. IsNoted (task_of job.now) (P.remaining program.old)
+        r.refused.fault r.note.now) }
     ensures by_some { IsOutcomeOfSome (task_of job.now) (P.remaining program.old)
         (L.remaining log_in.old) (reads (P.fault_count program.old) (P.fault_count program.new)
         (L.fault_count log_in.old) (L.fault_count log_in.new)) result }
-    ensures quiet { IfErr result (λ r. IsQuiet r.fault r.said.items) }
+    ensures quiet { IfErr result (λ r. IsQuiet r.refused.fault r.refused.said.items) }
+    ensures quiet_note { IfErr result (λ r. IsQuiet r.refused.fault r.note.now) }
     ensures unread { reads_more (task_of job.now).doing ≡ false → log_in.new ≡ log_in.old }
     ensures refused { IfErr result
-        (λ r. status_of r.fault ≡ status_program → log_in.new ≡ log_in.old) }
+        (λ r. status_of r.refused.fault ≡ status_program → log_in.new ≡ log_in.old) }
     ensures no_further { IsReadToLimit (task_of job.now).form
         (P.remaining program.old) (P.remaining program.new) }
     ensures list_no_further { IsListReadToLimit (task_of job.now).doing
@@ -136,11 +142,37 @@ fn outcome<R: Threads + Wait + Sync, P: Source, L: Source>(
 {
     let bytes = match read_program(alloc, job.form, program) {
         Ok(bytes) => bytes,
-        Err(fault) => return Err(unsaid(alloc, fault)),
+        Err(fault) => return Err(unnoted(alloc, fault)),
     };
+    match outcome_of(rt, alloc, job, &bytes, log_in) {
+        Ok(done) => Ok(done),
+        Err(refused) => Err(noted(&job.command, &bytes, refused)),
+    }
+}
+
+/// The same where FILE has these bytes, with what is said of a fault on standard output: only `explain` says something there.
+fn outcome_of<R: Threads + Wait + Sync, L: Source>(
+    rt: &R,
+    alloc: Global,
+    job: &Job<'_>,
+    bytes: &[u8],
+    log_in: &mut L,
+) -> Result<Done, Refused>
+    ensures done { IfOk result (λ d. OfSome (read_of (task_of job.now) (L.remaining log_in.old))
+        (λ logged. Succeeds (task_of job.now) bytes.now logged d)) }
+    ensures no_fault { OnOk result (L.fault_count log_in.new ≡ L.fault_count log_in.old) }
+    ensures fault { IfErr result (λ r. AgainstLog (task_of job.now) bytes.now
+        (L.remaining log_in.old) (L.fault_count log_in.old) (L.fault_count log_in.new) r.fault) }
+    ensures said { IfErr result (λ r. IsSaidOf (task_of job.now) bytes.now r.fault r.said.items) }
+    ensures unread { reads_more (task_of job.now).doing ≡ false → log_in.new ≡ log_in.old }
+    ensures refused { IfErr result
+        (λ r. status_of r.fault ≡ status_program → log_in.new ≡ log_in.old) }
+    ensures list_no_further { IsListReadToLimit (task_of job.now).doing
+        (L.remaining log_in.old) (L.remaining log_in.new) }
+{
     match job.command.explanation() {
-        Some(json) => explained(alloc, json, job.form, job.file, &bytes),
-        None => match answer(rt, alloc, job, &bytes, log_in) {
+        Some(json) => explained(alloc, json, job.form, job.file, bytes),
+        None => match answer(rt, alloc, job, bytes, log_in) {
             Ok(done) => Ok(done),
             Err(fault) => Err(unsaid(alloc, fault)),
         },
@@ -219,23 +251,26 @@ fn write_log<K: Sink>(done: &Done, log_out: &mut K) -> Result<(), Device>
     write_entries(log, log_out)
 }
 
-/// Writes what is said of a fault to `out`, and then its line to `err`, and gives the status: the fault's, or 4 where memory for the line ran
-/// out, and then nothing was written before, or 5 where a write failed.
-fn refuse<O: Sink, E: Sink>(alloc: Global, refused: &Refused, out: &mut O, err: &mut E) -> u8
-    requires quiet { IsQuiet refused.now.fault refused.now.said.items }
-    ensures { Explained refused.now.said.items refused.now.fault
+/// Writes what is said of a fault to `out`, and then to `err` what stands before its line, and the line. Gives the status: the fault's, or 4 where
+/// memory for the line ran out, and then nothing was written before, or 5 where a write failed.
+fn refuse<O: Sink, E: Sink>(alloc: Global, refusal: &Refusal, out: &mut O, err: &mut E) -> u8
+    requires quiet { IsQuiet refusal.now.refused.fault refusal.now.refused.said.items }
+    requires quiet_note { IsQuiet refusal.now.refused.fault refusal.now.note.now }
+    ensures { Explained refusal.now.refused.said.items refusal.now.note.now
+        refusal.now.refused.fault
         (O.contents out.old) (O.contents out.new) (O.fault_count out.old) (O.fault_count out.new)
         (E.contents err.old) (E.contents err.new) (E.fault_count err.old) (E.fault_count err.new)
         result }
 {
-    if refused.said.is_empty() {
+    let refused = &refusal.refused;
+    if refused.said.is_empty() && refusal.note.is_empty() {
         return report(alloc, &refused.fault, err);
     }
     let Ok(line) = refused.fault.line(alloc) else {
         return tell(MEMORY_LINE, status::MEMORY, err);
     };
     match write_all(out, &refused.said) {
-        Ok(()) => tell(line.as_str(), refused.fault.status(), err),
+        Ok(()) => tell_noted(refusal.note, line.as_str(), refused.fault.status(), err),
         Err(_) => tell(DEVICE_LINE, status::DEVICE, err),
     }
 }

@@ -4,5 +4,6 @@
 mod commands;
 mod devices;
 pub mod laws;
+mod refusal;
 
 pub use devices::{report, serve, tell, tell_words};

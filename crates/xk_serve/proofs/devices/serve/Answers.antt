@@ -18,18 +18,18 @@ returns-in-Ok-ending-clause-out_begins g c =
 
 pub returns-clause-answered : goal.returns-clause-answered
 returns-clause-answered g c =
-    told_answers _ _ _ _ _ _ _ _ _ _ _ (task_of c.args.job.now) (g.P.Source.remaining c.args.program.now) (g.L.Source.remaining c.args.log_in.now) _
-    c.in-Err.ensures.fault c.refuse.ensures (g.K.Sink.contents c.args.log_out.now)
+    told_answers _ _ _ _ _ _ _ _ _ _ _ _ (task_of c.args.job.now) (g.P.Source.remaining c.args.program.now) (g.L.Source.remaining c.args.log_in.now) _
+    c.in-Err.ensures.fault c.in-Err.ensures.noted c.refuse.ensures (g.K.Sink.contents c.args.log_out.now)
 
 pub returns-clause-out_begins : goal.returns-clause-out_begins
 returns-clause-out_begins g c =
-    said_begins _ _ _ _ _ _ _ _ _ _ _ (task_of c.args.job.now) (g.P.Source.remaining c.args.program.now) (g.L.Source.remaining c.args.log_in.now) _
-    c.in-Err.ensures.fault c.refuse.ensures (g.K.Sink.contents c.args.log_out.now)
+    said_begins _ _ _ _ _ _ _ _ _ _ _ _ (task_of c.args.job.now) (g.P.Source.remaining c.args.program.now) (g.L.Source.remaining c.args.log_in.now) _
+    c.in-Err.ensures.fault c.in-Err.ensures.noted c.refuse.ensures (g.K.Sink.contents c.args.log_out.now)
 
 pub returns-clause-err_begins : goal.returns-clause-err_begins
 returns-clause-err_begins g c =
-    line_begins _ _ _ _ _ _ _ _ _ _ _ (task_of c.args.job.now) (g.P.Source.remaining c.args.program.now) (g.L.Source.remaining c.args.log_in.now) _
-    c.in-Err.ensures.fault c.refuse.ensures (g.K.Sink.contents c.args.log_out.now)
+    line_begins _ _ _ _ _ _ _ _ _ _ _ _ (task_of c.args.job.now) (g.P.Source.remaining c.args.program.now) (g.L.Source.remaining c.args.log_in.now) _
+    c.in-Err.ensures.fault c.in-Err.ensures.noted c.refuse.ensures (g.K.Sink.contents c.args.log_out.now)
 
 pub returns-in-Ok-ending-clause-err_begins : goal.returns-in-Ok-ending-clause-err_begins
 returns-in-Ok-ending-clause-err_begins g c =
@@ -72,5 +72,5 @@ pub returns-clause-by_some : goal.returns-clause-by_some
 returns-clause-by_some g c =
     told_by_some (task_of c.args.job.now) (g.P.Source.remaining c.args.program.now) (g.L.Source.remaining c.args.log_in.now) _
     c.outcome.result
-    c.in-Err.refused _ _ _ _ _ _ _ _ c.refuse.result (g.K.Sink.contents c.args.log_out.now) c.in-Err.is c.outcome.ensures.by_some
+    c.in-Err.refusal _ _ _ _ _ _ _ _ c.refuse.result (g.K.Sink.contents c.args.log_out.now) c.in-Err.is c.outcome.ensures.by_some
     c.refuse.ensures
