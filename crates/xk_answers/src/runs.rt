@@ -14,7 +14,7 @@ use std::thread::Threads;
 use xk_bounds::Verified;
 use xk_cli::{Drive, Order, Processors, Workers};
 use xk_core::Core;
-use xk_greedy::{InRounds, drive_by_rounds};
+use xk_greedy::drive_by_rounds;
 use xk_random::Random;
 use xk_scheduler::{Chooser, Ended, First, Last, Round, Summary, drive, drive_unlogged};
 use xk_types::Entry;
@@ -116,6 +116,7 @@ pub(crate) fn ended_by<'m, C: Chooser>(
 }
 
 /// The run by rounds: whoever can take a step when a round begins takes one, or so many of these as there are processors.
+#[tactic(auto, using(crate::proofs::OrderedRunLemmas::greedy_finished))]
 fn run_greedy(
     alloc: Global,
     processors: Option<Processors>,
@@ -130,7 +131,7 @@ fn run_greedy(
 {
     let start = Core::open(alloc, verified, arguments)?;
     match drive_by_rounds(alloc, start, count_of(processors)) {
-        Ok(InRounds { ended, rounds }) => Ok(finish(keeps_log, Some(rounds), ended)),
+        Ok(run) => Ok(finish(keeps_log, Some(run.rounds), run.ended)),
         Err(e) => Err(e),
     }
 }
