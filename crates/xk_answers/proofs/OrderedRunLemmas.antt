@@ -109,13 +109,15 @@ greedy_run p m n args log numbers c steps rounds same given run over counted by 
     (worked_run m n args log numbers c steps same given run over counted)
 
 -- with the log or without
-pub greedy_finished : (p : Option ℕ) (keeps : Bool) (m n : ModuleValue) (args : List ℤ) (log : Vec Entry Global) (numbers : List ℤ) (c : CoreValue) (steps rounds : ℕ)
+pub greedy_finished : (p : Option ℕ) (keeps : Bool) (m n : ModuleValue) (args : List ℤ) (log : Vec Entry Global) (numbers : List ℤ) (c : CoreValue)
+    (steps rounds : ℕ)
     → n ≡ m → c.world.arguments ≡ args → IsRunOf n log.items numbers c → all_ended c.world ≡ true → steps ≡ c.world.steps
     → IsByRounds p m args log.items c.world rounds
     → IsFinished (Greedy p) keeps m args numbers steps (Some rounds) (option_map (λ es. es.items) (if keeps then Some log else None))
 greedy_finished p true m n args log numbers c steps rounds same given run over counted by =
     greedy_run p m n args log.items numbers c steps rounds same given run over counted by
-greedy_finished p false m n args log numbers c steps rounds same given run over counted by = run_weaker _ _ m args numbers steps (λ list is. is.follows)
+greedy_finished p false m n args log numbers c steps rounds same given run over counted by =
+    run_weaker _ _ m args numbers steps (λ list is. is.follows)
     (greedy_run p m n args log.items numbers c steps rounds same given run over counted by)
 
 -- what is told by the origins and names of the bytes is a picture
