@@ -46,9 +46,12 @@ log_without_state place m args s log numbers steps r = run_weaker _ _ m args num
     (λ list h. record { follows = follows_any place m s list (opening m args) h.follows; stands_for = h.stands_for; single = h.single }) r
 
 -- with the log or without
-pub finished_without_state : {S : Type 0} (place : List ℕ → ℕ) (m : ModuleValue) (args : List ℤ) (s : S) (keeps : Bool) (rounds : Option ℕ) (log : Option (List Entry)) (numbers : List ℤ) (steps : ℕ)
-    → IsUncountedBy (Follows {S = S} (λ z enabled. place enabled) (λ z enabled. z) m s (opening m args)) keeps m args numbers steps rounds log
-    → IsUncountedBy (Follows {S = Unit {0}} (λ z enabled. place enabled) (λ z enabled. z) m tt (opening m args)) keeps m args numbers steps rounds log
+pub finished_without_state : {S : Type 0} (place : List ℕ → ℕ) (m : ModuleValue) (args : List ℤ) (s : S) (keeps : Bool)
+    (rounds : Option ℕ) (log : Option (List Entry)) (numbers : List ℤ) (steps : ℕ)
+    → IsUncountedBy (Follows {S = S} (λ z enabled. place enabled) (λ z enabled. z) m s (opening m args)) keeps m args numbers steps
+    rounds log
+    → IsUncountedBy (Follows {S = Unit {0}} (λ z enabled. place enabled) (λ z enabled. z) m tt (opening m args)) keeps m args numbers steps
+    rounds log
 finished_without_state place m args s false None None numbers steps r = without_state place m args s numbers steps r
 finished_without_state place m args s false None (Some log) numbers steps r = absurd r
 finished_without_state place m args s true None None numbers steps r = absurd r
@@ -101,16 +104,17 @@ worked_run m n args log numbers c steps same given run over counted =
     }
 
 -- the same of a run by rounds, with its log
-greedy_run : (p : Option ℕ) (m n : ModuleValue) (args : List ℤ) (log : List Entry) (numbers : List ℤ) (c : CoreValue) (steps rounds : ℕ) → n ≡ m
-    → c.world.arguments ≡ args → IsRunOf n log numbers c → all_ended c.world ≡ true → steps ≡ c.world.steps → IsByRounds p m args log c.world rounds
+greedy_run : (p : Option ℕ) (m n : ModuleValue) (args : List ℤ) (log : List Entry) (numbers : List ℤ) (c : CoreValue) (steps rounds : ℕ)
+    → n ≡ m → c.world.arguments ≡ args → IsRunOf n log numbers c → all_ended c.world ≡ true → steps ≡ c.world.steps
+    → IsByRounds p m args log c.world rounds
     → IsLoggedGreedyRun p m args numbers steps rounds log
 greedy_run p m n args log numbers c steps rounds same given run over counted by = run_weaker _ _ m args numbers steps
     (λ list is. log_by_rounds p m args log c.world rounds list by over is)
     (worked_run m n args log numbers c steps same given run over counted)
 
 -- with the log or without
-pub greedy_finished : (p : Option ℕ) (keeps : Bool) (m n : ModuleValue) (args : List ℤ) (log : Vec Entry Global) (numbers : List ℤ) (c : CoreValue)
-    (steps rounds : ℕ)
+pub greedy_finished : (p : Option ℕ) (keeps : Bool) (m n : ModuleValue) (args : List ℤ) (log : Vec Entry Global) (numbers : List ℤ)
+    (c : CoreValue) (steps rounds : ℕ)
     → n ≡ m → c.world.arguments ≡ args → IsRunOf n log.items numbers c → all_ended c.world ≡ true → steps ≡ c.world.steps
     → IsByRounds p m args log.items c.world rounds
     → IsFinished (Greedy p) keeps m args numbers steps (Some rounds) (option_map (λ es. es.items) (if keeps then Some log else None))

@@ -26,7 +26,8 @@ FollowsOrder (order.Random seed) m args list = Follows chance_answer chance_afte
 abbrev pub IsOrderedRun : Order → ModuleValue → List ℤ → List ℤ → ℕ → Type 0
 IsOrderedRun o m args = IsRunThat (FollowsOrder o m args) m args
 
--- the run by rounds, on so many processors, if they are limited, with these arguments: it prints these numbers, and takes so many steps in so many rounds
+-- the run by rounds, on so many processors, if they are limited, with these arguments: it prints these numbers, and takes so many steps in
+-- so many rounds
 abbrev pub IsGreedyRun : Option ℕ → ModuleValue → List ℤ → List ℤ → ℕ → ℕ → Type 0
 IsGreedyRun p m args numbers steps rounds = IsRunThat (FollowsRounds p m args rounds) m args numbers steps
 
@@ -68,7 +69,8 @@ IsUncountedBy Has keeps m args numbers steps (Some rounds) log = ⊥
 -- the run in an order, or by rounds, which are counted, or some run where workers take the steps
 abbrev pub IsFinished : Way → Bool → ModuleValue → List ℤ → List ℤ → ℕ → Option ℕ → Option (List Entry) → Type 0
 IsFinished (In o) keeps m args numbers steps rounds log = IsUncountedBy (FollowsOrder o m args) keeps m args numbers steps rounds log
-IsFinished (Greedy p) keeps m args numbers steps (Some rounds) log = IsFinishedBy (FollowsRounds p m args rounds) keeps m args numbers steps log
+IsFinished (Greedy p) keeps m args numbers steps (Some rounds) log =
+    IsFinishedBy (FollowsRounds p m args rounds) keeps m args numbers steps log
 IsFinished (By n) false m args numbers steps None None = IsSomeRun m args numbers steps
 IsFinished (By n) true m args numbers steps None (Some log) = IsReplay m args log numbers steps
 IsFinished _ _ m args numbers steps _ _ = ⊥

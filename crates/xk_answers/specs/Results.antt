@@ -134,19 +134,22 @@ IsHeldOut m args sets limit bytes (done.Held text found) = AreArguments m args �
 IsHeldOut m args sets limit bytes _ = ⊥
 
 -- What is to be done with a module, whose main is given these arguments where it is run, and with the bytes of a log or a list where one is read, comes
--- to this: for `compile` the text of the module; where the module is accepted, for `check` its bounds, for `run` its run in the order, or by rounds, or, by
--- workers, some run of it, for `replay` the run that the log has, for `outcomes` what it can print.
+-- to this: for `compile` the text of the module; where the module is accepted, for `check` its bounds, for `run` its run in the order, or
+-- by rounds, or, by workers, some run of it, for `replay` the run that the log has, for `outcomes` what it can print.
 abbrev pub ComesTo : Doing → ModuleValue → List ℤ → List ℕ → Done → Type 0
 ComesTo Compile m args logged (done.Compiled text) = string_bytes text ≡ compact_text (module_value m)
 ComesTo Check m args logged (done.Accepted steps activities clocks) =
     IsAccepted m × (steps ≡ steps_bound m) × (activities ≡ activities_bound m) × (clocks ≡ clocks_bound m)
 ComesTo (Run (In o) false) m args logged (done.Ended numbers steps None None) = IsAccepted m × IsOrderedRun o m args numbers.items steps
-ComesTo (Run (In o) true) m args logged (done.Ended numbers steps None (Some log)) = IsAccepted m × IsLoggedRun o m args numbers.items steps log.items
-ComesTo (Run (Greedy p) false) m args logged (done.Ended numbers steps (Some rounds) None) = IsAccepted m × IsGreedyRun p m args numbers.items steps rounds
+ComesTo (Run (In o) true) m args logged (done.Ended numbers steps None (Some log)) =
+    IsAccepted m × IsLoggedRun o m args numbers.items steps log.items
+ComesTo (Run (Greedy p) false) m args logged (done.Ended numbers steps (Some rounds) None) =
+    IsAccepted m × IsGreedyRun p m args numbers.items steps rounds
 ComesTo (Run (Greedy p) true) m args logged (done.Ended numbers steps (Some rounds) (Some log)) =
     IsAccepted m × IsLoggedGreedyRun p m args numbers.items steps rounds log.items
 ComesTo (Run (By n) false) m args logged (done.Ended numbers steps None None) = IsAccepted m × IsSomeRun m args numbers.items steps
-ComesTo (Run (By n) true) m args logged (done.Ended numbers steps None (Some log)) = IsAccepted m × IsReplay m args log.items numbers.items steps
+ComesTo (Run (By n) true) m args logged (done.Ended numbers steps None (Some log)) =
+    IsAccepted m × IsReplay m args log.items numbers.items steps
 ComesTo Replay m args logged (done.Ended numbers steps None None) = IsAccepted m × Replays m args logged numbers.items steps
 ComesTo (Outcomes sets limit pick keeps) m args logged d = IsAccepted m × IsFoundOut m args sets (limit_of limit (activities_bound m)) pick keeps d
 ComesTo (Expected sets limit) m args logged d = IsAccepted m × IsHeldOut m args sets (limit_of limit (activities_bound m)) logged d

@@ -93,7 +93,8 @@ prints (Run (In o) false) m args logged (done.Ended numbers steps None None) h =
 prints (Run (In o) false) m args logged _ h = absurd h
 prints (Run (In o) true) m args logged (done.Ended numbers steps None (Some es)) h = (h.0, numbers.items, steps, es.items, h.1, refl, refl)
 prints (Run (In o) true) m args logged _ h = absurd h
-prints (Run (Greedy p) false) m args logged (done.Ended numbers steps (Some rounds) None) h = (h.0, numbers.items, steps, rounds, h.1, refl, refl)
+prints (Run (Greedy p) false) m args logged (done.Ended numbers steps (Some rounds) None) h =
+    (h.0, numbers.items, steps, rounds, h.1, refl, refl)
 prints (Run (Greedy p) false) m args logged _ h = absurd h
 prints (Run (Greedy p) true) m args logged (done.Ended numbers steps (Some rounds) (Some es)) h =
     (h.0, numbers.items, steps, rounds, es.items, h.1, refl, refl)

@@ -1,5 +1,6 @@
 -- An order determines its run, and a log the run that it has.
-use Rattle.std.proofs.Common.{◌≡◌, ◌∙◌, ℕ, ℤ, ◌-◌, ◌<◌, List, [], ◌∷◌, ◌++◌, length, map, replicate, All, Option, None, true, refl, sym, ap, subst}
+use Rattle.std.proofs.Common.{◌≡◌, ◌∙◌, ℕ, ℤ, ◌-◌, ◌<◌, List, [], ◌∷◌, ◌++◌, length, map, replicate, All, Option, None, true, refl, sym}
+use Rattle.std.proofs.Common.{ap, subst}
 use Rattle.std.specs.List.{AllByRecursion}
 use Rattle.std.proofs.lemmas.Bool.{true≢false}
 use Rattle.std.proofs.lemmas.List.Concat.{flat_map-cons}
@@ -127,8 +128,8 @@ logged_once o m args numbers others n k es fs p q =
 
 -- ---- by rounds
 
-pub greedy_once : (p : Option ℕ) (m : ModuleValue) (args numbers others : List ℤ) (n k rounds tally : ℕ) → IsGreedyRun p m args numbers n rounds
-    → IsGreedyRun p m args others k tally → (numbers ≡ others) × (n ≡ k) × (rounds ≡ tally)
+pub greedy_once : (p : Option ℕ) (m : ModuleValue) (args numbers others : List ℤ) (n k rounds tally : ℕ)
+    → IsGreedyRun p m args numbers n rounds → IsGreedyRun p m args others k tally → (numbers ≡ others) × (n ≡ k) × (rounds ≡ tally)
 greedy_once p m args numbers others n k rounds tally g h =
     let same = follows_rounds_once p m args rounds tally g.list h.list g.follows h.follows in
     let both = list_once _ _ m args numbers others n k g h same.0 in

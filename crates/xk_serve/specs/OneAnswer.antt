@@ -132,8 +132,8 @@ MayCheck t bytes logged r = (s : Reply) × Answers (checking t) bytes logged s �
 
 -- What `replay` prints where a run in this way printed that: the same, but for the number of rounds.
 abbrev pub PrintsAgain : Way → List ℕ → List ℕ → Type 0
-PrintsAgain (Greedy p) out again = (numbers : List ℤ) × (steps : ℕ) × (rounds : ℕ) × (out ≡ number_lines numbers ++ rounds_line steps rounds)
-    × (again ≡ number_lines numbers ++ ended_line steps)
+PrintsAgain (Greedy p) out again = (numbers : List ℤ) × (steps : ℕ) × (rounds : ℕ)
+    × (out ≡ number_lines numbers ++ rounds_line steps rounds) × (again ≡ number_lines numbers ++ ended_line steps)
 PrintsAgain (In o) out again = again ≡ out
 PrintsAgain (By n) out again = again ≡ out
 

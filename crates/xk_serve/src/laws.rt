@@ -54,8 +54,9 @@ pub fn explanations()
         → t.doing ≡ Explain json → Answers t bytes logged r → MayCheck t bytes logged r }
 {}
 
-/// The log that `run` has written tells that run. Of the same FILE, the same arguments and that log `replay` may print what the run printed, with
-/// the same number of steps, but for how many rounds there were, and `chart` the chart of that run; and they answer nothing else, want of memory aside.
+/// The log that `run` has written tells that run. Of the same FILE, the same arguments and that log `replay` may print what the run
+/// printed, with the same number of steps, but for how many rounds there were, and `chart` the chart of that run; and they answer nothing
+/// else, want of memory aside.
 pub fn a_log_tells_its_run()
     ensures replayed { (t : Task) (way : Way) (bytes logged : List ℕ) (r : Reply)
         → t.doing ≡ Run way true → Answers t bytes logged r → r.status ≡ status_done
