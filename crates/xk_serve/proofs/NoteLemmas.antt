@@ -1,7 +1,8 @@
 -- What stands before the line of a fault: of the bytes kept of a file the same as of all that are known.
-use Rattle.std.proofs.Common.{◌≡◌, ◌≤◌, ◌+◌, ◌&&◌, ◌∙◌, ℕ, Bool, true, false, List, [], take, if◌then◌else◌, Option, Some, None, refl, ap, arith}
+use Rattle.std.proofs.Common.{◌≡◌, ◌≤◌, ◌+◌, ◌&&◌, ◌∙◌, ℕ, Bool, true, false, List, [], take, if◌then◌else◌, refl, ap, arith}
+use Rattle.std.proofs.Common.{Option, Some, None}
 use Rattle.std.specs.Prelude.{IfSome, nat_eq}
-use Rattle.std.specs.List.{pointwise}
+use Rattle.std.specs.Cmp.Lexicographic.{pointwise}
 use Rattle.std.proofs.lemmas.List.{take-take}
 use Rattle.xk_log.specs.LogText.{ended, head_line}
 use Rattle.xk_cli.specs.declared.job.Form.{Form}
@@ -88,7 +89,7 @@ unread_note what bytes note old new (fault.NoOutcome line) h e = e
 unread_note what bytes note old new fault.OutOfMemory h e = e
 unread_note what bytes note old new fault.Device h e = e
 
-pub unread_noted : (t : Task) (known : Option (List ℕ)) (note : List ℕ) (old new : ℕ) (f : Fault) → FailsRead old new f → note ≡ []
-    → IsNoted t known f note
+pub unread_noted : (t : Task) (known : Option (List ℕ)) (note : List ℕ) (old new : ℕ) (f : Fault)
+    → FailsRead old new f → note ≡ [] → IsNoted t known f note
 unread_noted t None note old new f h e = tt
 unread_noted t (Some k) note old new f h e = unread_note t.doing k note old new f h e

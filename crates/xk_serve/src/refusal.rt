@@ -5,14 +5,13 @@ ghost use Rattle.xk_serve.specs.Answer.{doing_of};
 ghost use Rattle.xk_serve.specs.Devices.{IsQuiet, Tells};
 ghost use Rattle.xk_serve.specs.Notes.{may_note, note_of};
 
+use crate::devices::tell;
 use std::alloc::Global;
 use xk_answers::{Refused, unsaid};
 use xk_cli::{Command, status};
 use xk_io::write_all;
 use xk_program::Fault;
 use xk_types::Sink;
-
-use crate::devices::tell;
 
 /// The first line of a log.
 const FIRST_LINE: &[u8] = b"x10log 1\n";
@@ -103,7 +102,8 @@ fn may_note(command: &Command<'_>) -> bool
     }
 }
 
-/// Writes what stands before a line and then the line, and gives the status, or 5 where they can't be written: then a beginning of them was.
+/// Writes what stands before a line and then the line, and gives the status, or 5 where they can't be written: then a
+/// beginning of them was.
 pub(crate) fn tell_noted<E: Sink>(note: &str, line: &str, status: u8, err: &mut E) -> u8
     ensures { Tells (note.now ++ line.now) status
         (E.contents err.old) (E.contents err.new)
