@@ -38,7 +38,12 @@ MOST = {
     "docs": 80,
     "scripts": 0,
     "files": 0,
+    "unnamed": 0,
+    "ways": 11,
 }
+# `rt` sums up the files below a crate once for each way that leads to them in crates.txt: 200 ways are a second.
+MANY_WAYS = 1000
+SOURCES = ("src/**/*.rt", "specs/**/*.antt", "proofs/**/*.antt")
 TESTS = {"xk_tests", "xk_tests_memory"}
 FN = re.compile(r"^(\s*)((?:pub(?:\([^)]*\))? )?(?:const )?)fn (\w+)")
 NAME = re.compile(r"[^\s(){}\[\];,.λ]+")
@@ -354,6 +359,37 @@ def rows_of_lines(top: Path) -> Rows:
     }
 
 
+def libraries_of(top: Path) -> dict[str, list[str]]:
+    """For each crate of crates.txt the libraries of this repository that it uses."""
+    lines = (top / "crates.txt").read_text(encoding="utf-8").splitlines()
+    rows = [line.split(":") for line in lines if ":" in line and not line.startswith("#")]
+    crates = {row[0] for row in rows}
+    return {crate: [it for it in used.split() if it in crates] for crate, used in rows}
+
+
+def rows_of_libraries(top: Path) -> Rows:
+    """The rows that count what crates.txt says."""
+    used = libraries_of(top)
+    ways = dict[str, int]()
+
+    def down(crate: str) -> int:
+        if crate not in ways:
+            ways[crate] = 1 + sum(down(it) for it in used[crate])
+        return ways[crate]
+
+    unnamed = list[Place]()
+    for crate, libraries in used.items():
+        folder = top / "crates" / crate
+        files = by_hand(it for kind in SOURCES for it in folder.glob(kind))
+        named = set(re.findall(r"\w+", "\n".join(it.read_text(encoding="utf-8") for it in files)))
+        unnamed += [Place(top / "crates.txt", 0, f"{crate}: {it}") for it in libraries if it not in named]
+    many = [Place(top / "crates" / it, 0, str(ways[it])) for it in used if down(it) > MANY_WAYS]
+    return {
+        "unnamed": ("libraries of crates.txt that a crate doesn't name", unnamed),
+        "ways": (f"crates with over {MANY_WAYS} ways down through crates.txt", many),
+    }
+
+
 def ratchet(table: Rows) -> int:
     """Prints which rows count more than they may, and which count less, so that their numbers can be lowered."""
     counts = {word: len(table[word][1]) for word in MOST}
@@ -373,7 +409,7 @@ def main() -> int:
     parser.add_argument("top", nargs="?", default=str(Path(__file__).resolve().parents[2]))
     options = parser.parse_args()
     top = Path(options.top).resolve()
-    table = {**rows_of_code(top), **rows_of_proofs(top), **rows_of_lines(top)}
+    table = {**rows_of_code(top), **rows_of_proofs(top), **rows_of_lines(top), **rows_of_libraries(top)}
     if options.list:
         if options.list not in table:
             parser.error("one of " + ", ".join(table))

@@ -73,7 +73,7 @@ impl<'t> Origins<'t> {
 
     /// What is said of these units is what is said of a module that has them in this order.
     pub fn new(units: Vec<UnitOrigins<'t>>) -> Origins<'t>
-        ensures { result.now ≡ units.items }
+        ensures { result ≡ units.entry.items }
     {
         Origins { units }
     }
