@@ -78,6 +78,7 @@ fn note_of(command: &Command<'_>, bytes: &[u8], fault: &Fault) -> &'static str
 }
 
 /// Whether it may be told that FILE is a log: a log is read beside it, and the specification leaves open what is told.
+#[tactic(auto, using(crate::proofs::NoteLemmas::lanes_noted, crate::proofs::NoteLemmas::races_noted))]
 fn may_note(command: &Command<'_>) -> bool
     ensures { result ≡ may_note (doing_of command.now) }
 {
