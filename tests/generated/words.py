@@ -225,7 +225,8 @@ class Caller:
         fill(self.folder)
         with (self.folder / given).open("rb") as stdin:
             status, out, err = harness.call([self.program, *words], stdin, cwd=self.folder).texts()
-        told = err.removesuffix("\n") if is_asked(words) else err.partition("\n")[0]
+        is_all = is_asked(words) or err.startswith(runs.LOG_FIRST)
+        told = err.removesuffix("\n") if is_all else err.partition("\n")[0]
         return Told(status, out, told), found(self.folder)
 
     def told(self, words: list[str], given: str) -> tuple[Told, Folder]:

@@ -109,6 +109,7 @@ CALLS = [
     Call("run --log LOG -", ITSELF, status=1),
     Call("replay - SECOND", IN_STEP, BEGINNING, status=3),
     *(Call(f"{command} - SECOND", IN_STEP, OTHER_LOG, status=3) for command in ("chart", "page")),
+    *(Call(f"{command} - SECOND", LOG, IN_STEP, status=1) for command in ("replay", "lanes")),
     Call("run --order ask --log LOG PROGRAM", ASKED, b"0\n1\n0\n1\n0\n", asks=True),
     Call("run --order ask --log LOG PROGRAM", ASKED, b"0\n2\n1\n0", status=6, asks=True),
     Call("--help", b"", line=b""),

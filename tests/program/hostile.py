@@ -54,6 +54,7 @@ OVER = "the input has ended\n"
 TOO_LONG = """/dev/zero: F4 TooLong: the text has more than 1048576 bytes
    = usual repair: write a shorter one: a method is written once, however often it is called
 """
+LOG_FIRST = "x10clock: FILE is a log; the program comes first, then the log\n"
 OVER_FILE = "x10clock: --log would write over FILE\n"
 OVER_OUTPUT = "x10clock: --log would write over standard output\n"
 OVER_ERROR = "x10clock: --log would write over standard error\n"
@@ -260,6 +261,11 @@ def strange_files(tried: Tried) -> None:
         tried.answers(f"exec $x {command} in-step.x10 no{step}", 5, err=unopened(command, "no", MISSING))
         tried.answers(f"exec $x {command} in-step.x10 /dev/zero{step}", 3, err="x10clock: L1 Grammar line 1\n")
         tried.answers(f"exec $x {command} in-step.x10 /dev/null{step}", 3, err="x10clock: L2 Truncated\n")
+        note = "" if command in FIXED else LOG_FIRST
+        tried.answers(f"exec $x {command} log in-step.x10{step}", 1, err=f"{note}x10clock: F2 Syntax at 0\n")
+        tried.answers(
+            f"{{ echo x10log 1; yes '0 1'; }} | $x {command} - log{step}", 1, err=f"{note}x10clock: F4 TooLong at 0\n"
+        )
 
 
 def strange_names(tried: Tried) -> None:

@@ -68,6 +68,7 @@ UNREAD = (
 )
 
 MEMORY = b"x10clock: out of memory\n"
+LOG_FIRST = b"x10clock: FILE is a log; the program comes first, then the log\n"
 # A word that stands for the file of the log that a run is to write.
 LOG = "the log"
 # In how many parts the growths of one call are tried beside each other, where it has thousands.
@@ -301,6 +302,12 @@ def each_log(calls: Calls, folder: str) -> None:
             err = f"x10clock: {line}\n".encode()
             calls.need(f"{command}, {log}", [command, "-", str(LOGS / f"{log}.log")], text, 3, b"", err)
         calls.need(f"why, {log}", ["why", "-", str(LOGS / f"{log}.log"), "1"], text, 3, b"", err)
+    waits = (LOGS / "waits.log").read_bytes()
+    for command, note in (("events", LOG_FIRST), ("races", LOG_FIRST), ("where", LOG_FIRST), ("replay", b"")):
+        calls.need(
+            f"{command}, a log for FILE", [command, "-", str(LOGS / "waits.log")], waits, 1, b"",
+            note + b"x10clock: F2 Syntax at 0\n"
+        )
     for command in ("events", "lanes", "lanes --svg", "page"):
         told = calls.ask(f"{command}, stops", [*command.split(), "-", str(LOGS / "stops.log")], text)
         if told.status != 6 or b"the log ends after step 11, before the run does" not in told.out:

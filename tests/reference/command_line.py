@@ -360,8 +360,8 @@ def help_text(command: str) -> str:
 
 @dataclass(frozen=True)
 class Told:
-    """What a call answers: its status, standard output, and the first line of standard error, or, of a run that is
-    asked for, all of it."""
+    """What a call answers: its status, standard output, and the first line of standard error, or all of it, of a run
+    that is asked for, and where FILE is a log and no program."""
 
     status: int
     out: str = ""
@@ -541,7 +541,8 @@ def answered(job: Job, data: bytes, given: BinaryIO, log_in: BinaryIO | None, lo
     judged = judge(job, data)
     line = modules.refusal(job.command, judged, tuple(job.numbers))
     if line:
-        return Told(1, explained(job, data, judged) if job.command == "explain" else "", f"x10clock: {line}")
+        note = runs.note(job.command, Program(data, "module" in job.flags)) if "LOG" in job.values else ""
+        return Told(1, explained(job, data, judged) if job.command == "explain" else "", f"{note}x10clock: {line}")
     if job.command in ("check", "explain"):
         return Told(0, accepted(job, data, judged.bounds.line() + "\n"))
     if job.values.get("order") == ASK:

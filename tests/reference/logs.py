@@ -27,6 +27,7 @@ GREATEST = 4_294_967_295
 MOST_ENTRIES = 1_000_000_000
 # The longest line is an entry of twice the greatest number.
 LONGEST_LINE = 21
+FIRST_LINE = b"x10log 1"
 
 NUMBER = rb"(0|[1-9][0-9]*)"
 ENTRY = re.compile(NUMBER + b" " + NUMBER)
@@ -49,7 +50,7 @@ Log = list[Entry]
 
 
 def text_of(log: Log) -> bytes:
-    lines = ["x10log 1", *(f"{entry.activity} {entry.steps}" for entry in log), f"end {len(log)}"]
+    lines = [FIRST_LINE.decode(), *(f"{entry.activity} {entry.steps}" for entry in log), f"end {len(log)}"]
     return "".join(f"{line}\n" for line in lines).encode()
 
 
@@ -64,7 +65,7 @@ def read(data: bytes) -> Log:
     ended = False
     for number, line in enumerate(lines, start=1):
         end = END.fullmatch(line)
-        if ended or (number == 1 and line != b"x10log 1"):
+        if ended or (number == 1 and line != FIRST_LINE):
             raise misfit(number)
         if number == 1:
             continue

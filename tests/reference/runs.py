@@ -23,6 +23,9 @@ from tests.reference.modules import Accepted, Arguments, Refused
 OF_RUNS, WHERE = ("replay", "chart", "events", "lanes", "page", "races", "span", "why"), "where"
 SO_FAR = ("events", "lanes", "page")
 COMMANDS = (*OF_RUNS, WHERE)
+# Of these the specification has all that is told.
+FIXED = ("replay", "chart")
+LOG_FIRST = "x10clock: FILE is a log; the program comes first, then the log"
 
 
 def races_of(program: Program, played: Played) -> tuple[str, bool]:
@@ -61,6 +64,13 @@ def teller(
     return {"replay": Played.output, "chart": Played.chart}[command]
 
 
+def note(command: str, program: Program) -> str:
+    """What is told before the line of a program that is refused and has a log beside it: where it is a text that begins
+    as a log does, that it is one."""
+    is_log = not program.is_module and program.data.startswith(logs.FIRST_LINE + b"\n")
+    return f"{LOG_FIRST}\n" if is_log and command not in FIXED else ""
+
+
 def answer(
     command: str,
     judged: Accepted | Refused,
@@ -73,6 +83,8 @@ def answer(
     step: int = 1,
 ) -> Answer:
     """What a command answers of a log and this program."""
+    if isinstance(judged, Refused):
+        return 1, "", f"{note(command, program)}x10clock: {judged.line}\n"
     if command == WHERE:
         return where.answer(program, judged, log, arguments, at)
     played_by = logs.carry_out if command in SO_FAR else logs.replay

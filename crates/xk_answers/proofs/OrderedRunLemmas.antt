@@ -25,10 +25,12 @@ use Rattle.xk_answers.specs.declared.picture.Picture.{Picture}
 use Rattle.xk_answers.specs.declared.picture.Picture.TheVariants as picture
 use Rattle.xk_program.specs.declared.program_loader.Provenance.{Provenance}
 use Rattle.xk_program.specs.Origins.{IsFrom}
-use Rattle.xk_answers.specs.Results.{ComesTo, Draw, IsLogText, IsPicture, IsTelling, Run, is_of_whole, picture_told, shows_origins, way_given}
+use Rattle.xk_answers.specs.Results.{ComesTo, Draw, IsLogText, IsPageOf, IsPicture, IsTelling, Run, is_of_whole, picture_told}
+use Rattle.xk_answers.specs.Results.{shows_origins, way_given}
 use Rattle.xk_answers.specs.Explanation.{Tale, events_so_far, image_so_far, lanes_so_far, page_so_far, races_told, span_told, why_told}
 use Rattle.xk_answers.specs.OrderedRun.{IsFinished, IsLoggedGreedyRun, IsReplay, IsUncountedBy}
 use Rattle.xk_replay.specs.Replay.{IsLegal}
+use Rattle.xk_show_lanes.specs.declared.window.Window.{Window}
 
 -- ---- choosers without a state
 
@@ -162,3 +164,14 @@ pictured p kind file bytes n m args log logged told c {numbers} same given accep
     let told_of : IsPicture p kind file bytes m c.world.arguments log c.world told =
     subst (λ k. IsPicture p kind file bytes k c.world.arguments log c.world told) same is in
     (accepted, (log, text, legal, over, subst (λ xs. IsPicture p kind file bytes m xs log c.world told) given told_of))
+
+-- the same of the page of a run in which all have ended
+pub paged_run : (window : Window) (kind : Form) (file bytes : List ℕ) (n m : ModuleValue) (args : List ℤ) (log : List Entry) (told : Tale)
+    (c : CoreValue) {numbers : List ℤ} → n ≡ m → c.world.arguments ≡ args → IsRunOf n log numbers c → all_ended c.world ≡ true
+    → IsPicture (picture.Page window) kind file bytes n c.world.arguments log c.world told → IsPageOf window kind file bytes m args log told
+paged_run window kind file bytes n m args log told c {numbers} same given run over is =
+    let run_of = subst (λ k. IsRunOf k log numbers c) same run in
+    let legal : IsLegal m args log = record { last = c.world; leads = run_of.leads; given = given } in
+    let told_of : IsPicture (picture.Page window) kind file bytes m c.world.arguments log c.world told =
+    subst (λ k. IsPicture (picture.Page window) kind file bytes k c.world.arguments log c.world told) same is in
+    (legal, over, subst (λ xs. IsPicture (picture.Page window) kind file bytes m xs log c.world told) given told_of)

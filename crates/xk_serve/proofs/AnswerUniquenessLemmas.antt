@@ -649,10 +649,11 @@ case_of t bytes logged r not4 (inr (fault.Grammar line, h, e)) =
 case_of t bytes logged r not4 (inr (fault.Truncated, h, e)) =
     Read h.1.0 h.1.1 (NoRun fault.Truncated h.0 h.1.2 h.1.3.0 (h.1.3.1, tt) (status_not t bytes r fault.Truncated e.0 e.2 not4) e)
 case_of t bytes logged r not4 (inr (fault.NotEnabled i, h, e)) =
-    Read h.1.1.0 h.1.1.1 (NoRun (fault.NotEnabled i) h.1.0 h.1.1.2 h.1.1.3.0 (h.1.1.3.1, h.0) (status_not t bytes r (fault.NotEnabled i) e.0 e.2
-    not4) e)
+    Read h.1.1.0 h.1.1.1 (NoRun (fault.NotEnabled i) h.1.0 h.1.1.2 h.1.1.3.0 (h.1.1.3.1, h.0)
+    (status_not t bytes r (fault.NotEnabled i) e.0 e.2 not4) e)
 case_of t bytes logged r not4 (inr (fault.NotEnded, h, e)) =
-    Read h.1.1.0 h.1.1.1 (NoRun fault.NotEnded h.1.0 h.1.1.2 h.1.1.3.0 (h.1.1.3.1, h.0) (status_not t bytes r fault.NotEnded e.0 e.2 not4) e)
+    Read h.1.1.0 h.1.1.1 (NoRun fault.NotEnded h.1.0 h.1.1.2 h.1.1.3.0 (h.1.1.3.1, h.0)
+    (status_not t bytes r fault.NotEnded e.0 e.2 not4) e)
 case_of t bytes logged r not4 (inr (fault.NoOutcome line, h, e)) =
     Read h.1.0 h.1.1 (Astray line h.0 h.1.2 h.1.3.0 h.1.3.1 e)
 case_of t bytes logged r not4 (inr (fault.OutOfMemory, h, e)) = absurd (not4 (ap (λ (z : Reply). z.status) e.2))

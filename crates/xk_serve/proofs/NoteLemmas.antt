@@ -1,8 +1,13 @@
 -- What stands before the line of a fault: of the bytes kept of a file the same as of all that are known.
-use Rattle.std.proofs.Common.{◌≡◌, ◌≤◌, ◌+◌, ◌&&◌, ◌∙◌, ℕ, Bool, true, false, List, [], take, if◌then◌else◌, Option, Some, None, refl, ap, arith}
+use Rattle.std.proofs.Common.{◌≡◌, ◌≤◌, ◌+◌, ◌&&◌, ◌∙◌, ℕ, Bool, true, false, List, [], take, if◌then◌else◌, refl, ap, arith}
+use Rattle.std.proofs.Common.{◌++◌, Option, Some, None, inl, inr, subst}
 use Rattle.std.specs.Prelude.{IfSome, nat_eq}
-use Rattle.std.specs.List.{pointwise}
+use Rattle.std.specs.Cmp.Lexicographic.{pointwise}
 use Rattle.std.proofs.lemmas.List.{take-take}
+use Rattle.std.specs.Io.KnownBytes.{Appends}
+use Rattle.xk_types.specs.Device.{Rose}
+use Rattle.xk_io.specs.Writing.{AppendsBeginning}
+use Rattle.xk_io.proofs.DeviceLemmas.{appends_then, beginning_more, beginning_then}
 use Rattle.xk_log.specs.LogText.{ended, head_line}
 use Rattle.xk_cli.specs.declared.job.Form.{Form}
 use Rattle.xk_cli.specs.declared.job.Form.TheVariants as form
@@ -12,7 +17,7 @@ use Rattle.xk_program.specs.Programs.{longest_module, longest_source}
 use Rattle.xk_program.specs.declared.fault.Fault.{Fault}
 use Rattle.xk_program.specs.declared.fault.Fault.TheVariants as fault
 use Rattle.xk_serve.specs.Answer.{Task, races_by}
-use Rattle.xk_serve.specs.Devices.{IsNoted}
+use Rattle.xk_serve.specs.Devices.{IsNoted, Tells}
 use Rattle.xk_serve.specs.Notes.{begins_log, log_note, may_note, note_of}
 
 -- ---- which commands have one
@@ -88,7 +93,24 @@ unread_note what bytes note old new (fault.NoOutcome line) h e = e
 unread_note what bytes note old new fault.OutOfMemory h e = e
 unread_note what bytes note old new fault.Device h e = e
 
-pub unread_noted : (t : Task) (known : Option (List ℕ)) (note : List ℕ) (old new : ℕ) (f : Fault) → FailsRead old new f → note ≡ []
-    → IsNoted t known f note
+pub unread_noted : (t : Task) (known : Option (List ℕ)) (note : List ℕ) (old new : ℕ) (f : Fault)
+    → FailsRead old new f → note ≡ [] → IsNoted t known f note
 unread_noted t None note old new f h e = tt
 unread_noted t (Some k) note old new f h e = unread_note t.doing k note old new f h e
+
+-- ---- how it is told
+
+-- a line was told behind what stands before it
+pub told_behind : (note line : List ℕ) (status : ℕ) (old mid new : Option (List ℕ)) (faults_old faults_mid faults_new result : ℕ)
+    → Appends old mid note → faults_mid ≡ faults_old → Tells line status mid new faults_mid faults_new result
+    → Tells (note ++ line) status old new faults_old faults_new result
+told_behind note line status old mid new faults_old faults_mid faults_new result wrote same (inl p) =
+    inl (p.0, appends_then old mid new note line wrote p.1, p.2 ∙ same)
+told_behind note line status old mid new faults_old faults_mid faults_new result wrote same (inr p) =
+    inr (p.0, beginning_then old mid new note line wrote p.1, subst (λ n. Rose n faults_new) same p.2)
+
+-- or only a beginning of that was
+pub cut_before : (note line : List ℕ) (status : ℕ) (old new : Option (List ℕ)) (faults_old faults_new result : ℕ)
+    → result ≡ 5 → AppendsBeginning old new note → Rose faults_old faults_new
+    → Tells (note ++ line) status old new faults_old faults_new result
+cut_before note line status old new faults_old faults_new result is begun rose = inr (is, beginning_more old new note line begun, rose)

@@ -1,5 +1,6 @@
 -- From a fault and how it was told to the clauses of the whole program.
-use Rattle.std.proofs.Common.{◌≡◌, ◌≢◌, ◌⊎◌, ℕ, zero, suc, List, [], ◌++◌, length, take, Option, Some, None, inl, inr, refl, sym, ap, subst, ◌∙◌}
+use Rattle.std.proofs.Common.{◌≡◌, ◌≢◌, ◌⊎◌, ℕ, zero, suc, List, [], ◌++◌, length, take, Option, Some, None}
+use Rattle.std.proofs.Common.{inl, inr, refl, sym, ap, subst, ◌∙◌}
 use Rattle.std.proofs.Math.Seq.{take-length}
 use Rattle.std.proofs.lemmas.List.{append-nil}
 use Rattle.std.specs.Prelude.{IfSome}
@@ -15,7 +16,8 @@ use Rattle.xk_io.specs.Writing.{AppendsBeginning}
 use Rattle.xk_program.specs.Lines.{device_line, fault_line, status_of}
 use Rattle.xk_messages.specs.Lines.{memory_line}
 use Rattle.xk_serve.specs.Notes.{note_of, told_of}
-use Rattle.xk_serve.specs.Devices.{Answered, ErrBegins, Explained, IfKnown, IsBegun, IsNoted, IsTold, IsWritten, OutBegins, Reads, Reports, StandsAgainst, StandsOn, Tells, read_of}
+use Rattle.xk_serve.specs.Devices.{Answered, ErrBegins, Explained, IfKnown, IsBegun, IsNoted, IsTold, IsWritten, OutBegins}
+use Rattle.xk_serve.specs.Devices.{Reads, Reports, StandsAgainst, StandsOn, Tells, read_of}
 
 -- nothing was written
 pub appends_none : (a : Option (List ℕ)) → Appends a a []
@@ -133,9 +135,14 @@ one_of t bytes logged n (fault.NoOutcome line) said h = inr h.1
 one_of t bytes logged n fault.OutOfMemory said h = inr h.1
 one_of t bytes logged n fault.Device said h = inl (refl, h.1)
 
-module _ (said note : List ℕ) (f : Fault) (out_old out_new : Option (List ℕ)) (out_faults out_after : ℕ) (err_old err_new : Option (List ℕ)) (err_faults err_after result : ℕ) where
+module _ (said note : List ℕ) (f : Fault) (out_old out_new : Option (List ℕ)) (out_faults out_after : ℕ)
+    (err_old err_new : Option (List ℕ)) (err_faults err_after result : ℕ) where
+  -- so it was told
+  abbrev IsExplained : Type 0
+  IsExplained = Explained said note f out_old out_new out_faults out_after err_old err_new err_faults err_after result
+
   -- a device's fault has the status of a device
-  device_told : f ≡ fault.Device → Explained said note f out_old out_new out_faults out_after err_old err_new err_faults err_after result → result ≡ 5
+  device_told : f ≡ fault.Device → IsExplained → result ≡ 5
   device_told e (inl (out, same, inl p)) = p.0 ∙ ap status_of e
   device_told e (inl (out, same, inr p)) = p.0
   device_told e (inr (inl (out, same, device, told))) = absurd (device e)
@@ -149,7 +156,7 @@ module _ (said note : List ℕ) (f : Fault) (out_old out_new : Option (List ℕ)
   -- a fault that was told is an answer
   explained_answer : (t : Task) (bytes logged : List ℕ) (log : Option (List ℕ)) → note ≡ note_of t.doing bytes f
       → FailsBy t bytes logged f × IsSaidOf t bytes f said
-      → Explained said note f out_old out_new out_faults out_after err_old err_new err_faults err_after result
+      → IsExplained
       → result ≢ 4 → result ≢ 5 → Answered t bytes logged result out_old out_new err_old err_new log log
   explained_answer t bytes logged log is h (inl (out, same, inl p)) not4 not5 = record {
     reply = fault_reply t bytes said f;
@@ -166,24 +173,26 @@ module _ (said note : List ℕ) (f : Fault) (out_old out_new : Option (List ℕ)
   explained_answer t bytes logged log is h (inr (inr (out, rose, inr p))) not4 not5 = absurd (not5 p.0)
 
   -- standard output got a beginning of what is said
-  explained_begins : Explained said note f out_old out_new out_faults out_after err_old err_new err_faults err_after result → AppendsBeginning out_old out_new said
+  explained_begins : IsExplained → AppendsBeginning out_old out_new said
   explained_begins (inl (out, same, told)) = (length said, rw (take-length said) out)
   explained_begins (inr (inl (out, same, device, told))) = (0, out)
   explained_begins (inr (inr (out, rose, told))) = out
 
   -- standard error got a beginning of a line, and of what stands before it
   explained_line : (t : Task) (bytes logged : List ℕ) → note ≡ note_of t.doing bytes f → IsTold t bytes logged f
-      → Explained said note f out_old out_new out_faults out_after err_old err_new err_faults err_after result → ErrBegins t bytes logged err_old err_new
+      → IsExplained → ErrBegins t bytes logged err_old err_new
   explained_line t bytes logged is told (inl (out, same, p)) = (
     f,
     told,
     subst (AppendsBeginning err_old err_new) (told_is t bytes is) (tells_begins (note ++ fault_line f) _ err_old err_new _ _ _ p),
   )
-  explained_line t bytes logged is told (inr (inl (out, same, device, p))) = (fault.OutOfMemory, inr tt, tells_begins memory_line _ err_old err_new _ _ _ p)
-  explained_line t bytes logged is told (inr (inr (out, rose, p))) = (fault.Device, inl refl, tells_begins device_line _ err_old err_new _ _ _ p)
+  explained_line t bytes logged is told (inr (inl (out, same, device, p))) =
+      (fault.OutOfMemory, inr tt, tells_begins memory_line _ err_old err_new _ _ _ p)
+  explained_line t bytes logged is told (inr (inr (out, rose, p))) =
+      (fault.Device, inl refl, tells_begins device_line _ err_old err_new _ _ _ p)
 
-  module _ (t : Task) (bytes : List ℕ) (logged : Option (List ℕ)) (n : Reads) (stands : StandsOn t bytes logged n f said) (noted : note ≡ note_of t.doing bytes f)
-      (explained : Explained said note f out_old out_new out_faults out_after err_old err_new err_faults err_after result) (log : Option (List ℕ)) where
+  module _ (t : Task) (bytes : List ℕ) (logged : Option (List ℕ)) (n : Reads) (stands : StandsOn t bytes logged n f said)
+      (noted : note ≡ note_of t.doing bytes f) (explained : IsExplained) (log : Option (List ℕ)) where
     -- the answer on these bytes of FILE
     pub some_answers : result ≢ 4 → result ≢ 5 → OfSome (read_of t logged) (λ one. Answered t bytes one result out_old out_new err_old err_new log log)
     some_answers not4 not5 = elim (one_of t bytes logged n f said stands) [
@@ -192,8 +201,8 @@ module _ (said note : List ℕ) (f : Fault) (out_old out_new : Option (List ℕ)
           (read_of t logged) (λ one h. explained_answer t bytes one log noted h explained not4 not5) k
     ]
 
-  module _ (t : Task) (program known : Option (List ℕ)) (n : Reads) (stands : StandsAgainst t program known n f said) (noted : IsNoted t program f note)
-      (explained : Explained said note f out_old out_new out_faults out_after err_old err_new err_faults err_after result) (log : Option (List ℕ)) where
+  module _ (t : Task) (program known : Option (List ℕ)) (n : Reads) (stands : StandsAgainst t program known n f said)
+      (noted : IsNoted t program f note) (explained : IsExplained) (log : Option (List ℕ)) where
     -- what stands before the line
     is_noted : List ℕ → Type 0
     is_noted bytes = note ≡ note_of t.doing bytes f
@@ -203,7 +212,8 @@ module _ (said note : List ℕ) (f : Fault) (out_old out_new : Option (List ℕ)
     told_answers = elim (either t program known n f said stands) [
       | inl d ↦ of_known t program known (λ bytes logged. result ≢ 4 → result ≢ 5 → Answered t bytes logged result out_old out_new err_old err_new log log)
           (λ bytes logged not4 not5. absurd (not5 (device_told d.0 explained)))
-      | inr k ↦ noted_weaker t program known is_noted _ _ (λ bytes logged is h not4 not5. explained_answer t bytes logged log is h explained not4 not5) noted k
+      | inr k ↦ noted_weaker t program known is_noted _ _
+          (λ bytes logged is h not4 not5. explained_answer t bytes logged log is h explained not4 not5) noted k
     ]
 
     -- standard output, and the log
@@ -220,7 +230,8 @@ module _ (said note : List ℕ) (f : Fault) (out_old out_new : Option (List ℕ)
     line_begins = elim (either t program known n f said stands) [
       | inl d ↦ of_noted t program known is_noted (λ bytes logged. ErrBegins t bytes logged err_old err_new)
           (λ bytes logged is. explained_line t bytes logged is (inl d.0) explained) noted
-      | inr k ↦ noted_weaker t program known is_noted _ _ (λ bytes logged is h. explained_line t bytes logged is (inr h.0) explained) noted k
+      | inr k ↦ noted_weaker t program known is_noted _ _
+          (λ bytes logged is h. explained_line t bytes logged is (inr h.0) explained) noted k
     ]
 
 -- a device's fault was told

@@ -119,7 +119,8 @@ pub told_by_some : (t : Task) (program logged : Option (List ℕ)) (n : Reads) (
     Option (List ℕ))
     (out_faults out_after : ℕ) (err_old err_new : Option (List ℕ)) (err_faults err_after result : ℕ) (log : Option (List ℕ)) → r ≡ Err x
     → IsOutcomeOfSome t program logged n r
-    → Explained x.refused.said.items x.note.now x.refused.fault out_old out_new out_faults out_after err_old err_new err_faults err_after result
+    → Explained x.refused.said.items x.note.now x.refused.fault out_old out_new out_faults out_after err_old err_new err_faults err_after
+    result
     → result ≢ 4 → result ≢ 5 → AnsweredBySome t program logged result out_old out_new err_old err_new log log
 told_by_some t program logged n r x out_old out_new out_faults out_after err_old err_new err_faults err_after result log e o told memory
     device =
@@ -130,6 +131,6 @@ told_by_some t program logged n r x out_old out_new out_faults out_after err_old
     record {
       bytes = o.bytes;
       are = o.are;
-      answered = some_answers x.refused.said.items x.note.now x.refused.fault out_old out_new out_faults out_after err_old err_new err_faults
-          err_after result t o.bytes logged n stands noted told log memory device;
+      answered = some_answers x.refused.said.items x.note.now x.refused.fault out_old out_new out_faults out_after err_old err_new
+          err_faults err_after result t o.bytes logged n stands noted told log memory device;
     }

@@ -163,4 +163,5 @@ fault_reply t bytes said f = record { status = status_of f; out = said; err = to
 -- the program may answer so
 abbrev pub Answers : Task → List ℕ → List ℕ → Reply → Type 0
 Answers t bytes logged r =
-    ((d : Done) × Succeeds t bytes logged d × (r ≡ done_reply d)) ⊎ ((f : Fault) × FailsBy t bytes logged f × ((said : List ℕ) × IsSaidOf t bytes f said × (r ≡ fault_reply t bytes said f)))
+    ((d : Done) × Succeeds t bytes logged d × (r ≡ done_reply d))
+    ⊎ ((f : Fault) × FailsBy t bytes logged f × ((said : List ℕ) × IsSaidOf t bytes f said × (r ≡ fault_reply t bytes said f)))

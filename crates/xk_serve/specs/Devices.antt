@@ -1,5 +1,6 @@
 -- What the program does with its devices. This project's own.
-use Rattle.std.specs.Prelude.{◌≡◌, ◌≢◌, ℕ, ◌⊎◌, true, List, [], ◌++◌, Option, Some, Result, IfErr, IfOk, IfSome, string_bytes, if◌then◌else◌}
+use Rattle.std.specs.Prelude.{◌≡◌, ◌≢◌, ℕ, ◌⊎◌, true, List, [], ◌++◌, string_bytes, if◌then◌else◌}
+use Rattle.std.specs.Prelude.{Option, Some, Result, IfErr, IfOk, IfSome}
 use Rattle.std.specs.Io.KnownBytes.{Appends}
 use Rattle.xk_types.specs.Device.{Rose}
 use Rattle.xk_log.specs.SomeBytes.{OfSome}
@@ -107,11 +108,14 @@ Reports f old new faults_old faults_new result =
     Tells (fault_line f) (status_of f) old new faults_old faults_new result
     ⊎ ((f ≢ fault.Device) × Tells memory_line status_memory old new faults_old faults_new result)
 
--- All that is said of a fault was written to standard output, and then what stands before its line, and the line, were told; or want of memory was,
--- and nothing was written before; or a write failed: to standard output, which got a beginning, and then a device is told, or to standard error.
-abbrev pub Explained : List ℕ → List ℕ → Fault → Option (List ℕ) → Option (List ℕ) → ℕ → ℕ → Option (List ℕ) → Option (List ℕ) → ℕ → ℕ → ℕ → Type 0
+-- All that is said of a fault was written to standard output, and then what stands before its line, and the line, were told; or want
+-- of memory was, and nothing was written before; or a write failed: to standard output, which got a beginning, and then a device is
+-- told, or to standard error.
+abbrev pub Explained : List ℕ → List ℕ → Fault → Option (List ℕ) → Option (List ℕ) → ℕ → ℕ → Option (List ℕ) → Option (List ℕ)
+    → ℕ → ℕ → ℕ → Type 0
 Explained said note f out_old out_new out_faults out_after err_old err_new err_faults err_after result =
-    (Appends out_old out_new said × (out_after ≡ out_faults) × Tells (note ++ fault_line f) (status_of f) err_old err_new err_faults err_after result)
+    (Appends out_old out_new said × (out_after ≡ out_faults)
+    × Tells (note ++ fault_line f) (status_of f) err_old err_new err_faults err_after result)
     ⊎ ((Appends out_old out_new [] × (out_after ≡ out_faults) × (f ≢ fault.Device) × Tells memory_line status_memory err_old err_new err_faults err_after result)
     ⊎ (AppendsBeginning out_old out_new said × Rose out_faults out_after × Tells device_line status_device err_old err_new err_faults err_after result))
 

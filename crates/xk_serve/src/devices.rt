@@ -31,12 +31,13 @@ use xk_program::{DEVICE_LINE, Fault, read_program};
 use xk_types::{Sink, Source};
 
 /// Reads the program, does the job, and writes what comes of it: its result to `out` and then the log of a run that is to have one to
-/// `log_out`, or one line to `err`, before which another may say that FILE is a log. The answer is the exit status: 0 where the job is done, 6 where it is done but its answer isn't whole,
-/// 7 where an outcome isn't in the list, 1 where the program is refused, or is to be run and its main takes another number of arguments
-/// than it is given, 3 where the log or the list of outcomes is refused, 4 where memory ran out, 5 where a device failed. A run by workers
-/// is some run of the program: a call with such a job may wait for them, and what is said here holds where it returns. Whatever the answer
-/// but 5, no read or write failed. The result is written piece by piece, once all is known and no more memory is wanted, so `out` and
-/// `log_out` stay empty but at 0, 6, 7 and 5, and at 1 where `explain` says more of a fault; and `err` never gets more than these lines.
+/// `log_out`, or one line to `err`, before which another may say that FILE is a log. The answer is the exit status: 0 where the job is
+/// done, 6 where it is done but its answer isn't whole, 7 where an outcome isn't in the list, 1 where the program is refused, or is to be
+/// run and its main takes another number of arguments than it is given, 3 where the log or the list of outcomes is refused, 4 where memory
+/// ran out, 5 where a device failed. A run by workers is some run of the program: a call with such a job may wait for them, and what is
+/// said here holds where it returns. Whatever the answer but 5, no read or write failed. The result is written piece by piece, once all is
+/// known and no more memory is wanted, so `out` and `log_out` stay empty but at 0, 6, 7 and 5, and at 1 where `explain` says more of a
+/// fault; and `err` never gets more than these lines.
 pub fn serve<R: Threads + Wait + Sync, P: Source, L: Source, O: Sink, E: Sink, K: Sink>(
     rt: &R,
     alloc: Global,
@@ -120,9 +121,8 @@ fn outcome<R: Threads + Wait + Sync, P: Source, L: Source>(
         (λ bytes logged. Succeeds (task_of job.now) bytes logged d)) }
     ensures no_fault { OnOk result ((P.fault_count program.new ≡ P.fault_count program.old)
         × (L.fault_count log_in.new ≡ L.fault_count log_in.old)) }
-    ensures fault { IfErr result (λ r.
-        StandsAgainst (task_of job.now) (P.remaining program.old) (L.remaining log_in.old)
-        (reads (P.fault_count program.old) (P.fault_count program.new)
+    ensures fault { IfErr result (λ r. StandsAgainst (task_of job.now) (P.remaining program.old)
+        (L.remaining log_in.old) (reads (P.fault_count program.old) (P.fault_count program.new)
         (L.fault_count log_in.old) (L.fault_count log_in.new))
         r.refused.fault r.refused.said.items) }
     ensures noted { IfErr result (λ r. IsNoted (task_of job.now) (P.remaining program.old)
@@ -251,8 +251,8 @@ fn write_log<K: Sink>(done: &Done, log_out: &mut K) -> Result<(), Device>
     write_entries(log, log_out)
 }
 
-/// Writes what is said of a fault to `out`, and then to `err` what stands before its line, and the line. Gives the status: the fault's, or 4 where
-/// memory for the line ran out, and then nothing was written before, or 5 where a write failed.
+/// Writes what is said of a fault to `out`, and then to `err` what stands before its line, and the line. Gives the status: the
+/// fault's, or 4 where memory for the line ran out, and then nothing was written before, or 5 where a write failed.
 fn refuse<O: Sink, E: Sink>(alloc: Global, refusal: &Refusal, out: &mut O, err: &mut E) -> u8
     requires quiet { IsQuiet refusal.now.refused.fault refusal.now.refused.said.items }
     requires quiet_note { IsQuiet refusal.now.refused.fault refusal.now.note.now }

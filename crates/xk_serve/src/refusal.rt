@@ -78,6 +78,7 @@ fn note_of(command: &Command<'_>, bytes: &[u8], fault: &Fault) -> &'static str
 }
 
 /// Whether it may be told that FILE is a log: a log is read beside it, and the specification leaves open what is told.
+#[tactic(auto, using(crate::proofs::NoteLemmas::lanes_noted, crate::proofs::NoteLemmas::races_noted))]
 fn may_note(command: &Command<'_>) -> bool
     ensures { result ≡ may_note (doing_of command.now) }
 {
@@ -102,7 +103,8 @@ fn may_note(command: &Command<'_>) -> bool
     }
 }
 
-/// Writes what stands before a line and then the line, and gives the status, or 5 where they can't be written: then a beginning of them was.
+/// Writes what stands before a line and then the line, and gives the status, or 5 where they can't be written: then a
+/// beginning of them was.
 pub(crate) fn tell_noted<E: Sink>(note: &str, line: &str, status: u8, err: &mut E) -> u8
     ensures { Tells (note.now ++ line.now) status
         (E.contents err.old) (E.contents err.new)

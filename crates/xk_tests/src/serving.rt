@@ -60,6 +60,8 @@ const REPLAY: Command<'static> = Command::Replay { log: "log" };
 
 const CHART: Command<'static> = Command::Chart { log: "log" };
 
+const EVENTS: Command<'static> = Command::Events { log: "log" };
+
 /// A command, the texts that its devices give and those that are written to them where none fails, and the status.
 #[derive(Clone, Copy)]
 struct Row {
@@ -105,10 +107,12 @@ fn refused(
     }
 }
 
-/// Runs and logs of two activities in step; and a text and a log that are refused.
-fn rows() -> [Row; 5] {
+/// Runs and logs of two activities in step; and texts and a log that are refused.
+fn rows() -> [Row; 6] {
     let no_clock = "def main() { clocked async { } }";
     let no_clock_told = "x10clock: F15 NoHiddenClock at 13\n";
+    let log_told =
+        "x10clock: FILE is a log; the program comes first, then the log\nx10clock: F2 Syntax at 0\n";
     let beginning = "x10log 1\n0 1\n";
     let beginning_told = "x10clock: L2 Truncated\n";
     [
@@ -116,6 +120,7 @@ fn rows() -> [Row; 5] {
         done("replay", REPLAY, LOG, PRINTED, ""),
         done("chart", CHART, LOG, CHARTED, ""),
         refused("no clock", RUN, no_clock, "", 1, no_clock_told),
+        refused("a log for FILE", EVENTS, LOG, "", 1, log_told),
         refused(
             "a beginning of a log",
             REPLAY,

@@ -18,18 +18,21 @@ returns-in-Ok-ending-clause-out_begins g c =
 
 pub returns-clause-answered : goal.returns-clause-answered
 returns-clause-answered g c =
-    told_answers _ _ _ _ _ _ _ _ _ _ _ _ (task_of c.args.job.now) (g.P.Source.remaining c.args.program.now) (g.L.Source.remaining c.args.log_in.now) _
-    c.in-Err.ensures.fault c.in-Err.ensures.noted c.refuse.ensures (g.K.Sink.contents c.args.log_out.now)
+    told_answers _ _ _ _ _ _ _ _ _ _ _ _ (task_of c.args.job.now) (g.P.Source.remaining c.args.program.now)
+    (g.L.Source.remaining c.args.log_in.now) _ c.in-Err.ensures.fault c.in-Err.ensures.noted c.refuse.ensures
+    (g.K.Sink.contents c.args.log_out.now)
 
 pub returns-clause-out_begins : goal.returns-clause-out_begins
 returns-clause-out_begins g c =
-    said_begins _ _ _ _ _ _ _ _ _ _ _ _ (task_of c.args.job.now) (g.P.Source.remaining c.args.program.now) (g.L.Source.remaining c.args.log_in.now) _
-    c.in-Err.ensures.fault c.in-Err.ensures.noted c.refuse.ensures (g.K.Sink.contents c.args.log_out.now)
+    said_begins _ _ _ _ _ _ _ _ _ _ _ _ (task_of c.args.job.now) (g.P.Source.remaining c.args.program.now)
+    (g.L.Source.remaining c.args.log_in.now) _ c.in-Err.ensures.fault c.in-Err.ensures.noted c.refuse.ensures
+    (g.K.Sink.contents c.args.log_out.now)
 
 pub returns-clause-err_begins : goal.returns-clause-err_begins
 returns-clause-err_begins g c =
-    line_begins _ _ _ _ _ _ _ _ _ _ _ _ (task_of c.args.job.now) (g.P.Source.remaining c.args.program.now) (g.L.Source.remaining c.args.log_in.now) _
-    c.in-Err.ensures.fault c.in-Err.ensures.noted c.refuse.ensures (g.K.Sink.contents c.args.log_out.now)
+    line_begins _ _ _ _ _ _ _ _ _ _ _ _ (task_of c.args.job.now) (g.P.Source.remaining c.args.program.now)
+    (g.L.Source.remaining c.args.log_in.now) _ c.in-Err.ensures.fault c.in-Err.ensures.noted c.refuse.ensures
+    (g.K.Sink.contents c.args.log_out.now)
 
 pub returns-in-Ok-ending-clause-err_begins : goal.returns-in-Ok-ending-clause-err_begins
 returns-in-Ok-ending-clause-err_begins g c =
