@@ -98,6 +98,7 @@ fn may_note(command: &Command<'_>) -> bool
         | Command::Replay { .. }
         | Command::Chart { .. }
         | Command::Tally { .. }
+        | Command::OutcomePage { .. }
         | Command::Outcomes { .. }
         | Command::Expected { .. } => false,
     }
