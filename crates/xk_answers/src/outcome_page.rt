@@ -73,7 +73,7 @@ fn outcome_page(
         → IfOk result (λ tale. IsOutcomePage window limit pick form file.now bytes
         verified.now arguments.now (tale.text.items, tale.whole)) }
 {
-    let picked = picked(alloc, limit, pick, verified, arguments)?;
+    let picked = pick_outcome(alloc, limit, pick, verified, arguments)?;
     match picked.log {
         Some(log) => page_by_log(alloc, window, file, from, verified, arguments, log),
         None => none_told(alloc, pick, picked.count, picked.complete),
@@ -81,7 +81,7 @@ fn outcome_page(
 }
 
 /// The log of the outcome of this number. All others are let go of, so that the page has their memory.
-fn picked(
+fn pick_outcome(
     alloc: Global,
     limit: Limit,
     pick: u64,
@@ -114,7 +114,7 @@ fn page_by_log(
     requires { AreArguments verified.now arguments.now }
     ensures { (form : FormValue) (bytes : List ℕ) → IsFrom true form bytes from.now
         → IfOk result (λ tale. IsPageOf window form file.now bytes
-        verified.now arguments.now log.entry.items (tale.text.items, tale.whole)) }
+        verified.now arguments.now log.items (tale.text.items, tale.whole)) }
 {
     match replay(alloc, verified, arguments, Log::new(log)) {
         Ok(ended) => page_so_far(alloc, file, from, &LegalRun::of(&ended), window),

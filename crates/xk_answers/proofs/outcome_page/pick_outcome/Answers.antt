@@ -1,7 +1,7 @@
 use Rattle.std.proofs.Common.{◌∙◌, ◌&&◌, not, true, refl, ap}
 use Rattle.xk_outcomes.specs.Text.{outcomes_text}
 use Rattle.xk_answers.specs.Results.{kept_log, lacks_log}
-use Rattle.xk_answers.proofs.outcome_page.picked.Goals as goal
+use Rattle.xk_answers.proofs.outcome_page.pick_outcome.Goals as goal
 
 pub returns : goal.returns
 returns c =
@@ -25,6 +25,6 @@ returns c =
         whole_is = refl;
         log_is = c.in_ok-log.ensures ∙ ap (kept_log true c.args.pick) c.deref.ensures.value;
       };
-      count_is = c.len.ensures;
+      count_is = c.len.ensures ∙ found.list.ok.0;
       complete_is = refl;
     }
