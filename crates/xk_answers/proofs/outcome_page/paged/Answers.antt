@@ -2,11 +2,12 @@ use Rattle.std.proofs.Common.{◌∙◌, ap, subst}
 use Rattle.xk_types.specs.Bound.{activities_bound}
 use Rattle.xk_outcomes.specs.declared.all_outcomes.Limit.{Limit}
 use Rattle.xk_outcomes.specs.Limits.{limit_of}
+use Rattle.xk_answers.specs.Explanation.{Tale}
 use Rattle.xk_answers.specs.Results.{IsOutcomePage}
 use Rattle.xk_answers.proofs.outcome_page.paged.Goals as goal
 
-pub outcome_page-tale-requires : goal.outcome_page-tale-requires
-outcome_page-tale-requires c = rw c.in_ok-verified.ensures.accepted.0 c.in_ok-verified.ensures.taken
+pub outcome_page-requires : goal.outcome_page-requires
+outcome_page-requires c = rw c.in_ok-verified.ensures.accepted.0 c.in_ok-verified.ensures.taken
 
 pub returns-clause-done : goal.returns-clause-done
 returns-clause-done c = λ form bytes logged given.
@@ -14,7 +15,7 @@ returns-clause-done c = λ form bytes logged given.
     let args = c.args.arguments.now in
     let file = c.args.file.now in
     let tale = c.in_ok-tale.tale in
-    let told = (tale.text.items, tale.whole) in
+    let told : Tale = (tale.text.items, tale.whole) in
     let limit_is = c.of-limit.ensures ∙ ap (limit_of c.args.limit) c.activities.ensures in (
       accepted.1,
       subst (λ m. IsOutcomePage c.args.window (limit_of c.args.limit (activities_bound m)) c.args.pick form file bytes m args told) accepted.0
