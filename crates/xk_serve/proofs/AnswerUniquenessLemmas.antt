@@ -533,6 +533,7 @@ determined_status Check one = tt
 determined_status Compile one = tt
 determined_status Listing one = tt
 determined_status (Run (In o) kept) one = tt
+determined_status (Run (Greedy p) kept) one = tt
 determined_status (Run (By n) kept) one = absurd one
 determined_status Replay one = tt
 determined_status (Draw picture) one = tt

@@ -204,7 +204,7 @@ module _ (said note : List ℕ) (f : Fault) (out_old out_new : Option (List ℕ)
   module _ (t : Task) (program known : Option (List ℕ)) (n : Reads) (stands : StandsAgainst t program known n f said)
       (noted : IsNoted t program f note) (explained : IsExplained) (log : Option (List ℕ)) where
     -- what stands before the line
-    is_noted : List ℕ → Type 0
+    abbrev is_noted : List ℕ → Type 0
     is_noted bytes = note ≡ note_of t.doing bytes f
 
     -- the answer, whether the bytes are known or not

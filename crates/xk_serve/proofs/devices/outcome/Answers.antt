@@ -1,4 +1,4 @@
-use Rattle.std.proofs.Common.{refl}
+use Rattle.std.proofs.Common.{refl, sym}
 use Rattle.xk_serve.specs.Answer.{task_of}
 use Rattle.xk_serve.proofs.ExplanationLemmas.{quiet_of}
 use Rattle.xk_serve.proofs.LongTextLemmas.{kept_done, told_stands}
@@ -11,7 +11,7 @@ use Rattle.xk_serve.proofs.devices.outcome.Goals as goal
 pub returns-in-Err-clause-noted : goal.returns-in-Err-clause-noted
 returns-in-Err-clause-noted g c =
     unread_noted (task_of c.args.job.now) (g.P.Source.remaining c.args.program.now) c.unnoted.result.note.now _ _
-    c.unnoted.result.refused.fault (rw c.unnoted.ensures.fault c.in-Err.ensures.failed) c.unnoted.ensures.note
+    c.unnoted.result.refused.fault (rw (sym c.unnoted.ensures.fault) at c.in-Err.ensures.failed) c.unnoted.ensures.note
 
 pub returns-in-Err-clause-by_some : goal.returns-in-Err-clause-by_some
 returns-in-Err-clause-by_some g c =
@@ -25,7 +25,7 @@ returns-in-Err-clause-by_some g c =
       against = unread_stands t (some_bytes t.form program) (g.L.Source.remaining c.args.log_in.now) _ refused.fault refused.said.items
           (rw c.unnoted.ensures.fault c.in-Err.ensures.failed) refl c.unnoted.ensures.said;
       noted = unread_note t.doing (some_bytes t.form program) c.unnoted.result.note.now _ _ refused.fault
-          (rw c.unnoted.ensures.fault c.in-Err.ensures.failed) c.unnoted.ensures.note;
+          (rw (sym c.unnoted.ensures.fault) at c.in-Err.ensures.failed) c.unnoted.ensures.note;
     }
 
 -- ---- where it comes to something
@@ -58,7 +58,7 @@ returns-clause-fault g c =
 pub returns-clause-noted : goal.returns-clause-noted
 returns-clause-noted g c =
     kept_noted (task_of c.args.job.now) (g.P.Source.remaining c.args.program.now) c.in-Ok.bytes.items c.noted.result.note.now
-    c.noted.result.refused.fault c.in-Ok.ensures.kept (rw c.deref-in-Err.ensures.value at c.noted.ensures.note)
+    c.noted.result.refused.fault c.in-Ok.ensures.kept (rw c.deref-in-Err-outcome_of.ensures.value at c.noted.ensures.note)
 
 pub returns-clause-quiet : goal.returns-clause-quiet
 returns-clause-quiet g c =
@@ -77,5 +77,5 @@ returns-clause-by_some g c =
           c.in-Ok.ensures.no_fault
           (rw c.noted.ensures.refused (rw c.deref.ensures.value at c.in-Err-outcome_of.ensures.fault))
           (rw c.noted.ensures.refused (rw c.deref.ensures.value at c.in-Err-outcome_of.ensures.said));
-      noted = rw c.deref-in-Err.ensures.value at c.noted.ensures.note;
+      noted = rw c.deref-in-Err-outcome_of.ensures.value at c.noted.ensures.note;
     }

@@ -1,10 +1,8 @@
 use Rattle.std.proofs.Common.{◌∙◌, sym}
 use Rattle.xk_serve.specs.Answer.{task_of}
-use Rattle.xk_serve.proofs.CommandLemmas.{explains, unexplained}
+use Rattle.xk_serve.proofs.CommandLemmas.{explains}
 use Rattle.xk_serve.proofs.VerdictLemmas.{against_verdict, done_of_verdict, said_of_verdict}
 use Rattle.xk_serve.proofs.devices.outcome_of.Goals as goal
-
--- ---- of `explain`
 
 pub returns-in-Some-clause-done : goal.returns-in-Some-clause-done
 returns-in-Some-clause-done g c =
@@ -25,11 +23,3 @@ returns-in-Some-clause-said g c =
     let t = task_of c.args.job.now in
     let is = explains c.args.job.now.command c.in-Some.json (sym c.explanation.ensures ∙ c.in-Some.is) in
     said_of_verdict t c.args.bytes.now c.in-Some.json c.explained.result is c.explained.ensures.said
-
--- ---- of any other
-
-pub returns-clause-said : goal.returns-clause-said
-returns-clause-said g c =
-    let t = task_of c.args.job.now in
-    unexplained c.args.job.now.command t.form t.file c.args.bytes.now c.unsaid.result.said.items c.unsaid.result.fault
-    (sym c.explanation.ensures ∙ c.in-None.is) c.unsaid.ensures.said
