@@ -28,26 +28,3 @@ explains (command.Why log step) json e = cc
 explains (command.Races log) json e = cc
 explains (command.Outcomes limit pick log sets) json e = cc
 explains (command.Expected list limit sets) json e = cc
-
--- any other says nothing of a fault beside its line
-pub unexplained : (c : Command) (kind : Form) (file bytes said : List ℕ) (f : Fault) → explanation c ≡ None → said ≡ []
-    → IsSaidBy (doing_of c) kind file bytes f said
-unexplained command.Check kind file bytes said f e h = h
-unexplained command.Compile kind file bytes said f e h = h
-unexplained (command.Explain json) kind file bytes said f e h = cc
-unexplained command.Listing kind file bytes said f e h = h
-unexplained (command.Run drive log) kind file bytes said f e h = h
-unexplained (command.Tally seed runs) kind file bytes said f e h = h
-unexplained (command.Replay log) kind file bytes said f e h = h
-unexplained (command.Chart log) kind file bytes said f e h = h
-unexplained (command.Events log) kind file bytes said f e h = h
-unexplained (command.Lanes log from to svg) kind file bytes said f e h = h
-unexplained (command.Page log from to) kind file bytes said f e h = h
-unexplained (command.OutcomePage pick limit from to) kind file bytes said f e h = h
-unexplained (command.Where log at) kind file bytes said f e h = h
-unexplained (command.Span log) kind file bytes said f e h = h
-unexplained (command.Why log step) kind file bytes said f e h = h
-unexplained (command.Races None) kind file bytes said f e h = h
-unexplained (command.Races (Some log)) kind file bytes said f e h = h
-unexplained (command.Outcomes limit pick log sets) kind file bytes said f e h = h
-unexplained (command.Expected list limit sets) kind file bytes said f e h = h
