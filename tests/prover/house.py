@@ -34,7 +34,7 @@ MOST = {
     "pub": 81,
     "clauses": 0,
     "code": 226,
-    "proofs": 6628,
+    "proofs": 6627,
     "docs": 80,
     "scripts": 0,
     "files": 0,
