@@ -43,7 +43,7 @@ def main() -> int:
     runs = [kept_ci.Earlier(rtlib, top, log) for top, log in pairs]
     wanting = list[str]()
     for name, crate in kept_ci.crates_in(rtlib, kept_ci.TOP).items():
-        if crate.is_built():
+        if crate.is_program or crate.is_built():
             continue
         run = next((it for it in runs if it.has(crate)), None)
         if run:
