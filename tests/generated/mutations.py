@@ -74,7 +74,7 @@ RUNS_MEANT = 3
 CHUNK = 100
 SHOWN = 5
 
-ENDED = re.compile(r"((?:-?\d+\n)*)ended steps (\d+)\n")
+ENDED = re.compile(r"((?:-?\d+\n)*)ended steps (?P<steps>\d+)(?: rounds (?P<rounds>\d+))?\n")
 WALK = re.compile(r"x10clock: (?P<refused>.* walk )(?P<places>\d+(?: \d+)*)\n")
 
 # Modules with shared numbers, each of which is accepted: their numbers, and their units with kind, parameters, slots
@@ -230,6 +230,14 @@ def is_short(text: bytes, judged: Accepted) -> bool:
         return False
     driven = (logs.driven(judged.module, *how) for how in ways(text, judged))
     return all(next(itertools.islice(run, SHORT, None), None) is None for run in driven)
+
+
+def is_of_form(out: str, way: Way, steps: int) -> bool:
+    """Whether a run in this order ends so, in as many steps at most: rounds are counted where it runs by rounds."""
+    ended = ENDED.fullmatch(out)
+    if not ended or int(ended["steps"]) > steps or (ended["rounds"] is None) == isinstance(way, Greedy):
+        return False
+    return ended["rounds"] is None or int(ended["rounds"]) <= int(ended["steps"])
 
 
 def is_sampled(text: bytes, one_in: int = 4) -> bool:
@@ -391,8 +399,7 @@ class Comparer:
                 self.compare_run(" ".join(question), judged, (way, given), answer, outcome)
                 continue
             outcome.counts["runs looked at for their form"] += 1
-            ended = ENDED.fullmatch(answer.out)
-            if answer != done(answer.out) or not ended or int(ended[2]) > judged.bounds.steps:
+            if answer != done(answer.out) or not is_of_form(answer.out, way, judged.bounds.steps):
                 outcome.differ(" ".join(question), f"ended within {judged.bounds.steps} steps", answer)
         if exact and is_sampled(text, DRAWN):
             self.draws(text, judged, outcome)
