@@ -21,6 +21,7 @@ import copy
 import itertools
 import json
 import pathlib
+import re
 import sys
 import tempfile
 from collections.abc import Iterator
@@ -120,13 +121,18 @@ def no_json() -> list[bytes]:
     return [ROW[:end] for end in range(len(ROW))] + [b"[" * 200 + b"]" * 200, b"[" * 1_000_000, b'{"a":' * 1_000_000]
 
 
+def replayed(ran: tuple[int, str, str]) -> tuple[int, str, str]:
+    """What a replay answers where this is the answer of a run: a log doesn't say where rounds begin."""
+    return ran[0], re.sub(r" rounds [0-9]+\n$", "\n", ran[1]), ran[2]
+
+
 def replays(program: logs.Program, text: bytes, judged: Accepted) -> Iterator[str]:
     """Whether the logs of a module's runs are played again."""
     given = logs.Text(text, True).given(*[3] * judged.module.wants)
     for way in WAYS:
         ran, log = program.run(given, way)
         again = program.answer(given, log, "replay")
-        if ran[0] != 0 or again != ran:
+        if ran[0] != 0 or again != replayed(ran):
             yield f"run --log {' '.join(way.words())}: {ran}\n    its replay: {again}"
 
 
