@@ -289,7 +289,7 @@ def helped(words: list[str]) -> Exception:
     """What `help` says of the words behind it."""
     if not words:
         return Help("")
-    if words[0] not in COMMANDS:
+    if words[0] not in {*COMMANDS, "help"}:
         return unrecognized(words[0])
     return unrecognized(words[1]) if len(words) > 1 else Help(words[0])
 
@@ -349,7 +349,7 @@ def of_all(word: str) -> Exception:
 
 def help_text(command: str) -> str:
     """The text of help, which stands in tests/program/words.txt."""
-    call = f"$ x10clock {command} --help\n".replace("  ", " ")
+    call = "$ x10clock help help\n" if command == "help" else f"$ x10clock {command} --help\n".replace("  ", " ")
     return re.split(
         r"^\$ ", (TOP / "tests/program/words.txt").read_text().partition(call)[2], maxsplit=1, flags=re.MULTILINE
     )[0]
