@@ -74,3 +74,8 @@ first_found start = at_rest (record { core = start; printed = []; schedule = [] 
 abbrev pub along : List ℕ → FoundValue → FoundValue
 along [] x = x
 along (a ∷ way) x = next a (along way x)
+
+-- the same by a schedule of such steps, the first of which stands first
+abbrev pub through : List ℕ → FoundValue → FoundValue
+through [] x = x
+through (a ∷ acts) x = through acts (next a x)

@@ -12,7 +12,7 @@ use Rattle.xk_law_schedules.proofs.Invariant.{IsActivitySound, looks}
 use Rattle.xk_law_schedules.proofs.ReachabilityLemmas.{reached_sound}
 use Rattle.xk_law_commute.specs.PlainWorlds.{AreAlike, plain_activity}
 use Rattle.xk_core.specs.Core.{IsCore}
-use Rattle.xk_outcomes.specs.Digest.{mixed, with_activity, with_numbers, with_values, word_of, world_digest}
+use Rattle.xk_digests.specs.Digest.{mixed, with_activity, with_numbers, with_values, word_of, world_digest}
 
 -- each activity of a core is sound
 sound : (m : ModuleValue) (w : World) (a : ℕ) → IsCore m w → a < length w.activities → IsActivitySound m (looks w.clocks a) (length w.clocks) w.steps (act_at w.activities a)

@@ -1,7 +1,7 @@
 //! Digests, numbered as they come, and those that are equal linked one to another.
 
 ghost use Rattle.std.specs.Prelude.{◌≡◌, ◌<◌, ◌++◌, ℕ, [], ◌∷◌, Some, length, slice_get, OnErr, OnOk};
-ghost use Rattle.xk_outcomes.specs.Digests.{IsLast};
+ghost use Rattle.xk_digests.specs.Digests.{IsLast};
 
 use indexmap::IndexMap;
 use std::alloc::{AllocError, Global};
@@ -19,7 +19,7 @@ pub struct Digests {
 
 impl Model for Digests {
     ghost use Rattle.std.specs.Prelude.{ℕ, List};
-    ghost use Rattle.xk_outcomes.specs.Digests.{AreLinked, place_in};
+    ghost use Rattle.xk_digests.specs.Digests.{AreLinked, place_in};
 
     ghost Value = { List ℕ };
 

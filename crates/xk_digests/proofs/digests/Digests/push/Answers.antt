@@ -1,7 +1,7 @@
 use Rattle.std.proofs.Common.{◌≡◌, ◌∙◌, ◌+◌, ◌++◌, ◌∷◌, [], ℕ, List, length, ap, subst}
-use Rattle.xk_outcomes.specs.Digests.{IsLast}
-use Rattle.xk_outcomes.proofs.DigestListLemmas.{linked_pushed}
-use Rattle.xk_outcomes.proofs.digests.Digests.push.Goals as goal
+use Rattle.xk_digests.specs.Digests.{IsLast}
+use Rattle.xk_digests.proofs.DigestListLemmas.{linked_pushed}
+use Rattle.xk_digests.proofs.digests.Digests.push.Goals as goal
 
 pub invariant_of-self-3 : goal.invariant_of-self-3
 invariant_of-self-3 c =

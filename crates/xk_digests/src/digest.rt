@@ -3,7 +3,7 @@
 ghost use Rattle.std.specs.Prelude.{◌≡◌, ◌<◌, length};
 ghost use Rattle.xk_types.specs.World.{slots_of};
 ghost use Rattle.xk_activity.specs.Activities.{act_at};
-ghost use Rattle.xk_outcomes.specs.Digest.{mixed, with_activity, with_number, with_numbers, with_values, word_of, world_digest};
+ghost use Rattle.xk_digests.specs.Digest.{mixed, with_activity, with_number, with_numbers, with_values, word_of, world_digest};
 
 use xk_bounds::Verified;
 use xk_core::Core;

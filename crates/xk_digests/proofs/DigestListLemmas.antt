@@ -6,8 +6,8 @@ use Rattle.std.proofs.lemmas.Bool.Decides.{Decides-eqb}
 use Rattle.std.proofs.lemmas.List.{length_push}
 use Rattle.std.proofs.lemmas.Option.{slice_get_within}
 use Rattle.indexmap.specs.IndexMap.{IndexMap, Updates, get}
-use Rattle.xk_outcomes.specs.Digests.{AreLinked, IsLast, place_in}
-use Rattle.xk_outcomes.proofs.SearchLemmas.{at_end, place, stays}
+use Rattle.xk_digests.specs.Digests.{AreLinked, IsLast, place_in}
+use Rattle.xk_digests.proofs.PushLemmas.{at_end, place, stays}
 
 -- what is last of some is so of more
 more_behind : (all : List ℕ) (d e n p : ℕ) → n ≤ length all → IsLast all e n p → IsLast (all ++ d ∷ []) e n p
