@@ -1,4 +1,4 @@
-// To print 1 and then 2: nothing lets main wait.
+// A try at `in-order`: the activity is started before main prints.
 def main() {
     async Console.OUT.println(1);
     Console.OUT.println(2);
