@@ -1,14 +1,13 @@
 -- What can be read along links is printed by the steps that they stand for; and no reading is longer than a run.
-use Rattle.std.proofs.Common.{◌≡◌, ◌∙◌, ℕ, ℤ, zero, suc, ◌+◌, ◌<◌, ◌≤◌, ◌⊎◌, inl, inr, Bool, true, List, [], ◌∷◌, ◌++◌, length, Option, Some, None, refl, sym, ap, subst, append_assoc, arith, slice_get}
-use Rattle.std.specs.Prelude.{map, option_map}
+use Rattle.std.proofs.Common.{◌≡◌, ◌∙◌, ℕ, ℤ, zero, suc, ◌+◌, ◌≤◌, Bool, true, List, [], ◌∷◌, ◌++◌, Option, Some, None, refl, sym, ap, subst, append_assoc, arith, slice_get}
+use Rattle.std.specs.Prelude.{option_map}
 use Rattle.std.specs.Option.{option_to_list}
 use Rattle.std.proofs.lemmas.List.{append-nil, append_cancel_left, length-map}
-use Rattle.std.proofs.lemmas.Option.{none-some, same_Some, slice_get-map, slice_get_within}
-use Rattle.xk_types.specs.declared.world.Event.{Event}
+use Rattle.std.proofs.lemmas.Option.{same_Some, slice_get-map, slice_get_within}
 use Rattle.xk_types.specs.Acceptance.{IsAccepted}
 use Rattle.xk_types.specs.Bound.{steps_bound}
 use Rattle.xk_types.specs.Code.{ModuleValue, IsWithinLimits}
-use Rattle.xk_types.specs.World.{World, AreArguments, opening}
+use Rattle.xk_types.specs.World.{AreArguments, opening}
 use Rattle.xk_types.specs.Step.{Outcome, Blocked, Wrong, Stepped, step}
 use Rattle.xk_types.specs.Schedule.{all_ended, is_enabled}
 use Rattle.xk_law_schedules.proofs.StepCountLemmas.{step_counts}
@@ -18,8 +17,8 @@ use Rattle.xk_core.specs.Core.{CoreValue}
 use Rattle.xk_readings.specs.declared.edge.Edge.{Edge}
 use Rattle.xk_readings.specs.Graphs.{IsWithin, graph}
 use Rattle.xk_readings.specs.Readings.{IsLongest, Reads}
-use Rattle.xk_outcomes.specs.Found.{FoundValue, at_rest, first_found, least_private, next, one_more, settled, through, with_outcome, with_step}
-use Rattle.xk_outcomes.specs.Links.{AreLinked, IsLink, LeadTo, Leads, ends}
+use Rattle.xk_outcomes.specs.Found.{FoundValue, first_found, least_private, next, one_more, settled, through, with_outcome, with_step}
+use Rattle.xk_outcomes.specs.Links.{AreLinked, LeadTo, Leads, ends}
 use Rattle.xk_outcomes.specs.Search.{IsFound}
 use Rattle.xk_outcomes.proofs.AlikeLemmas.{enabled_alike, next_goes_alike}
 use Rattle.xk_outcomes.proofs.FoundLemmas.{first_is_found, found_through}

@@ -169,8 +169,7 @@ pub after_next : (m : ModuleValue) → IsWithinLimits m → IsAccepted m → (or
 after_next m limits ok order all links number to here y a same is there link u e t =
     let l = leading m limits ok here y a same is u e t in
     let printed : slice_get y.printed (length here.printed) ≡ number_printed e =
-    ap (λ ns. slice_get ns (length here.printed)) l.prints ∙ one_behind here.printed (number_printed e) in
-    (
+    ap (λ ns. slice_get ns (length here.printed)) l.prints ∙ one_behind here.printed (number_printed e) in (
       l.list,
       y.core.world,
       l.private,

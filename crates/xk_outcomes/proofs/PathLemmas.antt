@@ -1,9 +1,8 @@
 -- What is read along links is listed: from readings to outcomes, and as many outcomes as there are readings.
-use Rattle.std.proofs.Common.{◌≡◌, ◌∙◌, ℕ, ℤ, ◌+◌, ◌<◌, ◌≤◌, ◌<ℤ◌, ◌⊎◌, inl, inr, true, List, [], ◌∷◌, ◌++◌, length, Some, refl, sym, ap, subst, arith, slice_get}
+use Rattle.std.proofs.Common.{◌≡◌, ◌∙◌, ℕ, ℤ, ◌+◌, ◌<◌, ◌≤◌, ◌⊎◌, inl, inr, List, [], ◌∷◌, ◌++◌, length, Some, sym, ap, subst, arith, slice_get}
 use Rattle.std.proofs.lemmas.Int.{ints}
 use Rattle.std.proofs.lemmas.Option.{same_Some, slice_get_within}
-use Rattle.indexmap.proofs.IndexTableLemmas.Probe.{Into, OneToOne, pigeonhole}
-use Rattle.xk_types.specs.Schedule.{all_ended}
+use Rattle.indexmap.proofs.IndexTableLemmas.Probe.{pigeonhole}
 use Rattle.xk_core.specs.Core.{CoreValue}
 use Rattle.xk_readings.specs.declared.edge.Edge.{Edge}
 use Rattle.xk_readings.specs.declared.listing.Reading.{Reading}
@@ -11,15 +10,13 @@ use Rattle.xk_readings.specs.Graphs.{graph}
 use Rattle.xk_readings.specs.Readings.{AreAllListed, AreRising, AreShown, IsBelow}
 use Rattle.xk_digests.proofs.PushLemmas.{there_is}
 use Rattle.xk_outcomes.specs.declared.listing.Outcome.{Outcome}
-use Rattle.xk_outcomes.specs.declared.order.Order.{Order}
 use Rattle.xk_outcomes.specs.declared.order.Order.TheVariants as order
-use Rattle.xk_outcomes.specs.Found.{FoundValue, first_found, through}
-use Rattle.xk_outcomes.specs.Links.{AreLinked, LeadTo, ends}
+use Rattle.xk_outcomes.specs.Found.{FoundValue, first_found}
+use Rattle.xk_outcomes.specs.Links.{AreLinked, ends}
 use Rattle.xk_outcomes.specs.Listing.{AreMet, AreNoted, ArePlayed, AreRead, AreReadingsPut, IsPlayed, KeepsListed}
 use Rattle.xk_outcomes.specs.Outcomes.{IsListed}
-use Rattle.xk_outcomes.specs.Rising.{key, ordered, rising}
 use Rattle.xk_outcomes.specs.Search.{AreFound}
-use Rattle.xk_outcomes.proofs.FollowLemmas.{Follows, read_follows, read_to}
+use Rattle.xk_outcomes.proofs.FollowLemmas.{read_follows, read_to}
 
 -- ---- readings rise
 

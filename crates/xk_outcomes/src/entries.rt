@@ -71,12 +71,7 @@ pub fn are_same(a: &[i64], b: &[i64]) -> bool
 }
 
 /// Whether the two are in worlds that are alike, and nothing that was printed by then tells them apart.
-fn is_same(
-    alloc: Global,
-    order: Order,
-    x: &Found<'_>,
-    new: &Found<'_>,
-) -> Result<bool, AllocError>
+fn is_same(alloc: Global, order: Order, x: &Found<'_>, new: &Found<'_>) -> Result<bool, AllocError>
     ensures yes { IfOk result (λ same. same ≡ true
         → IsAt order x.now new.now.core.world new.now.printed) }
     ensures no { new.now.core.module_run ≡ x.now.core.module_run → IfOk result (λ same.

@@ -105,9 +105,7 @@ pub fn list_found(
     ensures most { length list.new ≤ max limit (length list.old) }
 {
     match order {
-        Order::Printed => {
-            list_readings(alloc, list, &explored.found, &explored.links, limit)
-        }
+        Order::Printed => { list_readings(alloc, list, &explored.found, &explored.links, limit) }
         Order::Rising => list_outcomes(alloc, order, list, &explored.found, limit),
     }
 }

@@ -1,6 +1,6 @@
 use Rattle.std.specs.Prelude.{max}
-use Rattle.std.proofs.Common.{◌∙◌, ◌<◌, ◌≤◌, ap, arith, List, length, inl, inr, true≢false, sym, subst}
-use Rattle.xk_core.specs.Core.{CoreValue, opening_core}
+use Rattle.std.proofs.Common.{◌∙◌, ◌<◌, ◌≤◌, arith, List, length, inl, inr, true≢false, sym, subst}
+use Rattle.xk_core.specs.Core.{CoreValue}
 use Rattle.xk_outcomes.specs.declared.listing.Outcome.{Outcome}
 use Rattle.xk_outcomes.specs.Links.{AreLinked}
 use Rattle.xk_outcomes.specs.Listing.{AreAllIn, AreOf, AreShownIn, HasKeptIn}

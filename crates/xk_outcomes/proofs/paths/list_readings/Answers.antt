@@ -1,9 +1,7 @@
-use Rattle.std.proofs.Common.{◌≡◌, ◌∙◌, ◌≤◌, arith, length, subst, sym, true≢false}
-use Rattle.xk_types.specs.Code.{ModuleValue}
-use Rattle.xk_readings.specs.declared.listing.Reading.{Reading}
+use Rattle.std.proofs.Common.{◌∙◌, arith, length, subst, sym, true≢false}
 use Rattle.xk_readings.specs.Graphs.{IsWithin, graph}
 use Rattle.xk_readings.specs.Readings.{AreAllListed, AreShown}
-use Rattle.xk_outcomes.specs.Links.{ends}
+use Rattle.xk_outcomes.specs.Listing.{AreReadingsPut}
 use Rattle.xk_outcomes.proofs.FollowLemmas.{links_within}
 use Rattle.xk_outcomes.proofs.PathLemmas.{all_read, as_many, readings_listed}
 use Rattle.xk_outcomes.proofs.paths.list_readings.Goals.{then-noted, else-noted}
@@ -28,7 +26,7 @@ returns-clause-read c done =
           let whole = subst (λ over. AreAllListed (graph links over) found) c.ends.ensures (c.in_ok-found.ensures.all (sym w.result-is ∙ done)) in
           all_read all links found list whole
           (readings_listed start all links found list (c.longest-longest.ensures.played links c.requires) shown
-          (c.in_ok-noted.ensures.listed w.if-noted.true))
+          (subst (λ l. AreReadingsPut start l (length l) list) c.deref.ensures.value (c.in_ok-noted.ensures.listed w.if-noted.true)))
       | else-noted w ↦ absurd (true≢false (sym done ∙ w.result-is ∙ w.if-noted.false))
     ]
 
@@ -44,7 +42,7 @@ returns-clause-limit c less =
           let shown = subst (λ over. AreShown (graph links over) found) c.ends.ensures c.in_ok-found.ensures.shown in
           let many = c.in_ok-found.ensures.limit (sym w.result-is ∙ less) in
           let listed = readings_listed start all links found list (c.longest-longest.ensures.played links c.requires) shown
-          (c.in_ok-noted.ensures.listed w.if-noted.true) in
+          (subst (λ l. AreReadingsPut start l (length l) list) c.deref.ensures.value (c.in_ok-noted.ensures.listed w.if-noted.true)) in
           let few = as_many found list c.in_ok-found.ensures.rising listed in
           omega (arith, many, few)
       | else-noted w ↦ c.in_ok-noted.ensures.full w.if-noted.false

@@ -1,4 +1,4 @@
-use Rattle.std.proofs.Common.{◌≡◌, ◌∙◌, ◌∷◌, [], ap, length, subst, Some, slice_get, refl}
+use Rattle.std.proofs.Common.{◌∙◌, ap, length, subst, slice_get}
 use Rattle.xk_types.specs.Acceptance.{IsAccepted}
 use Rattle.xk_types.specs.Code.{IsWithinLimits}
 use Rattle.xk_core.specs.Core.{CoreValue}
@@ -6,7 +6,7 @@ use Rattle.xk_outcomes.specs.declared.order.Order.{Order}
 use Rattle.xk_outcomes.specs.Entries.{EntriesValue}
 use Rattle.xk_outcomes.specs.Found.{first_found}
 use Rattle.xk_outcomes.specs.Links.{AreLinked}
-use Rattle.xk_outcomes.specs.Search.{AreDifferent, AreExpanded, AreFound, AreSettled, IsGrown}
+use Rattle.xk_outcomes.specs.Search.{AreDifferent, AreExpanded, AreFound, AreSettled}
 use Rattle.xk_outcomes.proofs.RestLemmas.{all_rest}
 use Rattle.xk_outcomes.proofs.ExplorationLemmas.{all_found}
 use Rattle.xk_outcomes.proofs.SearchLemmas.{linked_first}

@@ -1,4 +1,4 @@
-use Rattle.std.proofs.Common.{◌∙◌, ◌<◌, ℕ, length, ap, arith, refl, subst, sym}
+use Rattle.std.proofs.Common.{◌∙◌, ◌<◌, length, ap, arith, refl, subst, sym}
 use Rattle.xk_types.specs.Code.{ModuleValue}
 use Rattle.xk_core.specs.Core.{CoreValue}
 use Rattle.xk_outcomes.specs.declared.order.Order.{Order}

@@ -1,9 +1,10 @@
-use Rattle.std.proofs.Common.{◌≡◌, ◌∙◌, ◌+◌, ◌++◌, ◌∷◌, [], ℕ, Bool, List, Some, ap, inr, length, slice_get, subst, sym}
+use Rattle.std.proofs.Common.{◌≡◌, ◌∙◌, ◌++◌, ◌∷◌, [], ℕ, Bool, List, Some, ap, inr, slice_get, subst, sym}
+use Rattle.std.specs.Prelude.{IfNone}
 use Rattle.xk_types.specs.Schedule.{all_ended}
 use Rattle.xk_outcomes.specs.declared.entries.Edge.{Edge}
 use Rattle.xk_outcomes.specs.Entries.{EntriesValue, led_by}
 use Rattle.xk_outcomes.specs.Found.{FoundValue}
-use Rattle.xk_outcomes.specs.Search.{Has, IsAdded, IsFound, found_digest}
+use Rattle.xk_outcomes.specs.Search.{Has, IsFound}
 use Rattle.xk_outcomes.proofs.EntriesLemmas.{entries_push, led_push, new_found}
 use Rattle.xk_outcomes.proofs.SearchLemmas.{grown_push}
 use Rattle.xk_outcomes.proofs.entries.Entries.add.Goals as goal
@@ -29,7 +30,8 @@ invariant_of-self-2 c =
     let digest = c.in_ok-push.ensures.more ∙ ap (λ (d : ℕ). digests ++ d ∷ []) c.in_ok-digest.ensures in
     entries_push start order edges c.push_reserved.new.self.items digests c.push.new.self over c.push_reserved-2.new.self.items edge x new c.self.invariant more
     digest still there c.requires.2
-    (λ has. c.in_ok-known.ensures.no found c.in-None.is (subst (λ (e : EntriesValue). Has e.order e.all new.core.world new.printed) c.self.view_is has))
+    (λ has. subst (λ o. IfNone o (Has c.args.self.now.order c.args.self.now.all new.core.world new.printed → ⊥)) c.in-None.is
+    (c.in_ok-known.ensures.no found) (subst (λ (e : EntriesValue). Has e.order e.all new.core.world new.printed) c.self.view_is has))
 
 pub returns-clause-grown : goal.returns-clause-grown
 returns-clause-grown c k y h =

@@ -1,4 +1,4 @@
-use Rattle.std.proofs.Common.{◌≡◌, ◌∙◌, ap, subst, sym}
+use Rattle.std.proofs.Common.{◌∙◌, ap, subst, sym}
 use Rattle.xk_types.specs.Acceptance.{IsAccepted}
 use Rattle.xk_types.specs.Bound.{steps_bound}
 use Rattle.xk_types.specs.Code.{IsWithinLimits}
@@ -23,7 +23,7 @@ returns-clause-longest c links linked =
     let longest = longest_read start all links here (all_led start c.self.inside.edges.items) (first_there start c.self.inside.edges.items) limits accepted
     c.module-verified.ensures.taken (c.module-verified.ensures.opening c.self.invariant.root) in
     let bound = c.steps.ensures ∙ ap steps_bound c.module-verified.ensures.same in
-    subst (IsLongest (graph links (ends c.self.now.all))) (sym bound) (subst (λ (e : EntriesValue). IsLongest (graph links (ends e.all)) (steps_bound start.module_run)) c.self.view_is longest)
+    subst (IsLongest (graph links (ends c.args.self.now.all))) (sym bound) (subst (λ (e : EntriesValue). IsLongest (graph links (ends e.all)) (steps_bound start.module_run)) c.self.view_is longest)
 
 pub returns-clause-played : goal.returns-clause-played
 returns-clause-played c links linked =
