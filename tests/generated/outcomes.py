@@ -258,7 +258,7 @@ class Asker:
             yield from self.asked(None, pick)
         yield from self.asked(None, rng.choice([count + 1, 2 * count + 1, 2**64 - 1]))
         limit = rng.choice(
-            [1, 2, 3, 10, max(1, count - 1), count, count + 1, outcomes.SPARE * self.case.walk.entries + 1]
+            [1, 2, 3, 10, max(1, count - 1), count, count + 1, outcomes.SPARE * Asked(sets=self.sets).worlds(self.case.walk) + 1]
         )
         yield from self.asked(limit, rng.choice([None, 1, 2, count]))
         if not self.sets:

@@ -130,12 +130,12 @@ class Walk:
 
     @cached_property
     def entries(self) -> int:
-        """How many worlds there are, each counted once for each list of numbers that may be printed by then."""
+        """How many worlds there are, each counted once for each set of numbers that may be printed by then."""
         before: dict[World, set[Numbers]] = {world: set() for world in self.rest}
         before[self.start].add(())
         for world in reversed(self.rest):
             for edge in self.edges[world]:
-                before[edge.world] |= {begin + edge.printed for begin in before[world]}
+                before[edge.world] |= {tuple(sorted(begin + edge.printed)) for begin in before[world]}
         return sum(map(len, before.values()))
 
 
@@ -170,6 +170,10 @@ class Asked(NamedTuple):
         """What is told of the runs before any search, each list once, in their order."""
         runs = [modules.run(module, way, arguments) for way in PLAIN]
         return [*dict.fromkeys(self.told(tuple(run.printed)) for run in runs)]
+
+    def worlds(self, walk: Walk) -> int:
+        """How many worlds have to be told apart: for sets by what was printed, too."""
+        return walk.entries if self.sets else len(walk.rest)
 
     @property
     def most(self) -> int:
@@ -269,8 +273,8 @@ def held_faults(walk: Walk | None, asked: Asked, told: set[bytes], given: Answer
             yield f"not in the list: {sorted(untold)}"
         if int(last[1]) > min(asked.most, len(outcomes)) or is_whole and int(last[1]) != len(outcomes):
             yield f"there are {len(outcomes)} outcomes"
-        if not is_whole and int(last[1]) < asked.limit and SPARE * walk.entries <= asked.limit:
-            yield f"not complete, and there are {walk.entries} worlds"
+        if not is_whole and int(last[1]) < asked.limit and SPARE * asked.worlds(walk) <= asked.limit:
+            yield f"not complete, and there are {asked.worlds(walk)} worlds"
 
 
 def held(walk: Walk, asked: Asked, told: set[bytes]) -> Answer:
@@ -300,7 +304,10 @@ def faults(walk: Walk | None, module: Module, arguments: Arguments, asked: Asked
         yield f"the status is {given.status}"
     if len(lists) > asked.most:
         yield "more are told than the limit says"
-    lacking = set() if is_complete else {*asked.plain(module, arguments)} - {*lists}
+    plain = asked.plain(module, arguments)
+    if is_complete and not asked.sets and lists != [*plain, *sorted({*lists}.difference(plain))]:
+        yield "what is told behind the runs before any search doesn't rise"
+    lacking = set() if is_complete else {*plain} - {*lists}
     if lacking:
         yield f"a run before any search prints {sorted(lacking)}"
     if walk:
@@ -318,8 +325,8 @@ def against_walk(walk: Walk, asked: Asked, told: set[Numbers], is_complete: bool
         yield f"no run prints {sorted(told - outcomes)}"
     if is_complete and outcomes - told:
         yield f"left out: {sorted(outcomes - told)}"
-    if not is_complete and len(told) < asked.limit and SPARE * walk.entries <= asked.limit:
-        yield f"not complete, and there are {walk.entries} worlds"
+    if not is_complete and len(told) < asked.limit and SPARE * asked.worlds(walk) <= asked.limit:
+        yield f"not complete, and there are {asked.worlds(walk)} worlds"
 
 
 def log_faults(module: Module, arguments: Arguments, asked: Asked, picked: list[Numbers], log: bytes) -> Iterator[str]:
