@@ -8,12 +8,14 @@ use Rattle.xk_types.specs.Bound.{steps_bound}
 use Rattle.xk_types.specs.Code.{ModuleValue}
 use Rattle.xk_types.specs.World.{Activity, World, instruction_at}
 use Rattle.xk_types.specs.Step.{Outcome, Blocked, Wrong, Stepped, step}
-use Rattle.xk_types.specs.Schedule.{is_enabled, is_step, number_printed}
-use Rattle.xk_law_commute.specs.Conflicts.{next_instruction}
+use Rattle.xk_types.specs.Schedule.{Through, is_enabled, is_step, number_printed, run, run_on}
+use Rattle.xk_law_schedules.proofs.ReachabilityLemmas.{first_step, same_through}
+use Rattle.xk_law_commute.specs.Conflicts.{AreConflictFree, next_instruction, puts, reads, stores}
 use Rattle.xk_law_commute.specs.PlainWorlds.{AreAlike, plain, plain_activity, plain_outcome}
 use Rattle.xk_law_commute.proofs.ChangeSquareLemmas.{same_step}
 use Rattle.xk_law_commute.proofs.PlainStepLaw.{plain_steps}
 use Rattle.xk_law_commute.proofs.QuietStepLaw.{alike_worlds_go_alike}
+use Rattle.xk_closed.specs.Closed.{IsClosed}
 use Rattle.xk_closed.specs.Futures.{is_private}
 use Rattle.xk_core.specs.Core.{CoreValue}
 use Rattle.xk_outcomes.specs.PrivateSteps.{has_private_step}
@@ -58,6 +60,46 @@ leads_alike m (b ∷ list) u z v same h =
     let y = (alike_worlds_go_alike m).steps z u h.1 b h.2 (sym same) h.3 in
     let on = leads_alike m list y.0 h.1 v (sym y.2) h.4 in
     (on.0, (private_alike m u z b same ∙ h.0, y.0, h.2, y.1, on.1), on.2)
+
+-- ---- closed sets
+
+-- a schedule leads on as from a world that is alike
+run_alike : (m : ModuleValue) (list : List ℕ) (w v z : World) → AreAlike w v → run m list w ≡ Through z
+    → (t : World) × (run m list v ≡ Through t) × AreAlike z t
+run_alike m [] w v z same legal = (v, refl, sym (ap plain (same_through w z legal)) ∙ same)
+run_alike m (b ∷ list) w v z same legal =
+    let f = first_step w z (step m w b) (run m list) legal in
+    let next = (alike_worlds_go_alike m).steps w v f.0 b f.1 same f.2 in
+    let on = run_alike m list f.0 next.0 z next.2 f.3 in
+    (on.0, ap (λ o. run_on o (run m list)) next.1 ∙ on.1, on.2)
+
+-- what conflicts goes by the instructions that activities stand at
+free_alike : (m : ModuleValue) (w v : World) (a b : ℕ) → AreAlike w v → AreConflictFree m v a b → AreConflictFree m w a b
+free_alike m w v a b same free = record {
+  second_reads = λ s h g. free.second_reads s (of a stores s ∙ h) (of b reads s ∙ g);
+  first_reads = λ s h g. free.first_reads s (of b stores s ∙ h) (of a reads s ∙ g);
+  first_puts = λ s h g. free.first_puts s (of a puts s ∙ h) (of b stores s ∙ g);
+  second_puts = λ s h g. free.second_puts s (of b puts s ∙ h) (of a stores s ∙ g);
+}
+  where
+    of : (c : ℕ) (test : Instr → ℕ → Bool) (s : ℕ)
+        → option_map_or (λ i. test i s) (next_instruction m v c) false ≡ option_map_or (λ i. test i s) (next_instruction m w c) false
+    of c test s = sym (ap (λ o. option_map_or (λ i. test i s) o false) (next_alike m w v c same))
+
+-- a set that is closed in a world is closed in one that is alike
+pub closed_alike : (m : ModuleValue) (w v : World) (set : ℕ → Bool) → AreAlike w v → IsClosed m v set → IsClosed m w set
+closed_alike m w v set same closed = record {
+  apart = λ list z outside legal a b inside_a outside_b x y e f first second.
+      let t = run_alike m list w v z same legal in
+      let one = (alike_worlds_go_alike m).steps z t.0 x a e t.2 first in
+      let two = (alike_worlds_go_alike m).steps z t.0 y b f t.2 second in
+      let h = closed.apart list t.0 outside t.1 a b inside_a outside_b one.0 two.0 e f one.1 two.1 in
+      (free_alike m z t.0 b a t.2 h.0, h.1);
+  held = λ list z x e outside legal a inside_a first.
+      let t = run_alike m list w v z same legal in
+      let one = (alike_worlds_go_alike m).steps z t.0 x a e t.2 first in
+      enabled_alike m w v a same ∙ closed.held list t.0 one.0 e outside t.1 a inside_a one.1;
+}
 
 -- ---- those that were found there
 

@@ -27,8 +27,8 @@ use Rattle.xk_outcomes.specs.declared.order.Order.TheVariants as order
 use Rattle.xk_outcomes.specs.Found.{FoundValue, first_found}
 use Rattle.xk_outcomes.specs.Links.{LeadTo, Leads}
 use Rattle.xk_outcomes.specs.Rising.{key, put_in}
-use Rattle.xk_outcomes.specs.Search.{LeadsPrivately, IsThere, AreExpanded, AreAllFound}
-use Rattle.xk_outcomes.proofs.AlikeLemmas.{leads_alike}
+use Rattle.xk_outcomes.specs.Search.{LeadsPrivately, HasAfter, IsThere, IsExpanded, AreExpanded, AreAllFound}
+use Rattle.xk_outcomes.proofs.AlikeLemmas.{closed_alike, enabled_alike, leads_alike}
 use Rattle.xk_outcomes.proofs.FoundLemmas.{first_led, first_silent}
 use Rattle.xk_outcomes.proofs.PrivateStepLemmas.{private_closed, private_enabled, private_silent}
 use Rattle.xk_outcomes.proofs.SearchLemmas.{printed_more}
@@ -70,15 +70,16 @@ module _ (order : Order) (start : CoreValue) (all : List FoundValue) (links : Li
   abbrev Finds : World → List ℤ → Type 0
   Finds w numbers = IsLedTo m args w numbers × IsKnown w numbers
 
-  -- each step from one that is like one of them
-  by_each : (w : World) (numbers : List ℤ) → IsLedTo m args w numbers → Meets w numbers → (a : ℕ) → HasNextSame m AreAlike Finds w numbers a
-  by_each w numbers led meets a u e h =
+  -- a step from one that is like one of them, which has what that leads to
+  by_step : (w : World) (numbers : List ℤ) → IsLedTo m args w numbers → (meets : Meets w numbers) → (a : ℕ)
+      → HasAfter m order all links meets.number meets.there.0 a → HasNextSame m AreAlike Finds w numbers a
+  by_step w numbers led meets a after u e h =
       let k = meets.number in
       let x = meets.there.0 in
       let at = meets.there.2 in
       let more : List ℤ = option_to_list (number_printed e) in
       let next = (alike_worlds_go_alike m).steps w x.core.world u a e at.0 h in
-      let c = closed k x (slice_get_within all k x meets.there.1) meets.there.1 a next.0 e next.1 in
+      let c = after next.0 e next.1 in
       let on = leads_alike m c.0 u next.0 c.1 next.2 c.2 in
       let y = c.4.0 in
       let l = c.5.1 in
@@ -105,6 +106,29 @@ module _ (order : Order) (start : CoreValue) (all : List FoundValue) (links : Li
         same = refl;
       }
 
+  -- the steps from one that is like one of them: of a closed set, or each
+  by_steps : (w : World) (numbers : List ℤ) → IsLedTo m args w numbers → Meets w numbers
+      → HasClosed m AreAlike Finds w numbers ⊎ ((a : ℕ) → HasNextSame m AreAlike Finds w numbers a)
+  by_steps w numbers led meets = by (closed k x (slice_get_within all k x meets.there.1) meets.there.1)
+    where
+      k : ℕ
+      k = meets.number
+
+      x : FoundValue
+      x = meets.there.0
+
+      by : IsExpanded m order all links k x → HasClosed m AreAlike Finds w numbers ⊎ ((a : ℕ) → HasNextSame m AreAlike Finds w numbers a)
+      unfolding k, x
+      by (inl s) = inl (record {
+        set = s.set;
+        closed = closed_alike m w x.core.world s.set meets.there.2.0 s.closed;
+        free = s.free;
+        inside = s.inside;
+        enabled = enabled_alike m w x.core.world s.free meets.there.2.0 ∙ s.enabled;
+        next = λ a inside. by_step w numbers led meets a (s.next a inside);
+      })
+      by (inr each) = inr (λ a. by_step w numbers led meets a (each a))
+
   -- the first private step on the way to one
   by_private : (b : ℕ) (list : List ℕ) (w v : World) (numbers : List ℤ) → IsLedTo m args w numbers → LeadsPrivately m (b ∷ list) w v → Meets v numbers
       → HasNextSame m AreAlike Finds w numbers b
@@ -123,7 +147,7 @@ module _ (order : Order) (start : CoreValue) (all : List FoundValue) (links : Li
 
   explored : (list : List ℕ) (w v : World) (numbers : List ℤ) → IsLedTo m args w numbers → LeadsPrivately m list w v → Meets v numbers
       → HasClosed m AreAlike Finds w numbers ⊎ ((a : ℕ) → HasNextSame m AreAlike Finds w numbers a)
-  explored [] w v numbers led private meets = inr (by_each w numbers led (subst (λ z. Meets z numbers) (sym private) meets))
+  explored [] w v numbers led private meets = by_steps w numbers led (subst (λ z. Meets z numbers) (sym private) meets)
   explored (b ∷ list) w v numbers led private meets = inl (record {
     set = alone b;
     closed = private_closed m w b private.0;

@@ -23,7 +23,7 @@ use Rattle.xk_core.specs.Core.{CoreValue}
 use Rattle.xk_outcomes.specs.Found.{FoundValue, first_found, next}
 use Rattle.xk_outcomes.specs.Links.{AreLinked, HasLink, IsLink, LeadTo, Leads, ends}
 use Rattle.xk_outcomes.specs.Rising.{key}
-use Rattle.xk_outcomes.specs.Search.{AreDifferent, AreDigests, AreExpanded, Has, HasAfter, IsAdded, IsAt, IsGrown, IsThere, found_digest}
+use Rattle.xk_outcomes.specs.Search.{AreDifferent, AreDigests, AreExpanded, Has, HasAfter, IsAdded, IsAt, IsExpanded, IsGrown, IsThere, found_digest}
 
 -- ---- by a step
 
@@ -190,34 +190,47 @@ linked_first m start all links one none silent = record {
 -- ---- one is looked at
 
 -- who isn't there takes no step
-pub after_all : (m : ModuleValue) (order : Order) (all : List FoundValue) (links : List Edge) (number : ℕ) (here : FoundValue) (last : ℕ)
-    → ((a : ℕ) → a < last → HasAfter m order all links number here a)
-    → length here.core.world.activities ≤ last → (a : ℕ) → HasAfter m order all links number here a
-after_all m order all links number here last before enough a = by (side a last)
+pub after_all : (m : ModuleValue) (order : Order) (all : List FoundValue) (links : List Edge) (number : ℕ) (here : FoundValue) (test : ℕ → Bool) (last : ℕ)
+    → ((a : ℕ) → a < last → test a ≡ true → HasAfter m order all links number here a)
+    → length here.core.world.activities ≤ last → (a : ℕ) → test a ≡ true → HasAfter m order all links number here a
+after_all m order all links number here test last before enough a passes = by (side a last)
   where
     side : (i n : ℕ) → (i < n) ⊎ (n ≤ i)
     side i n = grind arith
 
     by : (a < last) ⊎ (last ≤ a) → HasAfter m order all links number here a
-    by (inl l) = before a l
+    by (inl l) = before a l passes
     by (inr g) = λ u e t.
         let act = found_of m here.core.world a u e t in
         let inside = slice_get_within here.core.world.activities a act.0 act.1 in
         absurd (omega (arith, inside, g, enough))
 
+expanded_grown : (m : ModuleValue) (order : Order) (old new : List FoundValue) (links more : List Edge) (number : ℕ) (x : FoundValue) → IsGrown old new
+    → IsGrown links more → IsExpanded m order old links number x → IsExpanded m order new more number x
+expanded_grown m order old new links more number x grown longer_links (inl s) = inl (record {
+  set = s.set;
+  closed = s.closed;
+  free = s.free;
+  inside = s.inside;
+  enabled = s.enabled;
+  next = λ a inside. after_grown m order old new links more number x a grown longer_links (s.next a inside);
+})
+expanded_grown m order old new links more number x grown longer_links (inr each) =
+    inr (λ a. after_grown m order old new links more number x a grown longer_links (each a))
+
 pub expanded_more : (m : ModuleValue) (order : Order) (old new : List FoundValue) (links more : List Edge) (n : ℕ) → n < length old → IsGrown old new → IsGrown links more
     → AreExpanded m order old links n
-    → ((x : FoundValue) → slice_get old n ≡ Some x → (a : ℕ) → HasAfter m order new more n x a) → AreExpanded m order new more (n + 1)
-expanded_more m order old new links more n within grown longer_links before here k x less there a =
+    → ((x : FoundValue) → slice_get old n ≡ Some x → IsExpanded m order new more n x) → AreExpanded m order new more (n + 1)
+expanded_more m order old new links more n within grown longer_links before here k x less there =
     let y = there_is old k (omega (arith, less, within)) in
-    subst (λ (z : FoundValue). HasAfter m order new more k z a) (same_Some y.0 x (sym (grown k y.0 y.1) ∙ there)) (by y.0 y.1 (split k n less))
+    subst (λ (z : FoundValue). IsExpanded m order new more k z) (same_Some y.0 x (sym (grown k y.0 y.1) ∙ there)) (by y.0 y.1 (split k n less))
   where
     split : (i j : ℕ) → i < j + 1 → (i < j) ⊎ (i ≡ j)
     split i j h = grind arith
 
-    by : (y : FoundValue) → slice_get old k ≡ Some y → (k < n) ⊎ (k ≡ n) → HasAfter m order new more k y a
-    by y at (inl l) = after_grown m order old new links more k y a grown longer_links (before k y l at a)
-    by y at (inr e) = subst (λ j. HasAfter m order new more j y a) (sym e) (here y (subst (λ j. slice_get old j ≡ Some y) e at) a)
+    by : (y : FoundValue) → slice_get old k ≡ Some y → (k < n) ⊎ (k ≡ n) → IsExpanded m order new more k y
+    by y at (inl l) = expanded_grown m order old new links more k y grown longer_links (before k y l at)
+    by y at (inr e) = subst (λ j. IsExpanded m order new more j y) (sym e) (here y (subst (λ j. slice_get old j ≡ Some y) e at))
 
 -- ---- no two are the same
 

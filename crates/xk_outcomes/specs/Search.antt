@@ -1,12 +1,15 @@
 -- Worlds that are found one from another. This project's own.
-use Rattle.std.specs.Prelude.{◌≡◌, ℕ, ℤ, ◌<◌, ◌⊎◌, true, List, [], ◌∷◌, ◌++◌, length, Some, slice_get, map}
-use Rattle.std.specs.Option.{option_to_list}
+use Rattle.std.specs.Prelude.{◌≡◌, ℕ, ℤ, ◌<◌, ◌⊎◌, Bool, true, List, [], ◌∷◌, ◌++◌, length, Option, Some, slice_get, map}
+use Rattle.std.specs.Borrow.{Bor}
+use Rattle.std.specs.Option.{option_map_or, option_to_list}
 use Rattle.xk_types.specs.declared.world.Event.{Event}
 use Rattle.xk_types.specs.Code.{ModuleValue}
 use Rattle.xk_types.specs.World.{World}
 use Rattle.xk_types.specs.Step.{Stepped, step}
-use Rattle.xk_types.specs.Schedule.{Through, run, all_ended, number_printed, printed}
+use Rattle.xk_types.specs.Schedule.{Through, run, all_ended, is_enabled, number_printed, printed}
 use Rattle.xk_law_commute.specs.PlainWorlds.{AreAlike}
+use Rattle.xk_closed.specs.Closed.{IsClosed}
+use Rattle.xk_closed_sets.specs.ClosedSets.{is_in}
 use Rattle.xk_outcomes.specs.PrivateSteps.{has_private_step}
 use Rattle.xk_core.specs.Core.{CoreValue}
 use Rattle.xk_outcomes.specs.Found.{FoundValue, at_rest}
@@ -85,9 +88,26 @@ HasAfter m order all links number x a = (u : World) (e : Event) → step m x.cor
     → (list : List ℕ) × (v : World) × LeadsPrivately m list u v
     × (k : ℕ) × IsThere order all v (x.printed ++ option_to_list (number_printed e)) k × HasLink links number (number_printed e) k
 
--- so it is of each activity, from each of them before this place
+-- an activity is tried that is in the set, if there is one
+abbrev pub is_tried : Option (Bor (List Bool)) → ℕ → Bool
+is_tried set a = option_map_or (λ s. is_in s.now a) set true
+
+-- so it is of each activity of a closed set in which somebody can take a step
+pub record HasSetAfter (m : ModuleValue) (order : Order) (all : List FoundValue) (links : List Edge) (number : ℕ) (x : FoundValue) : Type 0 where
+  pub set : ℕ → Bool
+  pub closed : IsClosed m x.core.world set
+  pub free : ℕ
+  pub inside : set free ≡ true
+  pub enabled : is_enabled m x.core.world free ≡ true
+  pub next : (a : ℕ) → set a ≡ true → HasAfter m order all links number x a
+
+-- or of each activity
+abbrev pub IsExpanded : ModuleValue → Order → List FoundValue → List Edge → ℕ → FoundValue → Type 0
+IsExpanded m order all links number x = HasSetAfter m order all links number x ⊎ ((a : ℕ) → HasAfter m order all links number x a)
+
+-- so it is of each of them before this place
 abbrev pub AreExpanded : ModuleValue → Order → List FoundValue → List Edge → ℕ → Type 0
-AreExpanded m order all links place = (k : ℕ) (x : FoundValue) → k < place → slice_get all k ≡ Some x → (a : ℕ) → HasAfter m order all links k x a
+AreExpanded m order all links place = (k : ℕ) (x : FoundValue) → k < place → slice_get all k ≡ Some x → IsExpanded m order all links k x
 
 -- Whatever a legal schedule prints by which all have ended stands along links to one of them, in which all have ended.
 abbrev pub AreAllFound : Order → CoreValue → List FoundValue → List Edge → Type 0

@@ -3,12 +3,13 @@
 ghost use Rattle.std.specs.Prelude.{◌≡◌, ◌<◌, ◌≤◌, ℕ, true, false, length, slice_get, IfOk, OnOk, Some};
 ghost use Rattle.xk_outcomes.specs.Found.{FoundValue, first_found};
 ghost use Rattle.xk_outcomes.specs.Links.{AreLinked};
-ghost use Rattle.xk_outcomes.specs.Search.{AreAllFound, AreAtRest, AreDifferent, AreExpanded, AreFound, HasAfter, IsGrown};
+ghost use Rattle.xk_outcomes.specs.Search.{AreAllFound, AreAtRest, AreDifferent, AreExpanded, AreFound, HasAfter, IsExpanded, IsGrown, is_tried};
 
 use crate::entries::Entries;
 use crate::found::Found;
 use crate::order::Order;
 use std::alloc::{AllocError, Global};
+use xk_closed_sets::{ClosedSet, Footprints, closed_set};
 use xk_core::Core;
 use xk_readings::Edge;
 use xk_types::Act;
@@ -69,13 +70,25 @@ fn try_act(
     Ok(())
 }
 
-/// Adds what each step leads to from here, the one of a number.
-fn look(
+/// Whether the steps of the activity are tried: it is in the set, if there is one.
+fn is_tried(set: Option<&ClosedSet>, act: Act) -> bool
+    ensures { result ≡ is_tried set act }
+{
+    match set {
+        Some(set) => set.has(act),
+        None => true,
+    }
+}
+
+/// The same if steps of the activity are tried.
+fn try_one(
     alloc: Global,
     all: &mut Entries<'_>,
     links: &mut Vec<Edge>,
     number: usize,
     here: &Found<'_>,
+    set: Option<&ClosedSet>,
+    act: Act,
 ) -> Result<(), AllocError>
     requires { slice_get all.old.all number ≡ Some here.now }
     ensures start { all.new.start ≡ all.old.start }
@@ -84,46 +97,103 @@ fn look(
     ensures more { IsGrown links.old.items links.new.items }
     ensures linked { OnOk result (AreLinked here.now.core.module_run all.old.all links.old.items
         → AreLinked here.now.core.module_run all.new.all links.new.items) }
-    ensures after { OnOk result ((a : ℕ) → HasAfter here.now.core.module_run all.new.order
-        all.new.all links.new.items number here.now a) }
+    ensures after { OnOk result (is_tried set act ≡ true
+        → HasAfter here.now.core.module_run all.new.order
+        all.new.all links.new.items number here.now act) }
 {
-    for a in 0..here.core.activities() {
-        try_act(alloc, all, links, number, here, Act(a))?;
+    if !is_tried(set, act) {
+        return Ok(());
     }
-    Ok(())
+    try_act(alloc, all, links, number, here, act)
 }
 
-/// Adds what each step leads to from the one of a number.
-fn expand(
+/// Adds what the steps lead to from here, the one of a number, that are tried.
+fn look_by(
     alloc: Global,
     all: &mut Entries<'_>,
     links: &mut Vec<Edge>,
     number: usize,
+    here: &Found<'_>,
+    set: Option<&ClosedSet>,
 ) -> Result<(), AllocError>
-    requires { number < length all.old.all }
+    requires { slice_get all.old.all number ≡ Some here.now }
+    ensures start { all.new.start ≡ all.old.start }
+    ensures order { all.new.order ≡ all.old.order }
+    ensures grown { IsGrown all.old.all all.new.all }
+    ensures more { IsGrown links.old.items links.new.items }
+    ensures linked { OnOk result (AreLinked here.now.core.module_run all.old.all links.old.items
+        → AreLinked here.now.core.module_run all.new.all links.new.items) }
+    ensures after { OnOk result ((a : ℕ) → is_tried set a ≡ true
+        → HasAfter here.now.core.module_run all.new.order
+        all.new.all links.new.items number here.now a) }
+{
+    for a in 0..here.core.activities() {
+        try_one(alloc, all, links, number, here, set, Act(a))?;
+    }
+    Ok(())
+}
+
+/// Adds what the steps of a closed set lead to from here, the one of a number, or each step.
+fn look(
+    alloc: Global,
+    footprints: &Footprints<'_>,
+    all: &mut Entries<'_>,
+    links: &mut Vec<Edge>,
+    number: usize,
+    here: &Found<'_>,
+) -> Result<(), AllocError>
+    requires there { slice_get all.old.all number ≡ Some here.now }
+    requires footprints { footprints.now.module_run ≡ here.now.core.module_run }
+    ensures start { all.new.start ≡ all.old.start }
+    ensures order { all.new.order ≡ all.old.order }
+    ensures grown { IsGrown all.old.all all.new.all }
+    ensures more { IsGrown links.old.items links.new.items }
+    ensures linked { OnOk result (AreLinked here.now.core.module_run all.old.all links.old.items
+        → AreLinked here.now.core.module_run all.new.all links.new.items) }
+    ensures expanded { OnOk result (IsExpanded here.now.core.module_run all.new.order
+        all.new.all links.new.items number here.now) }
+{
+    match closed_set(alloc, footprints, &here.core)? {
+        Some(set) => look_by(alloc, all, links, number, here, Some(&set)),
+        None => look_by(alloc, all, links, number, here, None),
+    }
+}
+
+/// Adds what the steps of a closed set, or all, lead to from the one of a number.
+fn expand(
+    alloc: Global,
+    footprints: &Footprints<'_>,
+    all: &mut Entries<'_>,
+    links: &mut Vec<Edge>,
+    number: usize,
+) -> Result<(), AllocError>
+    requires there { number < length all.old.all }
+    requires footprints { footprints.now.module_run ≡ all.old.start.module_run }
     ensures start { all.new.start ≡ all.old.start }
     ensures order { all.new.order ≡ all.old.order }
     ensures grown { IsGrown all.old.all all.new.all }
     ensures more { IsGrown links.old.items links.new.items }
     ensures linked { OnOk result (AreLinked all.old.start.module_run all.old.all links.old.items
         → AreLinked all.old.start.module_run all.new.all links.new.items) }
-    ensures after { OnOk result ((x : FoundValue) → slice_get all.old.all number ≡ Some x
-        → (a : ℕ) → HasAfter all.old.start.module_run all.new.order
-        all.new.all links.new.items number x a) }
+    ensures expanded { OnOk result ((x : FoundValue) → slice_get all.old.all number ≡ Some x
+        → IsExpanded all.old.start.module_run all.new.order
+        all.new.all links.new.items number x) }
 {
     // For the module of those that were found.
     let _count = all.len();
     let here = all.get(alloc, number)?;
-    look(alloc, all, links, number, &here)
+    look(alloc, footprints, all, links, number, &here)
 }
 
 /// Goes on until nothing is left to look at, or more are kept than the limit says. Whether nothing is left.
 fn search(
     alloc: Global,
+    footprints: &Footprints<'_>,
     all: &mut Entries<'_>,
     links: &mut Vec<Edge>,
     limit: usize,
 ) -> Result<bool, AllocError>
+    requires { footprints.now.module_run ≡ all.old.start.module_run }
     ensures start { all.new.start ≡ all.old.start }
     ensures order { all.new.order ≡ all.old.order }
     ensures grown { IsGrown all.old.all all.new.all }
@@ -136,7 +206,7 @@ fn search(
 {
     let mut next: usize = 0;
     while next < all.len() && all.len() <= limit {
-        expand(alloc, all, links, next)?;
+        expand(alloc, footprints, all, links, next)?;
         next += 1;
     }
     Ok(next == all.len())
@@ -167,7 +237,8 @@ pub fn explore<'m>(
     let _accepted = verified.module();
     let mut found = Entries::open(alloc, order, start)?;
     let mut links = Vec::new(alloc);
-    let complete = search(alloc, &mut found, &mut links, limit)?;
+    let footprints = Footprints::of(alloc, verified)?;
+    let complete = search(alloc, &footprints, &mut found, &mut links, limit)?;
     // For `found`, `rest` and `different`.
     let _count = found.len();
     Ok(Explored {
