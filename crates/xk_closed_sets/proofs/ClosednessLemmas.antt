@@ -22,14 +22,41 @@ use Rattle.xk_closed.proofs.PhaseLaw.{clock_stuck}
 use Rattle.xk_closed.proofs.WaitLaw.{ended_stuck, waits_stuck}
 use Rattle.xk_closed_sets.specs.declared.footprint.Footprint.{Footprint}
 use Rattle.xk_closed_sets.specs.ClosedSets.{HasLivingUnder, IsFitting, IsHeldBySet, IsMember, IsOutsider, is_in}
-use Rattle.xk_closed_sets.specs.Footprint.{has}
+use Rattle.xk_closed_sets.specs.Footprint.{has, is_apart}
 use Rattle.xk_closed_sets.specs.Footprints.{AreFootprints}
+use Rattle.xk_closed_sets.proofs.FootprintLemmas.{apart_of, silent_of}
 
 -- only those on the list are in the set
 in_within : (members : List Bool) (a : ℕ) → is_in members a ≡ true → a < length members
 in_within [] a h = absurd (true≢false (sym h))
 in_within (x ∷ xs) zero h = omega arith
 in_within (x ∷ xs) (suc a) h = let less = in_within xs a h in omega (arith, less)
+
+-- ---- one that fits
+
+pub member_free : (m : ModuleValue) (w : World) (set : ℕ → Bool) (f : Footprint) (a : ℕ) → is_enabled m w a ≡ true
+    → option_map_or (is_apart f) (next_instruction m w a) true ≡ true → IsMember m w set f a
+member_free m w set f a enabled apart = record {
+  moves = inl enabled;
+  apart = λ e j h. apart_of f (next_instruction m w a) j apart h;
+  silent = λ e j h. silent_of f (next_instruction m w a) j apart h;
+}
+
+pub member_stuck : (m : ModuleValue) (w : World) (set : ℕ → Bool) (f : Footprint) (a : ℕ) → is_enabled m w a ≡ false → IsStuck m w set a
+    → IsMember m w set f a
+member_stuck m w set f a disabled stuck = record {
+  moves = inr stuck;
+  apart = λ e j h. absurd (true≢false (sym e ∙ disabled));
+  silent = λ e j h. absurd (true≢false (sym e ∙ disabled));
+}
+
+pub fitting_member : (m : ModuleValue) (w : World) (set : ℕ → Bool) (rest phase : Table) (f : Footprint) (a : ℕ) → set a ≡ true
+    → IsMember m w set f a → IsFitting m w set rest phase f a
+fitting_member m w set rest phase f a inside h = record { member = λ e. h; outsider = λ e. absurd (true≢false (sym inside ∙ e)) }
+
+pub fitting_outsider : (m : ModuleValue) (w : World) (set : ℕ → Bool) (rest phase : Table) (f : Footprint) (a : ℕ) → set a ≡ false
+    → IsOutsider m w set rest phase f a → IsFitting m w set rest phase f a
+fitting_outsider m w set rest phase f a outside h = record { member = λ e. absurd (true≢false (sym e ∙ outside)); outsider = λ e. h }
 
 module _ (m : ModuleValue) (w : World) (core : IsCore m w) (members : List Bool) where
   -- ---- who is stuck

@@ -56,6 +56,16 @@ joined_second f g (instr.Print x) h = or_second f.prints g.prints h
 joined_second f g (instr.Drop k) h = or_second f.drops g.drops h
 joined_second f g _ h = refl
 
+-- what is joined with another and stays as it is covers that one
+pub covers_by : (f g h : Footprint) → h.reads ≡ f.reads → h.puts ≡ f.puts → h.adds ≡ f.adds → h.prints ≡ f.prints → h.drops ≡ f.drops
+    → Covers h g → Covers f g
+covers_by f g h r p a q d c (instr.Get x s) k = ap (λ w. is_set w s) (sym r) ∙ c (instr.Get x s) k
+covers_by f g h r p a q d c (instr.Put s x) k = ap (λ w. is_set w s) (sym p) ∙ c (instr.Put s x) k
+covers_by f g h r p a q d c (instr.AddTo s x) k = ap (λ w. is_set w s) (sym a) ∙ c (instr.AddTo s x) k
+covers_by f g h r p a q d c (instr.Print x) k = sym q ∙ c (instr.Print x) k
+covers_by f g h r p a q d c (instr.Drop x) k = sym d ∙ c (instr.Drop x) k
+covers_by f g h r p a q d c _ k = refl
+
 -- no bit of 0 is set
 set_none : (s : ℕ) → is_set 0 s ≡ true → ⊥
 set_none s h = let e = eqb-true (bit_at 0 (s % 64)) 1 h in let z = bit_at-zero (s % 64) in omega (arith, e, z)

@@ -34,29 +34,32 @@ module _ (m : ModuleValue) (rows : List (List Reach)) (closed : AreClosed rows m
       (λ x found got. (closed.each f.unit x found).each f.place i got)
 
   -- a place where no instruction stands has nothing, nor has one behind it
-  data IsThere : ℕ → ℕ → Type 0 where
-    Here : {u p : ℕ} (i : Instr) → IsClosedAt rows u p i → IsThere u p
-    Beyond : {u p : ℕ} → reach_at rows u p ≡ nowhere → reach_at rows u (p + 1) ≡ nowhere → IsThere u p
+  abbrev IsThere : ℕ → ℕ → Type 0
+  IsThere u p = ((i : Instr) × IsClosedAt rows u p i) ⊎ ((reach_at rows u p ≡ nowhere) × (reach_at rows u (p + 1) ≡ nowhere))
 
   there : (u p : ℕ) → IsThere u p
   there u p = by (slice_get_cases m.units u).1
     where
       in_code : (x : UnitValue) → slice_get m.units u ≡ Some x
           → ((i : Instr) × (p < length x.code) × (slice_get x.code p ≡ Some i) × (slice_index_or x.code p i ≡ i))
-              ⊎ ((length x.code ≤ p) × (slice_get x.code p ≡ None)) → IsThere u p
-      in_code x found (inl (i, (lt, (got, e)))) = Here i ((closed.each u x found).each p i got)
+          ⊎ ((length x.code ≤ p) × (slice_get x.code p ≡ None)) → IsThere u p
+      in_code x found (inl (i, (lt, (got, e)))) = inl (i, (closed.each u x found).each p i got)
       in_code x found (inr (le, e)) =
           let few = (closed.each u x found).few in
-          Beyond (past (slice_index_or rows u []) p nowhere (omega (arith, few, le)))
-          (past (slice_index_or rows u []) (p + 1) nowhere (omega (arith, few, le)))
+          inr (
+            past (slice_index_or rows u []) p nowhere (omega (arith, few, le)),
+            past (slice_index_or rows u []) (p + 1) nowhere (omega (arith, few, le)),
+          )
 
       by : ((x : UnitValue) × (u < length m.units) × (slice_get m.units u ≡ Some x) × (slice_index_or m.units u x ≡ x))
           ⊎ ((length m.units ≤ u) × (slice_get m.units u ≡ None)) → IsThere u p
       by (inl (x, (lt, (found, e)))) = in_code x found (slice_get_cases x.code p).1
       by (inr (le, e)) =
           let none : slice_index_or rows u [] ≡ [] = past rows u [] (let few = closed.few in omega (arith, few, le)) in
-          Beyond (ap (λ (row : List Reach). slice_index_or row p nowhere) none)
-          (ap (λ (row : List Reach). slice_index_or row (p + 1) nowhere) none)
+          inr (
+            ap (λ (row : List Reach). slice_index_or row p nowhere) none,
+            ap (λ (row : List Reach). slice_index_or row (p + 1) nowhere) none,
+          )
 
   covers_none : (f : Footprint) (r : Reach) → r ≡ nowhere → Covers f r.rest × Covers f r.phase
   covers_none f r e = subst (λ (z : Reach). Covers f z.rest × Covers f z.phase) (sym e) (covers_nothing f, covers_nothing f)
@@ -65,15 +68,15 @@ module _ (m : ModuleValue) (rows : List (List Reach)) (closed : AreClosed rows m
   on u p = by (there u p)
     where
       by : IsThere u p → Covers (reach_at rows u p).rest (reach_at rows u (p + 1)).rest
-      by (Here i c) = c.on.rest
-      by (Beyond e n) = (covers_none (reach_at rows u p).rest (reach_at rows u (p + 1)) n).0
+      by (inl (i, c)) = c.on.rest
+      by (inr (e, n)) = (covers_none (reach_at rows u p).rest (reach_at rows u (p + 1)) n).0
 
   within : (u p : ℕ) → Covers (reach_at rows u p).rest (reach_at rows u p).phase
   within u p = by (there u p)
     where
       by : IsThere u p → Covers (reach_at rows u p).rest (reach_at rows u p).phase
-      by (Here i c) = c.own.within
-      by (Beyond e n) = (covers_none (reach_at rows u p).rest (reach_at rows u p) e).1
+      by (inl (i, c)) = c.own.within
+      by (inr (e, n)) = (covers_none (reach_at rows u p).rest (reach_at rows u p) e).1
 
   goes : (f : Frame) (i : Instr) (q : ℕ) → instruction_at m f ≡ Some i → IsBehind i f.place q
       → HasThere (reach_at rows f.unit f.place) (reach_at rows f.unit q) i

@@ -16,6 +16,7 @@ use xk_core::Core;
 use xk_types::Act;
 
 /// What the frames that wait may carry out behind their calls.
+#[tactic(auto, using(crate::proofs::ClaimLemmas::nobody_waits, crate::proofs::ClaimLemmas::one_waits))]
 fn waiting(rows: &[Row], frames: &mut Frames<'_>) -> Footprint
     ensures { CoversWaiting result (rest_in rows.now) frames.old.callers }
 {
@@ -27,6 +28,7 @@ fn waiting(rows: &[Row], frames: &mut Frames<'_>) -> Footprint
 }
 
 /// What the activity may still do.
+#[tactic(auto, using(crate::proofs::ClaimLemmas::reach_whole))]
 pub(crate) fn reach_of(rows: &[Row], core: &Core<'_>, act: Act) -> Result<Reach, AllocError>
     requires { act < length core.now.world.activities }
     ensures { IfOk result (IsReach (rest_in rows.now) (phase_in rows.now)
@@ -44,6 +46,7 @@ pub(crate) fn reach_of(rows: &[Row], core: &Core<'_>, act: Act) -> Result<Reach,
 
 /// What the activity may do as long as nobody of the set moves: nothing, if it is stuck; what comes before its next pass of an `advance`, if
 /// somebody of the set holds it up on a clock, and it drops none before; else all that it may still do.
+#[tactic(auto, using(crate::proofs::ClaimLemmas::bounded_of))]
 pub(crate) fn claim(core: &Core<'_>, members: &[bool], reach: &Reach, act: Act) -> Footprint
     requires { act < length core.now.world.activities }
     ensures { (rest phase : Table)

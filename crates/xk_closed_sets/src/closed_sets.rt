@@ -64,7 +64,10 @@ fn sparing_set(
 {
     let reaches = reaches(alloc, rows, core)?;
     let members = smallest(alloc, core, &reaches)?;
-    if !has_enabled(core, &members, true) || !has_enabled(core, &members, false) {
+    if !has_enabled(core, &members, true) {
+        return Ok(None);
+    }
+    if !has_enabled(core, &members, false) {
         return Ok(None);
     }
     let others = claims(core, &members, &reaches);

@@ -31,6 +31,7 @@ fn is_next_apart(core: &Core<'_>, footprint: &Footprint, act: Act) -> bool
 }
 
 /// Whether a member can take a step that has nothing to do with what others may do; or is stuck.
+#[tactic(auto, using(crate::proofs::ClosednessLemmas::member_free, crate::proofs::ClosednessLemmas::member_stuck))]
 fn is_member(core: &Core<'_>, members: &[bool], others: &Footprint, act: Act) -> bool
     requires { act < length core.now.world.activities }
     ensures { IsTrue result → IsMember core.now.module_run core.now.world (is_in members.now)
@@ -44,6 +45,7 @@ fn is_member(core: &Core<'_>, members: &[bool], others: &Footprint, act: Act) ->
 }
 
 /// Whether what an outsider may do is in the footprint.
+#[tactic(auto, using(crate::proofs::ClaimLemmas::outsider_wider))]
 fn is_outsider(
     rows: &[Row],
     core: &Core<'_>,
@@ -60,6 +62,7 @@ fn is_outsider(
 }
 
 /// Whether the activity is one or the other.
+#[tactic(auto, using(crate::proofs::ClosednessLemmas::fitting_member, crate::proofs::ClosednessLemmas::fitting_outsider))]
 fn is_fitting(
     rows: &[Row],
     core: &Core<'_>,

@@ -97,6 +97,7 @@ impl Footprint {
     }
 
     /// What is in one or in the other.
+    #[tactic(auto, using(crate::proofs::FootprintLemmas::joined_first, crate::proofs::FootprintLemmas::joined_second))]
     pub(crate) fn joined(&self, other: &Footprint) -> Footprint
         ensures is { result ≡ joined self.now other.now }
         ensures first { Covers result self.now }
@@ -111,11 +112,27 @@ impl Footprint {
         }
     }
 
+    /// Whether they are the same.
+    fn is_same(&self, other: &Footprint) -> bool
+        ensures reads { IsTrue result → self.now.reads ≡ other.now.reads }
+        ensures puts { IsTrue result → self.now.puts ≡ other.now.puts }
+        ensures adds { IsTrue result → self.now.adds ≡ other.now.adds }
+        ensures prints { IsTrue result → self.now.prints ≡ other.now.prints }
+        ensures drops { IsTrue result → self.now.drops ≡ other.now.drops }
+    {
+        self.reads == other.reads
+            && self.puts == other.puts
+            && self.adds == other.adds
+            && self.prints == other.prints
+            && self.drops == other.drops
+    }
+
     /// Whether all that is in the other is in it.
+    #[tactic(auto, using(crate::proofs::FootprintLemmas::covers_by))]
     pub(crate) fn covers(&self, other: &Footprint) -> bool
         ensures { IsTrue result → Covers self.now other.now }
     {
-        self.joined(other) == *self
+        self.joined(other).is_same(self)
     }
 
     /// Whether an instruction in it may conflict with one in the other on a shared number, or both print.

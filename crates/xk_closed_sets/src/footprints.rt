@@ -69,10 +69,6 @@ impl<'m> Footprints<'m> {
         ensures { IfSome result (λ rows. AreFootprints self.now.module_run (rest_in rows.now)
             (phase_in rows.now)) }
     {
-        if self.known {
-            Some(&self.rows)
-        } else {
-            None
-        }
+        if self.known { Some(&self.rows) } else { None }
     }
 }

@@ -1,6 +1,6 @@
 //! Whether tables have all that may be carried out.
 
-ghost use Rattle.std.specs.Prelude.{◌≡◌, ◌<◌, ◌≤◌, ◌^◌, ℕ, All, IsTrue, [], Some, length, slice_get, slice_index_or};
+ghost use Rattle.std.specs.Prelude.{◌≡◌, ◌<◌, ◌≤◌, ◌^◌, ◌+◌, ℕ, IsTrue, [], Some, length, slice_get, slice_index_or};
 ghost use Rattle.xk_closed_sets.specs.Footprint.{Covers};
 ghost use Rattle.xk_closed_sets.specs.Places.{AreClosed, HasOwn, HasRun, HasThere, IsClosedAt, IsClosedIn, leads, reach_at};
 
@@ -68,7 +68,7 @@ fn has_run(rows: &[Row], here: &Reach, behind: &Reach, instr: &Instr) -> bool
 
 /// Whether the tables have all that may be carried out from this place on, if they have it of others.
 fn is_closed_at(rows: &[Row], unit: usize, place: usize, instr: &Instr) -> bool
-    requires { place < 2 ^ 16 }
+    requires { place + 1 < 2 ^ 64 }
     ensures { IsTrue result → IsClosedAt rows.now unit place instr.now }
 {
     let here = reach_at(rows, unit, place);
@@ -91,7 +91,6 @@ fn is_short(rows: &[Row], unit: usize, code: &[Instr]) -> bool
 
 /// Whether they have it of each place of the unit.
 fn is_closed_in(rows: &[Row], unit: usize, code: &[Instr]) -> bool
-    requires { length code.now ≤ 4096 }
     ensures { IsTrue result → IsClosedIn rows.now unit code.now }
 {
     for place in 0..code.len() {
@@ -104,7 +103,6 @@ fn is_closed_in(rows: &[Row], unit: usize, code: &[Instr]) -> bool
 
 /// Whether they have it of each place of each unit.
 pub(crate) fn are_closed(rows: &[Row], units: &[Unit]) -> bool
-    requires { All (λ u. length u.code ≤ 4096) units.now }
     ensures { IsTrue result → AreClosed rows.now units.now }
 {
     for unit in 0..units.len() {

@@ -105,7 +105,11 @@ fn empty_rows(alloc: Global, units: &[Unit]) -> Result<Vec<Row>, AllocError> {
 
 /// How many places there are.
 fn places(units: &[Unit]) -> usize {
-    units.iter().map(|unit| unit.code.len()).sum()
+    let mut count: usize = 0;
+    for unit in units {
+        count = count.saturating_add(unit.code.len());
+    }
+    count
 }
 
 /// What may be carried out from each place of each unit on, the greatest unit first, since calls and starts go to greater ones. Nothing
