@@ -1,5 +1,5 @@
 -- What is in a footprint, and what has nothing to do with it.
-use Rattle.std.proofs.Common.{◌≡◌, ◌∙◌, ℕ, ◌%◌, ◌⊎◌, inl, inr, Bool, true, false, true≢false, Option, Some, None, refl, sym, ap, subst, arith, eqb-true}
+use Rattle.std.proofs.Common.{◌≡◌, ◌∙◌, ℕ, ◌%◌, ◌<◌, ◌⊎◌, inl, inr, Bool, true, false, true≢false, Option, Some, None, refl, sym, ap, subst, arith, eqb-true}
 use Rattle.std.specs.Prelude.{max, ◌==◌, ◌||◌, not}
 use Rattle.std.specs.Int.{bit_at}
 use Rattle.std.specs.Int.RustNames.{bit_or}
@@ -57,14 +57,20 @@ joined_second f g (instr.Drop k) h = or_second f.drops g.drops h
 joined_second f g _ h = refl
 
 -- what is joined with another and stays as it is covers that one
-pub covers_by : (f g h : Footprint) → h.reads ≡ f.reads → h.puts ≡ f.puts → h.adds ≡ f.adds → h.prints ≡ f.prints → h.drops ≡ f.drops
-    → Covers h g → Covers f g
-covers_by f g h r p a q d c (instr.Get x s) k = ap (λ w. is_set w s) (sym r) ∙ c (instr.Get x s) k
-covers_by f g h r p a q d c (instr.Put s x) k = ap (λ w. is_set w s) (sym p) ∙ c (instr.Put s x) k
-covers_by f g h r p a q d c (instr.AddTo s x) k = ap (λ w. is_set w s) (sym a) ∙ c (instr.AddTo s x) k
-covers_by f g h r p a q d c (instr.Print x) k = sym q ∙ c (instr.Print x) k
-covers_by f g h r p a q d c (instr.Drop x) k = sym d ∙ c (instr.Drop x) k
-covers_by f g h r p a q d c _ k = refl
+pub covers_by : (f g h : Footprint) → h ≡ joined f g → h.reads ≡ f.reads → h.puts ≡ f.puts → h.adds ≡ f.adds → h.prints ≡ f.prints
+    → h.drops ≡ f.drops → Covers f g
+covers_by f g h e r p a q d = by
+  where
+    c : Covers h g
+    c = subst (λ (z : Footprint). Covers z g) (sym e) (joined_second f g)
+
+    by : Covers f g
+    by (instr.Get x s) k = ap (λ w. is_set w s) (sym r) ∙ c (instr.Get x s) k
+    by (instr.Put s x) k = ap (λ w. is_set w s) (sym p) ∙ c (instr.Put s x) k
+    by (instr.AddTo s x) k = ap (λ w. is_set w s) (sym a) ∙ c (instr.AddTo s x) k
+    by (instr.Print x) k = sym q ∙ c (instr.Print x) k
+    by (instr.Drop x) k = sym d ∙ c (instr.Drop x) k
+    by _ k = refl
 
 -- no bit of 0 is set
 set_none : (s : ℕ) → is_set 0 s ≡ true → ⊥

@@ -1,7 +1,7 @@
 -- Tables that pass the test have all that may be carried out.
-use Rattle.std.proofs.Common.{◌≡◌, ◌∙◌, ℕ, zero, suc, ◌+◌, ◌<◌, ◌≤◌, ◌⊎◌, inl, inr, Bool, true, false, List, [], ◌∷◌, length, Option, Some, None, refl, sym, ap, subst, arith, slice_get, option_and_then}
+use Rattle.std.proofs.Common.{◌≡◌, ◌∙◌, ℕ, zero, suc, ◌+◌, ◌<◌, ◌≤◌, ◌⊎◌, inl, inr, Bool, true, false, List, [], ◌∷◌, length, Option, Some, None, refl, sym, ap, subst, arith, below_more, slice_get, option_and_then}
 use Rattle.std.specs.Prelude.{slice_index_or, IsTrue}
-use Rattle.std.proofs.lemmas.Option.{option_and_then_some, slice_get_cases}
+use Rattle.std.proofs.lemmas.Option.{option_and_then_some, same_Some, slice_get_cases, slice_get_read, slice_get_within}
 use Rattle.xk_types.specs.declared.instr.Instr.{Instr}
 use Rattle.xk_types.specs.declared.instr.Instr.TheVariants as instr
 use Rattle.xk_types.specs.Code.{ModuleValue, UnitValue}
@@ -12,7 +12,7 @@ use Rattle.xk_closed_sets.specs.declared.footprint.Footprint.{Footprint}
 use Rattle.xk_closed_sets.specs.declared.places.Reach.{Reach}
 use Rattle.xk_closed_sets.specs.Footprint.{Covers, has}
 use Rattle.xk_closed_sets.specs.Footprints.{AreFootprints, FootprintsValue, everything, known_or_all, phase_of, rest_of}
-use Rattle.xk_closed_sets.specs.Places.{AreClosed, HasThere, IsClosedAt, leads, nowhere, phase_in, reach_at, rest_in}
+use Rattle.xk_closed_sets.specs.Places.{AreClosed, HasThere, IsClosedAt, IsClosedIn, leads, nowhere, phase_in, reach_at, rest_in}
 use Rattle.xk_closed_sets.proofs.FootprintLemmas.{covers_nothing}
 
 -- behind the end
@@ -43,7 +43,7 @@ module _ (m : ModuleValue) (rows : List (List Reach)) (closed : AreClosed rows m
       in_code : (x : UnitValue) → slice_get m.units u ≡ Some x
           → ((i : Instr) × (p < length x.code) × (slice_get x.code p ≡ Some i) × (slice_index_or x.code p i ≡ i))
           ⊎ ((length x.code ≤ p) × (slice_get x.code p ≡ None)) → IsThere u p
-      in_code x found (inl (i, (lt, (got, e)))) = inl (i, (closed.each u x found).each p i got)
+      in_code x found (inl (i, lt, got, e)) = inl (i, (closed.each u x found).each p i got)
       in_code x found (inr (le, e)) =
           let few = (closed.each u x found).few in
           inr (
@@ -53,7 +53,7 @@ module _ (m : ModuleValue) (rows : List (List Reach)) (closed : AreClosed rows m
 
       by : ((x : UnitValue) × (u < length m.units) × (slice_get m.units u ≡ Some x) × (slice_index_or m.units u x ≡ x))
           ⊎ ((length m.units ≤ u) × (slice_get m.units u ≡ None)) → IsThere u p
-      by (inl (x, (lt, (found, e)))) = in_code x found (slice_get_cases x.code p).1
+      by (inl (x, lt, found, e)) = in_code x found (slice_get_cases x.code p).1
       by (inr (le, e)) =
           let none : slice_index_or rows u [] ≡ [] = past rows u [] (let few = closed.few in omega (arith, few, le)) in
           inr (
@@ -82,7 +82,7 @@ module _ (m : ModuleValue) (rows : List (List Reach)) (closed : AreClosed rows m
       → HasThere (reach_at rows f.unit f.place) (reach_at rows f.unit q) i
   goes f i q e (inl next) = subst (λ (k : ℕ). HasThere (reach_at rows f.unit f.place) (reach_at rows f.unit k) i) (sym next) (at f i e).on
   goes f i q e (inr (inl aims)) = (at f i e).goes q (leads_target i q aims)
-  goes f i q e (inr (inr (b, (is, back)))) = (at f i e).goes q (ap leads is ∙ ap Some (sym back))
+  goes f i q e (inr (inr (b, is, back))) = (at f i e).goes q (ap leads is ∙ ap Some (sym back))
 
   pub closed_footprints : AreFootprints m (rest_in rows) (phase_in rows)
   closed_footprints = record {
@@ -131,3 +131,44 @@ known_footprints f h = by f.known h
         → AreFootprints f.module_run (known_or_all known (rest_in f.rows)) (known_or_all known (phase_in f.rows))
     by true h = h refl
     by false h = all_footprints f.module_run
+
+pub known_rest : (f : FootprintsValue) → (IsTrue f.known → AreFootprints f.module_run (rest_in f.rows) (phase_in f.rows))
+    → IsRest f.module_run (rest_of f)
+known_rest f h = (known_footprints f h).all
+
+pub known_phase : (f : FootprintsValue) → (IsTrue f.known → AreFootprints f.module_run (rest_in f.rows) (phase_in f.rows))
+    → IsPhase f.module_run (rest_of f) (phase_of f)
+known_phase f h = (known_footprints f h).now
+
+-- ---- loops over places and units
+
+pub more_places : (rows : List (List Reach)) (u : ℕ) (code : List Instr) (n : ℕ) (x : Instr)
+    → ((p : ℕ) → p < n → (i : Instr) → slice_get code p ≡ Some i → IsClosedAt rows u p i)
+    → n < length code → x ≡ slice_index_or code n x → IsClosedAt rows u n x
+    → (p : ℕ) → p < n + 1 → (i : Instr) → slice_get code p ≡ Some i → IsClosedAt rows u p i
+more_places rows u code n x before lt is here = below_more (λ p. (i : Instr) → slice_get code p ≡ Some i → IsClosedAt rows u p i) n before
+    (λ i found. subst (IsClosedAt rows u n) (same_Some x i (sym (slice_get_read code (length code) n x refl lt is) ∙ found)) here)
+
+pub all_places : (rows : List (List Reach)) (u : ℕ) (code : List Instr) (n : ℕ) → length code ≤ n
+    → ((p : ℕ) → p < n → (i : Instr) → slice_get code p ≡ Some i → IsClosedAt rows u p i)
+    → length (slice_index_or rows u []) ≤ length code → IsClosedIn rows u code
+all_places rows u code n le each few = record {
+  few = few;
+  each = λ p i found. let w = slice_get_within code p i found in each p (omega (arith, w, le)) i found;
+}
+
+pub more_units : (rows : List (List Reach)) (units : List UnitValue) (n : ℕ) (x : UnitValue)
+    → ((u : ℕ) → u < n → (y : UnitValue) → slice_get units u ≡ Some y → IsClosedIn rows u y.code)
+    → n < length units → x ≡ slice_index_or units n x → IsClosedIn rows n x.code
+    → (u : ℕ) → u < n + 1 → (y : UnitValue) → slice_get units u ≡ Some y → IsClosedIn rows u y.code
+more_units rows units n x before lt is here = below_more (λ u. (y : UnitValue) → slice_get units u ≡ Some y → IsClosedIn rows u y.code) n before
+    (λ y found. subst (λ (z : UnitValue). IsClosedIn rows n z.code)
+    (same_Some x y (sym (slice_get_read units (length units) n x refl lt is) ∙ found)) here)
+
+pub all_units : (rows : List (List Reach)) (units : List UnitValue) (n : ℕ) → length units ≤ n
+    → ((u : ℕ) → u < n → (y : UnitValue) → slice_get units u ≡ Some y → IsClosedIn rows u y.code)
+    → length rows ≤ length units → AreClosed rows units
+all_units rows units n le each few = record {
+  few = few;
+  each = λ u y found. let w = slice_get_within units u y found in each u (omega (arith, w, le)) y found;
+}

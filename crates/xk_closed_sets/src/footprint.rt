@@ -97,11 +97,8 @@ impl Footprint {
     }
 
     /// What is in one or in the other.
-    #[tactic(auto, using(crate::proofs::FootprintLemmas::joined_first, crate::proofs::FootprintLemmas::joined_second))]
     pub(crate) fn joined(&self, other: &Footprint) -> Footprint
-        ensures is { result ≡ joined self.now other.now }
-        ensures first { Covers result self.now }
-        ensures second { Covers result other.now }
+        ensures { result ≡ joined self.now other.now }
     {
         Footprint {
             reads: self.reads | other.reads,

@@ -41,6 +41,7 @@ impl<'m> Model for Footprints<'m> {
 
 impl<'m> Footprints<'m> {
     /// Of a module. Err where memory was refused.
+    #[tactic(auto, using(crate::proofs::TableLemmas::closed_footprints))]
     pub fn of(alloc: Global, verified: &'m Verified) -> Result<Footprints<'m>, AllocError>
         ensures { IfOk result (λ f. f.module_run ≡ verified.now) }
     {
@@ -55,6 +56,7 @@ impl<'m> Footprints<'m> {
     }
 
     /// The module.
+    #[tactic(auto, using(crate::proofs::TableLemmas::known_rest, crate::proofs::TableLemmas::known_phase))]
     pub fn module(&self) -> &'m Verified
         ensures same { result.now ≡ self.now.module_run }
         // The tables have all that may be carried out.

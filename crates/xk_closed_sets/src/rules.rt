@@ -101,13 +101,19 @@ fn is_closed_in(rows: &[Row], unit: usize, code: &[Instr]) -> bool
     is_short(rows, unit, code)
 }
 
+/// Whether they have it of each place of the unit, by its code.
+fn is_unit_closed(rows: &[Row], unit: usize, of_unit: &Unit) -> bool
+    ensures { IsTrue result → IsClosedIn rows.now unit of_unit.now.code }
+{
+    is_closed_in(rows, unit, &of_unit.code)
+}
+
 /// Whether they have it of each place of each unit.
 pub(crate) fn are_closed(rows: &[Row], units: &[Unit]) -> bool
     ensures { IsTrue result → AreClosed rows.now units.now }
 {
     for unit in 0..units.len() {
-        let of_unit = &units[unit];
-        if !is_closed_in(rows, unit, &of_unit.code) {
+        if !is_unit_closed(rows, unit, &units[unit]) {
             return false;
         }
     }

@@ -5,4 +5,4 @@ use Rattle.xk_closed_sets.proofs.rules.are_closed.Given as goal
 
 -- the units so far have it all
 abbrev pub invariant-loop-unit : goal.invariant-loop-unit
-invariant-loop-unit l = (u : ℕ) (x : UnitValue) → u < l.unit → slice_get l.units u ≡ Some x → IsClosedIn l.rows u x.code
+invariant-loop-unit l = (u : ℕ) → u < l.unit → (x : UnitValue) → slice_get l.units u ≡ Some x → IsClosedIn l.rows u x.code

@@ -5,4 +5,4 @@ use Rattle.xk_closed_sets.proofs.rules.is_closed_in.Given as goal
 
 -- the places so far have it all
 abbrev pub invariant-loop-place : goal.invariant-loop-place
-invariant-loop-place l = (p : ℕ) (i : Instr) → p < l.place → slice_get l.code p ≡ Some i → IsClosedAt l.rows l.unit p i
+invariant-loop-place l = (p : ℕ) → p < l.place → (i : Instr) → slice_get l.code p ≡ Some i → IsClosedAt l.rows l.unit p i
