@@ -1,0 +1,5 @@
+pub mod InstructionLemmas
+pub mod FootprintLemmas
+pub mod TableLemmas
+pub mod ClaimLemmas
+pub mod ClosednessLemmas

@@ -1,0 +1,5 @@
+pub mod Footprint
+pub mod Places
+pub mod Footprints
+pub mod Reaches
+pub mod ClosedSets
