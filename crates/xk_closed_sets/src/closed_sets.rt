@@ -36,6 +36,13 @@ impl ClosedSet {
     {
         is_in(&self.members, act)
     }
+
+    /// For each activity whether it is in it.
+    pub fn members(&self) -> &[bool]
+        ensures { result.now ≡ self.now }
+    {
+        &self.members
+    }
 }
 
 /// Whether somebody can take a step who is a member, or is none.

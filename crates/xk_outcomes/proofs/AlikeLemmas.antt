@@ -1,9 +1,10 @@
 -- Worlds that are alike: the same activities have private steps in them, and those that were found there go on alike.
-use Rattle.std.proofs.Common.{◌≡◌, ◌∙◌, ℕ, ℤ, zero, suc, Bool, true, true≢false, ◌&&◌, List, [], ◌∷◌, ◌++◌, length, Option, Some, None, refl, sym, ap, subst, append_assoc, slice_get}
+use Rattle.std.proofs.Common.{false, ◌≡◌, ◌∙◌, ℕ, ℤ, zero, suc, Bool, true, true≢false, ◌&&◌, List, [], ◌∷◌, ◌++◌, length, Option, Some, None, refl, sym, ap, subst, append_assoc, slice_get}
 use Rattle.std.specs.Prelude.{option_and_then, option_map}
 use Rattle.std.specs.Option.{option_map_or, option_to_list}
 use Rattle.std.proofs.lemmas.List.{append-nil, length-map}
 use Rattle.std.proofs.lemmas.Option.{slice_get-map}
+use Rattle.xk_types.specs.declared.instr.Instr.{Instr}
 use Rattle.xk_types.specs.Bound.{steps_bound}
 use Rattle.xk_types.specs.Code.{ModuleValue}
 use Rattle.xk_types.specs.World.{Activity, World, instruction_at}
@@ -71,7 +72,7 @@ run_alike m (b ∷ list) w v z same legal =
     let f = first_step w z (step m w b) (run m list) legal in
     let next = (alike_worlds_go_alike m).steps w v f.0 b f.1 same f.2 in
     let on = run_alike m list f.0 next.0 z next.2 f.3 in
-    (on.0, ap (λ o. run_on o (run m list)) next.1 ∙ on.1, on.2)
+    (on.0, ap (λ o. run_on v o (run m list)) next.1 ∙ on.1, on.2)
 
 -- what conflicts goes by the instructions that activities stand at
 free_alike : (m : ModuleValue) (w v : World) (a b : ℕ) → AreAlike w v → AreConflictFree m v a b → AreConflictFree m w a b

@@ -106,28 +106,23 @@ module _ (order : Order) (start : CoreValue) (all : List FoundValue) (links : Li
         same = refl;
       }
 
+  by_set : (w : World) (numbers : List ℤ) → IsLedTo m args w numbers → (meets : Meets w numbers) → IsExpanded m order all links meets.number meets.there.0
+      → HasClosed m AreAlike Finds w numbers ⊎ ((a : ℕ) → HasNextSame m AreAlike Finds w numbers a)
+  by_set w numbers led meets (inl s) = inl (record {
+    set = s.set;
+    closed = closed_alike m w meets.there.0.core.world s.set meets.there.2.0 s.closed;
+    free = s.free;
+    inside = s.inside;
+    enabled = enabled_alike m w meets.there.0.core.world s.free meets.there.2.0 ∙ s.enabled;
+    next = λ a inside. by_step w numbers led meets a (s.next a inside);
+  })
+  by_set w numbers led meets (inr each) = inr (λ a. by_step w numbers led meets a (each a))
+
   -- the steps from one that is like one of them: of a closed set, or each
   by_steps : (w : World) (numbers : List ℤ) → IsLedTo m args w numbers → Meets w numbers
       → HasClosed m AreAlike Finds w numbers ⊎ ((a : ℕ) → HasNextSame m AreAlike Finds w numbers a)
-  by_steps w numbers led meets = by (closed k x (slice_get_within all k x meets.there.1) meets.there.1)
-    where
-      k : ℕ
-      k = meets.number
-
-      x : FoundValue
-      x = meets.there.0
-
-      by : IsExpanded m order all links k x → HasClosed m AreAlike Finds w numbers ⊎ ((a : ℕ) → HasNextSame m AreAlike Finds w numbers a)
-      unfolding k, x
-      by (inl s) = inl (record {
-        set = s.set;
-        closed = closed_alike m w x.core.world s.set meets.there.2.0 s.closed;
-        free = s.free;
-        inside = s.inside;
-        enabled = enabled_alike m w x.core.world s.free meets.there.2.0 ∙ s.enabled;
-        next = λ a inside. by_step w numbers led meets a (s.next a inside);
-      })
-      by (inr each) = inr (λ a. by_step w numbers led meets a (each a))
+  by_steps w numbers led meets =
+      by_set w numbers led meets (closed meets.number meets.there.0 (slice_get_within all meets.number meets.there.0 meets.there.1) meets.there.1)
 
   -- the first private step on the way to one
   by_private : (b : ℕ) (list : List ℕ) (w v : World) (numbers : List ℤ) → IsLedTo m args w numbers → LeadsPrivately m (b ∷ list) w v → Meets v numbers

@@ -1,5 +1,5 @@
 -- What is printed by one step more; and those that were found grow in number.
-use Rattle.std.proofs.Common.{◌≡◌, ◌∙◌, ℕ, ℤ, zero, suc, ◌+◌, ◌<◌, ◌≤◌, ◌⊎◌, inl, inr, not, Bool, true, List, [], ◌∷◌, ◌++◌, length, filter, Option, Some, refl, sym, ap, subst, append_assoc, arith, slice_get}
+use Rattle.std.proofs.Common.{◌≡◌, ◌∙◌, ℕ, ℤ, zero, suc, ◌+◌, ◌<◌, ◌≤◌, ◌⊎◌, inl, inr, not, Bool, true, false, ◌||◌, ◌==◌, List, [], ◌∷◌, ◌++◌, length, filter, Option, Some, refl, sym, ap, subst, append_assoc, arith, slice_get}
 use Rattle.std.specs.List.{filter_map}
 use Rattle.std.specs.Option.{option_to_list}
 use Rattle.std.specs.Prelude.{map}
@@ -14,6 +14,7 @@ use Rattle.xk_types.specs.Schedule.{Through, run, all_ended, is_enabled, is_loca
 use Rattle.xk_law_schedules.proofs.ReachabilityLemmas.{same_through, first_step}
 use Rattle.xk_law_commute.proofs.ChangeSquareLemmas.{found_of}
 use Rattle.xk_law_commute.specs.PlainWorlds.{plain}
+use Rattle.xk_closed_sets.specs.ClosedSets.{is_in}
 use Rattle.xk_readings.specs.declared.edge.Edge.{Edge}
 use Rattle.xk_digests.specs.Digest.{world_digest}
 use Rattle.xk_digests.proofs.DigestLemmas.{alike_digests}
@@ -23,7 +24,7 @@ use Rattle.xk_core.specs.Core.{CoreValue}
 use Rattle.xk_outcomes.specs.Found.{FoundValue, first_found, next}
 use Rattle.xk_outcomes.specs.Links.{AreLinked, HasLink, IsLink, LeadTo, Leads, ends}
 use Rattle.xk_outcomes.specs.Rising.{key}
-use Rattle.xk_outcomes.specs.Search.{AreDifferent, AreDigests, AreExpanded, Has, HasAfter, IsAdded, IsAt, IsExpanded, IsGrown, IsThere, found_digest}
+use Rattle.xk_outcomes.specs.Search.{AreDifferent, AreDigests, AreExpanded, Has, HasAfter, IsAdded, IsAt, IsExpanded, IsGrown, IsThere, found_digest, is_tried}
 
 -- ---- by a step
 
@@ -188,6 +189,14 @@ linked_first m start all links one none silent = record {
     by (suc k) x there = absurd (none-some x there)
 
 -- ---- one is looked at
+
+-- who is one of these is tried
+pub tried : (members : List Bool) (a : ℕ) → is_in members a ≡ true → is_tried members a ≡ true
+tried members a inside = by (length members == 0)
+  where
+    by : (b : Bool) → (b || is_in members a) ≡ true
+    by true = refl
+    by false = inside
 
 -- who isn't there takes no step
 pub after_all : (m : ModuleValue) (order : Order) (all : List FoundValue) (links : List Edge) (number : ℕ) (here : FoundValue) (test : ℕ → Bool) (last : ℕ)

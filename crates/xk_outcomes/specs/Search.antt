@@ -1,7 +1,6 @@
 -- Worlds that are found one from another. This project's own.
-use Rattle.std.specs.Prelude.{◌≡◌, ℕ, ℤ, ◌<◌, ◌⊎◌, Bool, true, List, [], ◌∷◌, ◌++◌, length, Option, Some, slice_get, map}
-use Rattle.std.specs.Borrow.{Bor}
-use Rattle.std.specs.Option.{option_map_or, option_to_list}
+use Rattle.std.specs.Prelude.{◌≡◌, ℕ, ℤ, ◌<◌, ◌==◌, ◌||◌, ◌⊎◌, Bool, true, List, [], ◌∷◌, ◌++◌, length, Some, slice_get, map}
+use Rattle.std.specs.Option.{option_to_list}
 use Rattle.xk_types.specs.declared.world.Event.{Event}
 use Rattle.xk_types.specs.Code.{ModuleValue}
 use Rattle.xk_types.specs.World.{World}
@@ -88,9 +87,9 @@ HasAfter m order all links number x a = (u : World) (e : Event) → step m x.cor
     → (list : List ℕ) × (v : World) × LeadsPrivately m list u v
     × (k : ℕ) × IsThere order all v (x.printed ++ option_to_list (number_printed e)) k × HasLink links number (number_printed e) k
 
--- an activity is tried that is in the set, if there is one
-abbrev pub is_tried : Option (Bor (List Bool)) → ℕ → Bool
-is_tried set a = option_map_or (λ s. is_in s.now a) set true
+-- an activity is tried that is one of these; and each is where none is told
+abbrev pub is_tried : List Bool → ℕ → Bool
+is_tried members a = (length members == 0) || is_in members a
 
 -- so it is of each activity of a closed set in which somebody can take a step
 pub record HasSetAfter (m : ModuleValue) (order : Order) (all : List FoundValue) (links : List Edge) (number : ℕ) (x : FoundValue) : Type 0 where

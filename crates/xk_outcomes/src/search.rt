@@ -9,7 +9,7 @@ use crate::entries::Entries;
 use crate::found::Found;
 use crate::order::Order;
 use std::alloc::{AllocError, Global};
-use xk_closed_sets::{ClosedSet, Footprints, closed_set};
+use xk_closed_sets::{Footprints, closed_set};
 use xk_core::Core;
 use xk_readings::Edge;
 use xk_types::Act;
@@ -70,14 +70,11 @@ fn try_act(
     Ok(())
 }
 
-/// Whether the steps of the activity are tried: it is in the set, if there is one.
-fn is_tried(set: Option<&ClosedSet>, act: Act) -> bool
-    ensures { result ≡ is_tried set act }
+/// Whether the steps of the activity are tried: it is one of these, if they are told.
+fn is_tried(members: &[bool], act: Act) -> bool
+    ensures { result ≡ is_tried members.now act }
 {
-    match set {
-        Some(set) => set.has(act),
-        None => true,
-    }
+    members.is_empty() || members.get(act.0 as usize).copied().unwrap_or(false)
 }
 
 /// The same if steps of the activity are tried.
@@ -87,7 +84,7 @@ fn try_one(
     links: &mut Vec<Edge>,
     number: usize,
     here: &Found<'_>,
-    set: Option<&ClosedSet>,
+    members: &[bool],
     act: Act,
 ) -> Result<(), AllocError>
     requires { slice_get all.old.all number ≡ Some here.now }
@@ -97,11 +94,11 @@ fn try_one(
     ensures more { IsGrown links.old.items links.new.items }
     ensures linked { OnOk result (AreLinked here.now.core.module_run all.old.all links.old.items
         → AreLinked here.now.core.module_run all.new.all links.new.items) }
-    ensures after { OnOk result (is_tried set act ≡ true
+    ensures after { OnOk result (is_tried members.now act ≡ true
         → HasAfter here.now.core.module_run all.new.order
         all.new.all links.new.items number here.now act) }
 {
-    if !is_tried(set, act) {
+    if !is_tried(members, act) {
         return Ok(());
     }
     try_act(alloc, all, links, number, here, act)
@@ -114,7 +111,7 @@ fn look_by(
     links: &mut Vec<Edge>,
     number: usize,
     here: &Found<'_>,
-    set: Option<&ClosedSet>,
+    members: &[bool],
 ) -> Result<(), AllocError>
     requires { slice_get all.old.all number ≡ Some here.now }
     ensures start { all.new.start ≡ all.old.start }
@@ -123,12 +120,12 @@ fn look_by(
     ensures more { IsGrown links.old.items links.new.items }
     ensures linked { OnOk result (AreLinked here.now.core.module_run all.old.all links.old.items
         → AreLinked here.now.core.module_run all.new.all links.new.items) }
-    ensures after { OnOk result ((a : ℕ) → is_tried set a ≡ true
+    ensures after { OnOk result ((a : ℕ) → is_tried members.now a ≡ true
         → HasAfter here.now.core.module_run all.new.order
         all.new.all links.new.items number here.now a) }
 {
     for a in 0..here.core.activities() {
-        try_one(alloc, all, links, number, here, set, Act(a))?;
+        try_one(alloc, all, links, number, here, members, Act(a))?;
     }
     Ok(())
 }
@@ -154,8 +151,8 @@ fn look(
         all.new.all links.new.items number here.now) }
 {
     match closed_set(alloc, footprints, &here.core)? {
-        Some(set) => look_by(alloc, all, links, number, here, Some(&set)),
-        None => look_by(alloc, all, links, number, here, None),
+        Some(set) => look_by(alloc, all, links, number, here, set.members()),
+        None => look_by(alloc, all, links, number, here, &[]),
     }
 }
 

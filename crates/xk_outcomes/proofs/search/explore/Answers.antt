@@ -1,4 +1,4 @@
-use Rattle.std.proofs.Common.{◌∙◌, ap, length, subst, slice_get}
+use Rattle.std.proofs.Common.{◌∙◌, ap, length, subst, slice_get, sym}
 use Rattle.xk_types.specs.Acceptance.{IsAccepted}
 use Rattle.xk_types.specs.Code.{IsWithinLimits}
 use Rattle.xk_core.specs.Core.{CoreValue}
@@ -65,3 +65,7 @@ returns-clause-rest c =
 pub returns-clause-different : goal.returns-clause-different
 returns-clause-different c =
     subst (λ (o : Order). AreDifferent o c.search.new.all.all) (c.search.ensures.order ∙ ap (λ (e : EntriesValue). e.order) c.in_ok-found.ensures) c.len-count.ensures.different
+
+pub search-requires : goal.search-requires
+search-requires c =
+    c.in_ok-footprints.ensures ∙ c.module-verified.ensures.same ∙ sym (ap (λ (e : EntriesValue). e.start.module_run) c.in_ok-found.ensures)

@@ -1,47 +1,26 @@
-use Rattle.std.proofs.Common.{◌≡◌, ◌∙◌, ℕ, length, ap, arith, refl, subst, sym}
-use borrow.Author.Count.{below_more}
-use Rattle.xk_outcomes.specs.declared.order.Order.{Order}
+use Rattle.std.proofs.Common.{◌≡◌, Bool, List, inl, inr, refl, subst, sym, true}
+use Rattle.std.specs.Prelude.{IfSome}
+use Rattle.std.proofs.lemmas.Result.{on_ok_weaker}
+use Rattle.xk_closed_sets.specs.ClosedSets.{IsSparing, is_in}
 use Rattle.xk_outcomes.specs.Found.{FoundValue}
-use Rattle.xk_outcomes.specs.Search.{HasAfter}
-use Rattle.xk_outcomes.proofs.SearchLemmas.{after_grown, after_all}
+use Rattle.xk_outcomes.specs.Search.{is_tried}
+use Rattle.xk_outcomes.proofs.SearchLemmas.{tried}
 use Rattle.xk_outcomes.proofs.search.look.Goals as goal
 
-pub loop-a-init : goal.loop-a-init
-loop-a-init c = record {
-  start = refl;
-  order = refl;
-  grown = λ k x h. h;
-  more = λ k x h. h;
-  linked = λ h. h;
-  after = λ a less. absurd (omega (arith, less));
-}
+pub returns-in-Some-clause-expanded : goal.returns-in-Some-clause-expanded
+returns-in-Some-clause-expanded c =
+    let set : List Bool = c.in-Some.set in
+    let found : IsSparing c.here.inside.core.module_run c.here.inside.core.world (is_in set) =
+    subst (λ o. IfSome o (λ (members : List Bool). IsSparing c.here.inside.core.module_run c.here.inside.core.world (is_in members))) c.in-Some.is c.in_ok-set.ensures in
+    let sparing = subst (λ (x : FoundValue). IsSparing x.core.module_run x.core.world (is_in set)) c.here.view_is found in
+    on_ok_weaker c.look_by.result (λ after. inl (record {
+      set = is_in set;
+      closed = sparing.closed;
+      free = sparing.free.act;
+      inside = sparing.free.is;
+      enabled = sparing.free.enabled;
+      next = λ a inside. after a (subst (λ l. is_tried l a ≡ true) (sym c.members.ensures) (tried set a inside));
+    })) c.look_by.ensures.after
 
-pub loop-a-preserved : goal.loop-a-preserved
-loop-a-preserved c =
-    let here = c.args.here.now in
-    let m = here.core.module_run in
-    let order = c.try_act.new.all.order in
-    let old = c.loop-a.all.all in
-    let new = c.try_act.new.all.all in
-    let links = c.loop-a.links.items in
-    let more = c.try_act.new.links.items in
-    record {
-      start = c.try_act.ensures.start ∙ c.loop-a.invariant.start;
-      order = c.try_act.ensures.order ∙ c.loop-a.invariant.order;
-      grown = λ k x h. c.try_act.ensures.grown k x (c.loop-a.invariant.grown k x h);
-      more = λ k x h. c.try_act.ensures.more k x (c.loop-a.invariant.more k x h);
-      linked = λ h. c.in_ok-try_act.ensures.linked (c.loop-a.invariant.linked h);
-      after = below_more (λ (a : ℕ). HasAfter m order new more c.args.number here a) c.loop-a.a
-          (λ a less. after_grown m order old new links more c.args.number here a c.try_act.ensures.grown c.try_act.ensures.more
-          (subst (λ (o : Order). HasAfter m o old links c.args.number here a) (sym c.try_act.ensures.order) (c.loop-a.invariant.after a less)))
-          c.in_ok-try_act.ensures.after;
-    }
-
-pub returns-clause-after : goal.returns-clause-after
-returns-clause-after c =
-    let here = c.args.here.now in
-    let same : length c.here.inside.core.world.activities ≡ length here.core.world.activities = ap (λ (x : FoundValue). length x.core.world.activities) c.here.view_is in
-    let many = c.activities-a-end.ensures.count in
-    let over = c.loop-a-test.false in
-    after_all here.core.module_run c.loop-a.all.order c.loop-a.all.all c.loop-a.links.items c.args.number here c.loop-a.a c.loop-a.invariant.after
-    (omega (arith, same, many, over))
+pub returns-in-None-clause-expanded : goal.returns-in-None-clause-expanded
+returns-in-None-clause-expanded c = on_ok_weaker c.look_by-in-None.result (λ after. inr (λ a. after a refl)) c.look_by-in-None.ensures.after

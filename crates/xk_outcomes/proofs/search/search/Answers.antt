@@ -3,7 +3,7 @@ use Rattle.xk_types.specs.Code.{ModuleValue}
 use Rattle.xk_core.specs.Core.{CoreValue}
 use Rattle.xk_outcomes.specs.declared.order.Order.{Order}
 use Rattle.xk_outcomes.specs.Links.{AreLinked}
-use Rattle.xk_outcomes.specs.Search.{AreExpanded, HasAfter}
+use Rattle.xk_outcomes.specs.Search.{AreExpanded, IsExpanded}
 use Rattle.xk_outcomes.proofs.SearchLemmas.{expanded_more, longer}
 use Rattle.xk_outcomes.proofs.search.search.Goals as goal
 
@@ -16,6 +16,9 @@ loop-next-init c = record {
   expanded = λ k x less there. absurd (omega (arith, less));
   within = omega arith;
 }
+
+pub expand-requires-clause-footprints : goal.expand-requires-clause-footprints
+expand-requires-clause-footprints c = c.requires ∙ sym (ap (λ (s : CoreValue). s.module_run) c.loop-next.invariant.start)
 
 pub loop-next-preserved : goal.loop-next-preserved
 loop-next-preserved c =
@@ -38,7 +41,7 @@ loop-next-preserved c =
       linked = λ h. subst (λ (k : ModuleValue). AreLinked k new more) same_module
           (c.in_ok-expand.ensures.linked (subst (λ (k : ModuleValue). AreLinked k old links) (sym same_module) (c.loop-next.invariant.linked h)));
       expanded = expanded_more m order old new links more at inside c.expand.ensures.grown c.expand.ensures.more
-          (subst (λ (o : Order). AreExpanded m o old links at) (sym c.expand.ensures.order) c.loop-next.invariant.expanded) (λ x there a.
-          subst (λ (k : ModuleValue). HasAfter k order new more at x a) same_module (c.in_ok-expand.ensures.after x there a));
+          (subst (λ (o : Order). AreExpanded m o old links at) (sym c.expand.ensures.order) c.loop-next.invariant.expanded) (λ x there.
+          subst (λ (k : ModuleValue). IsExpanded k order new more at x) same_module (c.in_ok-expand.ensures.expanded x there));
       within = omega (arith, still);
     }
