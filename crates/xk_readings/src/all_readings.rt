@@ -1,0 +1,30 @@
+//! All that can be read from the first node of a graph, listed in rising order.
+
+ghost use Rattle.std.specs.Prelude.{◌≡◌, ◌≤◌, ℕ, true, false, length, IfOk};
+ghost use Rattle.xk_readings.specs.Graphs.{IsWithin, graph};
+ghost use Rattle.xk_readings.specs.Readings.{AreAllListed, AreRising, AreShown, IsLongest};
+
+use crate::edge::Edge;
+use crate::listing::Readings;
+use std::alloc::{AllocError, Global};
+
+/// Lists what can be read from node 0, each list of numbers once, rising, up to `limit` of them. `longest` says how many edges a reading has
+/// at most. Err where memory was refused.
+pub fn readings(
+    alloc: Global,
+    edges: &[Edge],
+    ends: &[bool],
+    longest: u64,
+    limit: usize,
+) -> Result<Readings, AllocError>
+    requires within { IsWithin (graph edges.now ends.now) }
+    requires longest { IsLongest (graph edges.now ends.now) longest }
+    ensures shown { IfOk result (λ r. AreShown (graph edges.now ends.now) r.list.items) }
+    ensures all { IfOk result (λ r. r.complete ≡ true
+        → AreAllListed (graph edges.now ends.now) r.list.items) }
+    ensures limit { IfOk result (λ r. r.complete ≡ false → limit ≤ length r.list.items) }
+    ensures most { IfOk result (λ r. length r.list.items ≤ limit) }
+    ensures rising { IfOk result (λ r. AreRising r.list.items) }
+{
+    Err(AllocError)
+}
