@@ -76,6 +76,8 @@ pub record AreGrouped (branches : List Branch) (place : ℕ) (old new : WaysValu
   pub room : new.here.room ≡ old.here.room
   pub many : length old.all ≤ length new.all
   pub kept : (k : ℕ) (s : Standing) → slice_get old.all k ≡ Some s → slice_get new.all k ≡ Some s
+  pub added : (k : ℕ) (s : Standing) → length old.all ≤ k → slice_get new.all k ≡ Some s → (x : ℤ) × IsAlong branches old.all x s
+  pub longer : length under ≤ length over
   pub groups_kept : (i : ℕ) (a : Group) → slice_get under i ≡ Some a → slice_get over i ≡ Some a
   pub each : (i : ℕ) (a : Group) → length under ≤ i → slice_get over i ≡ Some a → (x : ℤ) × IsNew branches old.all new.all x a
   pub stacked : AreStacked under (length old.all) → AreStacked over (length new.all)

@@ -79,8 +79,11 @@ fn add_group(ways: &mut Ways, branches: &[Branch], end: usize) -> Result<usize, 
     ways.look_from_here();
     let number = branches[end - 1].number;
     let mut at = end;
-    while at > 0 && branches[at - 1].number == number {
+    while at > 0 {
         let branch = branches[at - 1];
+        if branch.number != number {
+            return Ok(at);
+        }
         ways.lengthen(branch.before, branch.edge)?;
         at -= 1;
     }

@@ -11,7 +11,7 @@ use std::alloc::{AllocError, Global};
 fn mark(useful: &mut [bool], edge: &Edge) -> bool
     requires from { edge.now.from < length useful.old }
     requires to { edge.now.to < length useful.old }
-    ensures marked { IsMarked edge.now useful.old useful.new result }
+    ensures { IsMarked edge.now useful.old useful.new result }
 {
     if useful[edge.to] && !useful[edge.from] {
         useful[edge.from] = true;
@@ -53,7 +53,7 @@ pub fn useful_nodes(
     ensures { IfOk result (λ useful. AreUseful (graph edges.now ends.now) useful.items) }
 {
     let mut useful = ends.to_vec(alloc)?;
-    while mark_along(edges, ends, &mut useful) {}
+    'passes: while mark_along(edges, ends, &mut useful) {}
     Ok(useful)
 }
 

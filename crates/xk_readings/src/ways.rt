@@ -76,7 +76,8 @@ impl Ways {
 
     /// Forgets those from a number on. None is looked at then.
     pub fn truncate(&mut self, number: usize)
-        requires { 0 < number }
+        requires some { 0 < number }
+        requires within { number ≤ length self.old.all }
         ensures all { self.new.all ≡ take number self.old.all }
         ensures room { self.new.here.room ≡ self.old.here.room }
     {

@@ -1,0 +1,10 @@
+mod ListLemmas
+mod UsefulLemmas
+mod GraphLemmas
+mod NodeSetLemmas
+mod StandLemmas
+mod ReadingLemmas
+mod GrowthLemmas
+mod BranchLemmas
+mod WalkLemmas
+mod TrimLemmas
