@@ -1,13 +1,17 @@
 -- Groups of ways, one for each number that comes next.
-use Rattle.std.proofs.Common.{◌≡◌, ◌∙◌, ℕ, ℤ, ◌+◌, ◌-◌, ◌<◌, ◌≤◌, ◌⊎◌, inl, inr, List, [], ◌∷◌, ◌++◌, length, Some, refl, sym, ap, subst, arith, slice_get}
+use Rattle.std.proofs.Common.{◌≡◌, ◌∙◌, ℕ, ℤ, ◌+◌, ◌-◌, ◌<◌, ◌≤◌, ◌⊎◌, inl, inr, List, [], ◌∷◌, ◌++◌, length, pos, suc, Some, None, refl, sym, ap, subst, arith, slice_get}
+use Rattle.std.specs.List.Sorted.{IsPermutation}
 use Rattle.std.proofs.lemmas.List.{length_push}
+use Rattle.std.proofs.lemmas.List.Sorted.{IsPermutation-sym}
 use Rattle.std.proofs.lemmas.Option.{slice_get_within}
+use Rattle.xk_readings.specs.declared.edge.Edge.{Edge}
 use Rattle.xk_readings.specs.declared.branches.Branch.{Branch}
 use Rattle.xk_readings.specs.declared.branches.Group.{Group}
+use Rattle.xk_readings.specs.Graphs.{GraphValue}
 use Rattle.xk_readings.specs.Ways.{HasStanding, Standing, WaysValue, along, at, start}
-use Rattle.xk_readings.specs.Branches.{AreBefore, AreGrouped, AreInOrder, AreStacked, HasWay, IsAlong, IsGroup, IsNew}
+use Rattle.xk_readings.specs.Branches.{AreAllOf, AreBranches, AreBranchesAt, AreGrouped, AreStacked, HasBranch, HasWay, IsAlong, IsBranch, IsGroup, IsNew}
 use Rattle.xk_readings.proofs.GrowthLemmas.{at_kept, each_grown}
-use Rattle.xk_readings.proofs.ListLemmas.{at_end, place, same_at, sides, stays, there_is}
+use Rattle.xk_readings.proofs.ListLemmas.{at_end, permuted, place, same_at, sides, stays, there_is}
 
 -- the way of a branch is the same where more ways are added
 along_kept : (branches : List Branch) (old new : List Standing) → ((i : ℕ) (b : Branch) → slice_get branches i ≡ Some b → b.before < length old)
@@ -155,3 +159,81 @@ grouped_none branches w groups = record {
   stacked = λ is. is;
   there = λ i b from there. (let inside = slice_get_within branches i b there in absurd (omega (arith, from, inside)));
 }
+
+-- ---- the branches of a way
+
+-- those that a list begins with stay, and one more is a branch
+module _ (g : GraphValue) (all : List Standing) (branches more : List Branch) (b : Branch) (one : more ≡ branches ++ b ∷ []) where
+  pub branch_stays : (i : ℕ) (c : Branch) → slice_get branches i ≡ Some c → slice_get more i ≡ Some c
+  branch_stays i c there = ap (λ (l : List Branch). slice_get l i) one ∙ stays branches (b ∷ []) i c there
+
+  pub branch_last : slice_get more (length branches) ≡ Some b
+  branch_last = ap (λ (l : List Branch). slice_get l (length branches)) one ∙ at_end branches b
+
+  pub each_branch : (before n : ℕ) → IsBranch g all b → b.before ≡ before
+      → ((i : ℕ) (c : Branch) → slice_get branches i ≡ Some c → n ≤ i → IsBranch g all c × (c.before ≡ before))
+      → (i : ℕ) (c : Branch) → slice_get more i ≡ Some c → n ≤ i → IsBranch g all c × (c.before ≡ before)
+  each_branch before n is at_before are i c there from = by (place branches b i c (ap (λ (l : List Branch). slice_get l i) (sym one) ∙ there))
+    where
+      by : (slice_get branches i ≡ Some c) ⊎ ((i ≡ length branches) × (b ≡ c)) → IsBranch g all c × (c.before ≡ before)
+      by (inl known) = are i c known from
+      by (inr last) = subst (λ (z : Branch). IsBranch g all z × (z.before ≡ before)) last.1 (is, at_before)
+
+  pub has_branch : (e : Edge) → HasBranch branches e → HasBranch more e
+  has_branch e h = (h.0, h.1, branch_stays h.0 h.1 h.2, h.3)
+
+-- the branches of one way more
+pub branches_more : (g : GraphValue) (all : List Standing) (first before : ℕ) (old new : List Branch) → first ≤ before → AreBranchesAt g all before old new
+    → ((i : ℕ) (b : Branch) → slice_get old i ≡ Some b → IsBranch g all b × (first ≤ b.before))
+    → (i : ℕ) (b : Branch) → slice_get new i ≡ Some b → IsBranch g all b × (first ≤ b.before)
+branches_more g all first before old new behind are each i b there = by (sides i (length old))
+  where
+    by : (i < length old) ⊎ (length old ≤ i) → IsBranch g all b × (first ≤ b.before)
+    by (inl less) =
+        let was = there_is old i less in
+        subst (λ (z : Branch). IsBranch g all z × (first ≤ z.before)) (same_at new i was.0 b (are.kept i was.0 was.1) there) (each i was.0 was.1)
+    by (inr from) = (let new' = are.each i b there from in let at_before = new'.1 in (new'.0, omega (arith, behind, at_before)))
+
+pub all_of_more : (g : GraphValue) (all : List Standing) (first before : ℕ) (old new : List Branch) → AreBranchesAt g all before old new
+    → ((k : ℕ) → first ≤ k → k < before → AreAllOf g old (at all k))
+    → (k : ℕ) → first ≤ k → k < before + 1 → AreAllOf g new (at all k)
+all_of_more g all first before old new are was k from less e x has begins prints = by (sides k before)
+  where
+    by : (k < before) ⊎ (before ≤ k) → HasBranch new e
+    by (inl earlier) = (let h = was k from earlier e x has begins prints in (h.0, h.1, are.kept h.0 h.1 h.2, h.3))
+    by (inr later) =
+        let same : k ≡ before = omega (arith, less, later) in
+        are.there e x has (begins ∙ ap (λ m. (at all m).node) same) prints
+
+-- in another order they are the same branches
+pub branches_sorted : (g : GraphValue) (all : List Standing) (first : ℕ) (branches sorted : List Branch) → IsPermutation branches sorted → AreBranches g all first branches
+    → AreBranches g all first sorted
+branches_sorted g all first branches sorted moved are = record {
+  each = λ i b there. (let was = permuted sorted branches i b (IsPermutation-sym branches sorted moved) there in are.each was.0 b was.1);
+  there = λ k from less e x has begins prints.
+      let h = are.there k from less e x has begins prints in
+      let is = permuted branches sorted h.0 h.1 moved h.2 in
+      (is.0, h.1, is.1, h.3);
+}
+
+-- what stands for a branch that isn't there
+abbrev pub no_branch : Branch
+no_branch = record { number = pos 0; before = 0; edge = record { from = 0; act = 0; printed = None; to = 0 } }
+
+-- what holds of one holds from there on, if it does behind it
+pub one_earlier : {X : Type 0} (xs : List X) (at end : ℕ) (x : X) → slice_get xs at ≡ Some x → (P : X → Type 0) → P x
+    → ((i : ℕ) (y : X) → suc at ≤ i → i < end → slice_get xs i ≡ Some y → P y) → (i : ℕ) (y : X) → at ≤ i → i < end → slice_get xs i ≡ Some y → P y
+one_earlier xs at end x there P is all i y from less here = by (sides i (suc at))
+  where
+    by : (i < suc at) ⊎ (suc at ≤ i) → P y
+    by (inl before) = (let same : at ≡ i = omega (arith, before, from) in subst P (same_at xs i x y (ap (slice_get xs) (sym same) ∙ there) here) is)
+    by (inr behind) = all i y behind less here
+
+-- what holds of those before one and of it holds of those before the next one
+pub one_later : {X : Type 0} (xs : List X) (at : ℕ) (x : X) → slice_get xs at ≡ Some x → (P : X → Type 0) → P x
+    → ((i : ℕ) (y : X) → i < at → slice_get xs i ≡ Some y → P y) → (i : ℕ) (y : X) → i < at + 1 → slice_get xs i ≡ Some y → P y
+one_later xs at x there P is all i y less here = by (sides i at)
+  where
+    by : (i < at) ⊎ (at ≤ i) → P y
+    by (inl before) = all i y before here
+    by (inr behind) = (let same : at ≡ i = omega (arith, less, behind) in subst P (same_at xs i x y (ap (slice_get xs) (sym same) ∙ there) here) is)

@@ -1,8 +1,9 @@
 -- Ways that stay where more are added.
-use Rattle.std.proofs.Common.{◌≡◌, ◌∙◌, ℕ, ℤ, ◌+◌, ◌<◌, ◌≤◌, ◌⊎◌, inl, inr, List, [], ◌∷◌, ◌++◌, length, Option, Some, None, refl, sym, ap, subst, arith, slice_get}
-use Rattle.std.specs.Option.{option_to_list}
+use Rattle.std.proofs.Common.{◌≡◌, ◌∙◌, ℕ, ℤ, ◌+◌, ◌<◌, ◌≤◌, ◌⊎◌, inl, inr, Bool, true, false, not, List, [], ◌∷◌, ◌++◌, length, Option, Some, None, refl, sym, ap, subst, arith, slice_get}
+use Rattle.std.specs.Option.{is_some, option_to_list}
+use Rattle.std.proofs.lemmas.Bool.{true≢false}
 use Rattle.std.proofs.lemmas.List.{append-nil, length_push}
-use Rattle.std.proofs.lemmas.Option.{get_or_from_slice_get, slice_get_within}
+use Rattle.std.proofs.lemmas.Option.{get_or_from_slice_get, none-some, slice_get_within}
 use Rattle.xk_readings.specs.declared.edge.Edge.{Edge}
 use Rattle.xk_readings.specs.Graphs.{GraphValue, HasEdge}
 use Rattle.xk_readings.specs.Ways.{HasStanding, Standing, WaysValue, along, at, start}
@@ -125,3 +126,53 @@ pub closed_kept : (g : GraphValue) (old new : List Standing) (since k : ℕ) →
     → IsClosed g old since (at old k) → IsClosed g new since (at new k)
 closed_kept g old new since k keeps less closed e has from silent =
     standing_kept old new since e.to keeps (closed e has (from ∙ ap (λ (s : Standing). s.node) (at_kept old new k less (keeps k))) silent)
+
+-- one edge more leads to where one of the ways ends
+pub edges_more : (edges : List Edge) (n : ℕ) (e : Edge) (now new : WaysValue) → ((k : ℕ) (s : Standing) → slice_get now.all k ≡ Some s → slice_get new.all k ≡ Some s)
+    → new.since ≡ now.since → slice_get edges n ≡ Some e → HasStanding new.all new.since e.to
+    → ((j : ℕ) (f : Edge) → j < n → slice_get edges j ≡ Some f → f.printed ≡ None → HasStanding now.all now.since f.to)
+    → (j : ℕ) (f : Edge) → j < n + 1 → slice_get edges j ≡ Some f → f.printed ≡ None → HasStanding new.all new.since f.to
+edges_more edges n e now new keeps since there here all j f less at_j silent = by (sides j n)
+  where
+    by : (j < n) ⊎ (n ≤ j) → HasStanding new.all new.since f.to
+    by (inl before) = subst (λ m. HasStanding new.all m f.to) (sym since) (standing_kept now.all new.all now.since f.to keeps (all j f before at_j silent))
+    by (inr behind) =
+        let same : n ≡ j = omega (arith, less, behind) in
+        subst (λ (z : Edge). HasStanding new.all new.since z.to) (same_at edges j e f (ap (slice_get edges) (sym same) ∙ there) at_j) here
+
+-- one that prints doesn't count
+pub edges_loud : (edges : List Edge) (n : ℕ) (e : Edge) (w : WaysValue) → slice_get edges n ≡ Some e → (e.printed ≡ None → ⊥)
+    → ((j : ℕ) (f : Edge) → j < n → slice_get edges j ≡ Some f → f.printed ≡ None → HasStanding w.all w.since f.to)
+    → (j : ℕ) (f : Edge) → j < n + 1 → slice_get edges j ≡ Some f → f.printed ≡ None → HasStanding w.all w.since f.to
+edges_loud edges n e w there loud all j f less at_j silent = by (sides j n)
+  where
+    by : (j < n) ⊎ (n ≤ j) → HasStanding w.all w.since f.to
+    by (inl before) = all j f before at_j silent
+    by (inr behind) =
+        let same : n ≡ j = omega (arith, less, behind) in
+        absurd (loud (ap (λ (z : Edge). z.printed) (same_at edges j e f (ap (slice_get edges) (sym same) ∙ there) at_j) ∙ silent))
+
+-- an option without a value, and one with it
+pub is_silent : (o : Option ℤ) (b : Bool) → is_some o ≡ not b → b ≡ true → o ≡ None
+is_silent None b is said = refl
+is_silent (Some x) b is said = absurd (true≢false (is ∙ ap not said))
+
+pub is_loud : (o : Option ℤ) (b : Bool) → is_some o ≡ not b → b ≡ false → o ≡ None → ⊥
+is_loud None b is denied h = absurd (true≢false (sym (is ∙ ap not denied)))
+is_loud (Some x) b is denied h = absurd (none-some x (sym h))
+
+-- a way with the edge more
+abbrev pub along_of : Edge → List Standing → ℕ → Standing
+along_of e all number = along e (at all number)
+
+-- the edges from where one way more ends were followed
+pub closed_next : (g : GraphValue) (old new : List Standing) (first number : ℕ) → ((k : ℕ) (s : Standing) → slice_get old k ≡ Some s → slice_get new k ≡ Some s) → number < length old
+    → ((k : ℕ) → first ≤ k → k < number → IsClosed g old first (at old k)) → IsClosed g new first (at old number)
+    → (k : ℕ) → first ≤ k → k < number + 1 → IsClosed g new first (at new k)
+closed_next g old new first number keeps inside all next k from less = by (sides k number)
+  where
+    by : (k < number) ⊎ (number ≤ k) → IsClosed g new first (at new k)
+    by (inl before) = closed_kept g old new first k keeps (omega (arith, before, inside)) (all k from before)
+    by (inr behind) =
+        let same : number ≡ k = omega (arith, less, behind) in
+        subst (λ m. IsClosed g new first (at new m)) same (subst (IsClosed g new first) (sym (at_kept old new number inside (keeps number))) next)

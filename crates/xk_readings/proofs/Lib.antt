@@ -8,3 +8,4 @@ mod GrowthLemmas
 mod BranchLemmas
 mod WalkLemmas
 mod TrimLemmas
+mod Examples

@@ -163,3 +163,28 @@ numbers_back stands last s later more whole is one was =
     turned : (o : Option ℤ) → reverse (later ++ option_to_list o) ≡ option_to_list o ++ reverse later
     turned None = ap reverse (append-nil later)
     turned (Some x) = reverse-append later (x ∷ [])
+
+-- ---- what is kept of them after one more
+
+pub ways_pushed : (stands more : List Stand) (s : Stand) (since : ℕ) (nodes : List ℕ) → AreWays stands since nodes → more ≡ stands ++ s ∷ [] → s.before ≤ length stands
+    → AreWays more since nodes
+ways_pushed stands more s since nodes are one less = record {
+  behind = subst AreBehind (sym one) (behind_push stands s are.behind less);
+  here = λ k has. subst (λ (l : List Standing). HasStanding l since k) (sym (ap standings one ∙ ways_push stands s))
+      (standing_push (standings stands) since k (along s.edge (at (standings stands) s.before)) (are.here k has));
+}
+
+-- the new one ends at a node
+pub new_there : (stands more : List Stand) (s : Stand) (since : ℕ) → more ≡ stands ++ s ∷ [] → since ≤ length (standings stands) → HasStanding (standings more) since s.edge.to
+new_there stands more s since one less =
+    subst (λ (l : List Standing). HasStanding l since s.edge.to) (sym (ap standings one ∙ ways_push stands s))
+    (standing_new (standings stands) since (along s.edge (at (standings stands) s.before)) less)
+
+pub ways_pushed_here : (stands more : List Stand) (s : Stand) (since : ℕ) (nodes longer : List ℕ) → AreWays stands since nodes → more ≡ stands ++ s ∷ [] → s.before ≤ length stands
+    → since ≤ length (standings stands) → longer ≡ nodes ++ s.edge.to ∷ [] → AreWays more since longer
+ways_pushed_here stands more s since nodes longer are one less from with_node =
+    let is = ways_pushed stands more s since nodes are one less in
+    record {
+      behind = is.behind;
+      here = here_push (standings more) since nodes longer s.edge.to with_node is.here (new_there stands more s since one from);
+    }

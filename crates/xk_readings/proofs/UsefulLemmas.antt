@@ -1,5 +1,5 @@
 -- Which nodes are marked as those from which a reading goes out.
-use Rattle.std.proofs.Common.{◌≡◌, ◌∙◌, ℕ, ℤ, zero, suc, ◌+◌, ◌<◌, ◌≤◌, ◌⊎◌, inl, inr, Bool, true, false, cond, not, eqb, List, [], ◌∷◌, ◌++◌, length, get_or, set, Some, refl, sym, ap, subst, arith, slice_get}
+use Rattle.std.proofs.Common.{◌≡◌, ◌∙◌, ℕ, ℤ, zero, suc, ◌+◌, ◌<◌, ◌≤◌, ◌⊎◌, inl, inr, Bool, true, false, cond, not, eqb, List, [], ◌∷◌, ◌++◌, length, get_or, set, Some, None, refl, sym, ap, subst, arith, slice_get}
 use Rattle.std.specs.Prelude.{count_by}
 use Rattle.std.specs.Option.{option_to_list}
 use Rattle.std.specs.Bool.{MatchBool}
@@ -11,7 +11,11 @@ use Rattle.xk_readings.specs.declared.edge.Edge.{Edge}
 use Rattle.xk_readings.specs.Graphs.{GraphValue, HasEdge, IsWithin, graph}
 use Rattle.xk_readings.specs.Readings.{Reads}
 use Rattle.xk_readings.specs.Useful.{AreReadable, AreUseful, IsFollowed, IsMarked, IsReadable}
-use Rattle.xk_readings.proofs.ListLemmas.{set_other, set_same}
+use Rattle.xk_readings.proofs.ListLemmas.{at_end, place, same_at, set_other, set_same, sides, stays}
+
+-- what stands for an edge that isn't there
+abbrev pub no_edge : Edge
+no_edge = record { from = 0; act = 0; printed = None; to = 0 }
 
 -- a reading goes out from where an edge begins, if one does from where it ends
 pub readable_before : (g : GraphValue) (e : Edge) → HasEdge g e → IsReadable g e.to → IsReadable g e.from
@@ -62,3 +66,55 @@ readable_within g within (suc n) k acts numbers r = subst (λ m. m < length g.en
 -- an edge that stands there is within the graph
 pub edge_within : (edges : List Edge) (ends : List Bool) (k : ℕ) (e : Edge) → IsWithin (graph edges ends) → slice_get edges k ≡ Some e → (e.from < length ends) × (e.to < length ends)
 edge_within edges ends k e within there = within e (k, there)
+
+-- one edge more that was followed
+pub followed_more : (edges : List Edge) (at : ℕ) (e : Edge) (old new : List Bool) → IsMarked e old new false → slice_get edges at ≡ Some e
+    → ((j : ℕ) (f : Edge) → suc at ≤ j → slice_get edges j ≡ Some f → slice_get old f.to ≡ Some true → slice_get old f.from ≡ Some true)
+    → (j : ℕ) (f : Edge) → at ≤ j → slice_get edges j ≡ Some f → slice_get new f.to ≡ Some true → slice_get new f.from ≡ Some true
+followed_more edges at e old new m there all j f from here to = by (sides j (suc at))
+  where
+    was : (k : ℕ) → slice_get new k ≡ slice_get old k
+    was k = ap (λ (l : List Bool). slice_get l k) m.0
+
+    this : (f' : Edge) → e ≡ f' → slice_get new f'.to ≡ Some true → slice_get new f'.from ≡ Some true
+    this f' same = subst (λ (z : Edge). slice_get new z.to ≡ Some true → slice_get new z.from ≡ Some true) same (λ to'. was e.from ∙ m.1 (sym (was e.to) ∙ to'))
+
+    by : (j < suc at) ⊎ (suc at ≤ j) → slice_get new f.from ≡ Some true
+    by (inl less) = (let same : at ≡ j = omega (arith, less, from) in this f (same_at edges j e f (ap (slice_get edges) (sym same) ∙ there) here) to)
+    by (inr later) = was f.from ∙ all j f later here (sym (was f.to) ∙ to)
+
+-- ---- the edges that are kept
+
+module _ (edges : List Edge) (useful : List Bool) (kept more : List Edge) (n : ℕ) (e : Edge) (there : slice_get edges n ≡ Some e) where
+  pub each_kept : more ≡ kept ++ e ∷ [] → slice_get useful e.to ≡ Some true
+      → ((i : ℕ) (f : Edge) → slice_get kept i ≡ Some f → ((j : ℕ) × (slice_get edges j ≡ Some f)) × (slice_get useful f.to ≡ Some true))
+      → (i : ℕ) (f : Edge) → slice_get more i ≡ Some f → ((j : ℕ) × (slice_get edges j ≡ Some f)) × (slice_get useful f.to ≡ Some true)
+  each_kept one marked all i f at = by (place kept e i f (ap (λ (l : List Edge). slice_get l i) (sym one) ∙ at))
+    where
+      by : (slice_get kept i ≡ Some f) ⊎ ((i ≡ length kept) × (e ≡ f)) → ((j : ℕ) × (slice_get edges j ≡ Some f)) × (slice_get useful f.to ≡ Some true)
+      by (inl known) = all i f known
+      by (inr last) = subst (λ (z : Edge). ((j : ℕ) × (slice_get edges j ≡ Some z)) × (slice_get useful z.to ≡ Some true)) last.1 ((n, there), marked)
+
+  pub all_kept : more ≡ kept ++ e ∷ []
+      → ((j : ℕ) (f : Edge) → j < n → slice_get edges j ≡ Some f → slice_get useful f.to ≡ Some true → (i : ℕ) × (slice_get kept i ≡ Some f))
+      → (j : ℕ) (f : Edge) → j < n + 1 → slice_get edges j ≡ Some f → slice_get useful f.to ≡ Some true → (i : ℕ) × (slice_get more i ≡ Some f)
+  all_kept one all j f less at marked = by (sides j n)
+    where
+      by : (j < n) ⊎ (n ≤ j) → (i : ℕ) × (slice_get more i ≡ Some f)
+      by (inl before) = (let was = all j f before at marked in (was.0, ap (λ (l : List Edge). slice_get l was.0) one ∙ stays kept (e ∷ []) was.0 f was.1))
+      by (inr after) =
+          let same : n ≡ j = omega (arith, less, after) in
+          let is = same_at edges j e f (ap (slice_get edges) (sym same) ∙ there) at in
+          (length kept, ap (λ (l : List Edge). slice_get l (length kept)) one ∙ at_end kept e ∙ ap Some is)
+
+  pub all_dropped : slice_get useful e.to ≡ Some false
+      → ((j : ℕ) (f : Edge) → j < n → slice_get edges j ≡ Some f → slice_get useful f.to ≡ Some true → (i : ℕ) × (slice_get kept i ≡ Some f))
+      → (j : ℕ) (f : Edge) → j < n + 1 → slice_get edges j ≡ Some f → slice_get useful f.to ≡ Some true → (i : ℕ) × (slice_get kept i ≡ Some f)
+  all_dropped unmarked all j f less at marked = by (sides j n)
+    where
+      by : (j < n) ⊎ (n ≤ j) → (i : ℕ) × (slice_get kept i ≡ Some f)
+      by (inl before) = all j f before at marked
+      by (inr after) =
+          let same : n ≡ j = omega (arith, less, after) in
+          let is = same_at edges j e f (ap (slice_get edges) (sym same) ∙ there) at in
+          absurd (true≢false (same_Some true false (sym marked ∙ ap (λ (z : Edge). slice_get useful z.to) (sym is) ∙ unmarked)))

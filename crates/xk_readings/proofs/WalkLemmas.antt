@@ -1,9 +1,9 @@
 -- One step of the walk along all readings.
-use Rattle.std.proofs.Common.{◌≡◌, ◌∙◌, ℕ, ℤ, zero, suc, ◌+◌, ◌-◌, ◌*◌, ◌<◌, ◌≤◌, ◌⊎◌, inl, inr, Bool, true, false, cond, eqb, List, [], ◌∷◌, ◌++◌, length, get_or, Option, Some, None, refl, sym, ap, subst, append_assoc, arith, slice_get, length-append}
+use Rattle.std.proofs.Common.{◌≡◌, ◌∙◌, ℕ, ℤ, zero, suc, ◌+◌, ◌-◌, ◌*◌, ◌<◌, ◌≤◌, ◌⊎◌, inl, inr, Bool, true, false, cond, eqb, List, [], ◌∷◌, ◌++◌, length, get_or, take, Option, Some, None, refl, sym, ap, subst, append_assoc, arith, slice_get, length-append}
 use Rattle.std.specs.Option.{option_to_list}
 use Rattle.std.proofs.lemmas.Bool.{true≢false}
 use Rattle.std.proofs.lemmas.Bool.Decides.{eqb_tells}
-use Rattle.std.proofs.lemmas.List.{append-nil, get_or_push, length_push}
+use Rattle.std.proofs.lemmas.List.{append-nil, get_or_push, length-take-le, length_push}
 use Rattle.std.proofs.lemmas.Option.{get_or_from_slice_get, none-some, same_Some, slice_get_within}
 use Rattle.xk_readings.specs.declared.edge.Edge.{Edge}
 use Rattle.xk_readings.specs.declared.branches.Branch.{Branch}
@@ -12,11 +12,12 @@ use Rattle.xk_readings.specs.declared.listing.Reading.{Reading}
 use Rattle.xk_readings.specs.Graphs.{GraphValue, HasEdge}
 use Rattle.xk_readings.specs.Readings.{AreAllListed, AreShown, IsListed, IsLongest, Reads}
 use Rattle.xk_readings.specs.Ways.{Standing, WaysValue, along, at, start}
-use Rattle.xk_readings.specs.Closures.{AreReached, AreTrim, IsClosed, IsReached, NoneEnds}
+use Rattle.xk_readings.specs.Useful.{IsReadable}
+use Rattle.xk_readings.specs.Closures.{AreReached, AreTrim, IsClosed, IsReached, IsSpread, NoneEnds, PrintsFrom}
 use Rattle.xk_readings.specs.Branches.{AreAllOf, AreBranches, AreGrouped, AreStacked, HasBranch, HasWay, IsAlong, IsBranch, IsGrouped, IsNew}
-use Rattle.xk_readings.specs.Walks.{IsAwaited, IsEndListed, IsNearer, IsOneOf, IsOpened, IsPending, IsWalk, depth, last_group, weight}
-use Rattle.xk_readings.proofs.ListLemmas.{at_end, place, read, same_at, sides, stays, there_is}
-use Rattle.xk_readings.proofs.GrowthLemmas.{at_kept}
+use Rattle.xk_readings.specs.Walks.{IsAwaited, IsEndListed, IsListedFrom, IsNearer, IsOneOf, IsOpened, IsPending, IsWalk, depth, last_group, weight}
+use Rattle.xk_readings.proofs.ListLemmas.{at_end, from_take, in_take, place, read, same_at, sides, stays, there_is}
+use Rattle.xk_readings.proofs.GrowthLemmas.{at_kept, prints_all}
 use Rattle.xk_readings.proofs.ReadingLemmas.{GoesOn, HasEnd, progress, reached_along, reached_length, reading_there}
 
 -- ---- ways that are kept
@@ -365,3 +366,95 @@ all_listed g w groups list none walk n acts numbers r = by (walk.all n acts numb
     by : IsListed list numbers ⊎ IsAwaited g w.all groups numbers → IsListed list numbers
     by (inl is) = is
     by (inr (i, a, there, pending)) = absurd (none-some a (ap (λ (l : List Group). slice_get l i) (sym none) ∙ there))
+
+-- ---- what the parts of a step give
+
+-- the ways of the group alone, and those that come from there without a number being printed
+pub opened_by : (g : GraphValue) (group : Group) (old taken new : WaysValue) → IsOneOf old.all group → taken.all ≡ take group.to old.all → taken.here.room ≡ old.here.room
+    → IsSpread g (at taken.all group.from).numbers taken new
+    → ((k : ℕ) → group.from ≤ k → k < length new.all → IsClosed g new.all group.from (at new.all k)) → IsOpened g group old new
+opened_by g group old taken new mine is room spread closed = record {
+  kept = λ k s less there. spread.kept k s (first_ones k s less there);
+  many =
+      let count = ap length is in
+      let size = length-take-le group.to old.all mine.within in
+      let most = spread.many in
+      omega (arith, count, size, most);
+  room = spread.room ∙ room;
+  reached = spread.reached;
+  prints = λ k s from there. prints_all g group.from (at taken.all group.from).numbers taken new printed spread k s from there ∙ ap (λ (s : Standing). s.numbers) begins;
+  closed = closed;
+}
+  where
+    first_ones : (k : ℕ) (s : Standing) → k < group.to → slice_get old.all k ≡ Some s → slice_get taken.all k ≡ Some s
+    first_ones k s less there = ap (λ (l : List Standing). slice_get l k) is ∙ in_take group.to old.all k s less there
+
+    begins : at taken.all group.from ≡ at old.all group.from
+    begins =
+        let some = mine.some in
+        let within = mine.within in
+        at_kept old.all taken.all group.from (omega (arith, some, within)) (λ s. first_ones group.from s some)
+
+    printed : PrintsFrom group.from (at taken.all group.from).numbers taken.all
+    printed k s from there =
+        let was = from_take group.to old.all k s (ap (λ (l : List Standing). slice_get l k) (sym is) ∙ there) in
+        mine.prints k s from was.0 was.1 ∙ sym (ap (λ (s : Standing). s.numbers) begins)
+
+-- a step
+pub stepped : (g : GraphValue) (w now same w2 : WaysValue) (under mid over : List Group) (group : Group) (list kept more : List Reading) (branches : List Branch) (limit : ℕ) (going : Bool)
+    → AreTrim g → IsWalk g w (under ++ group ∷ []) list → IsOpened g group w now → kept ≡ list → IsListedFrom g now.all group.from limit kept more going → going ≡ true
+    → same ≡ now → mid ≡ under → AreBranches g same.all group.from branches → IsGrouped branches same w2 mid over
+    → IsWalk g w2 over more × IsNearer limit w.all group list w2.all over more
+stepped g w now same w2 under mid over group list kept more branches limit going trim walk opened was listed goes is stays_under are grouped =
+    let opened' = subst (IsOpened g group w) (sym is) opened in
+    let there = subst (λ (z : WaysValue). IsListedFrom g z.all group.from limit kept more going) (sym is) listed in
+    let going_on = subst (λ (b : Bool). IsListedFrom g same.all group.from limit kept more b) goes there in
+    let listed' : ((NoneEnds g same.all group.from) × (more ≡ list)) ⊎ ((length list < limit) × IsEndListed g same.all group.from list more) =
+    subst (λ (l : List Reading). ((NoneEnds g same.all group.from) × (more ≡ l)) ⊎ ((length l < limit) × IsEndListed g same.all group.from l more)) was going_on in
+    let grouped' = subst (λ (l : List Group). IsGrouped branches same w2 l over) stays_under grouped in
+    (walk_after g w same w2 under over group list more branches limit trim walk opened' listed' are grouped',
+    nearer_after g w same w2 under over group list more branches limit trim walk opened' listed' are grouped')
+
+-- ---- the walk begins
+
+pub begun : (g : GraphValue) (w : WaysValue) (groups : List Group) (list : List Reading) → w.all ≡ start ∷ [] → w.here.room ≡ length g.ends → groups ≡ record { from = 0; to = 1 } ∷ []
+    → list ≡ [] → IsReadable g 0 → IsWalk g w groups list
+begun g w groups list one room first none readable = record {
+  room = room;
+  reached = λ k s there. reached k s (ap (λ (l : List Standing). slice_get l k) (sym one) ∙ there);
+  each = λ i a there. each i a (ap (λ (l : List Group). slice_get l i) (sym first) ∙ there);
+  stacked = record {
+    in_order = λ i j a b less x y. ordered i j a b (ap (λ (l : List Group). slice_get l i) (sym first) ∙ x) (ap (λ (l : List Group). slice_get l j) (sym first) ∙ y);
+    within = λ i a there. (each i a (ap (λ (l : List Group). slice_get l i) (sym first) ∙ there)).within;
+  };
+  shown = λ i r there. absurd (none-some r (ap (λ (l : List Reading). slice_get l i) (sym none) ∙ there));
+  all = λ n acts numbers r.
+      inr (0, record { from = 0; to = 1 }, ap (λ (l : List Group). slice_get l 0) first,
+      (0, start, omega arith, omega arith, ap (λ (l : List Standing). slice_get l 0) one, n, acts, numbers, r, refl));
+}
+  where
+    whole : Group
+    whole = record { from = 0; to = 1 }
+
+    reached : (k : ℕ) (s : Standing) → slice_get (start ∷ []) k ≡ Some s → IsReached g s
+    reached zero s there = subst (IsReached g) (same_Some start s there) (record { leads = λ n rest more r. (n, r); readable = readable })
+    reached (suc k) s there = absurd (none-some s there)
+
+    is_whole : (i : ℕ) (a : Group) → slice_get (whole ∷ []) i ≡ Some a → whole ≡ a
+    is_whole zero a there = same_Some whole a there
+    is_whole (suc i) a there = absurd (none-some a there)
+
+    one_way : IsOneOf w.all whole
+    one_way = record {
+      some = omega arith;
+      within = (let count = ap length one in omega (arith, count));
+      prints = λ k s from less there.
+          let zero_is : k ≡ 0 = omega (arith, less) in
+          ap (λ (t : Standing). t.numbers) (sym (get_or_from_slice_get w.all k s start there)) ∙ ap (λ m. (at w.all m).numbers) zero_is;
+    }
+
+    each : (i : ℕ) (a : Group) → slice_get (whole ∷ []) i ≡ Some a → IsOneOf w.all a
+    each i a there = subst (IsOneOf w.all) (is_whole i a there) one_way
+
+    ordered : (i j : ℕ) (a b : Group) → slice_get (whole ∷ []) i ≡ Some a → slice_get (whole ∷ []) j ≡ Some b → a.to ≤ b.to
+    ordered i j a b x y = (let same = ap (λ (c : Group). c.to) (sym (is_whole i a x) ∙ is_whole j b y) in omega (arith, same))

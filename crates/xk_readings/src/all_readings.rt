@@ -7,7 +7,7 @@ ghost use Rattle.xk_readings.specs.Readings.{AreAllListed, AreShown, IsLongest};
 use crate::edge::Edge;
 use crate::graph::Graph;
 use crate::listing::Readings;
-use crate::useful::{useful_edges, useful_nodes};
+use crate::useful::{is_first_useful, useful_edges, useful_nodes};
 use crate::walk::walk_all;
 use std::alloc::{AllocError, Global};
 
@@ -29,7 +29,7 @@ pub fn readings(
     ensures most { IfOk result (λ r. length r.list.items ≤ limit) }
 {
     let useful = useful_nodes(alloc, edges, ends)?;
-    if useful.is_empty() || !useful[0] {
+    if !is_first_useful(&useful) {
         return Ok(Readings {
             list: Vec::new(alloc),
             complete: true,

@@ -77,11 +77,11 @@ fn add_group(ways: &mut Ways, branches: &[Branch], end: usize) -> Result<usize, 
     ensures { IfOk result (λ start. IsGroup branches.now start end ways.old ways.new) }
 {
     ways.look_from_here();
-    let number = branches[end - 1].number;
+    let last = branches[end - 1];
     let mut at = end;
     while at > 0 {
         let branch = branches[at - 1];
-        if branch.number != number {
+        if branch.number != last.number {
             return Ok(at);
         }
         ways.lengthen(branch.before, branch.edge)?;

@@ -1,6 +1,7 @@
 //! The nodes from which a reading goes out.
 
 ghost use Rattle.std.specs.Prelude.{◌≡◌, ◌<◌, ◌≤◌, ℕ, true, false, not, length, slice_get, count_by, IfOk, Some};
+ghost use Rattle.std.specs.Bool.{Decides};
 ghost use Rattle.xk_readings.specs.Graphs.{IsWithin, graph};
 ghost use Rattle.xk_readings.specs.Useful.{AreKept, AreReadable, AreUseful, IsFollowed, IsMarked};
 
@@ -55,6 +56,16 @@ pub fn useful_nodes(
     let mut useful = ends.to_vec(alloc)?;
     'passes: while mark_along(edges, ends, &mut useful) {}
     Ok(useful)
+}
+
+/// Whether the first node is marked.
+pub fn is_first_useful(useful: &[bool]) -> bool
+    ensures { Decides result (slice_get useful.now 0 ≡ Some true) }
+{
+    match useful {
+        [first, ..] => *first,
+        [] => false,
+    }
 }
 
 /// The edges that end at marked nodes. Err where memory was refused.

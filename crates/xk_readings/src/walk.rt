@@ -38,7 +38,8 @@ fn open(graph: &Graph, walk: &mut Walk, group: Group) -> Result<(), AllocError>
     ensures list { walk.new.list.items ≡ walk.old.list.items }
 {
     walk.ways.truncate(group.to);
-    close(graph, &mut walk.ways, group.from)
+    close(graph, &mut walk.ways, group.from)?;
+    Ok(())
 }
 
 /// Lists what is read along a way from a number on that ends where a reading may end, if one does and fewer are listed than the limit says.

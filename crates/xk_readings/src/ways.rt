@@ -1,6 +1,7 @@
 //! Ways from the first node, each one edge longer than one before it.
 
 ghost use Rattle.std.specs.Prelude.{◌≡◌, ◌<◌, ◌≤◌, ◌+◌, ◌++◌, ◌∷◌, ◌⊎◌, [], ℕ, length, slice_get, take, IfOk, OnOk, Some};
+ghost use Rattle.std.specs.Option.{option_to_list};
 ghost use Rattle.xk_readings.specs.Ways.{Standing, WaysValue, HasStanding, along, left, looking_from, start, at};
 
 use crate::edge::Edge;
@@ -43,6 +44,16 @@ impl Model for Ways {
     ghost invariant = { λ w. AreWays w.stands.items w.since w.here.nodes };
 }
 
+/// Puts what was printed behind the numbers, if a number was. Err where memory was refused.
+fn keep_printed(numbers: &mut Vec<i64>, printed: Option<i64>) -> Result<(), AllocError>
+    ensures { OnOk result (numbers.new.items ≡ numbers.old.items ++ option_to_list printed) }
+{
+    if let Some(number) = printed {
+        numbers.push(number)?;
+    }
+    Ok(())
+}
+
 impl Ways {
     /// The first one alone, in a graph of so many nodes. Err where memory was refused.
     pub fn new(alloc: Global, nodes: usize) -> Result<Ways, AllocError>
@@ -68,6 +79,8 @@ impl Ways {
         requires { number < length self.now.all }
         ensures { result ≡ (at self.now.all number).node }
     {
+        // For the first way, which has no edge.
+        let _stands = &self.stands;
         if number == 0 {
             return 0;
         }
@@ -146,9 +159,7 @@ impl Ways {
         while last > 0 {
             let stand = self.stands[last - 1];
             acts.push(stand.edge.act)?;
-            if let Some(printed) = stand.edge.printed {
-                numbers.push(printed)?;
-            }
+            keep_printed(&mut numbers, stand.edge.printed)?;
             last = stand.before;
         }
         acts.reverse();

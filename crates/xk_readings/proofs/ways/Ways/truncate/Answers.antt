@@ -1,7 +1,7 @@
 use Rattle.std.proofs.Common.{◌≡◌, ◌∙◌, ◌+◌, ◌-◌, ◌≤◌, length, take, ap, arith, subst, sym}
-use Rattle.xk_readings.specs.Ways.{WaysValue}
 use Rattle.xk_readings.specs.NodeSets.{HasNode, NodeSetValue}
 use Rattle.xk_readings.specs.Stands.{AreBehind, standings}
+use Rattle.xk_readings.specs.Ways.{WaysValue}
 use Rattle.xk_readings.proofs.StandLemmas.{behind_take, many_ways, none_here, ways_take}
 use Rattle.xk_readings.proofs.ways.Ways.truncate.Goals as goal
 
@@ -21,3 +21,6 @@ returns-clause-all c =
     let same : (number - 1) + 1 ≡ number = omega (arith, some) in
     ap standings c.truncate.ensures.items ∙ ways_take stands (number - 1) (omega (arith, many, inside, some)) ∙ ap (λ n. take n (standings stands)) same
     ∙ ap (λ (w : WaysValue). take number w.all) c.self.view_is
+
+pub returns-clause-room : goal.returns-clause-room
+returns-clause-room c = ap (λ (s : NodeSetValue). s.room) c.clear.ensures ∙ ap (λ (w : WaysValue). w.here.room) c.self.view_is
