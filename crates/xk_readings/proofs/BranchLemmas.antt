@@ -1,15 +1,15 @@
 -- Groups of ways, one for each number that comes next.
-use Rattle.std.proofs.Common.{◌≡◌, ◌∙◌, ℕ, ℤ, ◌+◌, ◌-◌, ◌<◌, ◌≤◌, ◌⊎◌, inl, inr, List, [], ◌∷◌, ◌++◌, length, pos, suc, Some, None, refl, sym, ap, subst, arith, slice_get}
+use Rattle.std.proofs.Common.{◌≡◌, ◌∙◌, ℕ, ℤ, ◌+◌, ◌-◌, ◌<◌, ◌≤◌, ◌⊎◌, inl, inr, List, [], ◌∷◌, ◌++◌, length, pos, suc, Option, Some, None, option_map, refl, sym, ap, subst, arith, slice_get}
 use Rattle.std.specs.List.Sorted.{IsPermutation}
 use Rattle.std.proofs.lemmas.List.{length_push}
 use Rattle.std.proofs.lemmas.List.Sorted.{IsPermutation-sym}
-use Rattle.std.proofs.lemmas.Option.{slice_get_within}
+use Rattle.std.proofs.lemmas.Option.{none-some, same_Some, slice_get_within}
 use Rattle.xk_readings.specs.declared.edge.Edge.{Edge}
 use Rattle.xk_readings.specs.declared.branches.Branch.{Branch}
 use Rattle.xk_readings.specs.declared.branches.Group.{Group}
 use Rattle.xk_readings.specs.Graphs.{GraphValue}
 use Rattle.xk_readings.specs.Ways.{HasStanding, Standing, WaysValue, along, at, start}
-use Rattle.xk_readings.specs.Branches.{AreAllOf, AreBranches, AreBranchesAt, AreGrouped, AreStacked, HasBranch, HasWay, IsAlong, IsBranch, IsGroup, IsNew}
+use Rattle.xk_readings.specs.Branches.{AreAllOf, AreBranches, AreBranchesAt, AreGrouped, AreStacked, HasBranch, HasWay, IsAlong, IsBranch, IsGroup, IsNew, branch_of}
 use Rattle.xk_readings.proofs.GrowthLemmas.{at_kept, each_grown}
 use Rattle.xk_readings.proofs.ListLemmas.{at_end, permuted, place, same_at, sides, stays, there_is}
 
@@ -126,9 +126,14 @@ module _ (branches : List Branch) (place' end : ℕ) (old now new : WaysValue) (
           let way = is.there i b behind less there in
           let number = is.same i b first behind less there first_is in
           let inside = slice_get_within new.all way.0 way.1 way.3 in
-          let later = way.2 in
-          (length mid, group, are.longer, group_over, subst (λ (x : ℤ). IsNew branches old.all new.all x group) (sym number) is_group,
-          (way.0, way.1, omega (arith, later, from), omega (arith, inside, to), way.3, way.4))
+          let later = way.2 in (
+            length mid,
+            group,
+            are.longer,
+            group_over,
+            subst (λ (x : ℤ). IsNew branches old.all new.all x group) (sym number) is_group,
+            (way.0, way.1, omega (arith, later, from), omega (arith, inside, to), way.3, way.4),
+          )
       by (inr later) =
           let was = are.there i b later there in
           (was.0, was.1, was.2, mid_over was.0 was.1 was.3, new_kept b.number was.1 was.4, way_kept was.1 b.edge.to was.5)
@@ -237,3 +242,22 @@ one_later xs at x there P is all i y less here = by (sides i at)
     by : (i < at) ⊎ (at ≤ i) → P y
     by (inl before) = all i y before here
     by (inr behind) = (let same : at ≡ i = omega (arith, less, behind) in subst P (same_at xs i x y (ap (slice_get xs) (sym same) ∙ there) here) is)
+
+-- what an edge that prints a number makes
+pub made : (before : ℕ) (e : Edge) (b : Branch) → Some b ≡ branch_of before e → (e ≡ b.edge) × (before ≡ b.before) × (e.printed ≡ Some b.number)
+made before e b is = by e.printed refl is
+  where
+    of : ℤ → Branch
+    of x = record { number = x; before = before; edge = e }
+
+    by : (o : Option ℤ) → e.printed ≡ o → Some b ≡ option_map of o → (e ≡ b.edge) × (before ≡ b.before) × (e.printed ≡ Some b.number)
+    by None prints none = absurd (none-some b (sym none))
+    by (Some x) prints some =
+        let same : of x ≡ b = same_Some (of x) b (sym some) in
+        (ap (λ (z : Branch). z.edge) same, ap (λ (z : Branch). z.before) same, prints ∙ ap (λ (z : Branch). Some z.number) same)
+
+-- one that prints none makes none
+pub none_made : (before : ℕ) (e : Edge) → None ≡ branch_of before e → (x : ℤ) → e.printed ≡ Some x → ⊥
+none_made before e is x prints =
+    let of : ℤ → Branch = λ n. record { number = n; before = before; edge = e } in
+    none-some (of x) (is ∙ ap (option_map of) prints)

@@ -18,18 +18,20 @@ reached_along g e s has from readable is = record {
   where
     leads : LeadsTo g e.to (s.acts ++ e.act ∷ []) (s.numbers ++ option_to_list e.printed)
     leads n rest more r =
-        let through = is.leads (suc n) (e.act ∷ rest) (option_to_list e.printed ++ more) (e, has, from, rest, more, r, refl, refl) in
-        (through.0,
-        subst (λ (l : List ℕ). Reads g through.0 0 l ((s.numbers ++ option_to_list e.printed) ++ more)) (sym (append_assoc s.acts (e.act ∷ []) rest))
-        (subst (λ (l : List ℤ). Reads g through.0 0 (s.acts ++ (e.act ∷ rest)) l) (sym (append_assoc s.numbers (option_to_list e.printed) more)) through.1))
+        let through = is.leads (suc n) (e.act ∷ rest) (option_to_list e.printed ++ more) (e, has, from, rest, more, r, refl, refl) in (
+          through.0,
+          subst (λ (l : List ℕ). Reads g through.0 0 l ((s.numbers ++ option_to_list e.printed) ++ more)) (sym (append_assoc s.acts (e.act ∷ []) rest))
+              (subst (λ (l : List ℤ). Reads g through.0 0 (s.acts ++ (e.act ∷ rest)) l) (sym (append_assoc s.numbers (option_to_list e.printed) more)) through.1),
+        )
 
 -- a way that ends where a reading may end is a reading
 pub reading_there : (g : GraphValue) (s : Standing) → IsReached g s → slice_get g.ends s.node ≡ Some true → (n : ℕ) × Reads g n 0 s.acts s.numbers
 reading_there g s is ends =
-    let through = is.leads 0 [] [] (ends, refl, refl) in
-    (through.0,
-    subst (λ (l : List ℕ). Reads g through.0 0 l s.numbers) (append-nil s.acts)
-    (subst (λ (l : List ℤ). Reads g through.0 0 (s.acts ++ []) l) (append-nil s.numbers) through.1))
+    let through = is.leads 0 [] [] (ends, refl, refl) in (
+      through.0,
+      subst (λ (l : List ℕ). Reads g through.0 0 l s.numbers) (append-nil s.acts)
+          (subst (λ (l : List ℤ). Reads g through.0 0 (s.acts ++ []) l) (append-nil s.numbers) through.1),
+    )
 
 at_most_one : (o : Option ℤ) → length (option_to_list o) ≤ 1
 at_most_one None = omega arith

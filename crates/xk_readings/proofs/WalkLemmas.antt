@@ -157,10 +157,11 @@ module _ (g : GraphValue) (w w1 w2 : WaysValue) (under over : List Group) (group
           old_or_new (inl old) = walk.shown i r old
           old_or_new (inr new) =
               let s = at w1.all one.number in
-              let is = reading_there g s (opened.reached one.number s (read w1.all one.number start one.within)) one.ends in
-              (is.0,
-              subst (λ (l : List ℕ). Reads g is.0 0 l r.numbers.items) (sym one.acts ∙ ap (λ (q : Reading). q.acts.items) new.1)
-              (subst (λ (l : List ℤ). Reads g is.0 0 s.acts l) (sym one.numbers ∙ ap (λ (q : Reading). q.numbers.items) new.1) is.1))
+              let is = reading_there g s (opened.reached one.number s (read w1.all one.number start one.within)) one.ends in (
+                is.0,
+                subst (λ (l : List ℕ). Reads g is.0 0 l r.numbers.items) (sym one.acts ∙ ap (λ (q : Reading). q.acts.items) new.1)
+                    (subst (λ (l : List ℤ). Reads g is.0 0 s.acts l) (sym one.numbers ∙ ap (λ (q : Reading). q.numbers.items) new.1) is.1),
+              )
 
   -- what ends here is listed
   end_listed : HasEnd g w1.all group.from → IsListed more p
@@ -172,9 +173,12 @@ module _ (g : GraphValue) (w w1 w2 : WaysValue) (under over : List Group) (group
           let ends = none.0 has.0 has.2 inside in
           let node = ap (λ (s : Standing). slice_get g.ends s.node) (get_or_from_slice_get w1.all has.0 has.1 start has.3) in
           absurd (true≢false (same_Some true false (sym has.4 ∙ sym node ∙ ends)))
-      by (inr (few, one)) =
-          (length list, one.reading, ap (λ (l : List Reading). slice_get l (length list)) one.listed ∙ at_end list one.reading,
-          one.numbers ∙ opened.prints one.number (at w1.all one.number) one.behind (read w1.all one.number start one.within))
+      by (inr (few, one)) = (
+        length list,
+        one.reading,
+        ap (λ (l : List Reading). slice_get l (length list)) one.listed ∙ at_end list one.reading,
+        one.numbers ∙ opened.prints one.number (at w1.all one.number) one.behind (read w1.all one.number start one.within),
+      )
 
   -- what goes on is read behind a new group
   goes_on : (more' : List ℤ) → GoesOn g w1.all group.from more' → IsAwaited g w2.all over (p ++ more')
@@ -187,13 +191,26 @@ module _ (g : GraphValue) (w w1 w2 : WaysValue) (under over : List Group) (group
       let a = new.1 in
       let way = new.5 in
       let number : b.number ≡ on.x = same_Some b.number on.x (sym (are.each has.0 b has.2).0.prints ∙ ap (λ (e : Edge). e.printed) has.3 ∙ on.prints) in
-      let node : on.edge.to ≡ way.1.node = sym (way.5 ∙ ap (λ (e : Edge). e.to) has.3) in
-      (new.0, a, new.3,
-      (way.0, way.1, way.2, way.3, way.4, on.steps, on.rest, on.left, subst (λ m. Reads g on.steps m on.rest on.left) node on.reads,
-      ap (λ (l : List ℤ). p ++ l) on.is
-      ∙ sym (append_assoc p (on.x ∷ []) on.left)
-      ∙ ap (λ (n : ℤ). (p ++ n ∷ []) ++ on.left) (sym number)
-      ∙ sym (ap (λ (l : List ℤ). l ++ on.left) (new_numbers b.number a new.4 way.0 way.1 way.2 way.3 way.4))))
+      let node : on.edge.to ≡ way.1.node = sym (way.5 ∙ ap (λ (e : Edge). e.to) has.3) in (
+        new.0,
+        a,
+        new.3,
+        (
+          way.0,
+          way.1,
+          way.2,
+          way.3,
+          way.4,
+          on.steps,
+          on.rest,
+          on.left,
+          subst (λ m. Reads g on.steps m on.rest on.left) node on.reads,
+          ap (λ (l : List ℤ). p ++ l) on.is
+              ∙ sym (append_assoc p (on.x ∷ []) on.left)
+              ∙ ap (λ (n : ℤ). (p ++ n ∷ []) ++ on.left) (sym number)
+              ∙ sym (ap (λ (l : List ℤ). l ++ on.left) (new_numbers b.number a new.4 way.0 way.1 way.2 way.3 way.4)),
+        ),
+      )
     where
       zero_first : (i : ℕ) → 0 ≤ i
       zero_first i = omega arith
@@ -411,9 +428,10 @@ stepped g w now same w2 under mid over group list kept more branches limit going
     let going_on = subst (λ (b : Bool). IsListedFrom g same.all group.from limit kept more b) goes there in
     let listed' : ((NoneEnds g same.all group.from) × (more ≡ list)) ⊎ ((length list < limit) × IsEndListed g same.all group.from list more) =
     subst (λ (l : List Reading). ((NoneEnds g same.all group.from) × (more ≡ l)) ⊎ ((length l < limit) × IsEndListed g same.all group.from l more)) was going_on in
-    let grouped' = subst (λ (l : List Group). IsGrouped branches same w2 l over) stays_under grouped in
-    (walk_after g w same w2 under over group list more branches limit trim walk opened' listed' are grouped',
-    nearer_after g w same w2 under over group list more branches limit trim walk opened' listed' are grouped')
+    let grouped' = subst (λ (l : List Group). IsGrouped branches same w2 l over) stays_under grouped in (
+      walk_after g w same w2 under over group list more branches limit trim walk opened' listed' are grouped',
+      nearer_after g w same w2 under over group list more branches limit trim walk opened' listed' are grouped',
+    )
 
 -- ---- the walk begins
 
@@ -429,8 +447,12 @@ begun g w groups list one room first none readable = record {
   };
   shown = λ i r there. absurd (none-some r (ap (λ (l : List Reading). slice_get l i) (sym none) ∙ there));
   all = λ n acts numbers r.
-      inr (0, record { from = 0; to = 1 }, ap (λ (l : List Group). slice_get l 0) first,
-      (0, start, omega arith, omega arith, ap (λ (l : List Standing). slice_get l 0) one, n, acts, numbers, r, refl));
+      inr (
+        0,
+        record { from = 0; to = 1 },
+        ap (λ (l : List Group). slice_get l 0) first,
+        (0, start, omega arith, omega arith, ap (λ (l : List Standing). slice_get l 0) one, n, acts, numbers, r, refl),
+      );
 }
   where
     whole : Group

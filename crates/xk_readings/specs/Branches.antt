@@ -1,10 +1,14 @@
 -- Which number comes next. This project's own.
-use Rattle.std.specs.Prelude.{◌≡◌, ℕ, ◌<◌, ◌≤◌, ℤ, List, length, Some, slice_get}
+use Rattle.std.specs.Prelude.{◌≡◌, ℕ, ◌<◌, ◌≤◌, ℤ, List, length, Option, Some, option_map, slice_get}
 use Rattle.xk_readings.specs.declared.edge.Edge.{Edge}
 use Rattle.xk_readings.specs.declared.branches.Branch.{Branch}
 use Rattle.xk_readings.specs.declared.branches.Group.{Group}
 use Rattle.xk_readings.specs.Graphs.{GraphValue, HasEdge}
 use Rattle.xk_readings.specs.Ways.{Standing, WaysValue, HasStanding, along, at}
+
+-- the edge behind a way, if it prints a number
+abbrev pub branch_of : ℕ → Edge → Option Branch
+branch_of before e = option_map (λ x. record { number = x; before = before; edge = e }) e.printed
 
 -- an edge of the graph that prints the number, from where the way ends
 pub record IsBranch (g : GraphValue) (all : List Standing) (b : Branch) : Type 0 where

@@ -1,7 +1,8 @@
 //! Which number comes next, and where one is then.
 
-ghost use Rattle.std.specs.Prelude.{◌<◌, ◌≤◌, length, IfOk, OnOk};
-ghost use Rattle.xk_readings.specs.Branches.{AreBefore, AreBranches, AreBranchesAt, IsGroup, IsGrouped};
+ghost use Rattle.std.specs.Prelude.{◌≡◌, ◌<◌, ◌≤◌, length, IfOk, OnOk};
+ghost use Rattle.std.specs.Bool.{Decides};
+ghost use Rattle.xk_readings.specs.Branches.{AreBefore, AreBranches, AreBranchesAt, IsGroup, IsGrouped, branch_of};
 
 use crate::edge::Edge;
 use crate::graph::Graph;
@@ -28,6 +29,25 @@ pub struct Group {
     pub to: usize,
 }
 
+/// The edge behind a way, if it prints a number.
+fn branch_of(before: usize, edge: &Edge) -> Option<Branch>
+    ensures { result ≡ branch_of before edge.now }
+{
+    let number = edge.printed?;
+    Some(Branch {
+        number,
+        before,
+        edge: *edge,
+    })
+}
+
+/// Whether the two print the same number.
+fn print_same(a: &Branch, b: &Branch) -> bool
+    ensures { Decides result (a.now.number ≡ b.now.number) }
+{
+    a.number == b.number
+}
+
 /// Adds those of one way.
 fn add_branches(
     graph: &Graph,
@@ -40,12 +60,8 @@ fn add_branches(
         (AreBranchesAt graph.now ways.now.all before branches.old.items branches.new.items) }
 {
     for edge in graph.edges_from(ways.node(before)) {
-        if let Some(number) = edge.printed {
-            branches.push(Branch {
-                number,
-                before,
-                edge: *edge,
-            })?;
+        if let Some(branch) = branch_of(before, edge) {
+            branches.push(branch)?;
         }
     }
     Ok(())
@@ -81,7 +97,7 @@ fn add_group(ways: &mut Ways, branches: &[Branch], end: usize) -> Result<usize, 
     let mut at = end;
     while at > 0 {
         let branch = branches[at - 1];
-        if branch.number != last.number {
+        if !print_same(&branch, &last) {
             return Ok(at);
         }
         ways.lengthen(branch.before, branch.edge)?;

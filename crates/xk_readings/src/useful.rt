@@ -45,11 +45,7 @@ fn mark_along(edges: &[Edge], ends: &[bool], useful: &mut [bool]) -> bool
 }
 
 /// For each node whether a reading goes out from it.
-pub fn useful_nodes(
-    alloc: Global,
-    edges: &[Edge],
-    ends: &[bool],
-) -> Result<Vec<bool>, AllocError>
+pub fn useful_nodes(alloc: Global, edges: &[Edge], ends: &[bool]) -> Result<Vec<bool>, AllocError>
     requires { IsWithin (graph edges.now ends.now) }
     ensures { IfOk result (λ useful. AreUseful (graph edges.now ends.now) useful.items) }
 {
@@ -69,11 +65,7 @@ pub fn is_first_useful(useful: &[bool]) -> bool
 }
 
 /// The edges that end at marked nodes. Err where memory was refused.
-pub fn useful_edges(
-    alloc: Global,
-    edges: &[Edge],
-    useful: &[bool],
-) -> Result<Vec<Edge>, AllocError>
+pub fn useful_edges(alloc: Global, edges: &[Edge], useful: &[bool]) -> Result<Vec<Edge>, AllocError>
     requires { (j : ℕ) (e : Edge) → slice_get edges.now j ≡ Some e → e.to < length useful.now }
     ensures { IfOk result (λ kept. AreKept edges.now useful.now kept.items) }
 {

@@ -1,4 +1,4 @@
-use Rattle.std.proofs.Common.{◌≡◌, ◌∙◌, ◌-◌, ◌<◌, ◌≤◌, suc, ℤ, length, get_or, slice_get, Some, subst, sym, ap, arith}
+use Rattle.std.proofs.Common.{◌≡◌, ◌∙◌, ◌-◌, ◌<◌, ◌≤◌, suc, ℤ, length, get_or, slice_get, Some, subst, sym, ap, refl, arith}
 use Rattle.xk_readings.specs.declared.branches.Branch.{Branch}
 use Rattle.xk_readings.specs.Ways.{HasStanding, along, at}
 use Rattle.xk_readings.proofs.BranchLemmas.{each_more, no_branch, one_earlier}
@@ -20,6 +20,7 @@ loop-at-preserved c =
     let end = c.requires.within in
     let there = read branches place no_branch (omega (arith, some, most, end)) in
     let before = (c.requires.before place b there).0 in
+    let number = c.if-not-print_same.ensures.0 refl in
     let longer = along b.edge (at now b.before) in
     let grows = c.lengthen.ensures.all in
     let many = c.loop-at.invariant.many in
@@ -31,8 +32,8 @@ loop-at-preserved c =
       room = c.lengthen.ensures.room ∙ c.loop-at.invariant.room;
       many = omega (arith, many, more);
       kept = λ k s h. kept_grown now new longer grows k s (c.loop-at.invariant.kept k s h);
-      each = each_more branches old now new place b last.number there c.if-branch-last.false before c.loop-at.invariant.kept grows c.loop-at.invariant.each;
-      same = one_earlier branches place c.args.end b there (λ (f : Branch). f.number ≡ last.number) c.if-branch-last.false
+      each = each_more branches old now new place b last.number there number before c.loop-at.invariant.kept grows c.loop-at.invariant.each;
+      same = one_earlier branches place c.args.end b there (λ (f : Branch). f.number ≡ last.number) number
           (λ i f from. c.loop-at.invariant.same i f (omega (arith, some, from)));
       there = one_earlier branches place c.args.end b there (λ (f : Branch). HasStanding new (length old) f.edge.to)
           (subst (λ m. HasStanding new m b.edge.to) since c.in_ok-lengthen.ensures.there)

@@ -34,26 +34,26 @@ loop-edge-preserved c =
     let there = read edges index no_edge c.loop-edge-test.true in
     let known = c.edges_from-edge-items.ensures.each index e there in
     elim c.if-is_none.branch [
-        then-is_none+in_ok-lengthen w ↦ (
-            let new = w.lengthen.new.self in
-            let silent = is_silent e.printed c.is_none.result c.is_none.ensures w.if-is_none.true in
-            record {
-              spread = subst (λ (z : WaysValue). IsSpread g numbers old z) (sym w.ways-is)
-                  (spread_more g numbers old now new number e c.requires.trim c.loop-edge.invariant.spread c.requires.there refl known.0 (known.1 ∙ c.node.ensures) silent
-                  w.lengthen.ensures.all w.lengthen.ensures.room);
-              since = ap (λ (z : WaysValue). z.since) w.ways-is ∙ w.lengthen.ensures.since ∙ c.loop-edge.invariant.since;
-              left = ap (λ (z : WaysValue). length z.all + left z) w.ways-is ∙ w.in_ok-lengthen.ensures.left ∙ c.loop-edge.invariant.left;
-              edges = subst (λ (z : WaysValue). (j : ℕ) (f : Edge) → j < index + 1 → slice_get edges j ≡ Some f → f.printed ≡ None → HasStanding z.all z.since f.to) (sym w.ways-is)
-                  (edges_more edges index e now new (kept_grown now.all new.all (along_of e now.all number) w.lengthen.ensures.all) w.lengthen.ensures.since there
-                  w.in_ok-lengthen.ensures.there c.loop-edge.invariant.edges);
-            })
+      | then-is_none+in_ok-lengthen w ↦ (
+          let new = w.lengthen.new.self in
+          let silent = is_silent e.printed c.is_none.result c.is_none.ensures w.if-is_none.true in
+          record {
+            spread = subst (λ (z : WaysValue). IsSpread g numbers old z) (sym w.ways-is)
+                (spread_more g numbers old now new number e c.requires.trim c.loop-edge.invariant.spread c.requires.there refl known.0 (known.1 ∙ c.node.ensures) silent
+                w.lengthen.ensures.all w.lengthen.ensures.room);
+            since = ap (λ (z : WaysValue). z.since) w.ways-is ∙ w.lengthen.ensures.since ∙ c.loop-edge.invariant.since;
+            left = ap (λ (z : WaysValue). length z.all + left z) w.ways-is ∙ w.in_ok-lengthen.ensures.left ∙ c.loop-edge.invariant.left;
+            edges = subst (λ (z : WaysValue). (j : ℕ) (f : Edge) → j < index + 1 → slice_get edges j ≡ Some f → f.printed ≡ None → HasStanding z.all z.since f.to) (sym w.ways-is)
+                (edges_more edges index e now new (kept_grown now.all new.all (along_of e now.all number) w.lengthen.ensures.all) w.lengthen.ensures.since there
+                w.in_ok-lengthen.ensures.there c.loop-edge.invariant.edges);
+          })
       | else-is_none w ↦ record {
-          spread = subst (λ (z : WaysValue). IsSpread g numbers old z) (sym w.ways-is) c.loop-edge.invariant.spread;
-          since = ap (λ (z : WaysValue). z.since) w.ways-is ∙ c.loop-edge.invariant.since;
-          left = ap (λ (z : WaysValue). length z.all + left z) w.ways-is ∙ c.loop-edge.invariant.left;
-          edges = subst (λ (z : WaysValue). (j : ℕ) (f : Edge) → j < index + 1 → slice_get edges j ≡ Some f → f.printed ≡ None → HasStanding z.all z.since f.to) (sym w.ways-is)
-              (edges_loud edges index e now there (is_loud e.printed c.is_none.result c.is_none.ensures w.if-is_none.false) c.loop-edge.invariant.edges);
-        }
+        spread = subst (λ (z : WaysValue). IsSpread g numbers old z) (sym w.ways-is) c.loop-edge.invariant.spread;
+        since = ap (λ (z : WaysValue). z.since) w.ways-is ∙ c.loop-edge.invariant.since;
+        left = ap (λ (z : WaysValue). length z.all + left z) w.ways-is ∙ c.loop-edge.invariant.left;
+        edges = subst (λ (z : WaysValue). (j : ℕ) (f : Edge) → j < index + 1 → slice_get edges j ≡ Some f → f.printed ≡ None → HasStanding z.all z.since f.to) (sym w.ways-is)
+            (edges_loud edges index e now there (is_loud e.printed c.is_none.result c.is_none.ensures w.if-is_none.false) c.loop-edge.invariant.edges);
+      }
     ]
 
 pub returns-clause-edges : goal.returns-clause-edges

@@ -21,22 +21,22 @@ loop-edge-preserved c =
     let inside = c.requires at e there in
     let kept = c.loop-edge.kept.items in
     elim c.if-useful-edge.branch [
-        then-useful-edge+in_ok-push w ↦ (
-            let one = ap (λ v. v.items) w.kept-is ∙ w.in_ok-push.ensures.items in
-            let marked = read useful e.to false inside ∙ ap Some w.if-useful-edge.true in
-            record {
-              each = each_kept edges useful kept c.if-useful-edge.kept.items at e there one marked c.loop-edge.invariant.each;
-              all = all_kept edges useful kept c.if-useful-edge.kept.items at e there one c.loop-edge.invariant.all;
-            })
+      | then-useful-edge+in_ok-push w ↦ (
+          let one = ap (λ v. v.items) w.kept-is ∙ w.in_ok-push.ensures.items in
+          let marked = read useful e.to false inside ∙ ap Some w.if-useful-edge.true in
+          record {
+            each = each_kept edges useful kept c.if-useful-edge.kept.items at e there one marked c.loop-edge.invariant.each;
+            all = all_kept edges useful kept c.if-useful-edge.kept.items at e there one c.loop-edge.invariant.all;
+          })
       | else-useful-edge w ↦ (
-            let same = ap (λ v. v.items) w.kept-is in
-            let unmarked = read useful e.to false inside ∙ ap Some w.if-useful-edge.false in
-            record {
-              each = subst (λ (l : List Edge). (i : ℕ) (f : Edge) → slice_get l i ≡ Some f → ((j : ℕ) × (slice_get edges j ≡ Some f)) × (slice_get useful f.to ≡ Some true)) (sym same)
-                  c.loop-edge.invariant.each;
-              all = subst (λ (l : List Edge). (j : ℕ) (f : Edge) → j < at + 1 → slice_get edges j ≡ Some f → slice_get useful f.to ≡ Some true → (i : ℕ) × (slice_get l i ≡ Some f)) (sym same)
-                  (all_dropped edges useful kept kept at e there unmarked c.loop-edge.invariant.all);
-            })
+          let same = ap (λ v. v.items) w.kept-is in
+          let unmarked = read useful e.to false inside ∙ ap Some w.if-useful-edge.false in
+          record {
+            each = subst (λ (l : List Edge). (i : ℕ) (f : Edge) → slice_get l i ≡ Some f → ((j : ℕ) × (slice_get edges j ≡ Some f)) × (slice_get useful f.to ≡ Some true)) (sym same)
+                c.loop-edge.invariant.each;
+            all = subst (λ (l : List Edge). (j : ℕ) (f : Edge) → j < at + 1 → slice_get edges j ≡ Some f → slice_get useful f.to ≡ Some true → (i : ℕ) × (slice_get l i ≡ Some f)) (sym same)
+                (all_dropped edges useful kept kept at e there unmarked c.loop-edge.invariant.all);
+          })
     ]
 
 pub returns : goal.returns

@@ -1,7 +1,6 @@
 use Rattle.std.proofs.Common.{◌≡◌, ℕ, ◌<◌, true, slice_get, Some}
 use Rattle.xk_readings.specs.declared.edge.Edge.{Edge}
 use Rattle.xk_readings.specs.Useful.{AreKept}
-
 use Rattle.xk_readings.proofs.useful.useful_edges.Given as goal
 
 -- the edges before this place

@@ -67,9 +67,13 @@ invariant_of-self-in-Continue-1 c =
     record {
       behind = c.self-in-loop-k.invariant.behind;
       here = here_push all c.self-in-loop-k.inside.since c.self-in-loop-k.inside.here.nodes c.add.new.self.nodes c.node-node.result c.in_ok-add.ensures.added
-          c.self-in-loop-k.invariant.here
-          (c.loop-k.k, at all c.loop-k.k, omega (arith, from, since, behind), read all c.loop-k.k start (omega (arith, less, count, was, now, many)),
-          ap (λ (l : List Standing). (at l c.loop-k.k).node) same ∙ sym c.node-node.ensures);
+          c.self-in-loop-k.invariant.here (
+            c.loop-k.k,
+            at all c.loop-k.k,
+            omega (arith, from, since, behind),
+            read all c.loop-k.k start (omega (arith, less, count, was, now, many)),
+            ap (λ (l : List Standing). (at l c.loop-k.k).node) same ∙ sym c.node-node.ensures,
+          );
     }
 
 pub invariant_of-self-in_err-add : goal.invariant_of-self-in_err-add
