@@ -1,8 +1,8 @@
 -- What can be read in a graph that goes two ways to one end.
-use Rattle.std.proofs.Common.{◌≡◌, ℕ, pos, true, false, List, [], ◌∷◌, Some, None, refl, slice_get}
+use Rattle.std.proofs.Common.{◌≡◌, pos, true, false, [], ◌∷◌, Some, None, refl}
 use Rattle.xk_readings.specs.declared.edge.Edge.{Edge}
 use Rattle.xk_readings.specs.Graphs.{GraphValue}
-use Rattle.xk_readings.specs.Readings.{IsBelow, Reads}
+use Rattle.xk_readings.specs.Readings.{Reads}
 
 abbrev one : Edge
 one = record { from = 0; act = 0; printed = Some (pos 1); to = 1 }

@@ -1,22 +1,24 @@
 -- Ways that stay where more are added.
 use Rattle.std.proofs.Common.{◌≡◌, ◌∙◌, ℕ, ℤ, ◌+◌, ◌<◌, ◌≤◌, ◌⊎◌, inl, inr, Bool, true, false, not, List, [], ◌∷◌, ◌++◌, length, Option, Some, None, refl, sym, ap, subst, arith, slice_get}
 use Rattle.std.specs.Option.{is_some, option_to_list}
-use Rattle.std.proofs.lemmas.Bool.{true≢false}
+use Rattle.std.proofs.lemmas.Bool.{cases_lt, true≢false}
 use Rattle.std.proofs.lemmas.List.{append-nil, length_push}
-use Rattle.std.proofs.lemmas.Option.{get_or_from_slice_get, none-some, slice_get_within}
+use Rattle.std.proofs.lemmas.Option.{get_or_from_slice_get, none-some}
 use Rattle.xk_readings.specs.declared.edge.Edge.{Edge}
 use Rattle.xk_readings.specs.Graphs.{GraphValue, HasEdge}
 use Rattle.xk_readings.specs.Ways.{HasStanding, Standing, WaysValue, along, at, start}
-use Rattle.xk_readings.specs.Closures.{AreReached, AreTrim, IsClosed, IsReached, IsSpread, PrintsFrom}
-use Rattle.xk_readings.proofs.ListLemmas.{at_end, place, read, same_at, sides, stays, there_is}
+use Rattle.xk_readings.specs.Closures.{AreTrim, IsClosed, IsReached, IsSpread, PrintsFrom}
+use Rattle.xk_readings.proofs.ListLemmas.{place, read, same_at, stays, there_is}
 use Rattle.xk_readings.proofs.ReadingLemmas.{reached_along}
 
 -- the one of a number is the same as before
-pub at_kept : (old new : List Standing) (k : ℕ) → k < length old → ((s : Standing) → slice_get old k ≡ Some s → slice_get new k ≡ Some s) → at new k ≡ at old k
+pub at_kept : (old new : List Standing) (k : ℕ) → k < length old → ((s : Standing) → slice_get old k ≡ Some s → slice_get new k ≡ Some s)
+    → at new k ≡ at old k
 at_kept old new k less keeps = get_or_from_slice_get new k (at old k) start (keeps (at old k) (read old k start less))
 
 -- a way that ends there still does
-pub standing_kept : (old new : List Standing) (since node : ℕ) → ((k : ℕ) (s : Standing) → slice_get old k ≡ Some s → slice_get new k ≡ Some s) → HasStanding old since node
+pub standing_kept : (old new : List Standing) (since node : ℕ) → ((k : ℕ) (s : Standing) → slice_get old k ≡ Some s
+    → slice_get new k ≡ Some s) → HasStanding old since node
     → HasStanding new since node
 standing_kept old new since node keeps h = (h.0, h.1, h.2, keeps h.0 h.1 h.3, h.4)
 
@@ -40,7 +42,8 @@ module _ (old new : List Standing) (s : Standing) (grows : (new ≡ old) ⊎ (ne
           let more = length_push old s in
           omega (arith, count, more)
 
-  pub each_grown : (P : ℕ → Standing → Type 0) → ((k : ℕ) (t : Standing) → slice_get old k ≡ Some t → P k t) → P (length old) s → (k : ℕ) (t : Standing) → slice_get new k ≡ Some t → P k t
+  pub each_grown : (P : ℕ → Standing → Type 0) → ((k : ℕ) (t : Standing) → slice_get old k ≡ Some t → P k t) → P (length old) s
+      → (k : ℕ) (t : Standing) → slice_get new k ≡ Some t → P k t
   each_grown P all new' k t there = by grows
     where
       at_place : (slice_get old k ≡ Some t) ⊎ ((k ≡ length old) × (s ≡ t)) → P k t
@@ -53,31 +56,22 @@ module _ (old new : List Standing) (s : Standing) (grows : (new ≡ old) ⊎ (ne
 
 -- ---- ways by edges that print nothing
 
--- nothing was added
-pub spread_none : (g : GraphValue) (numbers : List ℤ) (old new : WaysValue) → new.all ≡ old.all → new.here.room ≡ old.here.room → AreReached g old.all → IsSpread g numbers old new
-spread_none g numbers old new same room reached = record {
-  kept = λ k s there. ap (λ (l : List Standing). slice_get l k) same ∙ there;
-  many = (let count = ap length same in omega (arith, count));
-  room = room;
-  reached = λ k s there. reached k s (ap (λ (l : List Standing). slice_get l k) (sym same) ∙ there);
-  prints = λ k s from there.
-      let inside = slice_get_within new.all k s there in
-      let count = ap length same in
-      absurd (omega (arith, from, inside, count));
-}
-
 -- one edge more
-pub spread_more : (g : GraphValue) (numbers : List ℤ) (old now new : WaysValue) (number : ℕ) (e : Edge) → AreTrim g → IsSpread g numbers old now → number < length old.all
+pub spread_more : (g : GraphValue) (numbers : List ℤ) (old now new : WaysValue) (number : ℕ) (e : Edge) → AreTrim g
+    → IsSpread g numbers old now → number < length old.all
     → numbers ≡ (at old.all number).numbers → HasEdge g e → e.from ≡ (at old.all number).node → e.printed ≡ None
-    → (new.all ≡ now.all) ⊎ (new.all ≡ now.all ++ along e (at now.all number) ∷ []) → new.here.room ≡ now.here.room → IsSpread g numbers old new
+    → (new.all ≡ now.all) ⊎ (new.all ≡ now.all ++ along e (at now.all number) ∷ []) → new.here.room ≡ now.here.room
+    → IsSpread g numbers old new
 spread_more g numbers old now new number e trim is less same has from silent grows room = record {
   kept = λ k t there. kept_grown now.all new.all s grows k t (is.kept k t there);
   many = (let more = many_grown now.all new.all s grows in let most = is.many in omega (arith, more, most));
   room = room ∙ is.room;
   reached = each_grown now.all new.all s grows (λ (k : ℕ) (t : Standing). IsReached g t) is.reached
-      (reached_along g e before has (from ∙ ap (λ (t : Standing). t.node) (sym like)) (trim e has) (is.reached number before (read now.all number start inside)));
+      (reached_along g e before has (from ∙ ap (λ (t : Standing). t.node) (sym like)) (trim e has)
+      (is.reached number before (read now.all number start inside)));
   prints = λ k t behind there.
-      each_grown now.all new.all s grows (λ (k : ℕ) (t : Standing). length old.all ≤ k → t.numbers ≡ numbers) (λ k t there behind. is.prints k t behind there) (λ behind. printed) k t there behind;
+      each_grown now.all new.all s grows (λ (k : ℕ) (t : Standing). length old.all ≤ k
+      → t.numbers ≡ numbers) (λ k t there behind. is.prints k t behind there) (λ behind. printed) k t there behind;
 }
   where
     before : Standing
@@ -93,27 +87,32 @@ spread_more g numbers old now new number e trim is less same has from silent gro
     inside = (let most = is.many in omega (arith, less, most))
 
     printed : s.numbers ≡ numbers
-    printed = ap (λ (o : Option ℤ). before.numbers ++ option_to_list o) silent ∙ append-nil before.numbers ∙ ap (λ (t : Standing). t.numbers) like ∙ sym same
+    printed = ap (λ (o : Option ℤ). before.numbers ++ option_to_list o) silent ∙ append-nil before.numbers
+        ∙ ap (λ (t : Standing). t.numbers) like ∙ sym same
 
 -- some, and then others
-pub spread_on : (g : GraphValue) (numbers again : List ℤ) (old now new : WaysValue) → again ≡ numbers → IsSpread g numbers old now → IsSpread g again now new → IsSpread g numbers old new
+pub spread_on : (g : GraphValue) (numbers again : List ℤ) (old now new : WaysValue) → again ≡ numbers → IsSpread g numbers old now
+    → IsSpread g again now new → IsSpread g numbers old new
 spread_on g numbers again old now new same first later = record {
   kept = λ k s there. later.kept k s (first.kept k s there);
   many = (let a = first.many in let b = later.many in omega (arith, a, b));
   room = later.room ∙ first.room;
   reached = later.reached;
-  prints = λ k s from there. printed k s from there (sides k (length now.all));
+  prints = λ k s from there. printed k s from there (cases_lt k (length now.all));
 }
   where
-    printed : (k : ℕ) (s : Standing) → length old.all ≤ k → slice_get new.all k ≡ Some s → (k < length now.all) ⊎ (length now.all ≤ k) → s.numbers ≡ numbers
+    printed : (k : ℕ) (s : Standing) → length old.all ≤ k → slice_get new.all k ≡ Some s → (k < length now.all) ⊎ (length now.all ≤ k)
+        → s.numbers ≡ numbers
     printed k s from there (inl less) =
         let was = there_is now.all k less in
-        ap (λ (t : Standing). t.numbers) (sym (same_at new.all k was.0 s (later.kept k was.0 was.1) there)) ∙ first.prints k was.0 from was.1
+        ap (λ (t : Standing). t.numbers) (sym (same_at new.all k was.0 s (later.kept k was.0 was.1) there))
+        ∙ first.prints k was.0 from was.1
     printed k s from there (inr behind) = later.prints k s behind there ∙ same
 
 -- all from a number on print the same
-pub prints_all : (g : GraphValue) (first : ℕ) (numbers : List ℤ) (old new : WaysValue) → PrintsFrom first numbers old.all → IsSpread g numbers old new → PrintsFrom first numbers new.all
-prints_all g first numbers old new are is k s from there = by (sides k (length old.all))
+pub prints_all : (g : GraphValue) (first : ℕ) (numbers : List ℤ) (old new : WaysValue) → PrintsFrom first numbers old.all
+    → IsSpread g numbers old new → PrintsFrom first numbers new.all
+prints_all g first numbers old new are is k s from there = by (cases_lt k (length old.all))
   where
     by : (k < length old.all) ⊎ (length old.all ≤ k) → s.numbers ≡ numbers
     by (inl less) =
@@ -122,20 +121,23 @@ prints_all g first numbers old new are is k s from there = by (sides k (length o
     by (inr behind) = is.prints k s behind there
 
 -- edges that were followed are followed still
-pub closed_kept : (g : GraphValue) (old new : List Standing) (since k : ℕ) → ((k : ℕ) (s : Standing) → slice_get old k ≡ Some s → slice_get new k ≡ Some s) → k < length old
+closed_kept : (g : GraphValue) (old new : List Standing) (since k : ℕ)
+    → ((k : ℕ) (s : Standing) → slice_get old k ≡ Some s → slice_get new k ≡ Some s) → k < length old
     → IsClosed g old since (at old k) → IsClosed g new since (at new k)
 closed_kept g old new since k keeps less closed e has from silent =
     standing_kept old new since e.to keeps (closed e has (from ∙ ap (λ (s : Standing). s.node) (at_kept old new k less (keeps k))) silent)
 
 -- one edge more leads to where one of the ways ends
-pub edges_more : (edges : List Edge) (n : ℕ) (e : Edge) (now new : WaysValue) → ((k : ℕ) (s : Standing) → slice_get now.all k ≡ Some s → slice_get new.all k ≡ Some s)
+pub edges_more : (edges : List Edge) (n : ℕ) (e : Edge) (now new : WaysValue)
+    → ((k : ℕ) (s : Standing) → slice_get now.all k ≡ Some s → slice_get new.all k ≡ Some s)
     → new.since ≡ now.since → slice_get edges n ≡ Some e → HasStanding new.all new.since e.to
     → ((j : ℕ) (f : Edge) → j < n → slice_get edges j ≡ Some f → f.printed ≡ None → HasStanding now.all now.since f.to)
     → (j : ℕ) (f : Edge) → j < n + 1 → slice_get edges j ≡ Some f → f.printed ≡ None → HasStanding new.all new.since f.to
-edges_more edges n e now new keeps since there here all j f less at_j silent = by (sides j n)
+edges_more edges n e now new keeps since there here all j f less at_j silent = by (cases_lt j n)
   where
     by : (j < n) ⊎ (n ≤ j) → HasStanding new.all new.since f.to
-    by (inl before) = subst (λ m. HasStanding new.all m f.to) (sym since) (standing_kept now.all new.all now.since f.to keeps (all j f before at_j silent))
+    by (inl before) = subst (λ m. HasStanding new.all m f.to) (sym since)
+        (standing_kept now.all new.all now.since f.to keeps (all j f before at_j silent))
     by (inr behind) =
         let same : n ≡ j = omega (arith, less, behind) in
         subst (λ (z : Edge). HasStanding new.all new.since z.to) (same_at edges j e f (ap (slice_get edges) (sym same) ∙ there) at_j) here
@@ -144,7 +146,7 @@ edges_more edges n e now new keeps since there here all j f less at_j silent = b
 pub edges_loud : (edges : List Edge) (n : ℕ) (e : Edge) (w : WaysValue) → slice_get edges n ≡ Some e → (e.printed ≡ None → ⊥)
     → ((j : ℕ) (f : Edge) → j < n → slice_get edges j ≡ Some f → f.printed ≡ None → HasStanding w.all w.since f.to)
     → (j : ℕ) (f : Edge) → j < n + 1 → slice_get edges j ≡ Some f → f.printed ≡ None → HasStanding w.all w.since f.to
-edges_loud edges n e w there loud all j f less at_j silent = by (sides j n)
+edges_loud edges n e w there loud all j f less at_j silent = by (cases_lt j n)
   where
     by : (j < n) ⊎ (n ≤ j) → HasStanding w.all w.since f.to
     by (inl before) = all j f before at_j silent
@@ -166,13 +168,15 @@ abbrev pub along_of : Edge → List Standing → ℕ → Standing
 along_of e all number = along e (at all number)
 
 -- the edges from where one way more ends were followed
-pub closed_next : (g : GraphValue) (old new : List Standing) (first number : ℕ) → ((k : ℕ) (s : Standing) → slice_get old k ≡ Some s → slice_get new k ≡ Some s) → number < length old
+pub closed_next : (g : GraphValue) (old new : List Standing) (first number : ℕ)
+    → ((k : ℕ) (s : Standing) → slice_get old k ≡ Some s → slice_get new k ≡ Some s) → number < length old
     → ((k : ℕ) → first ≤ k → k < number → IsClosed g old first (at old k)) → IsClosed g new first (at old number)
     → (k : ℕ) → first ≤ k → k < number + 1 → IsClosed g new first (at new k)
-closed_next g old new first number keeps inside all next k from less = by (sides k number)
+closed_next g old new first number keeps inside all next k from less = by (cases_lt k number)
   where
     by : (k < number) ⊎ (number ≤ k) → IsClosed g new first (at new k)
     by (inl before) = closed_kept g old new first k keeps (omega (arith, before, inside)) (all k from before)
     by (inr behind) =
         let same : number ≡ k = omega (arith, less, behind) in
-        subst (λ m. IsClosed g new first (at new m)) same (subst (IsClosed g new first) (sym (at_kept old new number inside (keeps number))) next)
+        subst (λ m. IsClosed g new first (at new m)) same (subst (IsClosed g new first)
+        (sym (at_kept old new number inside (keeps number))) next)

@@ -1,4 +1,4 @@
-mod ListLemmas
+pub mod ListLemmas
 mod UsefulLemmas
 mod GraphLemmas
 mod NodeSetLemmas

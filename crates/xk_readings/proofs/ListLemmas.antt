@@ -1,6 +1,5 @@
 -- Elements of lists by number.
-use Rattle.std.proofs.Common.{◌≡◌, ◌∙◌, ℕ, zero, suc, ◌+◌, ◌<◌, ◌≤◌, ◌⊎◌, inl, inr, List, [], ◌∷◌, ◌++◌, length, get_or, set, take, drop, Option, Some, refl, sym, ap, subst, arith, slice_get}
-use Rattle.std.proofs.lemmas.Bool.{cases_lt}
+use Rattle.std.proofs.Common.{◌≡◌, ◌∙◌, ℕ, zero, suc, ◌+◌, ◌<◌, ◌⊎◌, inl, inr, List, [], ◌∷◌, ◌++◌, length, get_or, set, take, drop, Some, refl, sym, ap, arith, slice_get}
 use Rattle.std.specs.List.Sorted.{IsPermutation}
 use Rattle.std.proofs.lemmas.List.Sorted.{Contains-permutation}
 use Rattle.std.proofs.lemmas.Option.{none-some, same_Some, slice_get_within, slice_get-get_or, get_or_from_slice_get}
@@ -20,7 +19,8 @@ there_is (x ∷ xs) zero h = (x, refl)
 there_is (x ∷ xs) (suc k) h = there_is xs k (omega (arith, h))
 
 -- what is at a place of a list with one more at its end
-pub place : {X : Type 0} (xs : List X) (o : X) (k : ℕ) (x : X) → slice_get (xs ++ o ∷ []) k ≡ Some x → (slice_get xs k ≡ Some x) ⊎ ((k ≡ length xs) × (o ≡ x))
+pub place : {X : Type 0} (xs : List X) (o : X) (k : ℕ) (x : X) → slice_get (xs ++ o ∷ []) k ≡ Some x
+    → (slice_get xs k ≡ Some x) ⊎ ((k ≡ length xs) × (o ≡ x))
 place [] o zero x h = inr (refl, same_Some o x h)
 place [] o (suc k) x h = absurd (none-some x h)
 place (z ∷ xs) o zero x h = inl h
@@ -74,12 +74,9 @@ same_at xs k x y a b = same_Some x y (sym a ∙ b)
 pub read : {X : Type 0} (xs : List X) (k : ℕ) (d : X) → k < length xs → slice_get xs k ≡ Some (get_or xs k d)
 read xs k d less = slice_get-get_or xs k d less
 
--- a number is below another one, or not
-pub sides : (m n : ℕ) → (m < n) ⊎ (n ≤ m)
-sides m n = cases_lt m n
-
 -- an element in another order
-pub permuted : {X : Type 0} (xs ys : List X) (k : ℕ) (x : X) → IsPermutation xs ys → slice_get xs k ≡ Some x → (j : ℕ) × (slice_get ys j ≡ Some x)
+pub permuted : {X : Type 0} (xs ys : List X) (k : ℕ) (x : X) → IsPermutation xs ys → slice_get xs k ≡ Some x
+    → (j : ℕ) × (slice_get ys j ≡ Some x)
 permuted xs ys k x moved there =
     let is = Contains-permutation xs ys x moved (k, slice_get_within xs k x there, get_or_from_slice_get xs k x x there) in
     (is.0, slice_get-get_or ys is.0 x is.1 ∙ ap Some is.2)

@@ -1,16 +1,17 @@
 -- Ways that lead on to readings.
-use Rattle.std.proofs.Common.{◌≡◌, ◌∙◌, ℕ, ℤ, zero, suc, ◌+◌, ◌<◌, ◌≤◌, ◌⊎◌, inl, inr, true, List, [], ◌∷◌, ◌++◌, length, Option, Some, None, refl, sym, ap, subst, append_assoc, arith, slice_get, length-append}
+use Rattle.std.proofs.Common.{◌≡◌, ◌∙◌, ℕ, ℤ, zero, suc, ◌≤◌, ◌⊎◌, inl, inr, true, List, [], ◌∷◌, ◌++◌, length, Option, Some, None, refl, sym, ap, subst, append_assoc, arith, slice_get, length-append}
 use Rattle.std.specs.Option.{option_to_list}
 use Rattle.std.proofs.lemmas.List.{append-nil}
 use Rattle.xk_readings.specs.declared.edge.Edge.{Edge}
 use Rattle.xk_readings.specs.Graphs.{GraphValue, HasEdge}
 use Rattle.xk_readings.specs.Readings.{IsLongest, Reads}
 use Rattle.xk_readings.specs.Useful.{IsReadable}
-use Rattle.xk_readings.specs.Ways.{HasStanding, Standing, along}
+use Rattle.xk_readings.specs.Ways.{Standing, along}
 use Rattle.xk_readings.specs.Closures.{IsClosed, IsReached, LeadsTo}
 
 -- a way with an edge more is one of the graph
-pub reached_along : (g : GraphValue) (e : Edge) (s : Standing) → HasEdge g e → e.from ≡ s.node → IsReadable g e.to → IsReached g s → IsReached g (along e s)
+pub reached_along : (g : GraphValue) (e : Edge) (s : Standing) → HasEdge g e → e.from ≡ s.node → IsReadable g e.to → IsReached g s
+    → IsReached g (along e s)
 reached_along g e s has from readable is = record {
   leads = leads;
   readable = readable;
@@ -20,12 +21,15 @@ reached_along g e s has from readable is = record {
     leads n rest more r =
         let through = is.leads (suc n) (e.act ∷ rest) (option_to_list e.printed ++ more) (e, has, from, rest, more, r, refl, refl) in (
           through.0,
-          subst (λ (l : List ℕ). Reads g through.0 0 l ((s.numbers ++ option_to_list e.printed) ++ more)) (sym (append_assoc s.acts (e.act ∷ []) rest))
-              (subst (λ (l : List ℤ). Reads g through.0 0 (s.acts ++ (e.act ∷ rest)) l) (sym (append_assoc s.numbers (option_to_list e.printed) more)) through.1),
+          subst (λ (l : List ℕ). Reads g through.0 0 l ((s.numbers ++ option_to_list e.printed) ++ more))
+              (sym (append_assoc s.acts (e.act ∷ []) rest))
+              (subst (λ (l : List ℤ). Reads g through.0 0 (s.acts ++ (e.act ∷ rest)) l)
+              (sym (append_assoc s.numbers (option_to_list e.printed) more)) through.1),
         )
 
 -- a way that ends where a reading may end is a reading
-pub reading_there : (g : GraphValue) (s : Standing) → IsReached g s → slice_get g.ends s.node ≡ Some true → (n : ℕ) × Reads g n 0 s.acts s.numbers
+pub reading_there : (g : GraphValue) (s : Standing) → IsReached g s → slice_get g.ends s.node ≡ Some true
+    → (n : ℕ) × Reads g n 0 s.acts s.numbers
 reading_there g s is ends =
     let through = is.leads 0 [] [] (ends, refl, refl) in (
       through.0,
@@ -38,7 +42,7 @@ at_most_one None = omega arith
 at_most_one (Some x) = omega arith
 
 -- a reading has no more numbers than edges
-pub reads_length : (g : GraphValue) (n k : ℕ) (acts : List ℕ) (numbers : List ℤ) → Reads g n k acts numbers → length numbers ≤ n
+reads_length : (g : GraphValue) (n k : ℕ) (acts : List ℕ) (numbers : List ℤ) → Reads g n k acts numbers → length numbers ≤ n
 reads_length g zero k acts numbers r = (let none = ap length r.2 in omega (arith, none))
 reads_length g (suc n) k acts numbers r =
     let rest = reads_length g n r.0.to r.3 r.4 r.5 in
@@ -82,9 +86,11 @@ pub record GoesOn (g : GraphValue) (all : List Standing) (first : ℕ) (more : L
 
 module _ (g : GraphValue) (all : List Standing) (first : ℕ)
     (closed : (k : ℕ) (s : Standing) → first ≤ k → slice_get all k ≡ Some s → IsClosed g all first s) where
-  by_edge : (n : ℕ) → ((k : ℕ) (s : Standing) (rest : List ℕ) (more : List ℤ) → first ≤ k → slice_get all k ≡ Some s → Reads g n s.node rest more
+  by_edge : (n : ℕ) → ((k : ℕ) (s : Standing) (rest : List ℕ) (more : List ℤ) → first ≤ k → slice_get all k ≡ Some s
+      → Reads g n s.node rest more
       → ((more ≡ []) × HasEnd g all first) ⊎ GoesOn g all first more)
-      → (k : ℕ) (s : Standing) (rest : List ℕ) (more : List ℤ) → first ≤ k → slice_get all k ≡ Some s → (r : Reads g (suc n) s.node rest more)
+      → (k : ℕ) (s : Standing) (rest : List ℕ) (more : List ℤ) → first ≤ k → slice_get all k ≡ Some s
+      → (r : Reads g (suc n) s.node rest more)
       → (o : Option ℤ) → r.0.printed ≡ o → ((more ≡ []) × HasEnd g all first) ⊎ GoesOn g all first more
   by_edge n next k s rest more behind there r None silent =
       let t = closed k s behind there r.0 r.1 r.2 silent in

@@ -29,7 +29,8 @@ kept acc (s ∷ stands) k within =
 by_stand : (acc : List Standing) (stands : List Stand) (i : ℕ) (s : Stand) → slice_get stands i ≡ Some s → s.before < length acc + i
     → at (fold with_stand acc stands) (length acc + i) ≡ along s.edge (at (fold with_stand acc stands) s.before)
 by_stand acc [] i s there behind = absurd (none-some s there)
-by_stand acc (z ∷ stands) zero s there behind = subst (λ (y : Stand). y.before < length acc + zero → IsEnd y) (same_Some z s there) is behind
+by_stand acc (z ∷ stands) zero s there behind = subst (λ (y : Stand). y.before < length acc + zero
+    → IsEnd y) (same_Some z s there) is behind
   where
     new : Standing
     new = along z.edge (at acc z.before)
@@ -46,7 +47,8 @@ by_stand acc (z ∷ stands) zero s there behind = subst (λ (y : Stand). y.befor
         let end : length acc + zero ≡ length acc = omega arith in
         let inside : z.before < length acc = omega (arith, before) in
         ap (at all) end ∙ kept (acc ++ new ∷ []) stands (length acc) (omega (arith, one)) ∙ get_or_push acc new start (length acc) refl
-        ∙ sym (ap (along z.edge) (kept (acc ++ new ∷ []) stands z.before (omega (arith, one, inside)) ∙ get_or_append_left acc (new ∷ []) start z.before inside))
+        ∙ sym (ap (along z.edge) (kept (acc ++ new ∷ []) stands z.before (omega (arith, one, inside))
+        ∙ get_or_append_left acc (new ∷ []) start z.before inside))
 by_stand acc (z ∷ stands) (suc i) s there behind =
     let new = along z.edge (at acc z.before) in
     let all = fold with_stand (acc ++ new ∷ []) stands in
@@ -63,7 +65,7 @@ pub first_way : (stands : List Stand) → at (standings stands) 0 ≡ start
 first_way stands = kept (start ∷ []) stands 0 (omega arith)
 
 -- each other one is one that is there before it, with an edge more
-pub later_way : (stands : List Stand) (i : ℕ) (s : Stand) → AreBehind stands → slice_get stands i ≡ Some s
+later_way : (stands : List Stand) (i : ℕ) (s : Stand) → AreBehind stands → slice_get stands i ≡ Some s
     → at (standings stands) (i + 1) ≡ along s.edge (at (standings stands) s.before)
 later_way stands i s behind there =
     let before = behind i s there in
@@ -71,7 +73,8 @@ later_way stands i s behind there =
     ap (at (standings stands)) same ∙ by_stand (start ∷ []) stands i s there (omega (arith, before))
 
 -- one way more
-pub ways_push : (stands : List Stand) (s : Stand) → standings (stands ++ s ∷ []) ≡ standings stands ++ along s.edge (at (standings stands) s.before) ∷ []
+pub ways_push : (stands : List Stand) (s : Stand) → standings (stands ++ s ∷ []) ≡ standings stands ++ along s.edge
+    (at (standings stands) s.before) ∷ []
 ways_push stands s = fold_push with_stand (start ∷ []) stands s
 
 front : (acc : List Standing) (stands : List Stand) → take (length acc) (fold with_stand acc stands) ≡ acc
@@ -81,7 +84,8 @@ front acc (s ∷ stands) =
     let all = fold with_stand (acc ++ new ∷ []) stands in
     let one = length_push acc new in
     let less : length acc ≤ length (acc ++ new ∷ []) = omega (arith, one) in
-    sym (take-take (length acc) (length (acc ++ new ∷ [])) all less) ∙ ap (take (length acc)) (front (acc ++ new ∷ []) stands) ∙ take_at acc (new ∷ []) (length acc) refl
+    sym (take-take (length acc) (length (acc ++ new ∷ [])) all less) ∙ ap (take (length acc)) (front (acc ++ new ∷ []) stands)
+    ∙ take_at acc (new ∷ []) (length acc) refl
 
 -- the first ones alone
 pub ways_take : (stands : List Stand) (n : ℕ) → n ≤ length stands → standings (take n stands) ≡ take (n + 1) (standings stands)
@@ -100,7 +104,7 @@ pub behind_take : (stands : List Stand) (n : ℕ) → AreBehind stands → AreBe
 behind_take stands n behind k s there = behind k s (from_take n stands k s there).1
 
 -- one more
-pub behind_push : (stands : List Stand) (s : Stand) → AreBehind stands → s.before ≤ length stands → AreBehind (stands ++ s ∷ [])
+behind_push : (stands : List Stand) (s : Stand) → AreBehind stands → s.before ≤ length stands → AreBehind (stands ++ s ∷ [])
 behind_push stands s behind less k z there = by (place stands s k z there)
   where
     by : (slice_get stands k ≡ Some z) ⊎ ((k ≡ length stands) × (s ≡ z)) → z.before ≤ k
@@ -108,15 +112,16 @@ behind_push stands s behind less k z there = by (place stands s k z there)
     by (inr b) = (let end = b.0 in subst (λ (y : Stand). y.before ≤ k) b.1 (omega (arith, less, end)))
 
 -- a way that ends there still does
-pub standing_push : (all : List Standing) (since k : ℕ) (new : Standing) → HasStanding all since k → HasStanding (all ++ new ∷ []) since k
+standing_push : (all : List Standing) (since k : ℕ) (new : Standing) → HasStanding all since k → HasStanding (all ++ new ∷ []) since k
 standing_push all since k new h = (h.0, h.1, h.2, stays all (new ∷ []) h.0 h.1 h.3, h.4)
 
 -- the new one ends where it does
-pub standing_new : (all : List Standing) (since : ℕ) (new : Standing) → since ≤ length all → HasStanding (all ++ new ∷ []) since new.node
+standing_new : (all : List Standing) (since : ℕ) (new : Standing) → since ≤ length all → HasStanding (all ++ new ∷ []) since new.node
 standing_new all since new less = (length all, new, less, at_end all new, refl)
 
 -- the nodes at which ways end, with one more
-pub here_push : (all : List Standing) (since : ℕ) (nodes more : List ℕ) (k : ℕ) → more ≡ nodes ++ k ∷ [] → ((m : ℕ) → HasNode nodes m → HasStanding all since m) → HasStanding all since k
+pub here_push : (all : List Standing) (since : ℕ) (nodes more : List ℕ) (k : ℕ) → more ≡ nodes ++ k ∷ []
+    → ((m : ℕ) → HasNode nodes m → HasStanding all since m) → HasStanding all since k
     → (m : ℕ) → HasNode more m → HasStanding all since m
 here_push all since nodes more k one here new m has =
     by (place nodes k has.0 m (ap (λ (l : List ℕ). slice_get l has.0) (sym one) ∙ has.1))
@@ -132,17 +137,21 @@ none_here all since m has = absurd (none-some m has.1)
 -- ---- back along a way
 
 -- the last edge of a way, and the way before it
-pub last_edge : (stands : List Stand) (last : ℕ) (s : Stand) → AreBehind stands → last ≤ length stands → 0 < last → s ≡ get_or stands (last - 1) s
+pub last_edge : (stands : List Stand) (last : ℕ) (s : Stand) → AreBehind stands → last ≤ length stands → 0 < last
+    → s ≡ get_or stands (last - 1) s
     → (s.before < last) × (at (standings stands) last ≡ along s.edge (at (standings stands) s.before))
 last_edge stands last s behind within some is =
-    let there : slice_get stands (last - 1) ≡ Some s = slice_get-get_or stands (last - 1) s (omega (arith, within, some)) ∙ ap Some (sym is) in
+    let there : slice_get stands (last - 1) ≡ Some s = slice_get-get_or stands (last - 1) s (omega (arith, within, some))
+    ∙ ap Some (sym is) in
     let before = behind (last - 1) s there in
     let same : (last - 1) + 1 ≡ last = omega (arith, some) in
     (omega (arith, before, some), ap (at (standings stands)) (sym same) ∙ later_way stands (last - 1) s behind there)
 
 -- whose step it is stands before those that come later
-pub acts_back : (stands : List Stand) (last : ℕ) (s : Stand) (later more whole : List ℕ) → at (standings stands) last ≡ along s.edge (at (standings stands) s.before)
-    → more ≡ later ++ s.edge.act ∷ [] → (at (standings stands) last).acts ++ reverse later ≡ whole → (at (standings stands) s.before).acts ++ reverse more ≡ whole
+pub acts_back : (stands : List Stand) (last : ℕ) (s : Stand) (later more whole : List ℕ)
+    → at (standings stands) last ≡ along s.edge (at (standings stands) s.before)
+    → more ≡ later ++ s.edge.act ∷ [] → (at (standings stands) last).acts ++ reverse later ≡ whole
+    → (at (standings stands) s.before).acts ++ reverse more ≡ whole
 acts_back stands last s later more whole is one was =
     let before = (at (standings stands) s.before).acts in
     ap (λ (l : List ℕ). before ++ l) (ap reverse one ∙ reverse-append later (s.edge.act ∷ []))
@@ -151,8 +160,10 @@ acts_back stands last s later more whole is one was =
     ∙ was
 
 -- so does what it prints
-pub numbers_back : (stands : List Stand) (last : ℕ) (s : Stand) (later more whole : List ℤ) → at (standings stands) last ≡ along s.edge (at (standings stands) s.before)
-    → more ≡ later ++ option_to_list s.edge.printed → (at (standings stands) last).numbers ++ reverse later ≡ whole → (at (standings stands) s.before).numbers ++ reverse more ≡ whole
+pub numbers_back : (stands : List Stand) (last : ℕ) (s : Stand) (later more whole : List ℤ)
+    → at (standings stands) last ≡ along s.edge (at (standings stands) s.before)
+    → more ≡ later ++ option_to_list s.edge.printed → (at (standings stands) last).numbers ++ reverse later ≡ whole
+    → (at (standings stands) s.before).numbers ++ reverse more ≡ whole
 numbers_back stands last s later more whole is one was =
     let before = (at (standings stands) s.before).numbers in
     ap (λ (l : List ℤ). before ++ l) (ap reverse one ∙ turned s.edge.printed)
@@ -166,7 +177,8 @@ numbers_back stands last s later more whole is one was =
 
 -- ---- what is kept of them after one more
 
-pub ways_pushed : (stands more : List Stand) (s : Stand) (since : ℕ) (nodes : List ℕ) → AreWays stands since nodes → more ≡ stands ++ s ∷ [] → s.before ≤ length stands
+pub ways_pushed : (stands more : List Stand) (s : Stand) (since : ℕ) (nodes : List ℕ) → AreWays stands since nodes
+    → more ≡ stands ++ s ∷ [] → s.before ≤ length stands
     → AreWays more since nodes
 ways_pushed stands more s since nodes are one less = record {
   behind = subst AreBehind (sym one) (behind_push stands s are.behind less);
@@ -175,12 +187,14 @@ ways_pushed stands more s since nodes are one less = record {
 }
 
 -- the new one ends at a node
-pub new_there : (stands more : List Stand) (s : Stand) (since : ℕ) → more ≡ stands ++ s ∷ [] → since ≤ length (standings stands) → HasStanding (standings more) since s.edge.to
+pub new_there : (stands more : List Stand) (s : Stand) (since : ℕ) → more ≡ stands ++ s ∷ [] → since ≤ length (standings stands)
+    → HasStanding (standings more) since s.edge.to
 new_there stands more s since one less =
     subst (λ (l : List Standing). HasStanding l since s.edge.to) (sym (ap standings one ∙ ways_push stands s))
     (standing_new (standings stands) since (along s.edge (at (standings stands) s.before)) less)
 
-pub ways_pushed_here : (stands more : List Stand) (s : Stand) (since : ℕ) (nodes longer : List ℕ) → AreWays stands since nodes → more ≡ stands ++ s ∷ [] → s.before ≤ length stands
+pub ways_pushed_here : (stands more : List Stand) (s : Stand) (since : ℕ) (nodes longer : List ℕ) → AreWays stands since nodes
+    → more ≡ stands ++ s ∷ [] → s.before ≤ length stands
     → since ≤ length (standings stands) → longer ≡ nodes ++ s.edge.to ∷ [] → AreWays more since longer
 ways_pushed_here stands more s since nodes longer are one less from with_node =
     let is = ways_pushed stands more s since nodes are one less in

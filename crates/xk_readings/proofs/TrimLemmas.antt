@@ -1,5 +1,5 @@
 -- The edges that lead to where a reading goes out have the same readings as all edges.
-use Rattle.std.proofs.Common.{◌≡◌, ◌∙◌, ℕ, ℤ, zero, suc, ◌<◌, ◌≤◌, true, Bool, List, length, Some, refl, sym, ap, subst, arith, slice_get}
+use Rattle.std.proofs.Common.{◌≡◌, ◌∙◌, ℕ, ℤ, zero, suc, ◌<◌, Bool, List, length, sym, ap, subst, slice_get}
 use Rattle.xk_readings.specs.declared.edge.Edge.{Edge}
 use Rattle.xk_readings.specs.declared.listing.Reading.{Reading}
 use Rattle.xk_readings.specs.Graphs.{GraphValue, HasEdge, HasSameEdges, IsWithin, graph}
@@ -13,7 +13,8 @@ pub record IsTrimmed (g h : GraphValue) : Type 0 where
   pub all : (e : Edge) → HasEdge g e → IsReadable g e.to → HasEdge h e
   pub ends : h.ends ≡ g.ends
 
-pub trimmed : (edges kept : List Edge) (ends useful : List Bool) (h : GraphValue) → AreUseful (graph edges ends) useful → AreKept edges useful kept → HasSameEdges (graph kept ends) h
+pub trimmed : (edges kept : List Edge) (ends useful : List Bool) (h : GraphValue) → AreUseful (graph edges ends) useful
+    → AreKept edges useful kept → HasSameEdges (graph kept ends) h
     → IsTrimmed (graph edges ends) h
 trimmed edges kept ends useful h are left same = record {
   each = λ e has.
@@ -24,11 +25,13 @@ trimmed edges kept ends useful h are left same = record {
   ends = same.ends;
 }
 
-pub reads_whole : (g h : GraphValue) → IsTrimmed g h → (n k : ℕ) (acts : List ℕ) (numbers : List ℤ) → Reads h n k acts numbers → Reads g n k acts numbers
+reads_whole : (g h : GraphValue) → IsTrimmed g h → (n k : ℕ) (acts : List ℕ) (numbers : List ℤ) → Reads h n k acts numbers
+    → Reads g n k acts numbers
 reads_whole g h is zero k acts numbers r = (ap (λ (l : List Bool). slice_get l k) (sym is.ends) ∙ r.0, r.1, r.2)
 reads_whole g h is (suc n) k acts numbers r = (r.0, (is.each r.0 r.1).0, r.2, r.3, r.4, reads_whole g h is n r.0.to r.3 r.4 r.5, r.6, r.7)
 
-pub reads_trimmed : (g h : GraphValue) → IsTrimmed g h → (n k : ℕ) (acts : List ℕ) (numbers : List ℤ) → Reads g n k acts numbers → Reads h n k acts numbers
+reads_trimmed : (g h : GraphValue) → IsTrimmed g h → (n k : ℕ) (acts : List ℕ) (numbers : List ℤ) → Reads g n k acts numbers
+    → Reads h n k acts numbers
 reads_trimmed g h is zero k acts numbers r = (ap (λ (l : List Bool). slice_get l k) is.ends ∙ r.0, r.1, r.2)
 reads_trimmed g h is (suc n) k acts numbers r =
     (r.0, is.all r.0 r.1 (n, r.3, r.4, r.5), r.2, r.3, r.4, reads_trimmed g h is n r.0.to r.3 r.4 r.5, r.6, r.7)
@@ -38,7 +41,8 @@ module _ (g h : GraphValue) (is : IsTrimmed g h) where
   readable_trimmed k r = (r.0, r.1, r.2, reads_trimmed g h is r.0 k r.1 r.2 r.3)
 
   pub within_trimmed : IsWithin g → IsWithin h
-  within_trimmed within e has = subst (λ (l : List Bool). (e.from < length l) × (e.to < length l)) (sym is.ends) (within e (is.each e has).0)
+  within_trimmed within e has = subst (λ (l : List Bool). (e.from < length l)
+      × (e.to < length l)) (sym is.ends) (within e (is.each e has).0)
 
   pub trim_trimmed : AreTrim h
   trim_trimmed e has = readable_trimmed e.to (is.each e has).1

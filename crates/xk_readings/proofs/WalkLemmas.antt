@@ -1,7 +1,7 @@
 -- One step of the walk along all readings.
-use Rattle.std.proofs.Common.{◌≡◌, ◌∙◌, ℕ, ℤ, zero, suc, ◌+◌, ◌-◌, ◌*◌, ◌<◌, ◌≤◌, ◌⊎◌, inl, inr, Bool, true, false, cond, eqb, List, [], ◌∷◌, ◌++◌, length, get_or, take, Option, Some, None, refl, sym, ap, subst, append_assoc, arith, slice_get, length-append}
+use Rattle.std.proofs.Common.{◌≡◌, ◌∙◌, ℕ, ℤ, zero, suc, ◌+◌, ◌-◌, ◌*◌, ◌<◌, ◌≤◌, ◌⊎◌, inl, inr, Bool, true, false, cond, eqb, List, [], ◌∷◌, ◌++◌, length, get_or, take, Option, Some, refl, sym, ap, subst, append_assoc, arith, slice_get}
 use Rattle.std.specs.Option.{option_to_list}
-use Rattle.std.proofs.lemmas.Bool.{true≢false}
+use Rattle.std.proofs.lemmas.Bool.{cases_lt, true≢false}
 use Rattle.std.proofs.lemmas.Bool.Decides.{eqb_tells}
 use Rattle.std.proofs.lemmas.List.{append-nil, get_or_push, length-take-le, length_push}
 use Rattle.std.proofs.lemmas.Option.{get_or_from_slice_get, none-some, same_Some, slice_get_within}
@@ -9,21 +9,22 @@ use Rattle.xk_readings.specs.declared.edge.Edge.{Edge}
 use Rattle.xk_readings.specs.declared.branches.Branch.{Branch}
 use Rattle.xk_readings.specs.declared.branches.Group.{Group}
 use Rattle.xk_readings.specs.declared.listing.Reading.{Reading}
-use Rattle.xk_readings.specs.Graphs.{GraphValue, HasEdge}
-use Rattle.xk_readings.specs.Readings.{AreAllListed, AreShown, IsListed, IsLongest, Reads}
-use Rattle.xk_readings.specs.Ways.{Standing, WaysValue, along, at, start}
+use Rattle.xk_readings.specs.Graphs.{GraphValue}
+use Rattle.xk_readings.specs.Readings.{AreShown, IsListed, IsLongest, Reads}
+use Rattle.xk_readings.specs.Ways.{Standing, WaysValue, at, start}
 use Rattle.xk_readings.specs.Useful.{IsReadable}
 use Rattle.xk_readings.specs.Closures.{AreReached, AreTrim, IsClosed, IsReached, IsSpread, NoneEnds, PrintsFrom}
-use Rattle.xk_readings.specs.Branches.{AreAllOf, AreBranches, AreGrouped, AreStacked, HasBranch, HasWay, IsAlong, IsBranch, IsGrouped, IsNew}
+use Rattle.xk_readings.specs.Branches.{AreBranches, AreStacked, IsAlong, IsGrouped, IsNew}
 use Rattle.xk_readings.specs.Walks.{IsAwaited, IsEndListed, IsListedFrom, IsNearer, IsOneOf, IsOpened, IsPending, IsWalk, depth, last_group, weight}
-use Rattle.xk_readings.proofs.ListLemmas.{at_end, from_take, in_take, place, read, same_at, sides, stays, there_is}
+use Rattle.xk_readings.proofs.ListLemmas.{at_end, from_take, in_take, place, read, same_at, stays, there_is}
 use Rattle.xk_readings.proofs.GrowthLemmas.{at_kept, prints_all}
 use Rattle.xk_readings.proofs.ReadingLemmas.{GoesOn, HasEnd, progress, reached_along, reached_length, reading_there}
 
 -- ---- ways that are kept
 
 -- a group stays one
-one_of_kept : (old new : List Standing) (a : Group) → ((k : ℕ) (s : Standing) → k < a.to → slice_get old k ≡ Some s → slice_get new k ≡ Some s) → a.to ≤ length new → IsOneOf old a
+one_of_kept : (old new : List Standing) (a : Group) → ((k : ℕ) (s : Standing) → k < a.to → slice_get old k ≡ Some s
+    → slice_get new k ≡ Some s) → a.to ≤ length new → IsOneOf old a
     → IsOneOf new a
 one_of_kept old new a keeps many is = record {
   some = is.some;
@@ -40,7 +41,8 @@ one_of_kept old new a keeps many is = record {
 }
 
 -- what is listed stays listed
-listed_more : (list more : List Reading) (r : Reading) (numbers : List ℤ) → more ≡ list ++ r ∷ [] → IsListed list numbers → IsListed more numbers
+listed_more : (list more : List Reading) (r : Reading) (numbers : List ℤ) → more ≡ list ++ r ∷ [] → IsListed list numbers
+    → IsListed more numbers
 listed_more list more r numbers one is =
     (is.0, is.1, subst (λ (l : List Reading). slice_get l is.0 ≡ Some is.1) (sym one) (stays list (r ∷ []) is.0 is.1 is.2), is.3)
 
@@ -59,17 +61,20 @@ along_numbers g all first p branches are prints x s is =
     ∙ ap (λ (o : Option ℤ). p ++ option_to_list o) known.0.prints
     ∙ ap (λ (n : ℤ). p ++ n ∷ []) is.3
 
-along_reached : (g : GraphValue) (all : List Standing) (first : ℕ) (branches : List Branch) → AreTrim g → AreReached g all → AreBranches g all first branches
+along_reached : (g : GraphValue) (all : List Standing) (first : ℕ) (branches : List Branch) → AreTrim g → AreReached g all
+    → AreBranches g all first branches
     → (x : ℤ) (s : Standing) → IsAlong branches all x s → IsReached g s
 along_reached g all first branches trim reached are x s is =
     let b = is.1 in
     let known = (are.each is.0 b is.2).0 in
     subst (IsReached g) (sym is.4)
-    (reached_along g b.edge (at all b.before) known.there known.from (trim b.edge known.there) (reached b.before (at all b.before) (read all b.before start known.before)))
+    (reached_along g b.edge (at all b.before) known.there known.from (trim b.edge known.there)
+    (reached b.before (at all b.before) (read all b.before start known.before)))
 
 -- ---- one step
 
-module _ (g : GraphValue) (w w1 w2 : WaysValue) (under over : List Group) (group : Group) (list more : List Reading) (branches : List Branch) (limit : ℕ) (trim : AreTrim g)
+module _ (g : GraphValue) (w w1 w2 : WaysValue) (under over : List Group) (group : Group) (list more : List Reading)
+    (branches : List Branch) (limit : ℕ) (trim : AreTrim g)
     (walk : IsWalk g w (under ++ group ∷ []) list) (opened : IsOpened g group w w1)
     (listed : ((NoneEnds g w1.all group.from) × (more ≡ list)) ⊎ ((length list < limit) × IsEndListed g w1.all group.from list more))
     (are : AreBranches g w1.all group.from branches) (grouped : IsGrouped branches w1 w2 under over) where
@@ -93,7 +98,7 @@ module _ (g : GraphValue) (w w1 w2 : WaysValue) (under over : List Group) (group
   kept_through k s less there = grouped.kept k s (opened.kept k s less there)
 
   is_new : (i : ℕ) (a : Group) → slice_get over i ≡ Some a → (slice_get under i ≡ Some a) ⊎ (length under ≤ i)
-  is_new i a there = by (sides i (length under))
+  is_new i a there = by (cases_lt i (length under))
     where
       by : (i < length under) ⊎ (length under ≤ i) → (slice_get under i ≡ Some a) ⊎ (length under ≤ i)
       by (inl less) =
@@ -102,7 +107,7 @@ module _ (g : GraphValue) (w w1 w2 : WaysValue) (under over : List Group) (group
       by (inr from) = inr from
 
   reached_after : AreReached g w2.all
-  reached_after k s there = by (sides k (length w1.all))
+  reached_after k s there = by (cases_lt k (length w1.all))
     where
       by : (k < length w1.all) ⊎ (length w1.all ≤ k) → IsReached g s
       by (inl less) =
@@ -112,7 +117,8 @@ module _ (g : GraphValue) (w w1 w2 : WaysValue) (under over : List Group) (group
           let new = grouped.added k s from there in
           along_reached g w1.all group.from branches trim opened.reached are new.0 s new.1
 
-  new_numbers : (x : ℤ) (a : Group) → IsNew branches w1.all w2.all x a → (k : ℕ) (s : Standing) → a.from ≤ k → k < a.to → slice_get w2.all k ≡ Some s → s.numbers ≡ p ++ x ∷ []
+  new_numbers : (x : ℤ) (a : Group) → IsNew branches w1.all w2.all x a → (k : ℕ) (s : Standing) → a.from ≤ k → k < a.to
+      → slice_get w2.all k ≡ Some s → s.numbers ≡ p ++ x ∷ []
   new_numbers x a is k s from less there = along_numbers g w1.all group.from p branches are opened.prints x s (is.each k s from less there)
 
   new_first : (x : ℤ) (a : Group) → IsNew branches w1.all w2.all x a → (at w2.all a.from).numbers ≡ p ++ x ∷ []
@@ -149,11 +155,13 @@ module _ (g : GraphValue) (w w1 w2 : WaysValue) (under over : List Group) (group
   shown_after : AreShown g more
   shown_after i r there = by listed
     where
-      by : ((NoneEnds g w1.all group.from) × (more ≡ list)) ⊎ ((length list < limit) × IsEndListed g w1.all group.from list more) → (n : ℕ) × Reads g n 0 r.acts.items r.numbers.items
+      by : ((NoneEnds g w1.all group.from) × (more ≡ list)) ⊎ ((length list < limit) × IsEndListed g w1.all group.from list more)
+          → (n : ℕ) × Reads g n 0 r.acts.items r.numbers.items
       by (inl none) = walk.shown i r (subst (λ (l : List Reading). slice_get l i ≡ Some r) none.1 there)
       by (inr (few, one)) = old_or_new (place list one.reading i r (subst (λ (l : List Reading). slice_get l i ≡ Some r) one.listed there))
         where
-          old_or_new : (slice_get list i ≡ Some r) ⊎ ((i ≡ length list) × (one.reading ≡ r)) → (n : ℕ) × Reads g n 0 r.acts.items r.numbers.items
+          old_or_new : (slice_get list i ≡ Some r) ⊎ ((i ≡ length list) × (one.reading ≡ r))
+              → (n : ℕ) × Reads g n 0 r.acts.items r.numbers.items
           old_or_new (inl old) = walk.shown i r old
           old_or_new (inr new) =
               let s = at w1.all one.number in
@@ -167,7 +175,8 @@ module _ (g : GraphValue) (w w1 w2 : WaysValue) (under over : List Group) (group
   end_listed : HasEnd g w1.all group.from → IsListed more p
   end_listed has = by listed
     where
-      by : ((NoneEnds g w1.all group.from) × (more ≡ list)) ⊎ ((length list < limit) × IsEndListed g w1.all group.from list more) → IsListed more p
+      by : ((NoneEnds g w1.all group.from) × (more ≡ list)) ⊎ ((length list < limit) × IsEndListed g w1.all group.from list more)
+          → IsListed more p
       by (inl none) =
           let inside = slice_get_within w1.all has.0 has.1 has.3 in
           let ends = none.0 has.0 has.2 inside in
@@ -190,7 +199,8 @@ module _ (g : GraphValue) (w w1 w2 : WaysValue) (under over : List Group) (group
       let new = grouped.there has.0 b (zero_first has.0) has.2 in
       let a = new.1 in
       let way = new.5 in
-      let number : b.number ≡ on.x = same_Some b.number on.x (sym (are.each has.0 b has.2).0.prints ∙ ap (λ (e : Edge). e.printed) has.3 ∙ on.prints) in
+      let number : b.number ≡ on.x = same_Some b.number on.x (sym (are.each has.0 b has.2).0.prints ∙ ap (λ (e : Edge). e.printed) has.3
+      ∙ on.prints) in
       let node : on.edge.to ≡ way.1.node = sym (way.5 ∙ ap (λ (e : Edge). e.to) has.3) in (
         new.0,
         a,
@@ -218,22 +228,26 @@ module _ (g : GraphValue) (w w1 w2 : WaysValue) (under over : List Group) (group
   kept_listed : (numbers : List ℤ) → IsListed list numbers → IsListed more numbers
   kept_listed numbers is = by listed
     where
-      by : ((NoneEnds g w1.all group.from) × (more ≡ list)) ⊎ ((length list < limit) × IsEndListed g w1.all group.from list more) → IsListed more numbers
+      by : ((NoneEnds g w1.all group.from) × (more ≡ list)) ⊎ ((length list < limit) × IsEndListed g w1.all group.from list more)
+          → IsListed more numbers
       by (inl none) = subst (λ (l : List Reading). IsListed l numbers) (sym none.1) is
       by (inr (few, one)) = listed_more list more one.reading numbers one.listed is
 
   -- what is read behind the group is listed now, or read behind a new one
   from_group : (numbers : List ℤ) → IsPending g w.all group numbers → IsListed more numbers ⊎ IsAwaited g w2.all over numbers
-  from_group numbers (k, s, from, less, there, n, rest, left, reads, is) = by (progress g w1.all group.from closed_at n k s rest left from (opened.kept k s less there) reads)
+  from_group numbers (k, s, from, less, there, n, rest, left, reads, is) = by
+      (progress g w1.all group.from closed_at n k s rest left from (opened.kept k s less there) reads)
     where
       whole : numbers ≡ p ++ left
       whole = is ∙ ap (λ (l : List ℤ). l ++ left) (mine.prints k s from less there)
 
-      by : ((left ≡ []) × HasEnd g w1.all group.from) ⊎ GoesOn g w1.all group.from left → IsListed more numbers ⊎ IsAwaited g w2.all over numbers
+      by : ((left ≡ []) × HasEnd g w1.all group.from) ⊎ GoesOn g w1.all group.from left
+          → IsListed more numbers ⊎ IsAwaited g w2.all over numbers
       by (inl (none, end)) = inl (subst (IsListed more) (sym (whole ∙ ap (λ (l : List ℤ). p ++ l) none ∙ append-nil p)) (end_listed end))
       by (inr on) = inr (subst (IsAwaited g w2.all over) (sym whole) (goes_on left on))
 
-  all_after : (n : ℕ) (acts : List ℕ) (numbers : List ℤ) → Reads g n 0 acts numbers → IsListed more numbers ⊎ IsAwaited g w2.all over numbers
+  all_after : (n : ℕ) (acts : List ℕ) (numbers : List ℤ) → Reads g n 0 acts numbers
+      → IsListed more numbers ⊎ IsAwaited g w2.all over numbers
   all_after n acts numbers r = by (walk.all n acts numbers r)
     where
       at_group : (i : ℕ) (a : Group) → IsPending g w.all a numbers → (slice_get under i ≡ Some a) ⊎ ((i ≡ length under) × (group ≡ a))
@@ -241,14 +255,31 @@ module _ (g : GraphValue) (w w1 w2 : WaysValue) (under over : List Group) (group
       at_group i a q (inl old) =
           let before = under_to i a old in
           let less = q.3 in
-          inr (i, a, grouped.groups_kept i a old, (q.0, q.1, q.2, q.3, kept_through q.0 q.1 (omega (arith, less, before)) q.4, q.5, q.6, q.7, q.8, q.9))
+          inr (
+            i,
+            a,
+            grouped.groups_kept i a old,
+            (
+              q.0,
+              q.1,
+              q.2,
+              q.3,
+              kept_through q.0 q.1
+                  (omega (arith, less, before)) q.4,
+              q.5,
+              q.6,
+              q.7,
+              q.8,
+              q.9,
+            ),
+          )
       at_group i a q (inr new) = from_group numbers (subst (λ (b : Group). IsPending g w.all b numbers) (sym new.1) q)
 
       by : IsListed list numbers ⊎ IsAwaited g w.all (under ++ group ∷ []) numbers → IsListed more numbers ⊎ IsAwaited g w2.all over numbers
       by (inl is) = inl (kept_listed numbers is)
       by (inr (i, a, there, pending)) = at_group i a pending (place under group i a there)
 
-  pub walk_after : IsWalk g w2 over more
+  walk_after : IsWalk g w2 over more
   walk_after = record {
     room = grouped.room ∙ opened.room ∙ walk.room;
     reached = reached_after;
@@ -280,7 +311,8 @@ module _ (g : GraphValue) (w w1 w2 : WaysValue) (under over : List Group) (group
       r : (n : ℕ) × (acts : List ℕ) × (numbers : List ℤ) × Reads g n s.node acts numbers
       r = (opened.reached group.from s there).readable
 
-      by : ((r.2 ≡ []) × HasEnd g w1.all group.from) ⊎ GoesOn g w1.all group.from r.2 → (0 < length over) × (depth w2.all (last_group over) ≡ suc (depth w.all group))
+      by : ((r.2 ≡ []) × HasEnd g w1.all group.from) ⊎ GoesOn g w1.all group.from r.2
+          → (0 < length over) × (depth w2.all (last_group over) ≡ suc (depth w.all group))
       by (inl (empty, has)) =
           let within = slice_get_within w1.all has.0 has.1 has.3 in
           let ends = none has.0 has.2 within in
@@ -302,10 +334,11 @@ module _ (g : GraphValue) (w w1 w2 : WaysValue) (under over : List Group) (group
           let longer = length_push p is.0 in
           (omega (arith, less), omega (arith, numbers, longer))
 
-  pub nearer_after : IsNearer limit w.all group list w2.all over more
+  nearer_after : IsNearer limit w.all group list w2.all over more
   nearer_after = by listed
     where
-      by : ((NoneEnds g w1.all group.from) × (more ≡ list)) ⊎ ((length list < limit) × IsEndListed g w1.all group.from list more) → IsNearer limit w.all group list w2.all over more
+      by : ((NoneEnds g w1.all group.from) × (more ≡ list)) ⊎ ((length list < limit) × IsEndListed g w1.all group.from list more)
+          → IsNearer limit w.all group list w2.all over more
       by (inl none) = let d = deeper none.0 in inr (none.1, d.0, d.1)
       by (inr (few, one)) =
           let longer = ap length one.listed in
@@ -325,7 +358,8 @@ rest_most longest all groups = by (eqb (length groups) 0)
     by true = omega arith
     by false = omega arith
 
-rest_some : (longest : ℕ) (all : List Standing) (groups : List Group) → 0 < length groups → rest_of longest all groups ≡ longest + 1 - depth all (last_group groups)
+rest_some : (longest : ℕ) (all : List Standing) (groups : List Group) → 0 < length groups
+    → rest_of longest all groups ≡ longest + 1 - depth all (last_group groups)
 rest_some longest all groups some = by (eqb_tells (length groups) 0)
   where
     by : ((eqb (length groups) 0 ≡ true) × (length groups ≡ 0)) ⊎ ((eqb (length groups) 0 ≡ false) × (length groups ≡ 0 → ⊥))
@@ -337,7 +371,8 @@ listed_less : (a l r d : ℕ) → r ≤ l + 1 → a * (l + 2) + r < (a + 1) * (l
 listed_less a l r d most = omega (arith, most)
 
 -- a step takes weight away
-pub weight_falls : (limit longest : ℕ) (old new : List Standing) (under over : List Group) (group : Group) (list more : List Reading) → depth old group ≤ longest
+pub weight_falls : (limit longest : ℕ) (old new : List Standing) (under over : List Group) (group : Group) (list more : List Reading)
+    → depth old group ≤ longest
     → IsNearer limit old group list new over more → weight limit longest new over more < weight limit longest old (under ++ group ∷ []) list
 weight_falls limit longest old new under over group list more deep near = by near
   where
@@ -351,23 +386,28 @@ weight_falls limit longest old new under over group list more deep near = by nea
     last =
         let count = length_push under group in
         let end : length whole - 1 ≡ length under = omega (arith, count) in
-        ap (λ k. get_or whole k (record { from = 0; to = 0 })) end ∙ get_or_push under group (record { from = 0; to = 0 }) (length under) refl
+        ap (λ k. get_or whole k (record { from = 0; to = 0 })) end
+        ∙ get_or_push under group (record { from = 0; to = 0 }) (length under) refl
 
     before : rest_of longest old whole ≡ longest + 1 - depth old group
     before = rest_some longest old whole some ∙ ap (λ (a : Group). longest + 1 - depth old a) last
 
-    by : IsNearer limit old group list new over more → (limit - length more) * (longest + 2) + rest_of longest new over < (limit - length list) * (longest + 2) + rest_of longest old whole
+    by : IsNearer limit old group list new over more → (limit - length more) * (longest + 2) + rest_of longest new over <
+        (limit - length list) * (longest + 2) + rest_of longest old whole
     by (inl (one, few)) =
         let left : limit - length list ≡ (limit - length more) + 1 = omega (arith, one, few) in
-        subst (λ m. (limit - length more) * (longest + 2) + rest_of longest new over < m * (longest + 2) + rest_of longest old whole) (sym left)
+        subst (λ m. (limit - length more) * (longest + 2) + rest_of longest new over < m * (longest + 2) + rest_of longest old whole)
+        (sym left)
         (listed_less (limit - length more) longest (rest_of longest new over) (rest_of longest old whole) (rest_most longest new over))
     by (inr (same, there, deeper)) =
         let now = rest_some longest new over there in
-        subst (λ (l : List Reading). (limit - length l) * (longest + 2) + rest_of longest new over < (limit - length list) * (longest + 2) + rest_of longest old whole) (sym same)
+        subst (λ (l : List Reading). (limit - length l) * (longest + 2) + rest_of longest new over < (limit - length list) *
+        (longest + 2) + rest_of longest old whole) (sym same)
         (omega (arith, now, deeper, deep, before))
 
 -- the ways of a group print no more numbers than a reading has edges
-pub depth_most : (g : GraphValue) (w : WaysValue) (under : List Group) (group : Group) (list : List Reading) (longest : ℕ) → IsWalk g w (under ++ group ∷ []) list → IsLongest g longest
+pub depth_most : (g : GraphValue) (w : WaysValue) (under : List Group) (group : Group) (list : List Reading) (longest : ℕ)
+    → IsWalk g w (under ++ group ∷ []) list → IsLongest g longest
     → depth w.all group ≤ longest
 depth_most g w under group list longest walk most =
     let mine = walk.each (length under) group (at_end under group) in
@@ -376,18 +416,11 @@ depth_most g w under group list longest walk most =
     let there = read w.all group.from start (omega (arith, some, many)) in
     reached_length g (at w.all group.from) longest (walk.reached group.from (at w.all group.from) there) most
 
--- where no group is left all is listed
-pub all_listed : (g : GraphValue) (w : WaysValue) (groups : List Group) (list : List Reading) → groups ≡ [] → IsWalk g w groups list → AreAllListed g list
-all_listed g w groups list none walk n acts numbers r = by (walk.all n acts numbers r)
-  where
-    by : IsListed list numbers ⊎ IsAwaited g w.all groups numbers → IsListed list numbers
-    by (inl is) = is
-    by (inr (i, a, there, pending)) = absurd (none-some a (ap (λ (l : List Group). slice_get l i) (sym none) ∙ there))
-
 -- ---- what the parts of a step give
 
 -- the ways of the group alone, and those that come from there without a number being printed
-pub opened_by : (g : GraphValue) (group : Group) (old taken new : WaysValue) → IsOneOf old.all group → taken.all ≡ take group.to old.all → taken.here.room ≡ old.here.room
+pub opened_by : (g : GraphValue) (group : Group) (old taken new : WaysValue) → IsOneOf old.all group → taken.all ≡ take group.to old.all
+    → taken.here.room ≡ old.here.room
     → IsSpread g (at taken.all group.from).numbers taken new
     → ((k : ℕ) → group.from ≤ k → k < length new.all → IsClosed g new.all group.from (at new.all k)) → IsOpened g group old new
 opened_by g group old taken new mine is room spread closed = record {
@@ -399,7 +432,8 @@ opened_by g group old taken new mine is room spread closed = record {
       omega (arith, count, size, most);
   room = spread.room ∙ room;
   reached = spread.reached;
-  prints = λ k s from there. prints_all g group.from (at taken.all group.from).numbers taken new printed spread k s from there ∙ ap (λ (s : Standing). s.numbers) begins;
+  prints = λ k s from there. prints_all g group.from (at taken.all group.from).numbers taken new printed spread k s from there
+      ∙ ap (λ (s : Standing). s.numbers) begins;
   closed = closed;
 }
   where
@@ -418,16 +452,21 @@ opened_by g group old taken new mine is room spread closed = record {
         mine.prints k s from was.0 was.1 ∙ sym (ap (λ (s : Standing). s.numbers) begins)
 
 -- a step
-pub stepped : (g : GraphValue) (w now same w2 : WaysValue) (under mid over : List Group) (group : Group) (list kept more : List Reading) (branches : List Branch) (limit : ℕ) (going : Bool)
-    → AreTrim g → IsWalk g w (under ++ group ∷ []) list → IsOpened g group w now → kept ≡ list → IsListedFrom g now.all group.from limit kept more going → going ≡ true
+pub stepped : (g : GraphValue) (w now same w2 : WaysValue) (under mid over : List Group) (group : Group) (list kept more : List Reading)
+    (branches : List Branch) (limit : ℕ) (going : Bool)
+    → AreTrim g → IsWalk g w (under ++ group ∷ []) list → IsOpened g group w now → kept ≡ list
+    → IsListedFrom g now.all group.from limit kept more going → going ≡ true
     → same ≡ now → mid ≡ under → AreBranches g same.all group.from branches → IsGrouped branches same w2 mid over
     → IsWalk g w2 over more × IsNearer limit w.all group list w2.all over more
-stepped g w now same w2 under mid over group list kept more branches limit going trim walk opened was listed goes is stays_under are grouped =
+stepped g w now same w2 under mid over group list kept more branches limit going trim walk opened was listed goes is stays_under are
+    grouped =
     let opened' = subst (IsOpened g group w) (sym is) opened in
     let there = subst (λ (z : WaysValue). IsListedFrom g z.all group.from limit kept more going) (sym is) listed in
     let going_on = subst (λ (b : Bool). IsListedFrom g same.all group.from limit kept more b) goes there in
-    let listed' : ((NoneEnds g same.all group.from) × (more ≡ list)) ⊎ ((length list < limit) × IsEndListed g same.all group.from list more) =
-    subst (λ (l : List Reading). ((NoneEnds g same.all group.from) × (more ≡ l)) ⊎ ((length l < limit) × IsEndListed g same.all group.from l more)) was going_on in
+    let listed' : ((NoneEnds g same.all group.from) × (more ≡ list))
+    ⊎ ((length list < limit) × IsEndListed g same.all group.from list more) =
+    subst (λ (l : List Reading). ((NoneEnds g same.all group.from) × (more ≡ l))
+    ⊎ ((length l < limit) × IsEndListed g same.all group.from l more)) was going_on in
     let grouped' = subst (λ (l : List Group). IsGrouped branches same w2 l over) stays_under grouped in (
       walk_after g w same w2 under over group list more branches limit trim walk opened' listed' are grouped',
       nearer_after g w same w2 under over group list more branches limit trim walk opened' listed' are grouped',
@@ -435,14 +474,16 @@ stepped g w now same w2 under mid over group list kept more branches limit going
 
 -- ---- the walk begins
 
-pub begun : (g : GraphValue) (w : WaysValue) (groups : List Group) (list : List Reading) → w.all ≡ start ∷ [] → w.here.room ≡ length g.ends → groups ≡ record { from = 0; to = 1 } ∷ []
+pub begun : (g : GraphValue) (w : WaysValue) (groups : List Group) (list : List Reading) → w.all ≡ start ∷ []
+    → w.here.room ≡ length g.ends → groups ≡ record { from = 0; to = 1 } ∷ []
     → list ≡ [] → IsReadable g 0 → IsWalk g w groups list
 begun g w groups list one room first none readable = record {
   room = room;
   reached = λ k s there. reached k s (ap (λ (l : List Standing). slice_get l k) (sym one) ∙ there);
   each = λ i a there. each i a (ap (λ (l : List Group). slice_get l i) (sym first) ∙ there);
   stacked = record {
-    in_order = λ i j a b less x y. ordered i j a b (ap (λ (l : List Group). slice_get l i) (sym first) ∙ x) (ap (λ (l : List Group). slice_get l j) (sym first) ∙ y);
+    in_order = λ i j a b less x y. ordered i j a b (ap (λ (l : List Group). slice_get l i) (sym first)
+        ∙ x) (ap (λ (l : List Group). slice_get l j) (sym first) ∙ y);
     within = λ i a there. (each i a (ap (λ (l : List Group). slice_get l i) (sym first) ∙ there)).within;
   };
   shown = λ i r there. absurd (none-some r (ap (λ (l : List Reading). slice_get l i) (sym none) ∙ there));

@@ -52,7 +52,8 @@ pub record IsGroup (branches : List Branch) (start end : ℕ) (old new : WaysVal
   pub kept : (k : ℕ) (s : Standing) → slice_get old.all k ≡ Some s → slice_get new.all k ≡ Some s
   pub each : (k : ℕ) (s : Standing) (b : Branch) → length old.all ≤ k → slice_get new.all k ≡ Some s → slice_get branches start ≡ Some b
       → IsAlong branches old.all b.number s
-  pub same : (i : ℕ) (b c : Branch) → start ≤ i → i < end → slice_get branches i ≡ Some b → slice_get branches start ≡ Some c → b.number ≡ c.number
+  pub same : (i : ℕ) (b c : Branch) → start ≤ i → i < end → slice_get branches i ≡ Some b → slice_get branches start ≡ Some c
+      → b.number ≡ c.number
   pub there : (i : ℕ) (b : Branch) → start ≤ i → i < end → slice_get branches i ≡ Some b → HasStanding new.all (length old.all) b.edge.to
 
 -- the group is of ways of branches that print a number
@@ -86,7 +87,8 @@ pub record AreGrouped (branches : List Branch) (place : ℕ) (old new : WaysValu
   pub each : (i : ℕ) (a : Group) → length under ≤ i → slice_get over i ≡ Some a → (x : ℤ) × IsNew branches old.all new.all x a
   pub stacked : AreStacked under (length old.all) → AreStacked over (length new.all)
   pub there : (i : ℕ) (b : Branch) → place ≤ i → slice_get branches i ≡ Some b
-      → (j : ℕ) × (a : Group) × (length under ≤ j) × (slice_get over j ≡ Some a) × IsNew branches old.all new.all b.number a × HasWay new.all a b.edge.to
+      → (j : ℕ) × (a : Group) × (length under ≤ j) × (slice_get over j ≡ Some a) × IsNew branches old.all new.all b.number a
+      × HasWay new.all a b.edge.to
 
 -- groups were added for all branches
 abbrev pub IsGrouped : List Branch → WaysValue → WaysValue → List Group → List Group → Type 0

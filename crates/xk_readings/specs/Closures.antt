@@ -1,14 +1,15 @@
 -- Where one can come without a number being printed. This project's own.
-use Rattle.std.specs.Prelude.{◌≡◌, ℕ, ◌+◌, ◌<◌, ◌≤◌, ℤ, true, false, List, ◌++◌, length, Some, None, slice_get}
+use Rattle.std.specs.Prelude.{◌≡◌, ℕ, ◌<◌, ◌≤◌, ℤ, false, List, ◌++◌, length, Some, None, slice_get}
 use Rattle.xk_readings.specs.Graphs.{GraphValue, HasEdge}
 use Rattle.xk_readings.specs.Readings.{Reads}
 use Rattle.xk_readings.specs.Useful.{IsReadable}
-use Rattle.xk_readings.specs.Ways.{Standing, WaysValue, HasStanding, at, left}
+use Rattle.xk_readings.specs.Ways.{Standing, WaysValue, HasStanding, at}
 use Rattle.xk_readings.specs.declared.edge.Edge.{Edge}
 
 -- whatever reading goes out from the node, behind these activities and numbers it is one from the first node
 abbrev pub LeadsTo : GraphValue → ℕ → List ℕ → List ℤ → Type 0
-LeadsTo g k acts numbers = (n : ℕ) (rest : List ℕ) (more : List ℤ) → Reads g n k rest more → (m : ℕ) × Reads g m 0 (acts ++ rest) (numbers ++ more)
+LeadsTo g k acts numbers = (n : ℕ) (rest : List ℕ) (more : List ℤ) → Reads g n k rest more
+    → (m : ℕ) × Reads g m 0 (acts ++ rest) (numbers ++ more)
 
 -- the way is one of the graph, and a reading goes out from where it ends
 pub record IsReached (g : GraphValue) (s : Standing) : Type 0 where

@@ -1,5 +1,5 @@
 -- What can be read along the edges of a graph. This project's own.
-use Rattle.std.specs.Prelude.{◌≡◌, ℕ, zero, suc, ◌<◌, ◌≤◌, ℤ, ◌<ℤ◌, ◌⊎◌, true, List, [], ◌∷◌, ◌++◌, Some, slice_get}
+use Rattle.std.specs.Prelude.{◌≡◌, ℕ, zero, suc, ◌≤◌, ℤ, true, List, [], ◌∷◌, ◌++◌, Some, slice_get}
 use Rattle.std.specs.Option.{option_to_list}
 use Rattle.xk_readings.specs.declared.edge.Edge.{Edge}
 use Rattle.xk_readings.specs.declared.listing.Reading.{Reading}
@@ -27,13 +27,3 @@ IsListed list numbers = (i : ℕ) × (r : Reading) × (slice_get list i ≡ Some
 -- whatever can be read from the first node is listed
 abbrev pub AreAllListed : GraphValue → List Reading → Type 0
 AreAllListed g list = (n : ℕ) (acts : List ℕ) (numbers : List ℤ) → Reads g n 0 acts numbers → IsListed list numbers
-
--- the first list is less: where they differ first it has the lesser number, or it ends
-abbrev pub IsBelow : List ℤ → List ℤ → Type 0
-IsBelow xs [] = ⊥
-IsBelow [] (y ∷ ys) = Unit {0}
-IsBelow (x ∷ xs) (y ∷ ys) = (x <ℤ y) ⊎ ((x ≡ y) × IsBelow xs ys)
-
--- the lists of numbers rise: each is less than those behind it
-abbrev pub AreRising : List Reading → Type 0
-AreRising list = (i j : ℕ) (q r : Reading) → i < j → slice_get list i ≡ Some q → slice_get list j ≡ Some r → IsBelow q.numbers.items r.numbers.items

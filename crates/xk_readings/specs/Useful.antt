@@ -28,7 +28,8 @@ IsMarked e old new more =
 
 -- each edge that ends at one that is marked begins at one that is marked
 abbrev pub IsFollowed : List Edge → List Bool → Type 0
-IsFollowed edges useful = (j : ℕ) (e : Edge) → slice_get edges j ≡ Some e → slice_get useful e.to ≡ Some true → slice_get useful e.from ≡ Some true
+IsFollowed edges useful = (j : ℕ) (e : Edge) → slice_get edges j ≡ Some e → slice_get useful e.to ≡ Some true
+    → slice_get useful e.from ≡ Some true
 
 -- kept are the edges that end at marked nodes
 pub record AreKept (edges : List Edge) (useful : List Bool) (kept : List Edge) : Type 0 where

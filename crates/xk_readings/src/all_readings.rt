@@ -11,8 +11,8 @@ use crate::useful::{is_first_useful, useful_edges, useful_nodes};
 use crate::walk::walk_all;
 use std::alloc::{AllocError, Global};
 
-/// Lists what can be read from node 0, each list of numbers once, rising, up to `limit` of them. `longest` says how many edges a reading has
-/// at most. Err where memory was refused.
+/// Lists what can be read from node 0, each list of numbers once, rising, up to `limit` of them. No reading has more edges than `longest`
+/// says, which the walk's end rests on. Err where memory was refused.
 pub fn readings(
     alloc: Global,
     edges: &[Edge],
@@ -37,5 +37,5 @@ pub fn readings(
     }
     let kept = useful_edges(alloc, edges, &useful)?;
     let graph = Graph::new(alloc, kept, ends)?;
-    walk_all(alloc, &graph, longest, limit)
+    walk_all(alloc, &graph, ends.len(), longest, limit)
 }

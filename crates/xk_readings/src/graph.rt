@@ -38,13 +38,6 @@ impl Graph {
         Ok(Graph { edges, ends })
     }
 
-    /// How many nodes there are.
-    pub fn nodes(&self) -> usize
-        ensures { result ≡ length self.now.ends }
-    {
-        self.ends.len()
-    }
-
     /// Whether a reading may end at the node.
     pub fn may_end(&self, node: usize) -> bool
         requires { node < length self.now.ends }

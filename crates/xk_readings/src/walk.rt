@@ -138,13 +138,16 @@ fn beginning(alloc: Global, nodes: usize) -> Result<Walk, AllocError>
     })
 }
 
-/// Lists what can be read from node 0 of a graph each of whose edges leads to where a reading goes out. Err where memory was refused.
+/// Lists what can be read from node 0 of a graph of so many nodes, each of whose edges leads to where a reading goes out. Err where memory was
+/// refused.
 pub fn walk_all(
     alloc: Global,
     graph: &Graph,
+    nodes: usize,
     longest: u64,
     limit: usize,
 ) -> Result<Readings, AllocError>
+    requires nodes { nodes ≡ length graph.now.ends }
     requires within { IsWithin graph.now }
     requires trim { AreTrim graph.now }
     requires readable { IsReadable graph.now 0 }
@@ -154,7 +157,7 @@ pub fn walk_all(
     ensures limit { IfOk result (λ r. r.complete ≡ false → limit ≤ length r.list.items) }
     ensures most { IfOk result (λ r. length r.list.items ≤ limit) }
 {
-    let mut walk = beginning(alloc, graph.nodes())?;
+    let mut walk = beginning(alloc, nodes)?;
     let complete = go_through(alloc, graph, &mut walk, longest, limit)?;
     let Walk {
         ways: _,

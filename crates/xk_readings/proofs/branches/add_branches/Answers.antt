@@ -1,4 +1,4 @@
-use Rattle.std.proofs.Common.{◌≡◌, ◌∙◌, ◌+◌, ◌++◌, ◌∷◌, [], ◌<◌, ◌≤◌, ℕ, ℤ, List, length, get_or, slice_get, Some, None, ap, sym, subst, refl, arith}
+use Rattle.std.proofs.Common.{◌≡◌, ◌∙◌, ◌++◌, ◌∷◌, [], ◌<◌, ℕ, ℤ, List, length, get_or, slice_get, Some, ap, sym, subst, arith}
 use Rattle.std.proofs.lemmas.Option.{slice_get_within}
 use Rattle.xk_readings.specs.declared.edge.Edge.{Edge}
 use Rattle.xk_readings.specs.declared.branches.Branch.{Branch}
@@ -35,20 +35,24 @@ loop-edge-preserved c =
           } in
           record {
             kept = λ i d h. branch_stays g all branches more b one i d (c.loop-edge.invariant.kept i d h);
-            each = each_branch g all branches more b one c.args.before (length c.args.branches.now.items) is (sym made_of.1) c.loop-edge.invariant.each;
+            each = each_branch g all branches more b one c.args.before (length c.args.branches.now.items) is
+                (sym made_of.1) c.loop-edge.invariant.each;
             there = λ j f x less h. one_later edges at e there (λ (z : Edge). (x : ℤ) → z.printed ≡ Some x → HasBranch more z)
                 (λ x prints. (length branches, b, branch_last g all branches more b one, sym made_of.0))
-                (λ i z before h x prints. has_branch g all branches more b one z (c.loop-edge.invariant.there i z x before h prints)) j f less h x;
+                (λ i z before h x prints. has_branch g all branches more b one z (c.loop-edge.invariant.there i z x before h prints)) j f
+                less h x;
           })
       | in_default w ↦ (
           let same : more ≡ branches = ap (λ v. v.items) w.branches-is in
-          let stays : (i : ℕ) (d : Branch) → slice_get branches i ≡ Some d → slice_get more i ≡ Some d = λ i d h. ap (λ (l : List Branch). slice_get l i) same ∙ h in
+          let stays : (i : ℕ) (d : Branch) → slice_get branches i ≡ Some d
+          → slice_get more i ≡ Some d = λ i d h. ap (λ (l : List Branch). slice_get l i) same ∙ h in
           record {
             kept = λ i d h. stays i d (c.loop-edge.invariant.kept i d h);
             each = λ i d h. c.loop-edge.invariant.each i d (ap (λ (l : List Branch). slice_get l i) (sym same) ∙ h);
             there = λ j f x less h. one_later edges at e there (λ (z : Edge). (x : ℤ) → z.printed ≡ Some x → HasBranch more z)
                 (λ x prints. absurd (none_made c.args.before e w.in_default.ensures x prints))
-                (λ i z before h x prints. (let was = c.loop-edge.invariant.there i z x before h prints in (was.0, was.1, stays was.0 was.1 was.2, was.3))) j f less h x;
+                (λ i z before h x prints. (let was = c.loop-edge.invariant.there i z x before h prints in
+                (was.0, was.1, stays was.0 was.1 was.2, was.3))) j f less h x;
           })
     ]
 

@@ -1,4 +1,4 @@
-use Rattle.std.proofs.Common.{◌≡◌, ◌∙◌, ◌-◌, ◌<◌, ◌≤◌, suc, ℤ, length, get_or, slice_get, Some, subst, sym, ap, refl, arith}
+use Rattle.std.proofs.Common.{◌≡◌, ◌∙◌, ◌-◌, length, get_or, subst, refl, arith}
 use Rattle.xk_readings.specs.declared.branches.Branch.{Branch}
 use Rattle.xk_readings.specs.Ways.{HasStanding, along, at}
 use Rattle.xk_readings.proofs.BranchLemmas.{each_more, no_branch, one_earlier}
@@ -37,5 +37,6 @@ loop-at-preserved c =
           (λ i f from. c.loop-at.invariant.same i f (omega (arith, some, from)));
       there = one_earlier branches place c.args.end b there (λ (f : Branch). HasStanding new (length old) f.edge.to)
           (subst (λ m. HasStanding new m b.edge.to) since c.in_ok-lengthen.ensures.there)
-          (λ i f from less h. standing_kept now new (length old) f.edge.to (kept_grown now new longer grows) (c.loop-at.invariant.there i f (omega (arith, some, from)) less h));
+          (λ i f from less h. standing_kept now new (length old) f.edge.to (kept_grown now new longer grows)
+          (c.loop-at.invariant.there i f (omega (arith, some, from)) less h));
     }

@@ -12,9 +12,11 @@ invariant-loop-at l = record {
   room : l.ways.here.room ≡ l.fn.ways.here.room;
   many : length l.fn.ways.all ≤ length l.ways.all;
   kept : (k : ℕ) (s : Standing) → slice_get l.fn.ways.all k ≡ Some s → slice_get l.ways.all k ≡ Some s;
-  each : (k : ℕ) (s : Standing) → length l.fn.ways.all ≤ k → slice_get l.ways.all k ≡ Some s → IsAlong l.branches l.fn.ways.all l.last.number s;
+  each : (k : ℕ) (s : Standing) → length l.fn.ways.all ≤ k → slice_get l.ways.all k ≡ Some s
+      → IsAlong l.branches l.fn.ways.all l.last.number s;
   same : (i : ℕ) (b : Branch) → l.at ≤ i → i < l.end → slice_get l.branches i ≡ Some b → b.number ≡ l.last.number;
-  there : (i : ℕ) (b : Branch) → l.at ≤ i → i < l.end → slice_get l.branches i ≡ Some b → HasStanding l.ways.all (length l.fn.ways.all) b.edge.to;
+  there : (i : ℕ) (b : Branch) → l.at ≤ i → i < l.end → slice_get l.branches i ≡ Some b
+      → HasStanding l.ways.all (length l.fn.ways.all) b.edge.to;
 }
 
 abbrev pub decreases-loop-at : goal.decreases-loop-at

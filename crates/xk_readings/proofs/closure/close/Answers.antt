@@ -1,8 +1,8 @@
-use Rattle.std.proofs.Common.{◌≡◌, ◌∙◌, ◌+◌, ◌<◌, ◌≤◌, ◌⊎◌, inl, inr, ℕ, length, ap, sym, subst, arith}
-use Rattle.xk_readings.specs.Closures.{IsClosed, IsSpread}
-use Rattle.xk_readings.specs.Ways.{Standing, at, start}
+use Rattle.std.proofs.Common.{◌∙◌, ◌<◌, length, subst, arith}
+use Rattle.xk_readings.specs.Closures.{IsClosed}
+use Rattle.xk_readings.specs.Ways.{at, start}
 use Rattle.xk_readings.proofs.GrowthLemmas.{closed_next, prints_all, spread_on}
-use Rattle.xk_readings.proofs.ListLemmas.{read, sides}
+use Rattle.xk_readings.proofs.ListLemmas.{read}
 use Rattle.xk_readings.proofs.UsefulLemmas.{readable_within}
 use Rattle.xk_readings.proofs.closure.close.Goals as goal
 
@@ -29,14 +29,16 @@ loop-number-preserved c =
     let behind = c.loop-number.invariant.behind in
     let is = c.in_ok-spread.ensures.spread in
     let most = is.many in
-    let same = prints_all g c.args.first numbers old now c.requires.same c.loop-number.invariant.spread number (at now.all number) behind (read now.all number start less) in
+    let same = prints_all g c.args.first numbers old now c.requires.same c.loop-number.invariant.spread number (at now.all number) behind
+    (read now.all number start less) in
     record {
       spread = spread_on g numbers (at now.all number).numbers old now new same c.loop-number.invariant.spread is;
       since = c.in_ok-spread.ensures.since ∙ c.loop-number.invariant.since;
       behind = omega (arith, behind);
       within = omega (arith, less, most);
       closed = closed_next g now.all new.all c.args.first number is.kept less c.loop-number.invariant.closed
-          (subst (λ m. IsClosed g new.all m (at now.all number)) (c.in_ok-spread.ensures.since ∙ c.loop-number.invariant.since) c.in_ok-spread.ensures.edges);
+          (subst (λ m. IsClosed g new.all m (at now.all number)) (c.in_ok-spread.ensures.since
+          ∙ c.loop-number.invariant.since) c.in_ok-spread.ensures.edges);
     }
 
 pub returns-clause-closed : goal.returns-clause-closed

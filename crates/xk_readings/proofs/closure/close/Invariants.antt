@@ -1,5 +1,5 @@
 use Rattle.std.proofs.Common.{◌≡◌, ℕ, ◌+◌, ◌-◌, ◌<◌, ◌≤◌, length}
-use Rattle.xk_readings.specs.Closures.{IsClosed, IsSpread, PrintsFrom}
+use Rattle.xk_readings.specs.Closures.{IsClosed, IsSpread}
 use Rattle.xk_readings.specs.Ways.{at, left}
 use Rattle.xk_readings.proofs.closure.close.Given as goal
 

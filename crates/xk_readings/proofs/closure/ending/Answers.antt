@@ -1,4 +1,4 @@
-use Rattle.std.proofs.Common.{◌<◌, length, arith}
+use Rattle.std.proofs.Common.{arith}
 use Rattle.xk_readings.specs.Ways.{at, start}
 use Rattle.xk_readings.proofs.ListLemmas.{read}
 use Rattle.xk_readings.proofs.UsefulLemmas.{readable_within}

@@ -1,4 +1,4 @@
-use Rattle.std.proofs.Common.{◌≡◌, ◌∙◌, ◌+◌, ◌<◌, ◌≤◌, ℕ, length, get_or, slice_get, Some, None, ap, sym, subst, refl, arith}
+use Rattle.std.proofs.Common.{◌≡◌, ◌∙◌, ◌+◌, ◌<◌, ℕ, length, get_or, slice_get, Some, None, ap, sym, subst, refl, arith}
 use Rattle.std.proofs.lemmas.Option.{slice_get_within}
 use Rattle.xk_readings.specs.declared.edge.Edge.{Edge}
 use Rattle.xk_readings.specs.Closures.{IsSpread}
@@ -39,20 +39,25 @@ loop-edge-preserved c =
           let silent = is_silent e.printed c.is_none.result c.is_none.ensures w.if-is_none.true in
           record {
             spread = subst (λ (z : WaysValue). IsSpread g numbers old z) (sym w.ways-is)
-                (spread_more g numbers old now new number e c.requires.trim c.loop-edge.invariant.spread c.requires.there refl known.0 (known.1 ∙ c.node.ensures) silent
+                (spread_more g numbers old now new number e c.requires.trim c.loop-edge.invariant.spread c.requires.there refl known.0
+                (known.1 ∙ c.node.ensures) silent
                 w.lengthen.ensures.all w.lengthen.ensures.room);
             since = ap (λ (z : WaysValue). z.since) w.ways-is ∙ w.lengthen.ensures.since ∙ c.loop-edge.invariant.since;
             left = ap (λ (z : WaysValue). length z.all + left z) w.ways-is ∙ w.in_ok-lengthen.ensures.left ∙ c.loop-edge.invariant.left;
-            edges = subst (λ (z : WaysValue). (j : ℕ) (f : Edge) → j < index + 1 → slice_get edges j ≡ Some f → f.printed ≡ None → HasStanding z.all z.since f.to) (sym w.ways-is)
-                (edges_more edges index e now new (kept_grown now.all new.all (along_of e now.all number) w.lengthen.ensures.all) w.lengthen.ensures.since there
+            edges = subst (λ (z : WaysValue). (j : ℕ) (f : Edge) → j < index + 1 → slice_get edges j ≡ Some f → f.printed ≡ None
+                → HasStanding z.all z.since f.to) (sym w.ways-is)
+                (edges_more edges index e now new (kept_grown now.all new.all (along_of e now.all number) w.lengthen.ensures.all)
+                w.lengthen.ensures.since there
                 w.in_ok-lengthen.ensures.there c.loop-edge.invariant.edges);
           })
       | else-is_none w ↦ record {
         spread = subst (λ (z : WaysValue). IsSpread g numbers old z) (sym w.ways-is) c.loop-edge.invariant.spread;
         since = ap (λ (z : WaysValue). z.since) w.ways-is ∙ c.loop-edge.invariant.since;
         left = ap (λ (z : WaysValue). length z.all + left z) w.ways-is ∙ c.loop-edge.invariant.left;
-        edges = subst (λ (z : WaysValue). (j : ℕ) (f : Edge) → j < index + 1 → slice_get edges j ≡ Some f → f.printed ≡ None → HasStanding z.all z.since f.to) (sym w.ways-is)
-            (edges_loud edges index e now there (is_loud e.printed c.is_none.result c.is_none.ensures w.if-is_none.false) c.loop-edge.invariant.edges);
+        edges = subst (λ (z : WaysValue). (j : ℕ) (f : Edge) → j < index + 1 → slice_get edges j ≡ Some f → f.printed ≡ None
+            → HasStanding z.all z.since f.to) (sym w.ways-is)
+            (edges_loud edges index e now there (is_loud e.printed c.is_none.result c.is_none.ensures w.if-is_none.false)
+            c.loop-edge.invariant.edges);
       }
     ]
 

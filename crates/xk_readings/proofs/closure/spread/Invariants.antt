@@ -10,5 +10,6 @@ invariant-loop-edge l = record {
   spread : IsSpread l.graph (at l.fn.ways.all l.number).numbers l.fn.ways l.ways;
   since : l.ways.since ≡ l.fn.ways.since;
   left : length l.ways.all + left l.ways ≡ length l.fn.ways.all + left l.fn.ways;
-  edges : (j : ℕ) (e : Edge) → j < l.edge-index → slice_get l.edge-items j ≡ Some e → e.printed ≡ None → HasStanding l.ways.all l.ways.since e.to;
+  edges : (j : ℕ) (e : Edge) → j < l.edge-index → slice_get l.edge-items j ≡ Some e → e.printed ≡ None
+      → HasStanding l.ways.all l.ways.since e.to;
 }

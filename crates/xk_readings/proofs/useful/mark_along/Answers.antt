@@ -1,7 +1,6 @@
-use Rattle.std.proofs.Common.{◌≡◌, ◌-◌, ◌<◌, ◌≤◌, suc, true, false, not, length, get_or, slice_get, Some, ap, arith}
+use Rattle.std.proofs.Common.{◌-◌, true, false, not, get_or, ap, arith}
 use Rattle.std.specs.Prelude.{count_by}
 use Rattle.std.proofs.lemmas.Bool.{true≢false}
-use Rattle.xk_readings.specs.declared.edge.Edge.{Edge}
 use Rattle.xk_readings.specs.Graphs.{graph}
 use Rattle.xk_readings.proofs.ListLemmas.{read}
 use Rattle.xk_readings.proofs.UsefulLemmas.{edge_within, followed_more, marked_fewer, marked_kept, marked_readable, no_edge}

@@ -11,7 +11,8 @@ invariant-loop-at l = record {
   within : l.at ≤ length l.edges;
   readable : AreReadable (graph l.edges l.ends) l.useful;
   kept : (k : ℕ) → slice_get l.fn.useful k ≡ Some true → slice_get l.useful k ≡ Some true;
-  followed : l.more ≡ false → (j : ℕ) (e : Edge) → l.at ≤ j → slice_get l.edges j ≡ Some e → slice_get l.useful e.to ≡ Some true → slice_get l.useful e.from ≡ Some true;
+  followed : l.more ≡ false → (j : ℕ) (e : Edge) → l.at ≤ j → slice_get l.edges j ≡ Some e → slice_get l.useful e.to ≡ Some true
+      → slice_get l.useful e.from ≡ Some true;
   fewer : l.more ≡ true → count_by not l.useful < count_by not l.fn.useful;
   most : count_by not l.useful ≤ count_by not l.fn.useful;
 }

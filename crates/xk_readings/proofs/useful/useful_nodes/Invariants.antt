@@ -1,5 +1,5 @@
 use Rattle.std.proofs.Common.{◌≡◌, ℕ, true, not, length, slice_get, Some}
-use Rattle.std.specs.Prelude.{count_by, vec_len}
+use Rattle.std.specs.Prelude.{count_by}
 use Rattle.xk_readings.specs.Graphs.{graph}
 use Rattle.xk_readings.specs.Useful.{AreReadable}
 use Rattle.xk_readings.proofs.useful.useful_nodes.Given as goal

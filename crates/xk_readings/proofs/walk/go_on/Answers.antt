@@ -1,6 +1,6 @@
-use Rattle.std.proofs.Common.{◌≡◌, ◌∙◌, ◌<◌, List, slice_get, Some, length, ap, subst, sym, arith}
+use Rattle.std.proofs.Common.{◌∙◌, List, slice_get, ap, subst, sym, arith}
 use Rattle.xk_readings.specs.declared.branches.Branch.{Branch}
-use Rattle.xk_readings.specs.Branches.{AreBranches, IsGrouped}
+use Rattle.xk_readings.specs.Branches.{AreBranches}
 use Rattle.xk_readings.specs.Ways.{WaysValue}
 use Rattle.xk_readings.proofs.WalkLemmas.{stepped}
 use Rattle.xk_readings.proofs.walk.go_on.Goals as goal
@@ -18,8 +18,11 @@ pub returns : goal.returns
 returns c =
     let g = c.args.graph.now in
     let now = c.list_ending.new.walk.ways in
-    stepped g c.args.walk.now.ways c.open.new.walk.ways now c.add_groups.new.ways c.args.walk.now.groups.items c.list_ending.new.walk.groups.items c.add_groups.new.groups.items c.args.group
-    c.args.walk.now.list.items c.open.new.walk.list.items c.list_ending.new.walk.list.items c.deref.result.now c.args.limit c.in_ok-list_ending.field-0 c.requires.trim c.requires.walk
+    stepped g c.args.walk.now.ways c.open.new.walk.ways now c.add_groups.new.ways c.args.walk.now.groups.items
+    c.list_ending.new.walk.groups.items c.add_groups.new.groups.items c.args.group
+    c.args.walk.now.list.items c.open.new.walk.list.items c.list_ending.new.walk.list.items c.deref.result.now c.args.limit
+    c.in_ok-list_ending.field-0 c.requires.trim c.requires.walk
     c.in_ok-open.ensures.opened c.open.ensures.list c.in_ok-list_ending.ensures.listed c.if-not-branch.false c.list_ending.ensures.ways
     (c.list_ending.ensures.groups ∙ c.open.ensures.groups)
-    (subst (λ (l : List Branch). AreBranches g now.all c.args.group.from l) (sym c.deref.ensures.value) c.in_ok-branches.ensures) c.in_ok-add_groups.ensures
+    (subst (λ (l : List Branch). AreBranches g now.all c.args.group.from l) (sym c.deref.ensures.value) c.in_ok-branches.ensures)
+    c.in_ok-add_groups.ensures

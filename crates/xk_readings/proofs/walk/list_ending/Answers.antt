@@ -1,4 +1,4 @@
-use Rattle.std.proofs.Common.{◌<◌, inr, length, arith}
+use Rattle.std.proofs.Common.{inr, arith}
 use Rattle.xk_readings.proofs.walk.list_ending.Goals as goal
 
 pub returns-in_ok-push-in-Some-2-clause-listed : goal.returns-in_ok-push-in-Some-2-clause-listed

@@ -1,4 +1,4 @@
-use Rattle.std.proofs.Common.{◌≡◌, ◌-◌, ◌≤◌, List, Bool, true, false, ltb, leb, length, take, drop, ap, subst, sym, rules, arith}
+use Rattle.std.proofs.Common.{◌≡◌, ◌-◌, ◌≤◌, List, true, false, ltb, leb, length, take, drop, ap, subst, sym, rules, arith}
 use Rattle.std.specs.List.Sorted.{IsPartitionPoint}
 use Rattle.std.proofs.lemmas.List.Sorted.{IsPartitionPoint-from_clause, IsPartitionedBy-leb, IsPartitionedBy-ltb}
 use Rattle.xk_readings.specs.declared.edge.Edge.{Edge}
@@ -8,20 +8,28 @@ use Rattle.xk_readings.proofs.graph.Graph.edges_from.Goals.{After-deref-3}
 use Rattle.xk_readings.proofs.graph.Graph.edges_from.Goals as goal
 
 below : (c : After-deref-3)
-    → IsPartitionPoint (λ (e : Edge). ltb e.from c.args.node ≡ true) (λ (e : Edge). ltb e.from c.args.node ≡ false) c.self.inside.edges.items c.partition_point-start.result
+    → IsPartitionPoint (λ (e : Edge). ltb e.from c.args.node ≡ true)
+    (λ (e : Edge). ltb e.from c.args.node ≡ false) c.self.inside.edges.items c.partition_point-start.result
 below c =
-    subst (λ (l : List Edge). IsPartitionPoint (λ (e : Edge). ltb e.from c.args.node ≡ true) (λ (e : Edge). ltb e.from c.args.node ≡ false) l c.partition_point-start.result)
+    subst (λ (l : List Edge). IsPartitionPoint (λ (e : Edge). ltb e.from c.args.node ≡ true)
+    (λ (e : Edge). ltb e.from c.args.node ≡ false) l c.partition_point-start.result)
     c.deref.ensures.value
-    (IsPartitionPoint-from_clause (λ (e : Edge). ltb e.from c.args.node) c.deref.result.now c.partition_point-start.result c.partition_point-start.ensures.partitioned
-    (IsPartitionedBy-ltb (λ (e : Edge). e.from) c.deref.result.now c.args.node (subst AreSorted (sym c.deref.ensures.value) c.self.invariant)) (λ a r q k. search rules))
+    (IsPartitionPoint-from_clause (λ (e : Edge). ltb e.from c.args.node) c.deref.result.now c.partition_point-start.result
+    c.partition_point-start.ensures.partitioned
+    (IsPartitionedBy-ltb (λ (e : Edge). e.from) c.deref.result.now c.args.node
+    (subst AreSorted (sym c.deref.ensures.value) c.self.invariant)) (λ a r q k. search rules))
 
 upto : (c : After-deref-3)
-    → IsPartitionPoint (λ (e : Edge). leb e.from c.args.node ≡ true) (λ (e : Edge). leb e.from c.args.node ≡ false) c.self.inside.edges.items c.partition_point-end.result
+    → IsPartitionPoint (λ (e : Edge). leb e.from c.args.node ≡ true)
+    (λ (e : Edge). leb e.from c.args.node ≡ false) c.self.inside.edges.items c.partition_point-end.result
 upto c =
-    subst (λ (l : List Edge). IsPartitionPoint (λ (e : Edge). leb e.from c.args.node ≡ true) (λ (e : Edge). leb e.from c.args.node ≡ false) l c.partition_point-end.result)
+    subst (λ (l : List Edge). IsPartitionPoint (λ (e : Edge). leb e.from c.args.node ≡ true)
+    (λ (e : Edge). leb e.from c.args.node ≡ false) l c.partition_point-end.result)
     c.deref-2.ensures.value
-    (IsPartitionPoint-from_clause (λ (e : Edge). leb e.from c.args.node) c.deref-2.result.now c.partition_point-end.result c.partition_point-end.ensures.partitioned
-    (IsPartitionedBy-leb (λ (e : Edge). e.from) c.deref-2.result.now c.args.node (subst AreSorted (sym c.deref-2.ensures.value) c.self.invariant)) (λ a r q k. search rules))
+    (IsPartitionPoint-from_clause (λ (e : Edge). leb e.from c.args.node) c.deref-2.result.now c.partition_point-end.result
+    c.partition_point-end.ensures.partitioned
+    (IsPartitionedBy-leb (λ (e : Edge). e.from) c.deref-2.result.now c.args.node
+    (subst AreSorted (sym c.deref-2.ensures.value) c.self.invariant)) (λ a r q k. search rules))
 
 ordered : (c : After-deref-3) → c.partition_point-start.result ≤ c.partition_point-end.result
 ordered c =
@@ -29,7 +37,8 @@ ordered c =
     let end = c.partition_point-end.ensures.bound in
     let first = ap length c.deref.ensures.value in
     let second = ap length c.deref-2.ensures.value in
-    in_range c.self.inside.edges.items c.args.node c.partition_point-start.result c.partition_point-end.result (below c) (upto c) (omega (arith, start, first)) (omega (arith, end, second))
+    in_range c.self.inside.edges.items c.args.node c.partition_point-start.result c.partition_point-end.result (below c) (upto c)
+    (omega (arith, start, first)) (omega (arith, end, second))
 
 pub slice_bounds-result-count : goal.slice_bounds-result-count
 slice_bounds-result-count c = ordered (goal.at.slice_bounds-result-count c).After-deref-3

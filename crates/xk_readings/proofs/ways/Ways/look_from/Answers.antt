@@ -1,8 +1,8 @@
-use Rattle.std.proofs.Common.{◌≡◌, ◌∙◌, ◌+◌, ◌<◌, ◌≤◌, ℕ, List, Some, ap, length, slice_get, subst, sym, refl, arith}
+use Rattle.std.proofs.Common.{◌∙◌, ◌<◌, ℕ, List, ap, length, slice_get, subst, sym, refl, arith}
 use Rattle.std.proofs.lemmas.Bool.{true≢false}
 use Rattle.xk_readings.specs.NodeSets.{HasNode, NodeSetValue}
 use Rattle.xk_readings.specs.Stands.{standings}
-use Rattle.xk_readings.specs.Ways.{HasStanding, Standing, WaysValue, at, start}
+use Rattle.xk_readings.specs.Ways.{Standing, WaysValue, at, start}
 use Rattle.xk_readings.proofs.ListLemmas.{read}
 use Rattle.xk_readings.proofs.StandLemmas.{here_push, none_here}
 use Rattle.xk_readings.proofs.ways.Ways.look_from.Goals.{After-node-node}
@@ -11,7 +11,8 @@ use Rattle.xk_readings.proofs.ways.Ways.look_from.Goals as goal
 pub invariant_of-self : goal.invariant_of-self
 invariant_of-self c = record {
   behind = c.self.invariant.behind;
-  here = λ m has. none_here (standings c.self.inside.stands.items) c.args.number m (subst (λ (s : NodeSetValue). HasNode s.nodes m) c.clear.ensures has);
+  here = λ m has. none_here (standings c.self.inside.stands.items) c.args.number m
+      (subst (λ (s : NodeSetValue). HasNode s.nodes m) c.clear.ensures has);
 }
 
 pub loop-k-init : goal.loop-k-init
@@ -38,7 +39,8 @@ in_room c =
     let now = ap length c.loop-k.invariant.all in
     let all = c.loop-k.self.all in
     let there = read all c.loop-k.k start (omega (arith, less, count, was, now)) in
-    let is = c.requires.within c.loop-k.k (at all c.loop-k.k) (ap (λ (l : List Standing). slice_get l c.loop-k.k) (sym c.loop-k.invariant.all) ∙ there) in
+    let is = c.requires.within c.loop-k.k (at all c.loop-k.k) (ap (λ (l : List Standing). slice_get l c.loop-k.k)
+    (sym c.loop-k.invariant.all) ∙ there) in
     let node = c.node-node.ensures in
     let room = ap (λ (w : WaysValue). w.here.room) c.self-in-loop-k.view_is ∙ c.loop-k.invariant.room in
     omega (arith, is, node, room)
@@ -66,7 +68,8 @@ invariant_of-self-in-Continue-1 c =
     let behind = c.loop-k.auto.k in
     record {
       behind = c.self-in-loop-k.invariant.behind;
-      here = here_push all c.self-in-loop-k.inside.since c.self-in-loop-k.inside.here.nodes c.add.new.self.nodes c.node-node.result c.in_ok-add.ensures.added
+      here = here_push all c.self-in-loop-k.inside.since c.self-in-loop-k.inside.here.nodes c.add.new.self.nodes c.node-node.result
+          c.in_ok-add.ensures.added
           c.self-in-loop-k.invariant.here (
             c.loop-k.k,
             at all c.loop-k.k,

@@ -1,5 +1,4 @@
-use Rattle.std.proofs.Common.{◌≡◌, ◌∙◌, ◌+◌, ◌-◌, ◌<◌, ◌≤◌, ◌++◌, [], ℕ, ℤ, List, Option, ap, length, get_or, subst, sym, arith}
-use Rattle.std.specs.Option.{option_to_list}
+use Rattle.std.proofs.Common.{◌≡◌, ◌∙◌, ◌<◌, ◌++◌, ℕ, ℤ, List, ap, length, subst, sym, arith}
 use Rattle.std.specs.Prelude.{reverse}
 use Rattle.std.proofs.lemmas.List.{append-nil}
 use Rattle.xk_readings.specs.Stands.{standings}
@@ -11,17 +10,20 @@ pub loop-last-init : goal.loop-last-init
 loop-last-init c =
     let stands = c.self.inside.stands.items in
     let many = many_ways stands in
-    let inside : c.args.number < length (standings stands) = subst (λ (w : WaysValue). c.args.number < length w.all) (sym c.self.view_is) c.requires in
+    let inside : c.args.number < length (standings stands) = subst (λ (w : WaysValue). c.args.number < length w.all)
+    (sym c.self.view_is) c.requires in
     record {
       within = omega (arith, many, inside);
-      acts = ap (λ (l : List ℕ). (at (standings stands) c.args.number).acts ++ reverse l) c.new-acts.ensures.items ∙ append-nil (at (standings stands) c.args.number).acts;
+      acts = ap (λ (l : List ℕ). (at (standings stands) c.args.number).acts ++ reverse l) c.new-acts.ensures.items
+          ∙ append-nil (at (standings stands) c.args.number).acts;
       numbers = ap (λ (l : List ℤ). (at (standings stands) c.args.number).numbers ++ reverse l) c.new-numbers.ensures.items
           ∙ append-nil (at (standings stands) c.args.number).numbers;
     }
 
 pub loop-last-smaller : goal.loop-last-smaller
 loop-last-smaller c =
-    (last_edge c.self.inside.stands.items c.loop-last.last c.index-stand.result.now c.self.invariant.behind c.loop-last.invariant.within c.loop-last-test.true c.index-stand.ensures).0
+    (last_edge c.self.inside.stands.items c.loop-last.last c.index-stand.result.now c.self.invariant.behind c.loop-last.invariant.within
+    c.loop-last-test.true c.index-stand.ensures).0
 
 pub loop-last-preserved : goal.loop-last-preserved
 loop-last-preserved c =
@@ -33,9 +35,11 @@ loop-last-preserved c =
     let within = c.loop-last.invariant.within in
     record {
       within = omega (arith, less, within);
-      acts = acts_back stands last stand c.loop-last.acts.items c.push.new.self.items (at (standings stands) c.args.number).acts is.1 c.in_ok-push.ensures.items
+      acts = acts_back stands last stand c.loop-last.acts.items c.push.new.self.items
+          (at (standings stands) c.args.number).acts is.1 c.in_ok-push.ensures.items
           c.loop-last.invariant.acts;
-      numbers = numbers_back stands last stand c.loop-last.numbers.items c.keep_printed.new.numbers.items (at (standings stands) c.args.number).numbers is.1
+      numbers = numbers_back stands last stand c.loop-last.numbers.items c.keep_printed.new.numbers.items
+          (at (standings stands) c.args.number).numbers is.1
           c.in_ok-keep_printed.ensures c.loop-last.invariant.numbers;
     }
 
