@@ -1,5 +1,6 @@
 -- Groups of ways, one for each number that comes next.
-use Rattle.std.proofs.Common.{◌≡◌, ◌∙◌, ℕ, ℤ, ◌+◌, ◌<◌, ◌≤◌, ◌⊎◌, inl, inr, List, [], ◌∷◌, ◌++◌, length, pos, suc, Option, Some, None, option_map, refl, sym, ap, subst, arith, slice_get}
+use Rattle.std.proofs.Common.{◌≡◌, ◌∙◌, ℕ, ℤ, ◌+◌, ◌<◌, ◌≤◌, ◌⊎◌, inl, inr, List, [], ◌∷◌, ◌++◌}
+use Rattle.std.proofs.Common.{length, pos, suc, Option, Some, None, option_map, refl, sym, ap, subst, arith, slice_get}
 use Rattle.std.proofs.lemmas.Bool.{cases_lt}
 use Rattle.std.specs.List.Sorted.{IsPermutation}
 use Rattle.std.proofs.lemmas.List.{length_push}
@@ -10,9 +11,11 @@ use Rattle.xk_readings.specs.declared.branches.Branch.{Branch}
 use Rattle.xk_readings.specs.declared.branches.Group.{Group}
 use Rattle.xk_readings.specs.Graphs.{GraphValue}
 use Rattle.xk_readings.specs.Ways.{Standing, WaysValue, along, at}
-use Rattle.xk_readings.specs.Branches.{AreAllOf, AreBranches, AreBranchesAt, AreGrouped, AreStacked, HasBranch, HasWay, IsAlong, IsBranch, IsGroup, IsNew, branch_of}
+use Rattle.xk_readings.specs.Branches.{AreAllOf, AreBranches, AreBranchesAt, AreGrouped, AreStacked, HasBranch}
+use Rattle.xk_readings.specs.Branches.{HasWay, IsAlong, IsBranch, IsGroup, IsNew, branch_of}
 use Rattle.xk_readings.proofs.GrowthLemmas.{at_kept, each_grown}
-use Rattle.xk_readings.proofs.ListLemmas.{at_end, permuted, place, same_at, stays, there_is}
+use Rattle.xk_types.proofs.ListLemmas.{get-append_left as stays, get_inside as there_is, get_once as same_at, get_push as at_end}
+use Rattle.xk_readings.proofs.ListLemmas.{permuted, place}
 
 -- the way of a branch is the same where more ways are added
 along_kept : (branches : List Branch) (old new : List Standing)

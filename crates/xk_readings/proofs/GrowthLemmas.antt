@@ -1,5 +1,6 @@
 -- Ways that stay where more are added.
-use Rattle.std.proofs.Common.{◌≡◌, ◌∙◌, ℕ, ℤ, ◌+◌, ◌<◌, ◌≤◌, ◌⊎◌, inl, inr, Bool, true, false, not, List, [], ◌∷◌, ◌++◌, length, Option, Some, None, refl, sym, ap, subst, arith, slice_get}
+use Rattle.std.proofs.Common.{◌≡◌, ◌∙◌, ℕ, ℤ, ◌+◌, ◌<◌, ◌≤◌, ◌⊎◌, inl, inr, Bool, true, false, not}
+use Rattle.std.proofs.Common.{List, [], ◌∷◌, ◌++◌, length, Option, Some, None, refl, sym, ap, subst, arith, slice_get}
 use Rattle.std.specs.Option.{is_some, option_to_list}
 use Rattle.std.proofs.lemmas.Bool.{cases_lt, true≢false}
 use Rattle.std.proofs.lemmas.List.{append-nil, length_push}
@@ -8,7 +9,8 @@ use Rattle.xk_readings.specs.declared.edge.Edge.{Edge}
 use Rattle.xk_readings.specs.Graphs.{GraphValue, HasEdge}
 use Rattle.xk_readings.specs.Ways.{HasStanding, Standing, WaysValue, along, at, start}
 use Rattle.xk_readings.specs.Closures.{AreTrim, IsClosed, IsReached, IsSpread, PrintsFrom}
-use Rattle.xk_readings.proofs.ListLemmas.{place, read, same_at, stays, there_is}
+use Rattle.xk_types.proofs.ListLemmas.{get-append_left as stays, get_inside as there_is, get_once as same_at}
+use Rattle.xk_readings.proofs.ListLemmas.{place, read}
 use Rattle.xk_readings.proofs.ReadingLemmas.{reached_along}
 
 -- the one of a number is the same as before

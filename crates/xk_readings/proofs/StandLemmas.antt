@@ -1,15 +1,18 @@
 -- Ways that are kept by their last edges.
-use Rattle.std.proofs.Common.{◌≡◌, ◌∙◌, ℕ, ℤ, zero, suc, ◌+◌, ◌-◌, ◌<◌, ◌≤◌, ◌⊎◌, inl, inr, List, [], ◌∷◌, ◌++◌, length, get_or, take, drop, Option, Some, None, refl, sym, ap, subst, append_assoc, arith, slice_get}
+use Rattle.std.proofs.Common.{◌≡◌, ◌∙◌, ℕ, ℤ, zero, suc, ◌+◌, ◌-◌, ◌<◌, ◌≤◌, ◌⊎◌, inl, inr, List, [], ◌∷◌}
+use Rattle.std.proofs.Common.{◌++◌, length, get_or, take, drop, Option, Some, None, refl, sym, ap, subst, append_assoc, arith, slice_get}
 use Rattle.std.specs.Option.{option_to_list}
 use Rattle.std.specs.Prelude.{fold, reverse}
-use Rattle.std.proofs.lemmas.List.{append-nil, get_or_append_left, get_or_push, length_push, length-take-le, reverse-append, take-append-drop, take-take, take_all, take_at}
+use Rattle.std.proofs.lemmas.List.{append-nil, get_or_append_left, get_or_push, length_push, length-take-le}
+use Rattle.std.proofs.lemmas.List.{reverse-append, take-append-drop, take-take, take_all, take_at}
 use Rattle.std.proofs.lemmas.List.Sums.{fold_push, fold-append}
 use Rattle.std.proofs.lemmas.Option.{none-some, same_Some, slice_get-get_or}
 use Rattle.xk_readings.specs.declared.ways.Stand.{Stand}
 use Rattle.xk_readings.specs.NodeSets.{HasNode}
 use Rattle.xk_readings.specs.Stands.{AreBehind, AreWays, standings, with_stand}
 use Rattle.xk_readings.specs.Ways.{HasStanding, Standing, along, at, start}
-use Rattle.xk_readings.proofs.ListLemmas.{at_end, from_take, place, stays}
+use Rattle.xk_types.proofs.ListLemmas.{get-append_left as stays, get_push as at_end}
+use Rattle.xk_readings.proofs.ListLemmas.{from_take, place}
 
 many : (acc : List Standing) (stands : List Stand) → length (fold with_stand acc stands) ≡ length acc + length stands
 many acc [] = omega arith

@@ -1,5 +1,6 @@
 -- Which nodes are marked as those from which a reading goes out.
-use Rattle.std.proofs.Common.{◌≡◌, ◌∙◌, ℕ, ℤ, zero, suc, ◌+◌, ◌<◌, ◌≤◌, ◌⊎◌, inl, inr, Bool, true, false, cond, not, eqb, List, [], ◌∷◌, ◌++◌, length, get_or, set, Some, None, refl, sym, ap, subst, arith, slice_get}
+use Rattle.std.proofs.Common.{◌≡◌, ◌∙◌, ℕ, ℤ, zero, suc, ◌+◌, ◌<◌, ◌≤◌, ◌⊎◌, inl, inr, Bool, true, false, cond, not}
+use Rattle.std.proofs.Common.{eqb, List, [], ◌∷◌, ◌++◌, length, get_or, set, Some, None, refl, sym, ap, subst, arith, slice_get}
 use Rattle.std.specs.Prelude.{count_by}
 use Rattle.std.specs.Option.{option_to_list}
 use Rattle.std.proofs.lemmas.Bool.{cases_lt, true≢false}
@@ -10,7 +11,8 @@ use Rattle.xk_readings.specs.declared.edge.Edge.{Edge}
 use Rattle.xk_readings.specs.Graphs.{GraphValue, HasEdge, IsWithin, graph}
 use Rattle.xk_readings.specs.Readings.{Reads}
 use Rattle.xk_readings.specs.Useful.{AreReadable, IsFollowed, IsMarked, IsReadable}
-use Rattle.xk_readings.proofs.ListLemmas.{at_end, place, same_at, set_other, set_same, stays}
+use Rattle.xk_types.proofs.ListLemmas.{get-append_left as stays, get_once as same_at, get_push as at_end}
+use Rattle.xk_readings.proofs.ListLemmas.{place, set_other, set_same}
 
 -- what stands for an edge that isn't there
 abbrev pub no_edge : Edge

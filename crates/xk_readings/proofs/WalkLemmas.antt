@@ -1,5 +1,6 @@
 -- One step of the walk along all readings.
-use Rattle.std.proofs.Common.{◌≡◌, ◌∙◌, ℕ, ℤ, zero, suc, ◌+◌, ◌-◌, ◌*◌, ◌<◌, ◌≤◌, ◌⊎◌, inl, inr, Bool, true, false, cond, eqb, List, [], ◌∷◌, ◌++◌, length, get_or, take, Option, Some, refl, sym, ap, subst, append_assoc, arith, slice_get}
+use Rattle.std.proofs.Common.{◌≡◌, ◌∙◌, ℕ, ℤ, zero, suc, ◌+◌, ◌-◌, ◌*◌, ◌<◌, ◌≤◌, ◌⊎◌, inl, inr, Bool, true, false, cond}
+use Rattle.std.proofs.Common.{eqb, List, [], ◌∷◌, ◌++◌, length, get_or, take, Option, Some, refl, sym, ap, subst, append_assoc, arith, slice_get}
 use Rattle.std.specs.Option.{option_to_list}
 use Rattle.std.proofs.lemmas.Bool.{cases_lt, true≢false}
 use Rattle.std.proofs.lemmas.Bool.Decides.{eqb_tells}
@@ -15,8 +16,10 @@ use Rattle.xk_readings.specs.Ways.{Standing, WaysValue, at, start}
 use Rattle.xk_readings.specs.Useful.{IsReadable}
 use Rattle.xk_readings.specs.Closures.{AreReached, AreTrim, IsClosed, IsReached, IsSpread, NoneEnds, PrintsFrom}
 use Rattle.xk_readings.specs.Branches.{AreBranches, AreStacked, IsAlong, IsGrouped, IsNew}
-use Rattle.xk_readings.specs.Walks.{IsAwaited, IsEndListed, IsListedFrom, IsNearer, IsOneOf, IsOpened, IsPending, IsWalk, depth, last_group, weight}
-use Rattle.xk_readings.proofs.ListLemmas.{at_end, from_take, in_take, place, read, same_at, stays, there_is}
+use Rattle.xk_readings.specs.Walks.{IsAwaited, IsEndListed, IsListedFrom, IsNearer, IsOneOf, IsOpened}
+use Rattle.xk_readings.specs.Walks.{IsPending, IsWalk, depth, last_group, weight}
+use Rattle.xk_types.proofs.ListLemmas.{get-append_left as stays, get_inside as there_is, get_once as same_at, get_push as at_end}
+use Rattle.xk_readings.proofs.ListLemmas.{from_take, in_take, place, read}
 use Rattle.xk_readings.proofs.GrowthLemmas.{at_kept, prints_all}
 use Rattle.xk_readings.proofs.ReadingLemmas.{GoesOn, HasEnd, progress, reached_along, reached_length, reading_there}
 

@@ -1,5 +1,6 @@
 -- The walk along all readings. This project's own.
-use Rattle.std.specs.Prelude.{◌≡◌, ℕ, suc, ◌+◌, ◌-◌, ◌*◌, ◌<◌, ◌≤◌, ◌⊎◌, ℤ, Bool, true, List, [], ◌∷◌, ◌++◌, length, Some, slice_get, slice_index_or, if◌then◌else◌, ◌==◌}
+use Rattle.std.specs.Prelude.{◌≡◌, ℕ, suc, ◌+◌, ◌-◌, ◌*◌, ◌<◌, ◌≤◌, ◌⊎◌, ℤ, Bool}
+use Rattle.std.specs.Prelude.{true, List, [], ◌∷◌, ◌++◌, length, Some, slice_get, slice_index_or, if◌then◌else◌, ◌==◌}
 use Rattle.std.specs.Bool.{MatchBool}
 use Rattle.xk_readings.specs.declared.branches.Group.{Group}
 use Rattle.xk_readings.specs.declared.listing.Reading.{Reading}

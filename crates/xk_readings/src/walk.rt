@@ -138,8 +138,8 @@ fn beginning(alloc: Global, nodes: usize) -> Result<Walk, AllocError>
     })
 }
 
-/// Lists what can be read from node 0 of a graph of so many nodes, each of whose edges leads to where a reading goes out. Err where memory was
-/// refused.
+/// Lists what can be read from node 0 of a graph of so many nodes, each of whose edges leads to where a reading goes out. Err where memory
+/// was refused.
 pub fn walk_all(
     alloc: Global,
     graph: &Graph,

@@ -5,7 +5,8 @@ use Rattle.xk_readings.specs.declared.listing.Readings.{Readings as Listing}
 use Rattle.xk_readings.specs.Graphs.{graph}
 use Rattle.xk_readings.specs.Readings.{AreAllListed, AreShown}
 use Rattle.xk_readings.specs.Useful.{AreUseful}
-use Rattle.xk_readings.proofs.TrimLemmas.{IsTrimmed, all_whole, longest_trimmed, readable_trimmed, shown_whole, trim_trimmed, trimmed, within_trimmed}
+use Rattle.xk_readings.proofs.TrimLemmas.{IsTrimmed, all_whole, longest_trimmed, readable_trimmed}
+use Rattle.xk_readings.proofs.TrimLemmas.{shown_whole, trim_trimmed, trimmed, within_trimmed}
 use Rattle.xk_readings.proofs.all_readings.readings.Goals.{In_ok-graph}
 use Rattle.xk_readings.proofs.all_readings.readings.Goals as goal
 
