@@ -1,14 +1,11 @@
 -- What is read along links is listed: from readings to outcomes, and as many outcomes as there are readings.
 use Rattle.std.proofs.Common.{◌≡◌, ◌∙◌, ℕ, ℤ, ◌+◌, ◌<◌, ◌≤◌, ◌⊎◌, inl, inr, List, [], ◌∷◌, ◌++◌, length, Some, sym, ap, subst, arith, slice_get}
-use Rattle.std.proofs.lemmas.Int.{ints}
 use Rattle.std.proofs.lemmas.Option.{same_Some, slice_get_within}
-use Rattle.indexmap.proofs.IndexTableLemmas.Probe.{pigeonhole}
 use Rattle.xk_core.specs.Core.{CoreValue}
 use Rattle.xk_readings.specs.declared.edge.Edge.{Edge}
 use Rattle.xk_readings.specs.declared.listing.Reading.{Reading}
 use Rattle.xk_readings.specs.Graphs.{graph}
-use Rattle.xk_readings.specs.Readings.{AreAllListed, AreRising, AreShown, IsBelow}
-use Rattle.xk_digests.proofs.PushLemmas.{there_is}
+use Rattle.xk_readings.specs.Readings.{AreAllListed, AreShown}
 use Rattle.xk_outcomes.specs.declared.listing.Outcome.{Outcome}
 use Rattle.xk_outcomes.specs.declared.order.Order.TheVariants as order
 use Rattle.xk_outcomes.specs.Found.{FoundValue, first_found}
@@ -17,60 +14,6 @@ use Rattle.xk_outcomes.specs.Listing.{AreMet, AreNoted, ArePlayed, AreRead, AreR
 use Rattle.xk_outcomes.specs.Outcomes.{IsListed}
 use Rattle.xk_outcomes.specs.Search.{AreFound}
 use Rattle.xk_outcomes.proofs.FollowLemmas.{read_follows, read_to}
-
--- ---- readings rise
-
-below_not : (xs : List ℤ) → IsBelow xs xs → ⊥
-below_not [] h = h
-below_not (x ∷ xs) (inl less) = omega (arith, ints, less)
-below_not (x ∷ xs) (inr h) = below_not xs h.1
-
--- no two readings have the same numbers
-apart : (found : List Reading) → AreRising found → (i j : ℕ) (q r : Reading) → slice_get found i ≡ Some q → slice_get found j ≡ Some r
-    → q.numbers.items ≡ r.numbers.items → i ≡ j
-apart found rises i j q r hi hj same = by (split i j)
-  where
-    split : (i j : ℕ) → (i ≡ j) ⊎ ((i < j) ⊎ (j < i))
-    split i j = grind arith
-
-    by : (i ≡ j) ⊎ ((i < j) ⊎ (j < i)) → i ≡ j
-    by (inl e) = e
-    by (inr (inl less)) = absurd (below_not r.numbers.items (subst (λ ns. IsBelow ns r.numbers.items) same (rises i j q r less hi hj)))
-    by (inr (inr less)) = absurd (below_not q.numbers.items (subst (λ ns. IsBelow ns q.numbers.items) (sym same) (rises j i r q less hj hi)))
-
--- ---- as many are listed
-
-module _ (found : List Reading) (list : List Outcome) (rises : AreRising found)
-    (listed : (i : ℕ) (r : Reading) → slice_get found i ≡ Some r → IsListed list r.numbers.items) where
-  side : (i n : ℕ) → (i < n) ⊎ (n ≤ i)
-  side i n = grind arith
-
-  -- where the numbers of a reading are listed
-  place_of : (i : ℕ) → (i < length found) ⊎ (length found ≤ i) → ℕ
-  place_of i (inl less) = let r = there_is found i less in (listed i r.0 r.1).0
-  place_of i (inr over) = 0
-
-  into : (i : ℕ) (s : (i < length found) ⊎ (length found ≤ i)) → i < length found → place_of i s < length list
-  unfolding place_of
-  into i (inl less) h = let r = there_is found i less in let l = listed i r.0 r.1 in slice_get_within list l.0 l.1 l.2
-  into i (inr over) h = absurd (omega (arith, over, h))
-
-  one : (i j : ℕ) (s : (i < length found) ⊎ (length found ≤ i)) (t : (j < length found) ⊎ (length found ≤ j)) → i < length found → j < length found
-      → place_of i s ≡ place_of j t → i ≡ j
-  unfolding place_of
-  one i j (inr over) t h g e = absurd (omega (arith, over, h))
-  one i j (inl less) (inr over) h g e = absurd (omega (arith, over, g))
-  one i j (inl less) (inl also) h g e =
-      let q = there_is found i less in
-      let r = there_is found j also in
-      let l = listed i q.0 q.1 in
-      let k = listed j r.0 r.1 in
-      let same : l.1 ≡ k.1 = same_Some l.1 k.1 (sym l.2 ∙ (ap (slice_get list) e ∙ k.2)) in
-      apart found rises i j q.0 r.0 q.1 r.1 (sym l.3 ∙ (ap (λ (o : Outcome). o.numbers.items) same ∙ k.3))
-
-  pub as_many : length found ≤ length list
-  as_many = pigeonhole (length found) (length list) (λ i. place_of i (side i (length found))) (λ i h. into i (side i (length found)) h)
-      (λ i j h g e. one i j (side i (length found)) (side j (length found)) h g e)
 
 -- ---- from readings to outcomes
 

@@ -1,6 +1,6 @@
 //! What stands along links to where all have ended is listed.
 
-ghost use Rattle.std.specs.Prelude.{◌≡◌, ◌≤◌, true, false, length, max, IfOk, List};
+ghost use Rattle.std.specs.Prelude.{◌≡◌, ◌<◌, ◌≤◌, ◌⊎◌, true, false, length, max, IfOk, List};
 ghost use Rattle.xk_outcomes.specs.declared.listing.Outcome.{Outcome as AnOutcome};
 ghost use Rattle.xk_outcomes.specs.declared.order.Order.TheVariants as told;
 ghost use Rattle.xk_outcomes.specs.Links.{AreLinked};
@@ -62,6 +62,35 @@ fn note_readings(
     Ok(true)
 }
 
+/// Lists what can be read along the links, each list of numbers once, behind what is listed, up to the limit; so many are read at most.
+/// Whether that is all.
+fn list_some(
+    alloc: Global,
+    list: &mut Listed,
+    all: &Entries<'_>,
+    links: &[Edge],
+    most: usize,
+    limit: usize,
+) -> Result<bool, AllocError>
+    requires { AreLinked all.now.start.module_run all.now.all links.now }
+    ensures of { AreOf told.Printed all.now.start list.old list.new }
+    ensures kept { KeepsListed list.old list.new }
+    ensures distinct { AreDistinct list.old → AreDistinct list.new }
+    ensures read { IfOk result (λ complete. complete ≡ true
+        → AreRead all.now.all links.now list.new) }
+    // No more can be read at once than memory can hold.
+    ensures limit { IfOk result (λ complete. complete ≡ false
+        → (limit ≤ length list.new) ⊎ (most < 18446744073709551615)) }
+    ensures most { length list.new ≤ max limit (length list.old) }
+{
+    let longest = all.longest();
+    let found = readings(alloc, links, all.ends(), longest, most)?;
+    // For `limit`: as many as memory holds, and one more, can be counted.
+    let _behind = found.list.len() + 1;
+    let noted = note_readings(alloc, list, all, &found.list, limit)?;
+    Ok(noted && found.complete)
+}
+
 /// Lists whatever can be read along the links, each list of numbers once, behind what is listed, up to the limit. Whether that is all.
 fn list_readings(
     alloc: Global,
@@ -79,10 +108,12 @@ fn list_readings(
     ensures limit { IfOk result (λ complete. complete ≡ false → limit ≤ length list.new) }
     ensures most { length list.new ≤ max limit (length list.old) }
 {
-    let longest = all.longest();
-    let found = readings(alloc, links, all.ends(), longest, limit)?;
-    let noted = note_readings(alloc, list, all, &found.list, limit)?;
-    Ok(noted && found.complete)
+    let complete = list_some(alloc, list, all, links, limit, limit)?;
+    if complete || list.len() >= limit {
+        return Ok(complete);
+    }
+    // As many were read as are to be listed, and each once: so this isn't come to, though no contract says that none is read twice.
+    list_some(alloc, list, all, links, usize::MAX, limit)
 }
 
 /// Lists what was found, each list of numbers once, as it is told in this order, behind what is listed, up to the limit. Whether

@@ -1,11 +1,11 @@
-use Rattle.std.proofs.Common.{◌∙◌, arith, length, subst, sym, true≢false}
+use Rattle.std.proofs.Common.{◌≡◌, ◌∙◌, ◌≤◌, arith, inl, inr, length, subst, sym, true≢false}
 use Rattle.xk_readings.specs.Graphs.{IsWithin, graph}
 use Rattle.xk_readings.specs.Readings.{AreAllListed, AreShown}
 use Rattle.xk_outcomes.specs.Listing.{AreReadingsPut}
 use Rattle.xk_outcomes.proofs.FollowLemmas.{links_within}
-use Rattle.xk_outcomes.proofs.PathLemmas.{all_read, as_many, readings_listed}
-use Rattle.xk_outcomes.proofs.paths.list_readings.Goals.{then-noted, else-noted}
-use Rattle.xk_outcomes.proofs.paths.list_readings.Goals as goal
+use Rattle.xk_outcomes.proofs.PathLemmas.{all_read, readings_listed}
+use Rattle.xk_outcomes.proofs.paths.list_some.Goals.{then-noted, else-noted}
+use Rattle.xk_outcomes.proofs.paths.list_some.Goals as goal
 
 pub readings-requires-clause-within : goal.readings-requires-clause-within
 readings-requires-clause-within c =
@@ -32,18 +32,11 @@ returns-clause-read c done =
 
 pub returns-clause-limit : goal.returns-clause-limit
 returns-clause-limit c less =
-    let start = c.args.all.now.start in
-    let all = c.args.all.now.all in
-    let links = c.args.links.now in
-    let found = c.in_ok-found.found.list.items in
-    let list = c.note_readings.new.list in
     elim c.if-noted.branch [
       | then-noted w ↦
-          let shown = subst (λ over. AreShown (graph links over) found) c.ends.ensures c.in_ok-found.ensures.shown in
           let many = c.in_ok-found.ensures.limit (sym w.result-is ∙ less) in
-          let listed = readings_listed start all links found list (c.longest-longest.ensures.played links c.requires) shown
-          (subst (λ l. AreReadingsPut start l (length l) list) c.deref.ensures.value (c.in_ok-noted.ensures.listed w.if-noted.true)) in
-          let few = as_many found list c.in_ok-found.ensures.rising listed in
-          omega (arith, many, few)
-      | else-noted w ↦ c.in_ok-noted.ensures.full w.if-noted.false
+          let count = c.len.ensures ∙ c.in_ok-found.found.list.ok.0 in
+          let fits = c.ranges in
+          inr (omega (arith, many, count))
+      | else-noted w ↦ inl (c.in_ok-noted.ensures.full w.if-noted.false)
     ]

@@ -1,0 +1,11 @@
+pub mod ListLemmas
+mod UsefulLemmas
+mod GraphLemmas
+mod NodeSetLemmas
+mod StandLemmas
+mod ReadingLemmas
+mod GrowthLemmas
+mod BranchLemmas
+mod WalkLemmas
+mod TrimLemmas
+mod Examples

@@ -1,0 +1,57 @@
+-- The edges that lead to where a reading goes out have the same readings as all edges.
+use Rattle.std.proofs.Common.{◌≡◌, ◌∙◌, ℕ, ℤ, zero, suc, ◌<◌, Bool, List, length, sym, ap, subst, slice_get}
+use Rattle.xk_readings.specs.declared.edge.Edge.{Edge}
+use Rattle.xk_readings.specs.declared.listing.Reading.{Reading}
+use Rattle.xk_readings.specs.Graphs.{GraphValue, HasEdge, HasSameEdges, IsWithin, graph}
+use Rattle.xk_readings.specs.Readings.{AreAllListed, AreShown, IsLongest, Reads}
+use Rattle.xk_readings.specs.Useful.{AreKept, AreUseful, IsReadable}
+use Rattle.xk_readings.specs.Closures.{AreTrim}
+
+-- a graph with those edges alone
+pub record IsTrimmed (g h : GraphValue) : Type 0 where
+  pub each : (e : Edge) → HasEdge h e → HasEdge g e × IsReadable g e.to
+  pub all : (e : Edge) → HasEdge g e → IsReadable g e.to → HasEdge h e
+  pub ends : h.ends ≡ g.ends
+
+pub trimmed : (edges kept : List Edge) (ends useful : List Bool) (h : GraphValue) → AreUseful (graph edges ends) useful
+    → AreKept edges useful kept → HasSameEdges (graph kept ends) h
+    → IsTrimmed (graph edges ends) h
+trimmed edges kept ends useful h are left same = record {
+  each = λ e has.
+      let back = same.back e has in
+      let is = left.each back.0 e back.1 in
+      (is.0, are.readable e.to is.1);
+  all = λ e has readable. same.there e (left.all has.0 e has.1 (are.marked e.to readable));
+  ends = same.ends;
+}
+
+reads_whole : (g h : GraphValue) → IsTrimmed g h → (n k : ℕ) (acts : List ℕ) (numbers : List ℤ) → Reads h n k acts numbers
+    → Reads g n k acts numbers
+reads_whole g h is zero k acts numbers r = (ap (λ (l : List Bool). slice_get l k) (sym is.ends) ∙ r.0, r.1, r.2)
+reads_whole g h is (suc n) k acts numbers r = (r.0, (is.each r.0 r.1).0, r.2, r.3, r.4, reads_whole g h is n r.0.to r.3 r.4 r.5, r.6, r.7)
+
+reads_trimmed : (g h : GraphValue) → IsTrimmed g h → (n k : ℕ) (acts : List ℕ) (numbers : List ℤ) → Reads g n k acts numbers
+    → Reads h n k acts numbers
+reads_trimmed g h is zero k acts numbers r = (ap (λ (l : List Bool). slice_get l k) is.ends ∙ r.0, r.1, r.2)
+reads_trimmed g h is (suc n) k acts numbers r =
+    (r.0, is.all r.0 r.1 (n, r.3, r.4, r.5), r.2, r.3, r.4, reads_trimmed g h is n r.0.to r.3 r.4 r.5, r.6, r.7)
+
+module _ (g h : GraphValue) (is : IsTrimmed g h) where
+  pub readable_trimmed : (k : ℕ) → IsReadable g k → IsReadable h k
+  readable_trimmed k r = (r.0, r.1, r.2, reads_trimmed g h is r.0 k r.1 r.2 r.3)
+
+  pub within_trimmed : IsWithin g → IsWithin h
+  within_trimmed within e has = subst (λ (l : List Bool). (e.from < length l)
+      × (e.to < length l)) (sym is.ends) (within e (is.each e has).0)
+
+  pub trim_trimmed : AreTrim h
+  trim_trimmed e has = readable_trimmed e.to (is.each e has).1
+
+  pub longest_trimmed : (most : ℕ) → IsLongest g most → IsLongest h most
+  longest_trimmed most longest n acts numbers r = longest n acts numbers (reads_whole g h is n 0 acts numbers r)
+
+  pub shown_whole : (list : List Reading) → AreShown h list → AreShown g list
+  shown_whole list shown i r there = (let s = shown i r there in (s.0, reads_whole g h is s.0 0 r.acts.items r.numbers.items s.1))
+
+  pub all_whole : (list : List Reading) → AreAllListed h list → AreAllListed g list
+  all_whole list all n acts numbers r = all n acts numbers (reads_trimmed g h is n 0 acts numbers r)

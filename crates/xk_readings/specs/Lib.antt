@@ -1,0 +1,9 @@
+pub mod Graphs
+pub mod Readings
+pub mod Useful
+pub mod NodeSets
+pub mod Ways
+pub mod Stands
+pub mod Closures
+pub mod Branches
+pub mod Walks

@@ -1,0 +1,14 @@
+//! The edges of a graph: steps from one node to another.
+
+/// A step from one node to another.
+#[derive(Clone, Copy, Debug)]
+pub struct Edge {
+    /// The node where it begins.
+    pub from: usize,
+    /// The activity that takes it.
+    pub act: u32,
+    /// What it prints, if it prints a number.
+    pub printed: Option<i64>,
+    /// The node where it ends.
+    pub to: usize,
+}

@@ -1,0 +1,19 @@
+//! What is listed.
+
+/// A list of numbers that can be read, with the activities whose steps print it.
+#[derive(Drop)]
+pub struct Reading {
+    /// What is printed along the way.
+    pub numbers: Vec<i64>,
+    /// Who takes a step after whom.
+    pub acts: Vec<u32>,
+}
+
+/// Lists of numbers that can be read, and whether these are all.
+#[derive(Drop)]
+pub struct Readings {
+    /// Each list of numbers once, rising: a list before those that go on behind it.
+    pub list: Vec<Reading>,
+    /// Whether nothing else can be read.
+    pub complete: bool,
+}
