@@ -39,8 +39,8 @@ told_there all k x there ended =
 
 -- each link leads from one of them to one of them
 pub links_within : (m : ModuleValue) (all : List FoundValue) (links : List Edge) → AreLinked m all links → IsWithin (graph links (ends all))
-links_within m all links linked j e there =
-    let l = linked.each j e there in
+links_within m all links linked e there =
+    let l = linked.each there.0 e there.1 in
     let many = length-map all (λ (y : FoundValue). all_ended y.core.world) in
     let out = slice_get_within all e.from l.source l.out in
     let into = slice_get_within all e.to l.target l.into in
@@ -58,7 +58,7 @@ read_on links over zero i k acts rest before more led reads =
 read_on links over (suc n) i k acts rest before more led reads =
     let l = led.0 in
     let one : Reads (graph links over) (suc i) l.from (l.act ∷ rest) (option_to_list l.printed ++ more) =
-    (l, led.1, led.2, refl, rest, more, subst (λ j. Reads (graph links over) i j rest more) (sym led.3) reads, refl, refl) in
+    (l, (led.1, led.2), refl, rest, more, subst (λ j. Reads (graph links over) i j rest more) (sym led.3) reads, refl, refl) in
     let h = read_on links over n (suc i) l.from led.4 (l.act ∷ rest) led.5 (option_to_list l.printed ++ more) led.6 one in
     let sum : n + suc i ≡ suc n + i = omega arith in
     let is_acts : led.4 ++ l.act ∷ rest ≡ acts ++ rest = sym (append_assoc led.4 (l.act ∷ []) rest) ∙ ap (λ bs. bs ++ rest) (sym led.7) in
@@ -124,8 +124,8 @@ followed m all links linked modules zero k acts numbers x y reads there is same 
     })
 followed m all links linked modules (suc n) k acts numbers x y reads there is same =
     let e = reads.0 in
-    let l = linked.each reads.1 e reads.2 in
-    let source : l.source ≡ x = same_Some l.source x (sym l.out ∙ (ap (slice_get all) reads.3 ∙ there)) in
+    let l = linked.each reads.1.0 e reads.1.1 in
+    let source : l.source ≡ x = same_Some l.source x (sym l.out ∙ (ap (slice_get all) reads.2 ∙ there)) in
     let enabled : is_enabled m y.core.world e.act ≡ true =
     enabled_alike m y.core.world x.core.world e.act same ∙ subst (λ (z : FoundValue). is_enabled m z.core.world e.act ≡ true) source l.enabled in
     let alike_next : AreAlike (next e.act x).core.world l.target.core.world = subst (λ (z : FoundValue). AreAlike (next e.act z).core.world l.target.core.world) source l.alike in
@@ -133,13 +133,13 @@ followed m all links linked modules (suc n) k acts numbers x y reads there is sa
     subst (λ (z : FoundValue). (next e.act z).printed ≡ z.printed ++ option_to_list e.printed) source l.prints in
     let g = next_goes_alike m y x e.act is (modules k x there) same in
     let more : g.more ≡ option_to_list e.printed = append_cancel_left x.printed g.more (option_to_list e.printed) (sym g.second_prints ∙ prints_next) in
-    let f = followed m all links linked modules n e.to reads.4 reads.5 l.target (next e.act y) reads.6 l.into g.first_module (g.alike ∙ alike_next) in
+    let f = followed m all links linked modules n e.to reads.3 reads.4 l.target (next e.act y) reads.5 l.into g.first_module (g.alike ∙ alike_next) in
     let counted = steps_next m y e.act is enabled in
     let long = f.long in
-    subst (λ bs. Follows (suc n) y (through bs y) numbers) (sym reads.7) (record {
+    subst (λ bs. Follows (suc n) y (through bs y) numbers) (sym reads.6) (record {
       ended = f.ended;
-      prints = f.prints ∙ ap (λ ns. ns ++ reads.5) (g.first_prints ∙ ap (λ ns. y.printed ++ ns) more)
-          ∙ append_assoc y.printed (option_to_list e.printed) reads.5 ∙ ap (λ ns. y.printed ++ ns) (sym reads.8);
+      prints = f.prints ∙ ap (λ ns. ns ++ reads.4) (g.first_prints ∙ ap (λ ns. y.printed ++ ns) more)
+          ∙ append_assoc y.printed (option_to_list e.printed) reads.4 ∙ ap (λ ns. y.printed ++ ns) (sym reads.7);
       long = omega (arith, counted, long);
     })
 

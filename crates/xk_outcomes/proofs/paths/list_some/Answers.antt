@@ -1,4 +1,4 @@
-use Rattle.std.proofs.Common.{◌≡◌, ◌∙◌, ◌≤◌, arith, inl, inr, length, subst, sym, true≢false}
+use Rattle.std.proofs.Common.{◌∙◌, arith, inl, inr, length, subst, sym, true≢false}
 use Rattle.xk_readings.specs.Graphs.{IsWithin, graph}
 use Rattle.xk_readings.specs.Readings.{AreAllListed, AreShown}
 use Rattle.xk_outcomes.specs.Listing.{AreReadingsPut}
@@ -35,7 +35,7 @@ returns-clause-limit c less =
     elim c.if-noted.branch [
       | then-noted w ↦
           let many = c.in_ok-found.ensures.limit (sym w.result-is ∙ less) in
-          let count = c.len.ensures ∙ c.in_ok-found.found.list.ok.0 in
+          let count = c.len-behind.ensures ∙ c.in_ok-found.found.list.ok.0 in
           let fits = c.ranges in
           inr (omega (arith, many, count))
       | else-noted w ↦ inl (c.in_ok-noted.ensures.full w.if-noted.false)
