@@ -362,7 +362,7 @@ def rows_of_lines(top: Path) -> Rows:
 def libraries_of(top: Path) -> dict[str, list[str]]:
     """For each crate of crates.txt the libraries of this repository that it uses."""
     lines = (top / "crates.txt").read_text(encoding="utf-8").splitlines()
-    rows = [line.split(":") for line in lines if ":" in line and not line.startswith("#")]
+    rows = [line.replace(" staticlib:", ":").split(":") for line in lines if ":" in line and not line.startswith("#")]
     crates = {row[0] for row in rows}
     return {crate: [it for it in used.split() if it in crates] for crate, used in rows}
 
