@@ -160,6 +160,8 @@ def classes(work: pathlib.Path) -> None:
     want("cleo's page", page.read_bytes()[:15], b"<!DOCTYPE html>")
     suite = ElementTree.parse(work / "table.xml").getroot()
     want("JUnit", (suite.get("tests"), suite.get("failures"), suite.get("errors")), ("5", "3", "1"))
+    for line in re.findall(r"^\w+\.x10 .*", PAGE.read_text("utf-8"), re.MULTILINE):
+        want(f"the page's line {line}", line in ended.out.decode().splitlines(), True)
     last = ended.out.decode().splitlines()[-1]
     want("the table's last line", last, "5 programs: 1 accepted, 2 refused, 1 wrong, 1 undecided")
 

@@ -1,7 +1,7 @@
 -- What a call of the library answers, on bytes in memory. This project's own.
-use Rattle.std.specs.Prelude.{◌≡◌, ℕ, ◌⊎◌, Bool, List, [], ◌++◌, codes, drop, false, length, take}
+use Rattle.std.specs.Prelude.{◌≡◌, ◌≢◌, ℕ, ◌⊎◌, Bool, List, [], ◌++◌, codes, drop, false, length, take}
 use Rattle.std.specs.Prelude.{Option, None, Some, IsUtf8, is_some, string_bytes}
-use Rattle.xk_cli.specs.Status.{status_done, status_words}
+use Rattle.xk_cli.specs.Status.{status_device, status_done, status_memory, status_words}
 use Rattle.xk_cli.specs.CommandAnswers.{explanation}
 use Rattle.xk_cli.specs.CommandLine.{IsRefused, WithOrders, asked_value, blurs_in, crowds_in, excludes_in, faults_in}
 use Rattle.xk_cli.specs.CommandLine.{idles_in, job_of, misplaces_in, picks_in, strays_in}
@@ -23,6 +23,10 @@ use Rattle.x10clock_c.specs.Words.{words_of}
 
 abbrev pub reply_of : ℕ → List ℕ → List ℕ → List ℕ → Reply
 reply_of status out err log = record { status = status; out = out; err = err; log = log }
+
+-- it has this status and these texts, and neither memory nor a device failed
+abbrev pub IsReplyOf : ℕ → List ℕ → List ℕ → List ℕ → Reply → Type 0
+IsReplyOf status out err log reply = (reply ≡ reply_of status out err log) × (status ≢ status_memory) × (status ≢ status_device)
 
 -- the reply answers the task on these bytes of FILE and of what is read beside it
 abbrev pub IsAnswerTo : Task → Reply → List ℕ → List ℕ → Type 0

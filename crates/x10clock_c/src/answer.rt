@@ -1,9 +1,9 @@
 //! What a call answers, and the devices in memory that it is written to.
 
-ghost use Rattle.std.specs.Prelude.{◌≡◌, ◌≢◌, [], IfOk, OnOk};
+ghost use Rattle.std.specs.Prelude.{◌≡◌, ◌≢◌, [], IfOk};
 ghost use Rattle.xk_cli.specs.Status.{status_device, status_memory};
 ghost use Rattle.xk_types.specs.Device.{fresh_tape};
-ghost use Rattle.x10clock_c.specs.Call.{AreShown, reply_of};
+ghost use Rattle.x10clock_c.specs.Call.{AreShown, IsReplyOf};
 
 use crate::room::{Lengths, give};
 use std::alloc::{AllocError, Global};
@@ -53,9 +53,10 @@ impl Model for Answer {
 }
 
 impl Answer {
-    /// The status.
+    /// The status: neither memory nor a device failed.
     pub(crate) fn status(&self) -> u8
-        ensures { result ≡ self.now.status }
+        ensures same { result ≡ self.now.status }
+        ensures known { (result ≢ status_memory) × (result ≢ status_device) }
     {
         self.status
     }
@@ -96,9 +97,8 @@ pub(crate) fn fresh_devices(
 /// What was answered with this status. These devices fail for want of memory alone, so a status that says that one did
 /// says no more than that memory was wanting.
 pub(crate) fn answered(status: u8, devices: Devices) -> Result<Answer, AllocError>
-    ensures same { IfOk result (λ a. a ≡ reply_of status devices.out.written
-        devices.err.written devices.log.written) }
-    ensures known { OnOk result ((status ≢ status_memory) × (status ≢ status_device)) }
+    ensures { IfOk result (IsReplyOf status devices.out.written devices.err.written
+        devices.log.written) }
 {
     if status == status::MEMORY || status == status::DEVICE {
         return Err(AllocError);

@@ -4,7 +4,7 @@ ghost use Rattle.std.specs.Prelude.{◌≡◌, [], IfOk};
 ghost use Rattle.xk_cli.specs.Status.{status_done, status_words};
 ghost use Rattle.xk_cli.specs.CommandLine.{texts};
 ghost use Rattle.xk_serve.specs.Answer.{task_of};
-ghost use Rattle.x10clock_c.specs.Call.{AnswersCall, AnswersFault, AnswersHand, AnswersJob};
+ghost use Rattle.x10clock_c.specs.Call.{AnswersAsked, AnswersCall, AnswersFault, AnswersHand, AnswersJob};
 ghost use Rattle.x10clock_c.specs.Call.{AnswersRequest, AnswersWords, no_text_line, reply_of};
 
 use crate::answer::{Answer, answered, fresh_devices};
@@ -76,9 +76,21 @@ fn answer_request(
 ) -> Result<Answer, AllocError>
     ensures { IfOk result (AnswersRequest request.now program.now input.now) }
 {
-    if let Some(page) = rule_page(request) {
-        return answer_page(alloc, page);
+    match rule_page(request) {
+        Some(page) => answer_page(alloc, page),
+        None => answer_asked(alloc, request, program, input),
     }
+}
+
+/// Does the job, or plays the run by hand.
+fn answer_asked(
+    alloc: Global,
+    request: &Request<'_>,
+    program: &[u8],
+    input: &[u8],
+) -> Result<Answer, AllocError>
+    ensures { IfOk result (AnswersAsked request.now program.now input.now) }
+{
     match request {
         Request::Job(job) => answer_job(alloc, job, program, input),
         Request::ByHand(run) => answer_by_hand(alloc, run, program, input),
