@@ -37,6 +37,7 @@ PROGRAMS = TOP / "tests/program/programs"
 BUILT = TOP / "crates/x10clock_c/out/library"
 # All commands are asked of one text in so many; so many calls are made under valgrind.
 ASKED, WATCHED = 12, 40
+MOST_STEPS = 100_000
 CHUNK = 50
 LIST = b"outcome 1 prints 7\n"
 ANSWERS = b"0\n0\n9\n1\n0\n1\n"
@@ -73,6 +74,12 @@ def texts() -> Iterator[tuple[bytes, bool]]:
             yield from ((text, path.name.startswith("sources")) for text in row_texts(path))
 
 
+def is_short(text: bytes, form: tuple[str, ...]) -> bool:
+    """Whether no run of a text takes more steps than are made here."""
+    words = x10clock.call(["check", *form, "mine"], text).out.split()
+    return not words or int(words[2]) <= MOST_STEPS
+
+
 def first_questions(text: bytes, form: tuple[str, ...]) -> Iterator[Question]:
     """What is asked of a text alone."""
     yield Question(("run", *form, "--log", "log", "mine"), text)
@@ -104,7 +111,7 @@ def questions() -> Iterator[Question]:
     for number, (text, is_source) in enumerate(texts()):
         form = () if is_source else ("--module",)
         yield Question(("check", *form, "mine"), text)
-        if number % ASKED == 0:
+        if number % ASKED == 0 and is_short(text, form):
             yield from first_questions(text, form)
             log = x10clock.call(["run", *form, "--log", "log", "mine"], text).log
             yield from further_questions(text, form, log) if log else ()
@@ -117,10 +124,13 @@ def by_program(program: pathlib.Path, asked: Question) -> tuple[int, bytes, byte
     """What the program answers."""
     with tempfile.TemporaryDirectory() as work:
         folder = pathlib.Path(work)
+        # What tells how it is used tells the name that it was called by.
+        named = folder / "x10clock"
+        named.symlink_to(program)
         (folder / "mine").write_bytes(asked.program)
         (folder / "beside").write_bytes(asked.beside)
         given = asked.beside if asked.by_hand else b""
-        ended = harness.call([program, *asked.words], given, cwd=folder)
+        ended = harness.call([named, *asked.words], given, cwd=folder)
         log = folder / "log"
         return ended.status, ended.out, ended.err, log.read_bytes() if log.exists() else b""
 

@@ -22,7 +22,8 @@ answer_of : (t : Task) (bytes logged : List ℕ) (status : ℕ) (out err log : L
     → IsAnswerTo t (reply_of status out err log) bytes logged
 answer_of t bytes logged status out err log a = rw (a.status_is, a.out_is, a.err_is, a.log_is) a.answers
 
-job_fresh : (t : Task) (program input : List ℕ) (status : ℕ) (out err log : List ℕ) (reply : Reply) → IsReplyOf status out err log reply
+job_fresh : (t : Task) (program input : List ℕ) (status : ℕ) (out err log : List ℕ) (reply : Reply)
+    → IsReplyOf status out err log reply
     → IfKnown t (Some program) (Some input) (λ bytes logged. status ≢ status_memory → status ≢ status_device
     → Answered t bytes logged status (Some []) (Some out) (Some []) (Some err) (Some []) (Some log))
     → AnswersJob t program input reply
@@ -34,7 +35,8 @@ job_fresh t program input status out err log reply (is, memory, device) h =
 -- the reply to a job that was served on fresh devices
 pub job_answered : (t : Task) (program input : List ℕ) (status : ℕ) (reply : Reply)
     (source beside out_old out_new err_old err_new log_old log_new : TapeValue)
-    → source ≡ fresh_tape program → beside ≡ fresh_tape input → out_old ≡ fresh_tape [] → err_old ≡ fresh_tape [] → log_old ≡ fresh_tape []
+    → source ≡ fresh_tape program → beside ≡ fresh_tape input
+    → out_old ≡ fresh_tape [] → err_old ≡ fresh_tape [] → log_old ≡ fresh_tape []
     → IsReplyOf status out_new.written err_new.written log_new.written reply
     → IfKnown t (Some source.rest) (Some beside.rest) (λ bytes logged. status ≢ status_memory → status ≢ status_device
     → Answered t bytes logged status (Some out_old.written) (Some out_new.written) (Some err_old.written) (Some err_new.written)
@@ -61,24 +63,33 @@ pub hand_answered : (run : HandRun) (program input : List ℕ) (status : ℕ) (r
     → out_old ≡ fresh_tape [] → err_old ≡ fresh_tape [] → log_old ≡ fresh_tape []
     → IsReplyOf status out_new.written err_new.written log_new.written reply
     → IfSome (Some source.rest) (λ bytes. status ≢ status_memory → status ≢ status_device
-    → IsHandReply run.form (kept run.form bytes) run.arguments.items (is_some run.log) status (Some beside_old.rest) (Some beside_new.rest)
-    (Some out_old.written) (Some out_new.written) (Some err_old.written) (Some err_new.written) (Some log_old.written) (Some log_new.written))
+    → IsHandReply run.form (kept run.form bytes) run.arguments.items (is_some run.log) status (Some beside_old.rest)
+    (Some beside_new.rest) (Some out_old.written) (Some out_new.written) (Some err_old.written) (Some err_new.written)
+    (Some log_old.written) (Some log_new.written))
     → AnswersHand run program input reply
-hand_answered run program input status reply source beside_old beside_new out_old out_new err_old err_new log_old log_new a b c d e is h =
-    hand_fresh run program input beside_new.rest status out_new.written err_new.written log_new.written reply is (rw (a, b, c, d, e) at h)
+hand_answered run program input status reply source beside_old beside_new out_old out_new err_old err_new log_old log_new
+    a b c d e is h =
+    hand_fresh run program input beside_new.rest status out_new.written err_new.written log_new.written reply is
+    (rw (a, b, c, d, e) at h)
 
 -- ---- lines
 
-told_out : (line out err : List ℕ) (status faults_old faults_new result : ℕ) (reply : Reply) → IsReplyOf result out err [] reply → err ≡ []
+told_out : (line out err : List ℕ) (status faults_old faults_new result : ℕ) (reply : Reply)
+    → IsReplyOf result out err [] reply → err ≡ []
     → Tells line status (Some []) (Some out) faults_old faults_new result → reply ≡ reply_of status line [] []
 told_out line out err status faults_old faults_new result reply (is, memory, device) none (inl t) =
-    is ∙ (ap (λ s. reply_of s out err []) t.0 ∙ (ap (λ text. reply_of status text err []) t.1.0 ∙ ap (λ text. reply_of status line text []) none))
+    let by_status = ap (λ s. reply_of s out err []) t.0 in
+    let by_text = ap (λ text. reply_of status text err []) t.1.0 in
+    is ∙ (by_status ∙ (by_text ∙ ap (λ text. reply_of status line text []) none))
 told_out line out err status faults_old faults_new result reply (is, memory, device) none (inr t) = absurd (device t.0)
 
-told_err : (line out err : List ℕ) (status faults_old faults_new result : ℕ) (reply : Reply) → IsReplyOf result out err [] reply → out ≡ []
+told_err : (line out err : List ℕ) (status faults_old faults_new result : ℕ) (reply : Reply)
+    → IsReplyOf result out err [] reply → out ≡ []
     → Tells line status (Some []) (Some err) faults_old faults_new result → reply ≡ reply_of status [] line []
 told_err line out err status faults_old faults_new result reply (is, memory, device) none (inl t) =
-    is ∙ (ap (λ s. reply_of s out err []) t.0 ∙ (ap (λ text. reply_of status out text []) t.1.0 ∙ ap (λ text. reply_of status text line []) none))
+    let by_status = ap (λ s. reply_of s out err []) t.0 in
+    let by_text = ap (λ text. reply_of status out text []) t.1.0 in
+    is ∙ (by_status ∙ (by_text ∙ ap (λ text. reply_of status text line []) none))
 told_err line out err status faults_old faults_new result reply (is, memory, device) none (inr t) = absurd (device t.0)
 
 -- the reply where standard output got a line, and nothing else was written

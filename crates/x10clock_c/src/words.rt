@@ -16,7 +16,8 @@ pub(crate) fn words_in<'a>(alloc: Global, text: &'a str) -> Result<Vec<&'a str>,
     ensures { IfOk result (λ words. texts words.items ≡ words_of text.now) }
 {
     let mut words = pieces(alloc, text)?;
-    words.truncate(words.len().saturating_sub(1));
+    // What stands behind the last zero.
+    let _behind = words.pop();
     words.insert(0, NAME)?;
     Ok(words)
 }

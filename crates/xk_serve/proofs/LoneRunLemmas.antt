@@ -8,8 +8,8 @@ use Rattle.xk_cli.specs.declared.job.Order.TheVariants as order
 use Rattle.xk_answers.specs.OrderedRun.{FollowsOrder, IsFinished, IsUncountedBy}
 
 -- with the log or without
-pub lone_workers : (n : ℕ) (keeps : Bool) (m : ModuleValue) (args numbers : List ℤ) (steps : ℕ) (rounds : Option ℕ) (log : Option (List Entry))
-    → IsUncountedBy (FollowsOrder order.First m args) keeps m args numbers steps rounds log
+pub lone_workers : (n : ℕ) (keeps : Bool) (m : ModuleValue) (args numbers : List ℤ) (steps : ℕ) (rounds : Option ℕ)
+    (log : Option (List Entry)) → IsUncountedBy (FollowsOrder order.First m args) keeps m args numbers steps rounds log
     → IsFinished (By n) keeps m args numbers steps rounds log
 lone_workers n false m args numbers steps None None r = run_weaker _ _ m args numbers steps (λ list h. tt) r
 lone_workers n true m args numbers steps None (Some log) r = run_weaker _ _ m args numbers steps (λ list h. h.stands_for) r
