@@ -7,7 +7,8 @@
 
 It takes the libraries of all crates below x10clock_c as `rt ci` left them in crates/*/out/rlib, and proves and builds
 that one crate (`rattle build --crate-type staticlib`); so nothing is built of what isn't proved. With --module it takes
-an LLVM module instead, one that nobody proved: so the library can be tried before a proof.
+a module of LLVM instead, which nobody proved: one that `rt try` has made of a program with the crate's functions lies
+among its temporary files. So the library can be tried before a proof.
 
 The kit's `rt` is to be on the path, and a C compiler (CC, or cc), whose linker makes the shared library. That exports
 the functions of the header, and needs the C library alone.
@@ -30,7 +31,7 @@ from typing import Any
 TOP = pathlib.Path(__file__).resolve().parents[1]
 CRATE = TOP / "crates/x10clock_c"
 HEADER = TOP / "library/x10clock.h"
-# Names in a module of LLVM that the shared library has to export.
+# Names in a prototype.
 EXPORTED = re.compile(r"\b(x10clock_\w+)\(")
 
 
@@ -64,12 +65,16 @@ def prove(archive: pathlib.Path) -> None:
 
 
 def compile_module(module: pathlib.Path, archive: pathlib.Path) -> None:
-    """Compiles a module that isn't proved, and exports from it what the header has."""
-    clang = kit() / "toolchain/bin/clang"
+    """Compiles a module that isn't proved, and exports from it what the header has, under whatever crate it stands."""
+    clang = [kit() / "toolchain/bin/clang", "--target=x86_64-unknown-linux-gnu", "-w", "-x", "ir"]
     with tempfile.TemporaryDirectory() as work:
-        made = pathlib.Path(work) / "x10clock_c.o"
-        run([clang, "--target=x86_64-unknown-linux-gnu", "-fPIC", "-O1", "-w", "-x", "ir", "-c", module, "-o", made])
-        run(["objcopy", *(f"--globalize-symbol={name}" for name in functions()), made])
+        text, made = pathlib.Path(work) / "module.ll", pathlib.Path(work) / "x10clock_c.o"
+        run([*clang, "-S", "-emit-llvm", "-O0", "-Xclang", "-disable-llvm-passes", module, "-o", text])
+        names = "|".join(functions())
+        named = re.sub(rf'@"\w+::({names})"', r"@\1", text.read_text("utf-8"))
+        shown = re.sub(rf"^define internal (.*@(?:{names})\()", r"define \1", named, flags=re.MULTILINE)
+        text.write_text(shown, "utf-8")
+        run([*clang, "-fPIC", "-O1", "-ffunction-sections", "-fdata-sections", "-c", text, "-o", made])
         run(["ar", "rcs", archive, made])
 
 

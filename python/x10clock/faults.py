@@ -8,10 +8,11 @@ DONE, PROGRAM, WORDS, LOG, MEMORY, PARTIAL, REFUTED = 0, 1, 2, 3, 4, 6, 7
 
 
 class Fault(Exception):
-    """A call that came to nothing. `answer` has all that was said; the text is the line that says why."""
+    """A call that came to nothing. `answer` has all that was said; the text says why."""
 
     def __init__(self, answer: Answer):
-        super().__init__(answer.line.removeprefix("x10clock: ") or f"status {answer.status}")
+        said = answer.err.decode("utf-8", "replace").strip() if answer.status == WORDS else answer.line
+        super().__init__(said.removeprefix("x10clock: ") or f"status {answer.status}")
         self.answer = answer
 
 

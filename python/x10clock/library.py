@@ -24,6 +24,20 @@ class Lengths(ctypes.Structure):
     _fields_ = [("out", ctypes.c_size_t), ("err", ctypes.c_size_t), ("log", ctypes.c_size_t)]
 
 
+class Checked(ctypes.Structure):
+    """`struct x10clock_checked`: the bounds of a source text that is accepted, or which rule it breaks where."""
+
+    _fields_ = [
+        ("steps", ctypes.c_uint64),
+        ("at", ctypes.c_size_t),
+        ("activities", ctypes.c_uint32),
+        ("clocks", ctypes.c_uint32),
+        ("family", ctypes.c_uint32),
+        ("number", ctypes.c_uint32),
+        ("unit", ctypes.c_uint32),
+    ]
+
+
 @dataclass(frozen=True)
 class Answer:
     """What a call answers: its status, and what the program would write."""
@@ -50,6 +64,8 @@ def library() -> Any:
     rooms = [kind for given in (text, text, text, room, room, room) for kind in (given, size)]
     loaded.x10clock_call.argtypes = [*rooms, ctypes.POINTER(Lengths)]
     loaded.x10clock_call.restype = ctypes.c_uint8
+    loaded.x10clock_check.argtypes = [text, size, ctypes.POINTER(Checked)]
+    loaded.x10clock_check.restype = ctypes.c_uint8
     return loaded
 
 
@@ -87,3 +103,10 @@ def call(words: Sequence[str], program: Program = b"", beside: Program = b"") ->
             out, err, log = (buffer[:want] for buffer, want in zip(buffers, wanted, strict=True))
             return Answer(status, bytes(out), bytes(err), bytes(log))
         rooms = [max(want, room) for want, room in zip(wanted, rooms, strict=True)]
+
+
+def verdict(program: Program) -> tuple[int, Checked]:
+    """The verdict on a source text, by `x10clock_check`: the status, and numbers."""
+    text, told = held(program), Checked()
+    status: int = library().x10clock_check(text, len(text), ctypes.byref(told))
+    return status, told

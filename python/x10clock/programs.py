@@ -9,7 +9,7 @@ from typing import Any
 
 from x10clock import faults
 from x10clock.faults import known
-from x10clock.library import Answer, Program, call, name_of
+from x10clock.library import Answer, Program, call, name_of, verdict
 
 
 @dataclass(frozen=True)
@@ -89,8 +89,10 @@ def _run_in(answer: Answer) -> Run:
 
 def check(program: Program) -> Bounds:
     """The bounds on the runs of a program. Raises `Refused` where it isn't accepted."""
-    words = _asked(_words("check", program, ()), program).out.split()
-    return Bounds(int(words[2]), int(words[4]), int(words[6]))
+    status, told = verdict(program)
+    if status != faults.DONE:
+        known(call(_words("check", program, ()), program))
+    return Bounds(told.steps, told.activities, told.clocks)
 
 
 def explain(program: Program) -> dict[str, Any]:

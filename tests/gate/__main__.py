@@ -11,7 +11,7 @@ import os
 import pathlib
 import sys
 
-from tests import harness
+from tests import harness, library
 from tests.gate import side_by_side
 
 # What needs no proof and no built program, in less than a minute.
@@ -72,6 +72,7 @@ def prepare(program: pathlib.Path) -> None:
     if program == harness.BUILT:
         for path in (program, harness.beside(program, "xk_tests_memory")):
             harness.build(path)
+        library.built()
     if not program.exists():
         sys.exit(f"ask: no program {program}")
     os.environ["X10CLOCK"] = str(program)

@@ -19,6 +19,7 @@ import argparse
 import concurrent.futures
 import os
 import pathlib
+import re
 import shutil
 import struct
 import subprocess
@@ -28,19 +29,22 @@ from collections.abc import Iterable, Iterator, Sequence
 from dataclasses import dataclass
 
 import x10clock
+from x10clock.library import verdict
 
 from tests import harness
 from tests.generated.mutations import row_texts
 from tests.harness import TOP
+from tests.library import built
 
 PROGRAMS = TOP / "tests/program/programs"
-BUILT = TOP / "crates/x10clock_c/out/library"
 # All commands are asked of one text in so many; so many calls are made under valgrind.
 ASKED, WATCHED = 12, 40
 MOST_STEPS = 100_000
 CHUNK = 50
 LIST = b"outcome 1 prints 7\n"
 ANSWERS = b"0\n0\n9\n1\n0\n1\n"
+# The line of a text that is refused: which rule is broken where.
+BROKEN = r"x10clock: ([FV])(\d+) \w+(?: unit (\d+))?(?: at (\d+)| over \d+)"
 # Words that are no job, or ask for help, and a word that is no text.
 ALONE = ((), ("--help",), ("run", "--help"), ("--version",), ("walk",), ("check",), ("explain", "V12"))
 PICTURES = (("chart",), ("events",), ("lanes",), ("lanes", "--svg"), ("page",), ("where",), ("where", "--at", "2"))
@@ -165,16 +169,6 @@ def by_c(caller: Sequence[object], asked: Iterable[Question]) -> list[tuple[int,
 # ---- what is built
 
 
-def built(folder: pathlib.Path | None) -> pathlib.Path:
-    """The folder of the library, which is built where none is given."""
-    named = os.environ.get("X10CLOCK_LIBRARY_FOLDER")
-    if folder or named:
-        return (folder or pathlib.Path(str(named))).resolve()
-    if not (BUILT / "libx10clock.so").exists():
-        subprocess.run([sys.executable, str(TOP / "library/build.py"), str(BUILT)], check=True)
-    return BUILT
-
-
 def caller_in(folder: pathlib.Path, work: str) -> pathlib.Path:
     """The program that calls the library from C."""
     made = pathlib.Path(work) / "calls"
@@ -194,10 +188,24 @@ def differing(program: pathlib.Path, caller: pathlib.Path, asked: Sequence[Quest
     from_c = by_c([caller, "deep"], asked)
     for one, in_c in zip(asked, from_c, strict=True):
         wanted = by_program(program, one)
+        if one.words == ("check", "mine"):
+            wrong += wrong_numbers(one.program, wanted)
         for who, got in (("C", in_c), ("Python", by_python(one))):
             if got != wanted:
                 wrong.append(f"{who}: {' '.join(one.words)} of {one.program[:60]!r}: {got!r:.300}, not {wanted!r:.300}")
     return wrong
+
+
+def wrong_numbers(text: bytes, said: tuple[int, bytes, bytes, bytes]) -> list[str]:
+    """Where `x10clock_check` tells other numbers of a source text than the line of `check`."""
+    status, told = verdict(text)
+    wanted = [int(number) for number in re.findall(rb" (\d+)", said[1])] if status == 0 else []
+    got = [told.steps, told.activities, told.clocks] if status == 0 else []
+    if status == 1:
+        family, number, unit, at = re.match(BROKEN, said[2].decode()).groups("0")  # type: ignore[union-attr]
+        wanted, got = [int(number), int(unit), int(at)], [told.number, told.unit, told.at]
+        wanted, got = [*wanted, " FV".index(family)], [*got, told.family]
+    return [] if (status, got) == (said[0], wanted) else [f"typed: {text[:60]!r}: {status} {got}, not {said!r:.300}"]
 
 
 def watched(caller: pathlib.Path, asked: Sequence[Question]) -> str:

@@ -20,7 +20,6 @@ CODE = TOP / "crates/x10clock_c/src"
 HEADER = TOP / "library/x10clock.h"
 PYTHON = TOP / "python/x10clock/library.py"
 NUMBERS = {"u8": "uint8_t", "u32": "uint32_t", "u64": "uint64_t", "usize": "size_t"}
-CTYPES = {"size_t": "c_size_t", "uint8_t": "c_uint8"}
 EXPORT = re.compile(r'#\[unsafe\(no_mangle\)\]\s*pub extern "C" fn (\w+)\(([^)]*)\) -> (\w+)')
 STRUCT = re.compile(r"#\[repr\(C\)\][^{]*pub struct (\w+) \{([^}]*)\}")
 PROTOTYPE = re.compile(r"^(\w+) (\w+)\(([^)]*)\);", re.MULTILINE)
@@ -80,10 +79,14 @@ def differing(code: dict[str, str], header: dict[str, str]) -> Iterator[str]:
 
 def wrong_python(header: dict[str, str], text: str) -> Iterator[str]:
     """What Python tells ctypes in another way: so many pointers and lengths, and the fields of the lengths."""
-    fields = [word.split()[1] for word in header["x10clock_lengths"].split("; ")]
-    told = re.findall(r'\("(\w+)", ctypes\.c_size_t\)', text)
-    if told != fields:
-        yield f"library.py: Lengths has {told}, the header {fields}"
+    kinds_of = {kind: f"c_{kind.removesuffix('_t')}" if kind != "size_t" else "c_size_t" for kind in NUMBERS.values()}
+    for name in ("Lengths", "Checked"):
+        declared_so = (field.split() for field in header[name_of(name)].split("; "))
+        fields = [(field, kinds_of[kind]) for kind, field in declared_so]
+        part = text.partition(f"class {name}(")[2].partition("\nclass ")[0].partition("\n@")[0]
+        told = re.findall(r'\("(\w+)", ctypes\.(\w+)\)', part)
+        if told != fields:
+            yield f"library.py: {name} has {told}, the header {fields}"
     given = header["x10clock_call"].split("(")[1].rstrip(")").split(", ")
     kinds = ["text" if "const" in one else "room" for one in given if "_length" not in one and "struct" not in one]
     made = re.search(r"for given in \(([^)]*)\)", text)

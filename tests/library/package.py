@@ -28,7 +28,7 @@ import x10clock
 
 from tests import harness
 from tests.harness import TOP
-from tests.library.calls import built
+from tests.library import built
 
 EXAMPLES = TOP / "examples"
 IN_STEP, DROPPED, RACING = (EXAMPLES / f"{name}.x10" for name in ("two-in-step", "second-drop", "atomic-updates"))
