@@ -7,7 +7,8 @@ The questions are those of all rows of tests/program/programs: `check` of each t
 commands, with the log of its run, a list of outcomes and answers of a run by hand. Each is asked of the program, of the
 library from C (tests/library/calls.c, which also gives rooms that are too small, and looks at what stands behind), on a
 thread with a stack of 512 KB, and from Python. Status, both texts and the log must be the same; but a run by workers is
-some run, of which the log is played again. Some calls are made under valgrind, where it is installed.
+some run, of which the log is played again. Some calls are made under valgrind, where it is installed, and some again
+and again, each growth of memory being refused in its turn (tests/library/refused.c): status 4 then, and no text.
 
 Without --library it takes X10CLOCK_LIBRARY_FOLDER, or else builds the library of what `rt ci` proved
 (library/build.py), in crates/x10clock_c/out/library. Where nothing is proved there it says so, and fails.
@@ -169,12 +170,12 @@ def by_c(caller: Sequence[object], asked: Iterable[Question]) -> list[tuple[int,
 # ---- what is built
 
 
-def caller_in(folder: pathlib.Path, work: str) -> pathlib.Path:
-    """The program that calls the library from C."""
-    made = pathlib.Path(work) / "calls"
+def caller_in(folder: pathlib.Path, work: str, name: str) -> pathlib.Path:
+    """A program in C that calls the library."""
+    made = pathlib.Path(work) / name
     flags = ["-std=c11", "-D_POSIX_C_SOURCE=200809L", "-O1", "-g", "-Wall", "-Wextra", "-Werror", "-pthread"]
     linked = [f"-L{folder}", "-lx10clock", f"-Wl,-rpath,{folder}"]
-    words = [os.environ.get("CC", "cc"), *flags, f"-I{folder}", "-o", made, TOP / "tests/library/calls.c", *linked]
+    words = [os.environ.get("CC", "cc"), *flags, f"-I{folder}", "-o", made, TOP / f"tests/library/{name}.c", *linked]
     subprocess.run([str(word) for word in words], check=True)
     return made
 
@@ -219,6 +220,19 @@ def watched(caller: pathlib.Path, asked: Sequence[Question]) -> str:
     return f"{len(some)} calls under valgrind"
 
 
+def refused(refuser: pathlib.Path) -> str:
+    """Some calls, each growth of whose memory is refused in its turn."""
+    text = (TOP / "examples/two-in-step.x10").read_bytes()
+    log = x10clock.run(text).log
+    words = (("run", "--log", "log", "mine"), ("explain", "mine"), ("outcomes", "mine"), ("walk",), ("explain", "V12"))
+    some = [*(Question(one, text) for one in words), Question(("page", "mine", "beside"), text, log)]
+    some.append(Question(("run", "--order", "ask", "mine"), text, ANSWERS))
+    ended = harness.call([refuser], b"".join(map(call_of, some)), seconds=600)
+    if ended.status:
+        raise SystemExit(f"calls: {ended.err.decode('utf-8', 'replace')}")
+    return f"{int(ended.out)} growths refused in {len(some)} calls"
+
+
 def workers(program: pathlib.Path) -> list[str]:
     """A run by workers is some run: its log is played again by the program."""
     text = (TOP / "examples/two-in-step.x10").read_bytes()
@@ -236,12 +250,12 @@ def main() -> int:
     os.environ["X10CLOCK_LIBRARY"] = str(folder / "libx10clock.so")
     asked = list(questions())
     with tempfile.TemporaryDirectory() as work:
-        caller = caller_in(folder, work)
+        caller, refuser = (caller_in(folder, work, name) for name in ("calls", "refused"))
         chunks = [asked[at : at + CHUNK] for at in range(0, len(asked), CHUNK)]
         with concurrent.futures.ThreadPoolExecutor(len(os.sched_getaffinity(0))) as pool:
             parts = list(pool.map(lambda chunk: differing(given.program, caller, chunk), chunks))
         wrong = [line for part in parts for line in part] + workers(given.program)
-        memory = watched(caller, asked)
+        memory = f"{watched(caller, asked)}; {refused(refuser)}"
     print(*wrong[:10], sep="\n", end="\n" if wrong else "")
     print(f"library: {len(asked)} questions from C and Python, {len(wrong)} differ from the program; {memory}")
     return 1 if wrong or not asked else 0
