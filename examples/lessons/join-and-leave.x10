@@ -1,4 +1,4 @@
-// Activity 1 is on the clock from phase 0, activity 2 from phase 1. In phase 1 main and activity 1 leave it.
+// Main starts activity 1 in phase 0, and activity 2 in phase 1. Then it leaves the clock, as activity 1 does.
 // Each prints 10 * phase + who; activity 1 prints 91 when it has left.
 def main() {
     val c = Clock.make();

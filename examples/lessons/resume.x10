@@ -1,4 +1,4 @@
-// Main (0) says that its part of phase 0 is done, and works on: it prints 5. Activity 1 needn't wait for that.
+// Main (0) says that its part of phase 0 is done, works on, and comes to the clock when it has printed 5.
 def main() {
     val c = Clock.make();
     async clocked(c) {

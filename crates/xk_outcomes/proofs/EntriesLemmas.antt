@@ -1,16 +1,19 @@
 -- What a list of edges leads to.
-use Rattle.std.proofs.Common.{◌≡◌, ◌∙◌, ℕ, zero, suc, ◌+◌, ◌<◌, ◌≤◌, ◌⊎◌, inl, inr, List, [], ◌∷◌, ◌++◌, length, ◌-◌, get_or, Some, refl, sym, ap, subst, arith, slice_get}
+use Rattle.std.proofs.Common.{◌≡◌, ◌∙◌, ℕ, zero, suc, ◌+◌, ◌<◌, ◌≤◌, ◌⊎◌, inl, inr, Bool, List, [], ◌∷◌, ◌++◌, length, ◌-◌, get_or, Some, refl, sym, ap, subst, arith, slice_get}
 use Rattle.std.specs.Prelude.{fold}
 use Rattle.std.proofs.lemmas.List.{get_or_append_left, get_or_push, length_push}
 use Rattle.std.proofs.lemmas.List.Sums.{fold_push}
 use Rattle.std.proofs.lemmas.Option.{get_or_from_slice_get, slice_get-get_or, none-some, same_Some, slice_get_within}
+use Rattle.xk_types.specs.Schedule.{all_ended}
 use Rattle.xk_core.specs.Core.{CoreValue}
 use Rattle.xk_outcomes.specs.declared.entries.Edge.{Edge}
+use Rattle.xk_outcomes.specs.declared.order.Order.{Order}
 use Rattle.xk_outcomes.specs.Entries.{AreBehind, AreEntries, led_by, with_edge}
 use Rattle.xk_outcomes.specs.Found.{FoundValue, along, first_found, next}
 use Rattle.xk_outcomes.specs.Search.{AreFound, AreSettled, Has, IsFound, IsSettled, found_digest}
 use Rattle.xk_outcomes.proofs.FoundLemmas.{along_push, settled_first, settled_found, settled_next}
-use Rattle.xk_outcomes.proofs.SearchLemmas.{different_push, digests_push, each_push, place}
+use Rattle.xk_digests.proofs.PushLemmas.{each_push, place}
+use Rattle.xk_outcomes.proofs.SearchLemmas.{different_push, digests_push, ends_push}
 
 -- what is in a list, or stands for what isn't
 each_or : {X : Type 0} (P : X → Type 0) (xs : List X) (d : X) → ((k : ℕ) (x : X) → slice_get xs k ≡ Some x → P x) → P d → (k : ℕ) → P (get_or xs k d)
@@ -72,6 +75,11 @@ many_led start edges = let h = many (first_found start) (first_found start ∷ [
 pub first_led : (start : CoreValue) (edges : List Edge) → get_or (led_by start edges) 0 (first_found start) ≡ first_found start
 first_led start edges = kept (first_found start) (first_found start ∷ []) edges 0 (omega arith)
 
+pub first_there : (start : CoreValue) (edges : List Edge) → slice_get (led_by start edges) 0 ≡ Some (first_found start)
+first_there start edges =
+    let many = many_led start edges in
+    slice_get-get_or (led_by start edges) 0 (first_found start) (omega (arith, many)) ∙ ap Some (first_led start edges)
+
 -- an edge leads there from where it goes out
 pub edge_leads : (start : CoreValue) (edges : List Edge) (i : ℕ) (e : Edge) → AreBehind edges → slice_get edges i ≡ Some e
     → get_or (led_by start edges) (i + 1) (first_found start) ≡ next e.act (get_or (led_by start edges) e.from (first_found start))
@@ -126,16 +134,18 @@ led_push start edges more e x new one there is =
     ∙ ap (λ (y : FoundValue). led_by start edges ++ next e.act y ∷ []) (get_or_from_slice_get (led_by start edges) e.from x (first_found start) there)
     ∙ ap (λ (y : FoundValue). led_by start edges ++ y ∷ []) (sym is)
 
-pub entries_push : (start : CoreValue) (edges more : List Edge) (digests longer : List ℕ) (e : Edge) (x new : FoundValue) → AreEntries start edges digests
-    → more ≡ edges ++ e ∷ [] → longer ≡ digests ++ found_digest new ∷ [] → slice_get (led_by start edges) e.from ≡ Some x → new ≡ next e.act x
-    → (Has (led_by start edges) new.core.world new.printed → ⊥) → AreEntries start more longer
-entries_push start edges more digests longer e x new were one digest there is fresh =
+pub entries_push : (start : CoreValue) (order : Order) (edges more : List Edge) (digests longer : List ℕ) (over still : List Bool) (e : Edge) (x new : FoundValue)
+    → AreEntries start order edges digests over → more ≡ edges ++ e ∷ [] → longer ≡ digests ++ found_digest order new ∷ []
+    → still ≡ over ++ all_ended new.core.world ∷ [] → slice_get (led_by start edges) e.from ≡ Some x → new ≡ next e.act x
+    → (Has order (led_by start edges) new.core.world new.printed → ⊥) → AreEntries start order more longer still
+entries_push start order edges more digests longer over still e x new were one digest ended there is fresh =
     let grown = led_push start edges more e x new one there is in
     record {
       root = were.root;
       behind = λ k z at. by k z (place edges e k z (subst (λ (l : List Edge). slice_get l k ≡ Some z) one at));
-      digests_are = digests_push (led_by start edges) (led_by start more) digests longer new grown digest were.digests_are;
-      different = different_push (led_by start edges) (led_by start more) new grown fresh were.different;
+      digests_are = digests_push order (led_by start edges) (led_by start more) digests longer new grown digest were.digests_are;
+      over_are = ends_push (led_by start edges) (led_by start more) over still new grown ended were.over_are;
+      different = different_push order (led_by start edges) (led_by start more) new grown fresh were.different;
     }
   where
     within : e.from ≤ length edges

@@ -1,7 +1,9 @@
 -- Where each that was found was looked at, nothing is missed.
-use Rattle.std.proofs.Common.{◌≡◌, ◌∙◌, ℕ, ℤ, ◌⊎◌, inl, inr, true, List, [], ◌∷◌, ◌++◌, length, Some, refl, sym, ap, subst, eq-eqb, eqb-true, slice_get}
+use Rattle.std.proofs.Common.{◌≡◌, ◌∙◌, ℕ, ℤ, suc, ◌⊎◌, inl, inr, true, List, [], ◌∷◌, ◌++◌, length, Some, refl, sym, ap, subst, eq-eqb, eqb-true, slice_get}
 use Rattle.std.specs.Option.{option_to_list}
+use Rattle.std.specs.Prelude.{fold}
 use Rattle.std.proofs.lemmas.List.{append-nil}
+use Rattle.std.proofs.lemmas.List.Sums.{fold-append}
 use Rattle.std.proofs.lemmas.Option.{slice_get_within}
 use Rattle.xk_types.specs.declared.world.Event.{Event}
 use Rattle.xk_types.specs.Acceptance.{IsAccepted}
@@ -19,8 +21,15 @@ use Rattle.xk_closed.specs.Closed.{HasClosed, HasNextSame, IsCarried}
 use Rattle.xk_closed.specs.Futures.{alone}
 use Rattle.xk_closed.proofs.ClosedLaw.{closed_sets}
 use Rattle.xk_core.specs.Core.{CoreValue}
-use Rattle.xk_outcomes.specs.Found.{FoundValue}
-use Rattle.xk_outcomes.specs.Search.{LeadsPrivately, AreFound, Has, IsKnown, AreExpanded, AreAllFound}
+use Rattle.xk_readings.specs.declared.edge.Edge.{Edge}
+use Rattle.xk_outcomes.specs.declared.order.Order.{Order}
+use Rattle.xk_outcomes.specs.declared.order.Order.TheVariants as order
+use Rattle.xk_outcomes.specs.Found.{FoundValue, first_found}
+use Rattle.xk_outcomes.specs.Links.{LeadTo, Leads}
+use Rattle.xk_outcomes.specs.Rising.{key, put_in}
+use Rattle.xk_outcomes.specs.Search.{LeadsPrivately, IsThere, AreExpanded, AreAllFound}
+use Rattle.xk_outcomes.proofs.AlikeLemmas.{leads_alike}
+use Rattle.xk_outcomes.proofs.FoundLemmas.{first_led, first_silent}
 use Rattle.xk_outcomes.proofs.PrivateStepLemmas.{private_closed, private_enabled, private_silent}
 use Rattle.xk_outcomes.proofs.SearchLemmas.{printed_more}
 
@@ -33,47 +42,73 @@ led_step m args w u numbers a e led h = record {
   prints = printed_more m led.list (opening m args) w u a e led.legal h ∙ ap (λ l. l ++ option_to_list (number_printed e)) led.prints;
 }
 
-module _ (start : CoreValue) (all : List FoundValue) (limits : IsWithinLimits start.module_run) (ok : IsAccepted start.module_run)
+-- what tells two worlds apart goes by what is printed before and behind
+key_more : (order : Order) (xs ys more : List ℤ) → key order xs ≡ key order ys → key order (xs ++ more) ≡ key order (ys ++ more)
+key_more order.Printed xs ys more same = refl
+key_more order.Rising xs ys more same = fold-append put_in [] xs more ∙ ap (λ ns. fold put_in ns more) same ∙ sym (fold-append put_in [] ys more)
+
+module _ (order : Order) (start : CoreValue) (all : List FoundValue) (links : List Edge) (limits : IsWithinLimits start.module_run) (ok : IsAccepted start.module_run)
     (taken : AreArguments start.module_run start.world.arguments) (begins : start.world ≡ opening start.module_run start.world.arguments)
-    (found : AreFound start all) (closed : AreExpanded start.module_run all (length all)) (begun : IsKnown start.module_run all start.world []) where
+    (closed : AreExpanded start.module_run order all links (length all)) (first : slice_get all 0 ≡ Some (first_found start)) where
   abbrev m : ModuleValue
   m = start.module_run
 
   abbrev args : List ℤ
   args = start.world.arguments
 
-  -- a legal schedule leads to this world and prints these numbers, and private steps lead from there to one that they have
-  abbrev Finds : World → List ℤ → Type 0
-  Finds w numbers = IsLedTo m args w numbers × IsKnown m all w numbers
+  -- the one of a number is in a world like this, and links lead to it along which these numbers stand
+  record Meets (w : World) (numbers : List ℤ) : Type 0 where
+    number : ℕ
+    there : IsThere order all w numbers number
+    led : LeadTo links number numbers
 
-  -- one of them is where its schedule leads
-  led_there : (k : ℕ) (x : FoundValue) → slice_get all k ≡ Some x → IsLedTo m args x.core.world x.printed
-  led_there k x there = let f = found k x there in record {
-    list = x.schedule;
-    legal = subst (λ w. run m x.schedule w ≡ Through x.core.world) begins f.legal;
-    prints = subst (λ w. printed m x.schedule w ≡ x.printed) begins f.prints;
-  }
+  -- private steps lead from this world to such a one
+  abbrev IsKnown : World → List ℤ → Type 0
+  IsKnown w numbers = (list : List ℕ) × (v : World) × LeadsPrivately m list w v × Meets v numbers
+
+  -- so does a legal schedule to this world, and prints these numbers
+  abbrev Finds : World → List ℤ → Type 0
+  Finds w numbers = IsLedTo m args w numbers × IsKnown w numbers
 
   -- each step from one that is like one of them
-  by_each : (w : World) (numbers : List ℤ) → Has all w numbers → (a : ℕ) → HasNextSame m AreAlike Finds w numbers a
-  by_each w numbers has a u e h =
-      let x = has.1 in
-      let next = (alike_worlds_go_alike m).steps w x.core.world u a e has.3.0 h in
+  by_each : (w : World) (numbers : List ℤ) → IsLedTo m args w numbers → Meets w numbers → (a : ℕ) → HasNextSame m AreAlike Finds w numbers a
+  by_each w numbers led meets a u e h =
+      let k = meets.number in
+      let x = meets.there.0 in
+      let at = meets.there.2 in
       let more : List ℤ = option_to_list (number_printed e) in
-      let there : Finds next.0 (x.printed ++ more) = (
-        led_step m args x.core.world next.0 x.printed a e (led_there has.0 x has.2) next.1,
-        closed has.0 x (slice_get_within all has.0 x has.2) has.2 a next.0 e next.1,
+      let next = (alike_worlds_go_alike m).steps w x.core.world u a e at.0 h in
+      let c = closed k x (slice_get_within all k x meets.there.1) meets.there.1 a next.0 e next.1 in
+      let on = leads_alike m c.0 u next.0 c.1 next.2 c.2 in
+      let y = c.4.0 in
+      let l = c.5.1 in
+      let is : key order y.printed ≡ key order (numbers ++ more) = c.4.2.1 ∙ key_more order x.printed numbers more at.1 in
+      let there : IsThere order all on.0 (numbers ++ more) c.3 = (y, c.4.1, (on.2 ∙ c.4.2.0, is)) in
+      let way : LeadTo links c.3 (numbers ++ more) = (
+        suc meets.led.0,
+        meets.led.1 ++ l.act ∷ [],
+        (
+          l,
+          c.5.0,
+          c.5.2,
+          c.5.5,
+          meets.led.1,
+          numbers,
+          subst (λ j. Leads links meets.led.0 j meets.led.1 numbers) (sym c.5.3) meets.led.2,
+          refl,
+          ap (λ o. numbers ++ option_to_list o) (sym c.5.4),
+        ),
       ) in
       record {
-        other = next.0;
-        found = subst (λ p. Finds next.0 (p ++ more)) has.3.1 there;
-        same = next.2;
+        other = u;
+        found = (led_step m args w u numbers a e led h, (c.0, on.0, on.1, record { number = c.3; there = there; led = way }));
+        same = refl;
       }
 
   -- the first private step on the way to one
-  by_private : (b : ℕ) (list : List ℕ) (w v : World) (numbers : List ℤ) → IsLedTo m args w numbers → LeadsPrivately m (b ∷ list) w v → Has all v numbers
+  by_private : (b : ℕ) (list : List ℕ) (w v : World) (numbers : List ℤ) → IsLedTo m args w numbers → LeadsPrivately m (b ∷ list) w v → Meets v numbers
       → HasNextSame m AreAlike Finds w numbers b
-  by_private b list w v numbers led private has u e h =
+  by_private b list w v numbers led private meets u e h =
       let same : (private.1 ≡ u) × (private.2 ≡ e) = same_step private.1 u private.2 e (sym private.3 ∙ h) in
       let silent : numbers ++ option_to_list (number_printed e) ≡ numbers =
       ap (λ n. numbers ++ option_to_list n) (private_silent m w b private.0 u e h) ∙ append-nil numbers in
@@ -81,37 +116,41 @@ module _ (start : CoreValue) (all : List FoundValue) (limits : IsWithinLimits st
         other = u;
         found = (
           led_step m args w u numbers b e led h,
-          (list, v, subst (λ z. LeadsPrivately m list z v) same.0 private.4, subst (Has all v) (sym silent) has),
+          (list, v, subst (λ z. LeadsPrivately m list z v) same.0 private.4, subst (Meets v) (sym silent) meets),
         );
         same = refl;
       }
 
-  explored : (list : List ℕ) (w v : World) (numbers : List ℤ) → IsLedTo m args w numbers → LeadsPrivately m list w v → Has all v numbers
+  explored : (list : List ℕ) (w v : World) (numbers : List ℤ) → IsLedTo m args w numbers → LeadsPrivately m list w v → Meets v numbers
       → HasClosed m AreAlike Finds w numbers ⊎ ((a : ℕ) → HasNextSame m AreAlike Finds w numbers a)
-  explored [] w v numbers led private has = inr (by_each w numbers (subst (λ z. Has all z numbers) (sym private) has))
-  explored (b ∷ list) w v numbers led private has = inl (record {
+  explored [] w v numbers led private meets = inr (by_each w numbers led (subst (λ z. Meets z numbers) (sym private) meets))
+  explored (b ∷ list) w v numbers led private meets = inl (record {
     set = alone b;
     closed = private_closed m w b private.0;
     free = b;
     inside = eq-eqb b b refl;
     enabled = private_enabled m w b private.0;
-    next = λ a inside. subst (HasNextSame m AreAlike Finds w numbers) (sym (eqb-true a b inside)) (by_private b list w v numbers led private has);
+    next = λ a inside. subst (HasNextSame m AreAlike Finds w numbers) (sym (eqb-true a b inside)) (by_private b list w v numbers led private meets);
   })
 
-  -- one of them is where all have ended, these numbers being printed by then
+  -- one of them is where all have ended, and these numbers stand along links to it
   abbrev IsMet : List ℤ → Type 0
-  IsMet numbers = (k : ℕ) × (x : FoundValue) × (slice_get all k ≡ Some x) × (x.printed ≡ numbers) × (all_ended x.core.world ≡ true)
+  IsMet numbers = (k : ℕ) × (x : FoundValue) × (slice_get all k ≡ Some x) × (all_ended x.core.world ≡ true)
+      × (key order x.printed ≡ key order numbers) × LeadTo links k numbers
 
   -- where all have ended there is no private step more
-  met : (list : List ℕ) (w v : World) (numbers : List ℤ) → LeadsPrivately m list w v → all_ended w ≡ true → Has all v numbers → IsMet numbers
-  met [] w v numbers private ended has = (
-    has.0,
-    has.1,
-    has.2,
-    has.3.1,
-    sym ((alike_worlds_go_alike m).ends v has.1.core.world has.3.0) ∙ ap all_ended (sym private) ∙ ended,
-  )
-  met (b ∷ list) w v numbers private ended has = absurd (nobody_steps m w private.1 b private.2 private.3 ended)
+  met : (list : List ℕ) (w v : World) (numbers : List ℤ) → LeadsPrivately m list w v → all_ended w ≡ true → Meets v numbers → IsMet numbers
+  met [] w v numbers private ended meets =
+      let x = meets.there.0 in
+      let at = meets.there.2 in (
+        meets.number,
+        x,
+        meets.there.1,
+        sym ((alike_worlds_go_alike m).ends v x.core.world at.0) ∙ ap all_ended (sym private) ∙ ended,
+        at.1,
+        meets.led,
+      )
+  met (b ∷ list) w v numbers private ended meets = absurd (nobody_steps m w private.1 b private.2 private.3 ended)
 
   -- worlds that are alike go on alike
   carried : IsCarried m AreAlike
@@ -120,12 +159,27 @@ module _ (start : CoreValue) (all : List FoundValue) (limits : IsWithinLimits st
     ends = (alike_worlds_go_alike m).ends;
   }
 
+  -- the start is known
+  begun : IsKnown start.world []
+  begun =
+      let f = first_led start limits ok in
+      let x = first_found start in (
+        f.0,
+        x.core.world,
+        f.1,
+        record {
+          number = 0;
+          there = (x, first, (refl, ap (key order) (first_silent start limits ok)));
+          led = (0, [], (refl, refl, refl));
+        },
+      )
+
   missed_none : NothingIsMissed m args Finds
   missed_none = closed_sets m limits ok AreAlike carried args Finds taken (λ w numbers f. f.0)
-      (record { other = opening m args; found = (record { list = []; legal = refl; prints = refl }, subst (λ w. IsKnown m all w []) begins begun); same = refl })
+      (record { other = opening m args; found = (record { list = []; legal = refl; prints = refl }, subst (λ w. IsKnown w []) begins begun); same = refl })
       (λ w numbers f. explored f.1.0 w f.1.1 numbers f.0 f.1.2 f.1.3)
 
-  pub all_found : AreAllFound start all
+  pub all_found : AreAllFound order start all links
   all_found list w legal ended =
       let h = missed_none list w (subst (λ z. run m list z ≡ Through w) begins legal) ended in
       let f = h.1.1 in

@@ -1,5 +1,5 @@
 -- One that was found goes on by a step and by private steps.
-use Rattle.std.proofs.Common.{◌≡◌, ◌∙◌, ℕ, zero, suc, ◌+◌, ◌<◌, ◌≤◌, ◌⊎◌, inl, inr, Bool, true, false, List, [], ◌∷◌, ◌++◌, length, Option, Some, None, refl, sym, ap, subst, add-one, arith}
+use Rattle.std.proofs.Common.{◌≡◌, ◌∙◌, ℕ, ℤ, zero, suc, ◌+◌, ◌<◌, ◌≤◌, ◌⊎◌, inl, inr, Bool, true, false, List, [], ◌∷◌, ◌++◌, length, Option, Some, None, refl, sym, ap, subst, add-one, arith, slice_get}
 use Rattle.std.specs.Option.{option_to_list}
 use Rattle.std.proofs.lemmas.List.{append-nil}
 use Rattle.std.proofs.lemmas.Option.{none-some, same_Some}
@@ -9,13 +9,16 @@ use Rattle.xk_types.specs.Bound.{steps_bound}
 use Rattle.xk_types.specs.Code.{ModuleValue, IsWithinLimits}
 use Rattle.xk_types.specs.World.{World}
 use Rattle.xk_types.specs.Step.{Outcome, Blocked, Wrong, Stepped, step}
-use Rattle.xk_types.specs.Schedule.{number_printed}
+use Rattle.xk_types.specs.Schedule.{is_enabled, number_printed}
 use Rattle.xk_law_schedules.proofs.ReachabilityLemmas.{run_more}
 use Rattle.xk_outcomes.specs.PrivateSteps.{has_private_step}
 use Rattle.xk_law_commute.proofs.QuietStepLaw.{enabled_step}
 use Rattle.xk_core.specs.Core.{CoreValue}
-use Rattle.xk_outcomes.specs.Found.{FoundValue, along, at_rest, first_found, least, least_private, next, one_more, or_this, settled, with_outcome, with_step}
-use Rattle.xk_outcomes.specs.Search.{Has, HasAfter, IsFound, IsGrown, IsKnown, IsSettled, LeadsPrivately}
+use Rattle.xk_outcomes.specs.Found.{FoundValue, along, at_rest, first_found, least, least_private, next, one_more, or_this, settled, through, with_outcome, with_step}
+use Rattle.xk_readings.specs.declared.edge.Edge.{Edge}
+use Rattle.xk_outcomes.specs.declared.order.Order.{Order}
+use Rattle.xk_outcomes.specs.Links.{HasLink}
+use Rattle.xk_outcomes.specs.Search.{HasAfter, IsFound, IsSettled, IsThere, LeadsPrivately}
 use Rattle.xk_outcomes.proofs.PrivateStepLemmas.{private_enabled, private_silent}
 use Rattle.xk_outcomes.proofs.SearchLemmas.{printed_more}
 
@@ -130,24 +133,61 @@ settles m limits ok x same (suc n) = settles_more m limits ok x (settled n x) (s
 
 -- ---- one is looked at
 
--- they have one where its step and private steps lead
-pub after_next : (m : ModuleValue) → IsWithinLimits m → IsAccepted m → (all : List FoundValue) (here y : FoundValue) (a : ℕ) → here.core.module_run ≡ m → y ≡ next a here
-    → Has all y.core.world y.printed → HasAfter m all here a
-after_next m limits ok all here y a same is has u e t =
+-- what stands behind some numbers and perhaps one more
+pub one_behind : (xs : List ℤ) (o : Option ℤ) → slice_get (xs ++ option_to_list o) (length xs) ≡ o
+one_behind [] None = refl
+one_behind [] (Some n) = refl
+one_behind (x ∷ xs) o = one_behind xs o
+
+-- where a step leads that can be taken, and what is printed on the way there
+record Leading (m : ModuleValue) (here y : FoundValue) (u : World) (e : Event) : Type 0 where
+  list : List ℕ
+  private : LeadsPrivately m list u y.core.world
+  prints : y.printed ≡ here.printed ++ option_to_list (number_printed e)
+
+leading : (m : ModuleValue) → IsWithinLimits m → IsAccepted m → (here y : FoundValue) (a : ℕ) → here.core.module_run ≡ m → y ≡ next a here
+    → (u : World) (e : Event) → step m here.core.world a ≡ Stepped u e → Leading m here y u e
+leading m limits ok here y a same is u e t =
     let x : FoundValue = with_outcome here a (Stepped u e) in
     let taken : one_more a here ≡ x = ap (with_outcome here a) (ap (λ k. step k here.core.world a) same ∙ t) in
     let there : y ≡ at_rest x = is ∙ ap at_rest taken in
     let s = settles m limits ok x same (steps_bound x.core.module_run) in
-    let h : Has all (at_rest x).core.world (at_rest x).printed = subst (λ (z : FoundValue). Has all z.core.world z.printed) there has in
-    (s.list, (at_rest x).core.world, s.private, subst (Has all (at_rest x).core.world) s.prints h)
+    subst (λ (z : FoundValue). Leading m here z u e) (sym there) (record { list = s.list; private = s.private; prints = s.prints })
 
--- the first one is known
-pub known_first : (start : CoreValue) → IsWithinLimits start.module_run → IsAccepted start.module_run → (all : List FoundValue) → IsGrown (first_found start ∷ []) all
-    → IsKnown start.module_run all start.world []
-known_first start limits ok all grown =
-    let first = first_found start in
+-- a step that can be taken prints one number at most, and private steps behind it none
+pub next_prints : (m : ModuleValue) → IsWithinLimits m → IsAccepted m → (here : FoundValue) (a : ℕ) → here.core.module_run ≡ m → is_enabled m here.core.world a ≡ true
+    → (o : Option ℤ) × ((next a here).printed ≡ here.printed ++ option_to_list o)
+next_prints m limits ok here a same enabled =
+    let taken = enabled_step (step m here.core.world a) enabled in
+    let l = leading m limits ok here (next a here) a same refl taken.0 taken.1 taken.2 in
+    (number_printed taken.1, l.prints)
+
+-- they have one where its step and private steps lead, and a link to it
+pub after_next : (m : ModuleValue) → IsWithinLimits m → IsAccepted m → (order : Order) (all : List FoundValue) (links : List Edge) (number to : ℕ) (here y : FoundValue) (a : ℕ)
+    → here.core.module_run ≡ m → y ≡ next a here → IsThere order all y.core.world y.printed to
+    → HasLink links number (slice_get y.printed (length here.printed)) to → HasAfter m order all links number here a
+after_next m limits ok order all links number to here y a same is there link u e t =
+    let l = leading m limits ok here y a same is u e t in
+    let printed : slice_get y.printed (length here.printed) ≡ number_printed e =
+    ap (λ ns. slice_get ns (length here.printed)) l.prints ∙ one_behind here.printed (number_printed e) in (
+      l.list,
+      y.core.world,
+      l.private,
+      to,
+      subst (λ ns. IsThere order all y.core.world ns to) l.prints there,
+      subst (λ o. HasLink links number o to) printed link,
+    )
+
+-- the first one prints nothing, and private steps lead to it
+pub first_silent : (start : CoreValue) → IsWithinLimits start.module_run → IsAccepted start.module_run → (first_found start).printed ≡ []
+first_silent start limits ok =
+    (settles start.module_run limits ok (record { core = start; printed = []; schedule = [] }) refl (steps_bound start.module_run)).prints
+
+pub first_led : (start : CoreValue) → IsWithinLimits start.module_run → IsAccepted start.module_run
+    → (list : List ℕ) × LeadsPrivately start.module_run list start.world (first_found start).core.world
+first_led start limits ok =
     let s = settles start.module_run limits ok (record { core = start; printed = []; schedule = [] }) refl (steps_bound start.module_run) in
-    (s.list, first.core.world, s.private, (0, first, grown 0 first refl, (refl, s.prints)))
+    (s.list, s.private)
 
 -- ---- along a way
 
@@ -155,3 +195,19 @@ known_first start limits ok all grown =
 pub along_push : (way : List ℕ) (a : ℕ) (x : FoundValue) → along (way ++ a ∷ []) x ≡ along way (next a x)
 along_push [] a x = refl
 along_push (b ∷ way) a x = ap (next b) (along_push way a x)
+
+-- what a schedule of such steps leads to was found
+pub found_next : (start : CoreValue) (x : FoundValue) (a : ℕ) → IsFound start x → IsFound start (next a x)
+found_next start x a f = settled_found start (next a x) (settled_next start x a f)
+
+pub first_is_found : (start : CoreValue) → IsFound start (first_found start)
+first_is_found start = settled_found start (first_found start) (settled_first start)
+
+pub found_through : (start : CoreValue) (acts : List ℕ) (x : FoundValue) → IsFound start x → IsFound start (through acts x)
+found_through start [] x f = f
+found_through start (a ∷ acts) x f = found_through start acts (next a x) (found_next start x a f)
+
+-- one more at its end is taken last
+pub through_push : (acts : List ℕ) (a : ℕ) (x : FoundValue) → through (acts ++ a ∷ []) x ≡ next a (through acts x)
+through_push [] a x = refl
+through_push (b ∷ acts) a x = through_push acts a (next b x)

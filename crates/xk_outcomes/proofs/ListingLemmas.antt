@@ -3,26 +3,28 @@ use Rattle.std.proofs.Common.{◌≡◌, ◌∙◌, ℕ, ℤ, zero, suc, ◌+◌
 use Rattle.std.specs.Prelude.{count_by, map}
 use Rattle.std.specs.Ordering.{int_eq}
 use Rattle.std.proofs.lemmas.List.{length-map}
-use Rattle.std.proofs.lemmas.Option.{slice_get_within, none-some, same_Some}
+use Rattle.std.proofs.lemmas.Option.{none-some, same_Some}
 use Rattle.xk_types.specs.Code.{ModuleValue}
 use Rattle.xk_types.specs.World.{opening}
 use Rattle.xk_types.specs.Schedule.{run, all_ended, printed}
 use Rattle.xk_types.specs.Logs.{schedule_of}
 use Rattle.xk_law_schedules.proofs.ReachabilityLemmas.{same_through}
 use Rattle.xk_law_commute.specs.PlainWorlds.{AreAlike, plain}
-use Rattle.xk_core.specs.Core.{opening_core}
+use Rattle.xk_core.specs.Core.{CoreValue, opening_core}
+use Rattle.xk_readings.specs.declared.edge.Edge.{Edge}
 use Rattle.xk_outcomes.specs.Found.{FoundValue}
 use Rattle.xk_outcomes.specs.declared.listing.Outcome.{Outcome}
 use Rattle.xk_outcomes.specs.declared.order.Order.{Order}
 use Rattle.xk_outcomes.specs.declared.order.Order.TheVariants as order
-use Rattle.xk_outcomes.specs.Search.{AreFound, AreAllFound, AreAtRest, AreDifferent}
-use Rattle.xk_outcomes.specs.Rising.{ordered}
-use Rattle.xk_outcomes.specs.Listing.{IsOf, AreOf, AreNoted, AreShownIn, AreAllIn, AreEndsListedIn, HasKeptIn, KeepsListed}
-use Rattle.xk_outcomes.specs.Outcomes.{AreApart, IsAtRest, IsListed, IsOutcome, AreDistinct, AreShown}
+use Rattle.xk_outcomes.specs.Links.{AreLinked}
+use Rattle.xk_outcomes.specs.Search.{AreFound, AreAllFound, AreAtRest, AreDifferent, IsFound}
+use Rattle.xk_outcomes.specs.Rising.{key, ordered, rising}
+use Rattle.xk_outcomes.specs.Listing.{IsOf, AreApartIn, AreMet, AreOf, AreNoted, AreShownIn, AreAllIn, AreEndsListedIn, HasKeptIn, KeepsListed}
+use Rattle.xk_outcomes.specs.Outcomes.{IsAtRest, IsListed, IsOutcome, AreDistinct, AreShown}
 use Rattle.xk_outcomes.specs.Limits.{HasKept}
 use Rattle.xk_outcomes.specs.Sets.{IsRising, AreSetsShown, AreSetsDistinct, AreSetsAll}
 use Rattle.xk_outcomes.proofs.RisingLemmas.{is_rising, same_rising, one_rising}
-use Rattle.xk_outcomes.proofs.SearchLemmas.{stays, at_end, place}
+use Rattle.xk_digests.proofs.PushLemmas.{stays, at_end, place}
 
 -- ---- one more
 
@@ -49,23 +51,23 @@ keeps_same old new e numbers h = subst (λ (l : List Outcome). IsListed l number
 pub listed_push : (old new : List Outcome) (o : Outcome) → new ≡ old ++ o ∷ [] → IsListed new o.numbers.items
 listed_push old new o e = (length old, o, subst (λ (l : List Outcome). slice_get l (length old) ≡ Some o) (sym e) (at_end old o), refl)
 
-of_push : (order : Order) (first : List Outcome) (all : List FoundValue) (j : ℕ) (x : FoundValue) (old new : List Outcome) (o : Outcome)
+of_push : (order : Order) (start : CoreValue) (first : List Outcome) (x : FoundValue) (old new : List Outcome) (o : Outcome)
     → new ≡ old ++ o ∷ []
-    → slice_get all j ≡ Some x → IsOf order x o → AreOf order first all old → AreOf order first all new
-of_push order first all j x old new o e there is before k p h =
+    → IsFound start x → IsOf order x o → AreOf order start first old → AreOf order start first new
+of_push order start first x old new o e found is before k p h =
     by (place old o k p (subst (λ (l : List Outcome). slice_get l k ≡ Some p) e h))
   where
     by : (slice_get old k ≡ Some p) ⊎ ((k ≡ length old) × (o ≡ p))
-        → (slice_get first k ≡ Some p) ⊎ ((i : ℕ) × (y : FoundValue) × (slice_get all i ≡ Some y) × IsOf order y p)
+        → (slice_get first k ≡ Some p) ⊎ ((y : FoundValue) × IsFound start y × IsOf order y p)
     by (inl a) = before k p a
-    by (inr b) = inr (j, x, there, subst (λ (q : Outcome). IsOf order x q) b.1 is)
+    by (inr b) = inr (x, found, subst (λ (q : Outcome). IsOf order x q) b.1 is)
 
 -- the same where it was listed already
-pub of_either : (order : Order) (first : List Outcome) (all : List FoundValue) (j : ℕ) (x : FoundValue) (old new : List Outcome) (o : Outcome)
+pub of_either : (order : Order) (start : CoreValue) (first : List Outcome) (x : FoundValue) (old new : List Outcome) (o : Outcome)
     → (new ≡ old) ⊎ (new ≡ old ++ o ∷ [])
-    → slice_get all j ≡ Some x → IsOf order x o → AreOf order first all old → AreOf order first all new
-of_either order first all j x old new o (inl e) there is before = subst (AreOf order first all) (sym e) before
-of_either order first all j x old new o (inr e) there is before = of_push order first all j x old new o e there is before
+    → IsFound start x → IsOf order x o → AreOf order start first old → AreOf order start first new
+of_either order start first x old new o (inl e) found is before = subst (AreOf order start first) (sym e) before
+of_either order start first x old new o (inr e) found is before = of_push order start first x old new o e found is before
 
 pub noted_more : (order : Order) (all : List FoundValue) (place : ℕ) (here : FoundValue) (old new : List Outcome)
     → slice_get all place ≡ Some here → KeepsListed old new
@@ -84,33 +86,34 @@ noted_more order all place here old new there kept listed before j x less at don
 
 -- ---- from what was found to what is listed
 
-pub all_shown : (order : Order) (m : ModuleValue) (args : List ℤ) (old : List Outcome) (all : List FoundValue) (list : List Outcome)
-    → AreShownIn order m args old → AreFound (opening_core m args) all → AreOf order old all list
+pub all_shown : (order : Order) (m : ModuleValue) (args : List ℤ) (old list : List Outcome)
+    → AreShownIn order m args old → AreOf order (opening_core m args) old list
     → AreShownIn order m args list
-all_shown order m args old all list before found of k o there = by (of k o there)
+all_shown order m args old list before of k o there = by (of k o there)
   where
-    by : (slice_get old k ≡ Some o) ⊎ ((j : ℕ) × (x : FoundValue) × (slice_get all j ≡ Some x) × IsOf order x o)
+    by : (slice_get old k ≡ Some o) ⊎ ((x : FoundValue) × IsFound (opening_core m args) x × IsOf order x o)
         → (numbers : List ℤ) × IsOutcome m args (schedule_of o.log.items) numbers × (o.numbers.items ≡ ordered order numbers)
     by (inl a) = before k o a
     by (inr h) =
-        let x : FoundValue = h.1 in
-        let f = found h.0 x h.2 in (
+        let x : FoundValue = h.0 in
+        let f = h.1 in (
           x.printed,
           record {
             last = x.core.world;
-            legal = ap (λ (l : List ℕ). run m l (opening m args)) h.3.log ∙ f.legal;
-            over = h.3.over;
-            prints = ap (λ (l : List ℕ). printed m l (opening m args)) h.3.log ∙ f.prints;
+            legal = ap (λ (l : List ℕ). run m l (opening m args)) h.2.log ∙ f.legal;
+            over = h.2.over;
+            prints = ap (λ (l : List ℕ). printed m l (opening m args)) h.2.log ∙ f.prints;
           },
-          h.3.numbers,
+          h.2.numbers,
         )
 
-pub all_listed : (order : Order) (m : ModuleValue) (args : List ℤ) (all : List FoundValue) (list : List Outcome)
-    → AreAllFound (opening_core m args) all
-    → AreNoted order all (length all) list → AreAllIn order m args list
-all_listed order m args all list found noted schedule numbers o =
+pub all_listed : (order : Order) (m : ModuleValue) (args : List ℤ) (all : List FoundValue) (links : List Edge) (list : List Outcome)
+    → AreAllFound order (opening_core m args) all links
+    → AreMet order all links list → AreAllIn order m args list
+all_listed order m args all links list found listed schedule numbers o =
     let h = found schedule o.last o.legal o.over in
-    subst (λ p. IsListed list (ordered order p)) (h.3 ∙ o.prints) (noted h.0 h.1 (slice_get_within all h.0 h.1 h.2) h.2 h.4)
+    subst (λ p. IsListed list (ordered order p)) o.prints
+    (listed h.0 h.1 (printed m schedule (opening m args)) h.2 h.3 h.4 h.5)
 
 -- their schedules
 abbrev schedules : List FoundValue → List (List ℕ)
@@ -124,10 +127,10 @@ scheduled (x ∷ all) zero p h = (x, refl, same_Some x.schedule p h)
 scheduled (x ∷ all) (suc k) p h = scheduled all k p h
 
 -- each that was found has a schedule and is at rest, and no two have the same world and numbers
-all_apart : (m : ModuleValue) (args : List ℤ) (all : List FoundValue) → AreFound (opening_core m args) all → AreAtRest all
-    → AreDifferent all
-    → AreApart m args (schedules all)
-all_apart m args all found rest different = record {
+all_apart : (order : Order) (m : ModuleValue) (args : List ℤ) (all : List FoundValue) → AreFound (opening_core m args) all → AreAtRest all
+    → AreDifferent order all
+    → AreApartIn order m args (schedules all)
+all_apart order m args all found rest different = record {
   legal = λ k p there.
       let x = scheduled all k p there in
       let f = found k x.0 x.1 in (
@@ -143,36 +146,38 @@ all_apart m args all found rest different = record {
       let to_w : w ≡ x.0.core.world = same_through w x.0.core.world (sym lead_w ∙ (ap (λ (l : List ℕ). run m l (opening m args)) (sym x.2) ∙ f.legal)) in
       let to_v : v ≡ y.0.core.world = same_through v y.0.core.world (sym lead_v ∙ (ap (λ (l : List ℕ). run m l (opening m args)) (sym y.2) ∙ g.legal)) in
       let worlds : AreAlike y.0.core.world x.0.core.world = ap plain (sym to_v) ∙ sym alike ∙ ap plain to_w in
-      let numbers : x.0.printed ≡ y.0.printed =
-      sym f.prints ∙ ap (λ (l : List ℕ). printed m l (opening m args)) x.2 ∙ same ∙ ap (λ (l : List ℕ). printed m l (opening m args)) (sym y.2) ∙ g.prints in
+      let numbers : key order x.0.printed ≡ key order y.0.printed =
+      ap (key order) (sym f.prints ∙ ap (λ (l : List ℕ). printed m l (opening m args)) x.2) ∙ same
+      ∙ ap (key order) (ap (λ (l : List ℕ). printed m l (opening m args)) (sym y.2) ∙ g.prints) in
       different i j x.0 y.0 x.1 y.1 (worlds, numbers);
 }
 
--- where all were noted, what the ones print in which all have ended is listed
-ends_listed : (order : Order) (m : ModuleValue) (args : List ℤ) (all : List FoundValue) (list : List Outcome)
-    → AreFound (opening_core m args) all
-    → AreNoted order all (length all) list → AreEndsListedIn order m args (schedules all) list
-ends_listed order m args all list found noted k p numbers there o =
+-- where whatever stands along links is listed, what the ones print is in which all have ended
+ends_listed : (order : Order) (m : ModuleValue) (args : List ℤ) (all : List FoundValue) (links : List Edge) (list : List Outcome)
+    → AreFound (opening_core m args) all → AreLinked m all links
+    → AreMet order all links list → AreEndsListedIn order m args (schedules all) list
+ends_listed order m args all links list found linked met k p numbers there o =
     let x = scheduled all k p there in
     let f = found k x.0 x.1 in
     let same : o.last ≡ x.0.core.world = same_through o.last x.0.core.world (sym o.legal ∙ (ap (λ (l : List ℕ). run m l (opening m args)) (sym x.2) ∙ f.legal)) in
     let prints : x.0.printed ≡ numbers = sym f.prints ∙ ap (λ (l : List ℕ). printed m l (opening m args)) x.2 ∙ o.prints in
-    subst (λ n. IsListed list (ordered order n)) prints (noted k x.0 (slice_get_within all k x.0 x.1) x.1 (sym (ap all_ended same) ∙ o.over))
+    subst (λ n. IsListed list (ordered order n)) prints
+    (met k x.0 x.0.printed x.1 (sym (ap all_ended same) ∙ o.over) refl (linked.led k x.0 x.1))
 
 -- so it is unless the list is as long as its limit
-noted_unless : (all : Bool) (P : Type 0) (limit n : ℕ) → (all ≡ true → P) → (all ≡ false → limit ≤ n) → n < limit → P
-noted_unless true P limit n is full less = is refl
-noted_unless false P limit n is full less = absurd (omega (arith, full refl, less))
+met_unless : (all : Bool) (P : Type 0) (limit n : ℕ) → (all ≡ true → P) → (all ≡ false → limit ≤ n) → n < limit → P
+met_unless true P limit n is full less = is refl
+met_unless false P limit n is full less = absurd (omega (arith, full refl, less))
 
-pub all_kept : (order : Order) (m : ModuleValue) (args : List ℤ) (limit : ℕ) (all : List FoundValue) (list : List Outcome) (whole : Bool)
-    → AreFound (opening_core m args) all
-    → AreAtRest all → AreDifferent all → (whole ≡ true → AreNoted order all (length all) list) → (whole ≡ false → limit ≤ length list)
+pub all_kept : (order : Order) (m : ModuleValue) (args : List ℤ) (limit : ℕ) (all : List FoundValue) (links : List Edge) (list : List Outcome) (whole : Bool)
+    → AreFound (opening_core m args) all → AreLinked m all links
+    → AreAtRest all → AreDifferent order all → (whole ≡ true → AreMet order all links list) → (whole ≡ false → limit ≤ length list)
     → HasKeptIn order m args limit list (length all)
-all_kept order m args limit all list whole found rest different noted full = record {
+all_kept order m args limit all links list whole found linked rest different met full = record {
   schedules = schedules all;
   many = length-map all (λ (x : FoundValue). x.schedule);
-  apart = all_apart m args all found rest different;
-  ends = λ less. ends_listed order m args all list found (noted_unless whole (AreNoted order all (length all) list) limit (length list) noted full less);
+  apart = all_apart order m args all found rest different;
+  ends = λ less. ends_listed order m args all links list found linked (met_unless whole (AreMet order all links list) limit (length list) met full less);
 }
 
 -- ---- as they are printed, and rising
@@ -201,7 +206,15 @@ sets_all m args list all schedule numbers o =
 pub printed_kept : (m : ModuleValue) (args : List ℤ) (limit : ℕ) (list : List Outcome) (entries : ℕ)
     → HasKeptIn order.Printed m args limit list entries
     → HasKept m args false limit list entries
-printed_kept m args limit list entries kept = record { schedules = kept.schedules; many = kept.many; apart = kept.apart; ends = kept.ends }
+printed_kept m args limit list entries kept = record {
+  schedules = kept.schedules;
+  many = kept.many;
+  apart = record {
+    legal = kept.apart.legal;
+    apart = λ i j p q w v hi hj lead_w lead_v alike. kept.apart.apart i j p q w v hi hj lead_w lead_v alike refl;
+  };
+  ends = kept.ends;
+}
 
 pub sets_kept : (m : ModuleValue) (args : List ℤ) (limit : ℕ) (list : List Outcome) (entries : ℕ)
     → HasKeptIn order.Rising m args limit list entries
@@ -209,7 +222,14 @@ pub sets_kept : (m : ModuleValue) (args : List ℤ) (limit : ℕ) (list : List O
 sets_kept m args limit list entries kept = record {
   schedules = kept.schedules;
   many = kept.many;
-  apart = kept.apart;
+  apart = record {
+    legal = kept.apart.legal;
+    apart = λ i j p q w v hi hj lead_w lead_v alike same.
+        let first = printed m p (opening m args) in
+        let second = printed m q (opening m args) in
+        kept.apart.apart i j p q w v hi hj lead_w lead_v alike
+        (one_rising (rising first) (rising second) (is_rising first) (is_rising second) (λ n. sym (same_rising first n) ∙ same n ∙ same_rising second n));
+  };
   ends = λ less k p numbers there o.
       let h = kept.ends less k p numbers there o in (h.0, h.1, h.2, λ n. same_rising numbers n ∙ ap (count_by (int_eq n)) (sym h.3));
 }

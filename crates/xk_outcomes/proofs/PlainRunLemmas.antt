@@ -19,7 +19,7 @@ use Rattle.xk_outcomes.specs.PlainRuns.{ArePlainListedAs, ArePlainListedIn, IsLi
 use Rattle.xk_outcomes.specs.Sets.{IsSetListed}
 use Rattle.xk_outcomes.proofs.ListingLemmas.{distinct_none}
 use Rattle.xk_outcomes.proofs.RisingLemmas.{same_rising}
-use Rattle.xk_outcomes.proofs.SearchLemmas.{place}
+use Rattle.xk_digests.proofs.PushLemmas.{place}
 
 -- ---- one run
 

@@ -100,8 +100,11 @@ module _ (start : CoreValue) (limits : IsWithinLimits start.module_run) (ok : Is
         ),
       )
 
+  pub steps_within : (x : FoundValue) → IsFound start x → x.core.world.steps ≤ steps_bound start.module_run
+  steps_within x f = (reached_room start.module_run limits ok x.core.world (found_reached x f)).steps
+
   too_many : (x : FoundValue) → IsFound start x → suc (steps_bound start.module_run) ≤ x.core.world.steps → ⊥
-  too_many x f more = let room = (reached_room start.module_run limits ok x.core.world (found_reached x f)).steps in omega (arith, room, more)
+  too_many x f more = let room = steps_within x f in omega (arith, room, more)
 
   rests_all : (x : FoundValue) → IsFound start x → (n : ℕ) → n ≡ steps_bound start.module_run → least_private (settled n x).core ≡ None
   rests_all x f n all = by (rests_or_counts x n)

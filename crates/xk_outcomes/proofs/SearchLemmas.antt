@@ -1,5 +1,5 @@
 -- What is printed by one step more; and those that were found grow in number.
-use Rattle.std.proofs.Common.{◌≡◌, ◌∙◌, ℕ, ℤ, zero, suc, ◌+◌, ◌<◌, ◌≤◌, ◌⊎◌, inl, inr, not, List, [], ◌∷◌, ◌++◌, length, filter, Some, refl, sym, ap, subst, append_assoc, arith, slice_get}
+use Rattle.std.proofs.Common.{◌≡◌, ◌∙◌, ℕ, ℤ, zero, suc, ◌+◌, ◌<◌, ◌≤◌, ◌⊎◌, inl, inr, not, Bool, true, List, [], ◌∷◌, ◌++◌, length, filter, Option, Some, refl, sym, ap, subst, append_assoc, arith, slice_get}
 use Rattle.std.specs.List.{filter_map}
 use Rattle.std.specs.Option.{option_to_list}
 use Rattle.std.specs.Prelude.{map}
@@ -10,46 +10,20 @@ use Rattle.xk_types.specs.declared.world.Event.TheVariants as event
 use Rattle.xk_types.specs.Code.{ModuleValue}
 use Rattle.xk_types.specs.World.{World}
 use Rattle.xk_types.specs.Step.{Stepped, step}
-use Rattle.xk_types.specs.Schedule.{Through, run, is_local, events, events_on, number_printed, printed}
+use Rattle.xk_types.specs.Schedule.{Through, run, all_ended, is_enabled, is_local, events, events_on, number_printed, printed}
 use Rattle.xk_law_schedules.proofs.ReachabilityLemmas.{same_through, first_step}
 use Rattle.xk_law_commute.proofs.ChangeSquareLemmas.{found_of}
-use Rattle.xk_outcomes.specs.Found.{FoundValue}
-use Rattle.xk_outcomes.specs.Digest.{world_digest}
-use Rattle.xk_outcomes.specs.Search.{IsGrown, Has, HasAfter, IsAt, IsKnown, AreDifferent, AreDigests, AreExpanded, found_digest}
-use Rattle.xk_outcomes.proofs.DigestLemmas.{alike_digests}
-
--- ---- lists by number
-
-pub each_push : {X : Type 0} (P : X → Type 0) (xs : List X) (new : X) → ((k : ℕ) (x : X) → slice_get xs k ≡ Some x → P x) → P new → (k : ℕ) (x : X) → slice_get (xs ++ new ∷ []) k ≡ Some x → P x
-each_push P [] new all here zero x h = subst P (same_Some new x h) here
-each_push P [] new all here (suc i) x h = absurd (none-some x h)
-each_push P (z ∷ xs) new all here zero x h = all zero x h
-each_push P (z ∷ xs) new all here (suc i) x h = each_push P xs new (λ j. all (suc j)) here i x h
-
-pub stays : {X : Type 0} (xs ys : List X) (k : ℕ) (x : X) → slice_get xs k ≡ Some x → slice_get (xs ++ ys) k ≡ Some x
-stays [] ys k x h = absurd (none-some x h)
-stays (z ∷ xs) ys zero x h = h
-stays (z ∷ xs) ys (suc k) x h = stays xs ys k x h
-
-pub at_end : {X : Type 0} (xs : List X) (x : X) → slice_get (xs ++ x ∷ []) (length xs) ≡ Some x
-at_end [] x = refl
-at_end (z ∷ xs) x = at_end xs x
-
-there_is : {X : Type 0} (xs : List X) (k : ℕ) → k < length xs → (x : X) × (slice_get xs k ≡ Some x)
-there_is [] k h = absurd (omega (arith, h))
-there_is (x ∷ xs) zero h = (x, refl)
-there_is (x ∷ xs) (suc k) h = there_is xs k (omega (arith, h))
-
--- what is at a place of a list with one more at its end
-pub place : {X : Type 0} (xs : List X) (o : X) (k : ℕ) (x : X) → slice_get (xs ++ o ∷ []) k ≡ Some x → (slice_get xs k ≡ Some x) ⊎ ((k ≡ length xs) × (o ≡ x))
-place [] o zero x h = inr (refl, same_Some o x h)
-place [] o (suc k) x h = absurd (none-some x h)
-place (z ∷ xs) o zero x h = inl h
-place (z ∷ xs) o (suc k) x h = by (place xs o k x h)
-  where
-    by : (slice_get xs k ≡ Some x) ⊎ ((k ≡ length xs) × (o ≡ x)) → (slice_get xs k ≡ Some x) ⊎ ((suc k ≡ suc (length xs)) × (o ≡ x))
-    by (inl a) = inl a
-    by (inr b) = inr (ap suc b.0, b.1)
+use Rattle.xk_law_commute.specs.PlainWorlds.{plain}
+use Rattle.xk_readings.specs.declared.edge.Edge.{Edge}
+use Rattle.xk_digests.specs.Digest.{world_digest}
+use Rattle.xk_digests.proofs.DigestLemmas.{alike_digests}
+use Rattle.xk_digests.proofs.PushLemmas.{at_end, place, stays, there_is}
+use Rattle.xk_outcomes.specs.declared.order.Order.{Order}
+use Rattle.xk_core.specs.Core.{CoreValue}
+use Rattle.xk_outcomes.specs.Found.{FoundValue, first_found, next}
+use Rattle.xk_outcomes.specs.Links.{AreLinked, HasLink, IsLink, LeadTo, Leads, ends}
+use Rattle.xk_outcomes.specs.Rising.{key}
+use Rattle.xk_outcomes.specs.Search.{AreDifferent, AreDigests, AreExpanded, Has, HasAfter, IsAdded, IsAt, IsGrown, IsThere, found_digest}
 
 -- ---- by a step
 
@@ -81,68 +55,194 @@ printed_more m (b ∷ list) w v x a e h g =
 
 -- ---- what was found grows
 
-pub grown_push : (old new : List FoundValue) (x : FoundValue) → new ≡ old ++ x ∷ [] → IsGrown old new
+pub grown_push : {X : Type 0} (old new : List X) (x : X) → new ≡ old ++ x ∷ [] → IsGrown old new
 grown_push old new x e k y h = subst (λ l. slice_get l k ≡ Some y) (sym e) (stays old (x ∷ []) k y h)
 
-pub has_push : (old new : List FoundValue) (x : FoundValue) → new ≡ old ++ x ∷ [] → Has new x.core.world x.printed
-has_push old new x e = (length old, x, subst (λ l. slice_get l (length old) ≡ Some x) (sym e) (at_end old x), (refl, refl))
+grown_same : {X : Type 0} (old new : List X) → new ≡ old → IsGrown old new
+grown_same old new e k y h = subst (λ l. slice_get l k ≡ Some y) (sym e) h
 
-pub known_grown : (m : ModuleValue) (old new : List FoundValue) (w : World) (p : List ℤ) → IsGrown old new → IsKnown m old w p → IsKnown m new w p
-known_grown m old new w p grown h = let one = h.3 in (h.0, h.1, h.2, (one.0, one.1, grown one.0 one.1 one.2, one.3))
+there_grown : (order : Order) (old new : List FoundValue) (w : World) (p : List ℤ) (k : ℕ) → IsGrown old new → IsThere order old w p k → IsThere order new w p k
+there_grown order old new w p k grown h = (h.0, grown k h.0 h.1, h.2)
 
-pub after_grown : (m : ModuleValue) (old new : List FoundValue) (x : FoundValue) (a : ℕ) → IsGrown old new → HasAfter m old x a → HasAfter m new x a
-after_grown m old new x a grown h u e t = known_grown m old new u (x.printed ++ option_to_list (number_printed e)) grown (h u e t)
+link_grown : (old new : List Edge) (from : ℕ) (o : Option ℤ) (to : ℕ) → IsGrown old new → HasLink old from o to → HasLink new from o to
+link_grown old new from o to grown h = (h.0, h.1, grown h.0 h.1 h.2, h.3, h.4, h.5)
+
+leads_grown : (old new : List Edge) → IsGrown old new → (n k : ℕ) (acts : List ℕ) (numbers : List ℤ) → Leads old n k acts numbers → Leads new n k acts numbers
+leads_grown old new grown zero k acts numbers h = h
+leads_grown old new grown (suc n) k acts numbers h =
+    (h.0, h.1, grown h.1 h.0 h.2, h.3, h.4, h.5, leads_grown old new grown n h.0.from h.4 h.5 h.6, h.7, h.8)
+
+pub after_grown : (m : ModuleValue) (order : Order) (old new : List FoundValue) (links more : List Edge) (number : ℕ) (x : FoundValue) (a : ℕ) → IsGrown old new
+    → IsGrown links more → HasAfter m order old links number x a → HasAfter m order new more number x a
+after_grown m order old new links more number x a grown longer h u e t =
+    let r = h u e t in (
+      r.0,
+      r.1,
+      r.2,
+      r.3,
+      there_grown order old new r.1 (x.printed ++ option_to_list (number_printed e)) r.3 grown r.4,
+      link_grown links more number (number_printed e) r.3 longer r.5,
+    )
 
 pub longer : (old new : List FoundValue) (n : ℕ) → IsGrown old new → n < length old → n < length new
 longer old new n grown h = let y = there_is old n h in slice_get_within new n y.0 (grown n y.0 y.1)
 
+-- ---- one is added
+
+-- so it is there
+pub added_there : (order : Order) (old new : List FoundValue) (x : FoundValue) (k : ℕ) → IsAdded order old new x k → IsThere order new x.core.world x.printed k
+added_there order old new x k (inl h) = subst (λ l. IsThere order l x.core.world x.printed k) (sym h.0) h.1
+added_there order old new x k (inr h) =
+    (x, subst (λ l. slice_get l k ≡ Some x) (sym h.0) (subst (λ j. slice_get (old ++ x ∷ []) j ≡ Some x) (sym h.1) (at_end old x)), (refl, refl))
+
+added_grown : (order : Order) (old new : List FoundValue) (x : FoundValue) (k : ℕ) → IsAdded order old new x k → IsGrown old new
+added_grown order old new x k (inl h) = grown_same old new h.0
+added_grown order old new x k (inr h) = grown_push old new x h.0
+
+-- Where those that were found were linked, they are with one more, and the link to it.
+pub linked_push : (m : ModuleValue) (order : Order) (old new : List FoundValue) (links more : List Edge) (l : Edge) (x y : FoundValue) → AreLinked m old links
+    → slice_get old l.from ≡ Some x → y ≡ next l.act x → is_enabled m x.core.world l.act ≡ true → y.printed ≡ x.printed ++ option_to_list l.printed
+    → IsAdded order old new y l.to → more ≡ links ++ l ∷ [] → AreLinked m new more
+linked_push m order old new links more l x y linked out is enabled prints added one = record {
+  each = λ j z there. by_link j z (place links l j z (subst (λ (e : List Edge). slice_get e j ≡ Some z) one there));
+  led = λ k z there. by_one added k z there;
+}
+  where
+    grown : IsGrown old new
+    grown = added_grown order old new y l.to added
+
+    longer_links : IsGrown links more
+    longer_links = grown_push links more l one
+
+    -- the new link
+    this : IsLink m new l
+    this =
+        let t = added_there order old new y l.to added in
+        record {
+          source = x;
+          target = t.0;
+          out = grown l.from x out;
+          into = t.1;
+          enabled = enabled;
+          alike = ap (λ (z : FoundValue). plain z.core.world) (sym is) ∙ t.2.0;
+          prints = ap (λ (z : FoundValue). z.printed) (sym is) ∙ prints;
+        }
+
+    by_link : (j : ℕ) (z : Edge) → (slice_get links j ≡ Some z) ⊎ ((j ≡ length links) × (l ≡ z)) → IsLink m new z
+    by_link j z (inl a) =
+        let h = linked.each j z a in
+        record {
+          source = h.source;
+          target = h.target;
+          out = grown z.from h.source h.out;
+          into = grown z.to h.target h.into;
+          enabled = h.enabled;
+          alike = h.alike;
+          prints = h.prints;
+        }
+    by_link j z (inr b) = subst (IsLink m new) b.1 this
+
+    was_led : (k : ℕ) (z : FoundValue) → slice_get old k ≡ Some z → LeadTo more k z.printed
+    was_led k z there = let h = linked.led k z there in (h.0, h.1, leads_grown links more longer_links h.0 k h.1 z.printed h.2)
+
+    led_here : LeadTo more l.to y.printed
+    led_here =
+        let h = was_led l.from x out in (
+          suc h.0,
+          h.1 ++ l.act ∷ [],
+          (
+            l,
+            length links,
+            subst (λ (e : List Edge). slice_get e (length links) ≡ Some l) (sym one) (at_end links l),
+            refl,
+            h.1,
+            x.printed,
+            h.2,
+            refl,
+            prints,
+          ),
+        )
+
+    by_one : IsAdded order old new y l.to → (k : ℕ) (z : FoundValue) → slice_get new k ≡ Some z → LeadTo more k z.printed
+    by_one (inl h) k z there = was_led k z (subst (λ (e : List FoundValue). slice_get e k ≡ Some z) h.0 there)
+    by_one (inr h) k z there = of (place old y k z (subst (λ (e : List FoundValue). slice_get e k ≡ Some z) h.0 there))
+      where
+        of : (slice_get old k ≡ Some z) ⊎ ((k ≡ length old) × (y ≡ z)) → LeadTo more k z.printed
+        of (inl a) = was_led k z a
+        of (inr b) = subst (λ (q : FoundValue). LeadTo more k q.printed) b.1 (subst (λ j. LeadTo more j y.printed) (h.1 ∙ sym b.0) led_here)
+
+-- a link that is pushed is there
+pub added_link : (links more : List Edge) (l : Edge) → more ≡ links ++ l ∷ [] → HasLink more l.from l.printed l.to
+added_link links more l one = (length links, l, subst (λ (e : List Edge). slice_get e (length links) ≡ Some l) (sym one) (at_end links l), refl, refl, refl)
+
+-- the first one alone is linked, by no link
+pub linked_first : (m : ModuleValue) (start : CoreValue) (all : List FoundValue) (links : List Edge) → all ≡ first_found start ∷ [] → links ≡ []
+    → (first_found start).printed ≡ [] → AreLinked m all links
+linked_first m start all links one none silent = record {
+  each = λ j l there. absurd (none-some l (subst (λ (e : List Edge). slice_get e j ≡ Some l) none there));
+  led = λ k x there. by k x (subst (λ (e : List FoundValue). slice_get e k ≡ Some x) one there);
+}
+  where
+    by : (k : ℕ) (x : FoundValue) → slice_get (first_found start ∷ []) k ≡ Some x → LeadTo links k x.printed
+    by zero x there = (0, [], (refl, refl, ap (λ (z : FoundValue). z.printed) (sym (same_Some (first_found start) x there)) ∙ silent))
+    by (suc k) x there = absurd (none-some x there)
+
 -- ---- one is looked at
 
 -- who isn't there takes no step
-pub after_all : (m : ModuleValue) (all : List FoundValue) (here : FoundValue) (last : ℕ) → ((a : ℕ) → a < last → HasAfter m all here a)
-    → length here.core.world.activities ≤ last → (a : ℕ) → HasAfter m all here a
-after_all m all here last before enough a = by (side a last)
+pub after_all : (m : ModuleValue) (order : Order) (all : List FoundValue) (links : List Edge) (number : ℕ) (here : FoundValue) (last : ℕ)
+    → ((a : ℕ) → a < last → HasAfter m order all links number here a)
+    → length here.core.world.activities ≤ last → (a : ℕ) → HasAfter m order all links number here a
+after_all m order all links number here last before enough a = by (side a last)
   where
     side : (i n : ℕ) → (i < n) ⊎ (n ≤ i)
     side i n = grind arith
 
-    by : (a < last) ⊎ (last ≤ a) → HasAfter m all here a
+    by : (a < last) ⊎ (last ≤ a) → HasAfter m order all links number here a
     by (inl l) = before a l
     by (inr g) = λ u e t.
         let act = found_of m here.core.world a u e t in
         let inside = slice_get_within here.core.world.activities a act.0 act.1 in
         absurd (omega (arith, inside, g, enough))
 
-pub expanded_more : (m : ModuleValue) (old new : List FoundValue) (n : ℕ) → n < length old → IsGrown old new → AreExpanded m old n
-    → ((x : FoundValue) → slice_get old n ≡ Some x → (a : ℕ) → HasAfter m new x a) → AreExpanded m new (n + 1)
-expanded_more m old new n within grown before here k x less there a =
+pub expanded_more : (m : ModuleValue) (order : Order) (old new : List FoundValue) (links more : List Edge) (n : ℕ) → n < length old → IsGrown old new → IsGrown links more
+    → AreExpanded m order old links n
+    → ((x : FoundValue) → slice_get old n ≡ Some x → (a : ℕ) → HasAfter m order new more n x a) → AreExpanded m order new more (n + 1)
+expanded_more m order old new links more n within grown longer_links before here k x less there a =
     let y = there_is old k (omega (arith, less, within)) in
-    subst (λ (z : FoundValue). HasAfter m new z a) (same_Some y.0 x (sym (grown k y.0 y.1) ∙ there)) (by y.0 y.1 (split k n less))
+    subst (λ (z : FoundValue). HasAfter m order new more k z a) (same_Some y.0 x (sym (grown k y.0 y.1) ∙ there)) (by y.0 y.1 (split k n less))
   where
     split : (i j : ℕ) → i < j + 1 → (i < j) ⊎ (i ≡ j)
     split i j h = grind arith
 
-    by : (y : FoundValue) → slice_get old k ≡ Some y → (k < n) ⊎ (k ≡ n) → HasAfter m new y a
-    by y at (inl l) = after_grown m old new y a grown (before k y l at a)
-    by y at (inr e) = here y (subst (λ j. slice_get old j ≡ Some y) e at) a
+    by : (y : FoundValue) → slice_get old k ≡ Some y → (k < n) ⊎ (k ≡ n) → HasAfter m order new more k y a
+    by y at (inl l) = after_grown m order old new links more k y a grown longer_links (before k y l at a)
+    by y at (inr e) = subst (λ j. HasAfter m order new more j y a) (sym e) (here y (subst (λ j. slice_get old j ≡ Some y) e at) a)
 
 -- ---- no two are the same
 
 -- those that are at the same have one digest
-pub same_digests : (x new : FoundValue) → IsAt x new.core.world new.printed → found_digest x ≡ found_digest new
-same_digests x new at = ap (world_digest x.core.world) at.1 ∙ sym (alike_digests new.core.world x.core.world new.printed at.0)
+pub same_digests : (order : Order) (x new : FoundValue) → IsAt order x new.core.world new.printed → found_digest order x ≡ found_digest order new
+same_digests order x new at = ap (world_digest x.core.world) at.1 ∙ sym (alike_digests new.core.world x.core.world (key order new.printed) at.0)
 
-pub different_push : (old new : List FoundValue) (o : FoundValue) → new ≡ old ++ o ∷ [] → (Has old o.core.world o.printed → ⊥) → AreDifferent old → AreDifferent new
-different_push old new o e fresh before i j x y hi hj same =
+pub different_push : (order : Order) (old new : List FoundValue) (o : FoundValue) → new ≡ old ++ o ∷ [] → (Has order old o.core.world o.printed → ⊥)
+    → AreDifferent order old → AreDifferent order new
+different_push order old new o e fresh before i j x y hi hj same =
     by (place old o i x (subst (λ (l : List FoundValue). slice_get l i ≡ Some x) e hi)) (place old o j y (subst (λ (l : List FoundValue). slice_get l j ≡ Some y) e hj))
   where
     by : (slice_get old i ≡ Some x) ⊎ ((i ≡ length old) × (o ≡ x)) → (slice_get old j ≡ Some y) ⊎ ((j ≡ length old) × (o ≡ y)) → i ≡ j
     by (inl a) (inl b) = before i j x y a b same
-    by (inl a) (inr b) = absurd (fresh (i, x, a, subst (λ (z : FoundValue). IsAt x z.core.world z.printed) (sym b.1) same))
+    by (inl a) (inr b) = absurd (fresh (i, (x, a, subst (λ (z : FoundValue). IsAt order x z.core.world z.printed) (sym b.1) same)))
     by (inr a) (inl b) =
-        absurd (fresh (j, y, b, subst (λ (z : FoundValue). IsAt y z.core.world z.printed) (sym a.1) (sym same.0, sym same.1)))
+        absurd (fresh (j, (y, b, subst (λ (z : FoundValue). IsAt order y z.core.world z.printed) (sym a.1) (sym same.0, sym same.1))))
     by (inr a) (inr b) = a.0 ∙ sym b.0
 
-pub digests_push : (old new : List FoundValue) (digests more : List ℕ) (x : FoundValue) → new ≡ old ++ x ∷ [] → more ≡ digests ++ found_digest x ∷ [] → AreDigests old digests → AreDigests new more
-digests_push old new digests more x e f h =
-    f ∙ ap (λ (l : List ℕ). l ++ found_digest x ∷ []) h ∙ sym (map-append found_digest old (x ∷ [])) ∙ ap (map found_digest) (sym e)
+pub digests_push : (order : Order) (old new : List FoundValue) (digests more : List ℕ) (x : FoundValue) → new ≡ old ++ x ∷ []
+    → more ≡ digests ++ found_digest order x ∷ [] → AreDigests order old digests → AreDigests order new more
+digests_push order old new digests more x e f h =
+    f ∙ ap (λ (l : List ℕ). l ++ found_digest order x ∷ []) h ∙ sym (map-append (found_digest order) old (x ∷ [])) ∙ ap (map (found_digest order)) (sym e)
+
+pub ends_push : (old new : List FoundValue) (over more : List Bool) (x : FoundValue) → new ≡ old ++ x ∷ [] → more ≡ over ++ all_ended x.core.world ∷ []
+    → over ≡ ends old → more ≡ ends new
+ends_push old new over more x e f h =
+    f ∙ ap (λ (l : List Bool). l ++ all_ended x.core.world ∷ []) h ∙ sym (map-append (λ (y : FoundValue). all_ended y.core.world) old (x ∷ [])) ∙ ap ends (sym e)

@@ -7,7 +7,7 @@ use Rattle.std.specs.BTreeSet.{BTreeSet, UpdatesBy, contains_by}
 use Rattle.std.proofs.lemmas.List.{map-append}
 use Rattle.std.proofs.lemmas.Map.Text.{is_eq-slice_cmp}
 use Rattle.xk_outcomes.specs.Texts.{AreTexts}
-use Rattle.xk_outcomes.proofs.SearchLemmas.{at_end, place, stays}
+use Rattle.xk_digests.proofs.PushLemmas.{at_end, place, stays}
 
 -- whether a set has a text
 abbrev has : BTreeSet (Bor (List ℕ)) → List ℕ → Bool

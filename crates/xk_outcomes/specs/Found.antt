@@ -1,5 +1,5 @@
 -- One that was found, and how it goes on. This project's own.
-use Rattle.std.specs.Prelude.{ℕ, ℤ, Bool, true, false, List, [], ◌∷◌, ◌++◌, length, zero, suc, Option, Some, None}
+use Rattle.std.specs.Prelude.{ℕ, ℤ, Bool, true, false, List, [], ◌∷◌, ◌++◌, length, zero, suc, fold, Option, Some, None}
 use Rattle.std.specs.Option.{option_to_list}
 use Rattle.xk_types.specs.Step.{Outcome, Blocked, Wrong, Stepped, step}
 use Rattle.xk_types.specs.Schedule.{number_printed}
@@ -74,3 +74,7 @@ first_found start = at_rest (record { core = start; printed = []; schedule = [] 
 abbrev pub along : List ℕ → FoundValue → FoundValue
 along [] x = x
 along (a ∷ way) x = next a (along way x)
+
+-- the same by a schedule of such steps, the first of which stands first
+abbrev pub through : List ℕ → FoundValue → FoundValue
+through acts x = fold (λ y a. next a y) x acts

@@ -1,10 +1,9 @@
 pub mod Outcomes
 pub mod Limits
 pub mod Sets
-pub mod Digest
-pub mod Digests
 pub mod PrivateSteps
 pub mod Found
+pub mod Links
 pub mod Search
 pub mod Entries
 pub mod Rising

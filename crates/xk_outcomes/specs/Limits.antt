@@ -3,9 +3,8 @@ use Rattle.std.specs.Prelude.{◌≡◌, ℕ, ℤ, ◌+◌, ◌/◌, ◌<◌, �
 use Rattle.xk_types.specs.Code.{ModuleValue}
 use Rattle.xk_outcomes.specs.declared.all_outcomes.Limit.{Limit}
 use Rattle.xk_outcomes.specs.declared.listing.Outcome.{Outcome}
-use Rattle.xk_outcomes.specs.Outcomes.{AreApart}
 use Rattle.xk_outcomes.specs.PlainRuns.{plain_runs}
-use Rattle.xk_outcomes.specs.Sets.{AreEndsListedAs}
+use Rattle.xk_outcomes.specs.Sets.{AreApartAs, AreEndsListedAs}
 
 -- As soon as more worlds are kept, or so many outcomes listed, a search leaves off, where nothing is said of that: fewer where there may be many
 -- activities, since from each world a step of each is tried.
@@ -16,12 +15,13 @@ usual_limit activities = min (4_000_000 / (1 + activities)) 40_000
 abbrev pub limit_of : Option ℕ → ℕ → Limit
 limit_of given activities = record { entries = unwrap_or given (usual_limit activities); outcomes = unwrap_or given (usual_limit activities) }
 
--- These schedules lead to so many worlds at rest that were kept, no two of which are alike where the same was printed. What they print after which all
--- have ended is among these outcomes, as lists of numbers or without their order, unless these are as many as the limit says.
+-- These schedules lead to so many worlds at rest that were kept, no two of which are alike; or, where the order of numbers doesn't count, no two that
+-- printed the same numbers, too. What they print after which all have ended is among these outcomes, as lists of numbers or without
+-- their order, unless these are as many as the limit says.
 pub record HasKept (m : ModuleValue) (args : List ℤ) (sets : Bool) (limit : ℕ) (list : List Outcome) (entries : ℕ) : Type 0 where
   pub schedules : List (List ℕ)
   pub many : length schedules ≡ entries
-  pub apart : AreApart m args schedules
+  pub apart : AreApartAs sets m args schedules
   pub ends : length list < limit → AreEndsListedAs sets m args schedules list
 
 -- So many worlds were kept. If these outcomes aren't said to be all, those worlds are more than the limit says, or these outcomes are as many. These

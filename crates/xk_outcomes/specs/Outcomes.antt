@@ -38,13 +38,12 @@ AreAll m args list = (schedule : List ℕ) (numbers : List ℤ) → IsOutcome m 
 abbrev pub IsAtRest : ModuleValue → World → Type 0
 IsAtRest m w = (a : ℕ) → has_private_step m w a ≡ false
 
--- These schedules are legal and lead to worlds at rest, and no two of them lead to worlds that are alike (but for numbers of steps and phases) and print
--- the same on the way.
+-- These schedules are legal and lead to worlds at rest, and no two of them lead to worlds that are alike (but for numbers of steps and phases).
 pub record AreApart (m : ModuleValue) (args : List ℤ) (schedules : List (List ℕ)) : Type 0 where
   pub legal : (k : ℕ) (p : List ℕ) → slice_get schedules k ≡ Some p → (w : World) × (run m p (opening m args) ≡ Through w) × IsAtRest m w
   pub apart : (i j : ℕ) (p q : List ℕ) (w v : World) → slice_get schedules i ≡ Some p → slice_get schedules j ≡ Some q
       → run m p (opening m args) ≡ Through w → run m q (opening m args) ≡ Through v
-      → AreAlike w v → printed m p (opening m args) ≡ printed m q (opening m args) → i ≡ j
+      → AreAlike w v → i ≡ j
 
 -- what these schedules print after which all have ended is listed
 abbrev pub AreEndsListed : ModuleValue → List ℤ → List (List ℕ) → List Outcome → Type 0

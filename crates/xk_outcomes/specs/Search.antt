@@ -1,5 +1,5 @@
 -- Worlds that are found one from another. This project's own.
-use Rattle.std.specs.Prelude.{◌≡◌, ℕ, ℤ, ◌<◌, true, List, [], ◌∷◌, ◌++◌, Some, slice_get, map}
+use Rattle.std.specs.Prelude.{◌≡◌, ℕ, ℤ, ◌<◌, ◌⊎◌, true, List, [], ◌∷◌, ◌++◌, length, Some, slice_get, map}
 use Rattle.std.specs.Option.{option_to_list}
 use Rattle.xk_types.specs.declared.world.Event.{Event}
 use Rattle.xk_types.specs.Code.{ModuleValue}
@@ -10,8 +10,12 @@ use Rattle.xk_law_commute.specs.PlainWorlds.{AreAlike}
 use Rattle.xk_outcomes.specs.PrivateSteps.{has_private_step}
 use Rattle.xk_core.specs.Core.{CoreValue}
 use Rattle.xk_outcomes.specs.Found.{FoundValue, at_rest}
-use Rattle.xk_outcomes.specs.Digest.{world_digest}
+use Rattle.xk_readings.specs.declared.edge.Edge.{Edge}
+use Rattle.xk_outcomes.specs.declared.order.Order.{Order}
+use Rattle.xk_digests.specs.Digest.{world_digest}
+use Rattle.xk_outcomes.specs.Links.{HasLink, LeadTo}
 use Rattle.xk_outcomes.specs.Outcomes.{IsAtRest}
+use Rattle.xk_outcomes.specs.Rising.{key}
 
 -- ---- one that was found
 
@@ -43,42 +47,50 @@ abbrev pub AreAtRest : List FoundValue → Type 0
 AreAtRest all = (k : ℕ) (x : FoundValue) → slice_get all k ≡ Some x → IsAtRest x.core.module_run x.core.world
 
 -- what was there stays where it is
-abbrev pub IsGrown : List FoundValue → List FoundValue → Type 0
-IsGrown old new = (k : ℕ) (x : FoundValue) → slice_get old k ≡ Some x → slice_get new k ≡ Some x
+abbrev pub IsGrown : {X : Type 0} → List X → List X → Type 0
+IsGrown {X} old new = (k : ℕ) (x : X) → slice_get old k ≡ Some x → slice_get new k ≡ Some x
 
--- it is in a world that is like this one, these numbers being printed by then
-abbrev pub IsAt : FoundValue → World → List ℤ → Type 0
-IsAt x w numbers = AreAlike w x.core.world × (x.printed ≡ numbers)
+-- it is in a world that is like this one, and these numbers being printed by then doesn't tell it apart
+abbrev pub IsAt : Order → FoundValue → World → List ℤ → Type 0
+IsAt order x w numbers = AreAlike w x.core.world × (key order x.printed ≡ key order numbers)
+
+-- the one of a number is
+abbrev pub IsThere : Order → List FoundValue → World → List ℤ → ℕ → Type 0
+IsThere order all w numbers k = (x : FoundValue) × (slice_get all k ≡ Some x) × IsAt order x w numbers
 
 -- one of them is
-abbrev pub Has : List FoundValue → World → List ℤ → Type 0
-Has all w numbers = (k : ℕ) × (x : FoundValue) × (slice_get all k ≡ Some x) × IsAt x w numbers
+abbrev pub Has : Order → List FoundValue → World → List ℤ → Type 0
+Has order all w numbers = (k : ℕ) × IsThere order all w numbers k
 
--- no two of them are in worlds that are alike, the same numbers being printed by then
-abbrev pub AreDifferent : List FoundValue → Type 0
-AreDifferent all = (i j : ℕ) (x y : FoundValue) → slice_get all i ≡ Some x → slice_get all j ≡ Some y → IsAt x y.core.world y.printed → i ≡ j
+-- It was there already, at this number; or it was put behind the others.
+abbrev pub IsAdded : Order → List FoundValue → List FoundValue → FoundValue → ℕ → Type 0
+IsAdded order old new x k = ((new ≡ old) × IsThere order old x.core.world x.printed k) ⊎ ((new ≡ old ++ x ∷ []) × (k ≡ length old))
+
+-- no two of them are the same
+abbrev pub AreDifferent : Order → List FoundValue → Type 0
+AreDifferent order all = (i j : ℕ) (x y : FoundValue) → slice_get all i ≡ Some x → slice_get all j ≡ Some y → IsAt order x y.core.world y.printed → i ≡ j
 
 -- the digest of one that was found
-abbrev pub found_digest : FoundValue → ℕ
-found_digest x = world_digest x.core.world x.printed
+abbrev pub found_digest : Order → FoundValue → ℕ
+found_digest order x = world_digest x.core.world (key order x.printed)
 
 -- their digests
-abbrev pub AreDigests : List FoundValue → List ℕ → Type 0
-AreDigests all digests = digests ≡ map found_digest all
+abbrev pub AreDigests : Order → List FoundValue → List ℕ → Type 0
+AreDigests order all digests = digests ≡ map (found_digest order) all
 
--- private steps lead from this world to one that they have
-abbrev pub IsKnown : ModuleValue → List FoundValue → World → List ℤ → Type 0
-IsKnown m all w numbers = (list : List ℕ) × (v : World) × LeadsPrivately m list w v × Has all v numbers
-
--- where activity a can take a step from here, they know where that leads, with what is printed then
-abbrev pub HasAfter : ModuleValue → List FoundValue → FoundValue → ℕ → Type 0
-HasAfter m all x a = (u : World) (e : Event) → step m x.core.world a ≡ Stepped u e → IsKnown m all u (x.printed ++ option_to_list (number_printed e))
+-- Where activity a can take a step from the one of a number, a link with what that prints leads to one of them; and so do private
+-- steps behind the step.
+abbrev pub HasAfter : ModuleValue → Order → List FoundValue → List Edge → ℕ → FoundValue → ℕ → Type 0
+HasAfter m order all links number x a = (u : World) (e : Event) → step m x.core.world a ≡ Stepped u e
+    → (list : List ℕ) × (v : World) × LeadsPrivately m list u v
+    × (k : ℕ) × IsThere order all v (x.printed ++ option_to_list (number_printed e)) k × HasLink links number (number_printed e) k
 
 -- so it is of each activity, from each of them before this place
-abbrev pub AreExpanded : ModuleValue → List FoundValue → ℕ → Type 0
-AreExpanded m all place = (k : ℕ) (x : FoundValue) → k < place → slice_get all k ≡ Some x → (a : ℕ) → HasAfter m all x a
+abbrev pub AreExpanded : ModuleValue → Order → List FoundValue → List Edge → ℕ → Type 0
+AreExpanded m order all links place = (k : ℕ) (x : FoundValue) → k < place → slice_get all k ≡ Some x → (a : ℕ) → HasAfter m order all links k x a
 
--- Whatever a legal schedule prints by which all have ended was printed by then in one of them, in which all have ended.
-abbrev pub AreAllFound : CoreValue → List FoundValue → Type 0
-AreAllFound start all = (list : List ℕ) (w : World) → run start.module_run list start.world ≡ Through w → all_ended w ≡ true
-    → (k : ℕ) × (x : FoundValue) × (slice_get all k ≡ Some x) × (x.printed ≡ printed start.module_run list start.world) × (all_ended x.core.world ≡ true)
+-- Whatever a legal schedule prints by which all have ended stands along links to one of them, in which all have ended.
+abbrev pub AreAllFound : Order → CoreValue → List FoundValue → List Edge → Type 0
+AreAllFound order start all links = (list : List ℕ) (w : World) → run start.module_run list start.world ≡ Through w → all_ended w ≡ true
+    → (k : ℕ) × (x : FoundValue) × (slice_get all k ≡ Some x) × (all_ended x.core.world ≡ true)
+    × (key order x.printed ≡ key order (printed start.module_run list start.world)) × LeadTo links k (printed start.module_run list start.world)

@@ -2,9 +2,12 @@
 use Rattle.std.specs.Prelude.{◌≡◌, ℕ, ℤ, ◌≤ℤ◌, Bool, true, false, List, [], ◌∷◌, Some, slice_get, count_by}
 use Rattle.std.specs.Ordering.{int_eq}
 use Rattle.xk_types.specs.Code.{ModuleValue}
+use Rattle.xk_types.specs.World.{World, opening}
+use Rattle.xk_types.specs.Schedule.{Through, run, printed}
 use Rattle.xk_types.specs.Logs.{schedule_of}
+use Rattle.xk_law_commute.specs.PlainWorlds.{AreAlike}
 use Rattle.xk_outcomes.specs.declared.listing.Outcome.{Outcome}
-use Rattle.xk_outcomes.specs.Outcomes.{AreAll, AreDistinct, AreEndsListed, AreShown, IsOutcome}
+use Rattle.xk_outcomes.specs.Outcomes.{AreAll, AreApart, AreDistinct, AreEndsListed, AreShown, IsAtRest, IsOutcome}
 
 -- the same numbers, each as often, in whatever order
 abbrev pub HaveSameNumbers : List ℤ → List ℤ → Type 0
@@ -41,6 +44,14 @@ AreSetsAll m args list = (schedule : List ℕ) (numbers : List ℤ) → IsOutcom
 abbrev pub AreEndsSetListed : ModuleValue → List ℤ → List (List ℕ) → List Outcome → Type 0
 AreEndsSetListed m args schedules list = (k : ℕ) (p : List ℕ) (numbers : List ℤ) → slice_get schedules k ≡ Some p → IsOutcome m args p numbers → IsSetListed list numbers
 
+-- These schedules are legal and lead to worlds at rest, and no two of them lead to worlds that are alike and print the same numbers on the way, in
+-- whatever order.
+pub record AreSetsApart (m : ModuleValue) (args : List ℤ) (schedules : List (List ℕ)) : Type 0 where
+  pub legal : (k : ℕ) (p : List ℕ) → slice_get schedules k ≡ Some p → (w : World) × (run m p (opening m args) ≡ Through w) × IsAtRest m w
+  pub apart : (i j : ℕ) (p q : List ℕ) (w v : World) → slice_get schedules i ≡ Some p → slice_get schedules j ≡ Some q
+      → run m p (opening m args) ≡ Through w → run m q (opening m args) ≡ Through v
+      → AreAlike w v → HaveSameNumbers (printed m p (opening m args)) (printed m q (opening m args)) → i ≡ j
+
 -- ---- as lists of numbers, or without their order
 
 -- the numbers that are told are printed in a run to its end, which has the log beside them: in this order, or in some order
@@ -62,3 +73,8 @@ AreAllAs true = AreSetsAll
 abbrev pub AreEndsListedAs : Bool → ModuleValue → List ℤ → List (List ℕ) → List Outcome → Type 0
 AreEndsListedAs false = AreEndsListed
 AreEndsListedAs true = AreEndsSetListed
+
+-- these schedules lead to worlds at rest that are kept apart, as lists of numbers or without their order
+abbrev pub AreApartAs : Bool → ModuleValue → List ℤ → List (List ℕ) → Type 0
+AreApartAs false = AreApart
+AreApartAs true = AreSetsApart

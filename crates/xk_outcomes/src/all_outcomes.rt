@@ -10,9 +10,10 @@ ghost use Rattle.xk_outcomes.specs.Outcomes.{AreAll, AreDistinct, AreShown};
 ghost use Rattle.xk_outcomes.specs.Sets.{AreAllAs, AreDistinctAs, AreSetsAll, AreSetsDistinct, AreSetsShown, AreShownAs};
 
 use crate::listed::Listed;
-use crate::listing::{Outcome, Outcomes, list_outcomes};
+use crate::listing::{Outcome, Outcomes};
 use crate::lone_outcome::lone_outcome;
 use crate::order::Order;
+use crate::paths::list_found;
 use crate::plain_runs::note_plain;
 use crate::search::explore;
 use std::alloc::{AllocError, Global};
@@ -88,8 +89,8 @@ pub fn outcomes(
         → (limit.entries < r.entries) ⊎ (limit.outcomes ≤ length r.list.items)) }
     // No more are told than the limit says, or than there are plain runs.
     ensures most { IfOk result (λ r. length r.list.items ≤ max limit.outcomes plain_runs) }
-    // As many are kept, each at rest: no two of them are alike and have printed the same. What was printed by one in which all
-    // have ended is listed, unless as many are as the limit says.
+    // As many are kept, each at rest: no two of them are alike. What was printed by one in which all have ended is listed,
+    // unless as many are as the limit says.
     ensures kept { IfOk result
         (λ r. HasKept verified.now arguments.now false limit.outcomes r.list.items r.entries) }
 {
@@ -231,8 +232,8 @@ fn searched_in(
     let mut listed = Listed::new(alloc);
     note_plain(alloc, order, &mut listed, verified, arguments)?;
     let start = Core::open(alloc, verified, arguments)?;
-    let explored = explore(alloc, start, limit.entries)?;
-    let all = list_outcomes(alloc, order, &mut listed, &explored.found, limit.outcomes)?;
+    let explored = explore(alloc, order, start, limit.entries)?;
+    let all = list_found(alloc, order, &mut listed, &explored, limit.outcomes)?;
     let list = listed.into_outcomes(alloc)?;
     Ok(Outcomes {
         list,

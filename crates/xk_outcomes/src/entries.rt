@@ -1,17 +1,23 @@
 //! Those that were found, of which only how they were found is kept: from which, and by whose step.
 
-ghost use Rattle.std.specs.Prelude.{◌≡◌, ◌<◌, true, false, length, slice_get, IfOk, OnOk, Some};
+ghost use Rattle.std.specs.Prelude.{◌≡◌, ◌<◌, true, false, length, slice_get, IfNone, IfOk, IfSome, OnErr, Some, List};
 ghost use Rattle.std.specs.Bool.{Decides};
+ghost use Rattle.xk_types.specs.Bound.{steps_bound};
+ghost use Rattle.xk_readings.specs.declared.edge.Edge.{Edge as Link};
+ghost use Rattle.xk_readings.specs.Graphs.{graph};
+ghost use Rattle.xk_readings.specs.Readings.{IsLongest};
 ghost use Rattle.xk_outcomes.specs.Entries.{first_entry};
-ghost use Rattle.xk_outcomes.specs.Found.{FoundValue, along, first_found, next};
-ghost use Rattle.xk_outcomes.specs.Search.{AreDifferent, AreFound, AreSettled, Has, IsAt, IsFound, IsGrown, found_digest};
+ghost use Rattle.xk_outcomes.specs.Found.{FoundValue, along, first_found, next, through};
+ghost use Rattle.xk_outcomes.specs.Links.{AreLinked, ends};
+ghost use Rattle.xk_outcomes.specs.Listing.{ArePlayed};
+ghost use Rattle.xk_outcomes.specs.Search.{AreDifferent, AreFound, AreSettled, Has, IsAdded, IsAt, IsFound, IsGrown, IsThere, found_digest};
 
-use crate::digest::digest_of;
-use crate::digests::Digests;
 use crate::found::{Found, beginning};
+use crate::order::{Order, key_of};
 use std::alloc::{AllocError, Global};
 use std::marker::Model;
 use xk_core::Core;
+use xk_digests::{Digests, digest_of};
 use xk_types::Act;
 
 /// How one was found: by a step from one before it, and by private steps.
@@ -24,12 +30,15 @@ pub struct Edge {
 }
 
 /// Those that were found, numbered from 0. The first is found by private steps alone. No core is kept with one: whoever wants to look at it is
-/// led there again.
+/// led there again. No two are in worlds that are alike, unless the order tells them apart by what was printed by then.
 #[derive(Drop)]
 pub struct Entries<'m> {
     start: Core<'m>,
+    order: Order,
     edges: Vec<Edge>,
     digests: Digests,
+    // of each whether all have ended in it
+    over: Vec<bool>,
 }
 
 impl<'m> Model for Entries<'m> {
@@ -37,25 +46,21 @@ impl<'m> Model for Entries<'m> {
 
     ghost Value = { EntriesValue };
 
-    ghost view = { λ e. record { start = e.start; all = led_by e.start e.edges.items } };
+    ghost view = { λ e. record {
+      start = e.start;
+      order = e.order;
+      all = led_by e.start e.edges.items;
+    } };
 
-    ghost invariant = { λ e. AreEntries e.start e.edges.items e.digests };
+    ghost invariant = { λ e. AreEntries e.start e.order e.edges.items e.digests e.over.items };
 }
 
 /// The digest of one.
-fn found_digest(x: &Found<'_>) -> u64
-    ensures { result ≡ found_digest x.now }
+fn found_digest(alloc: Global, order: Order, x: &Found<'_>) -> Result<u64, AllocError>
+    ensures { IfOk result (λ digest. digest ≡ found_digest order x.now) }
 {
-    digest_of(&x.core, &x.printed)
-}
-
-/// The digest of the first one.
-fn first_digest(alloc: Global, start: &Core<'_>) -> Result<u64, AllocError>
-    requires { start.now.world.steps ≡ 0 }
-    ensures { IfOk result (λ digest. digest ≡ found_digest (first_found start.now)) }
-{
-    let first = beginning(alloc, start)?;
-    Ok(found_digest(&first))
+    let key = key_of(alloc, order, &x.printed)?;
+    Ok(digest_of(&x.core, &key))
 }
 
 /// Whether two lists of numbers are the same.
@@ -65,31 +70,40 @@ pub fn are_same(a: &[i64], b: &[i64]) -> bool
     a == b
 }
 
-/// Whether the two are in worlds that are alike, the same numbers being printed by then.
-fn is_same(x: &Found<'_>, new: &Found<'_>) -> bool
-    ensures yes { result ≡ true → IsAt x.now new.now.core.world new.now.printed }
-    ensures no { new.now.core.module_run ≡ x.now.core.module_run → result ≡ false
-        → IsAt x.now new.now.core.world new.now.printed → ⊥ }
+/// Whether the two are in worlds that are alike, and nothing that was printed by then tells them apart.
+fn is_same(alloc: Global, order: Order, x: &Found<'_>, new: &Found<'_>) -> Result<bool, AllocError>
+    ensures yes { IfOk result (λ same. same ≡ true
+        → IsAt order x.now new.now.core.world new.now.printed) }
+    ensures no { new.now.core.module_run ≡ x.now.core.module_run → IfOk result (λ same.
+        same ≡ false → IsAt order x.now new.now.core.world new.now.printed → ⊥) }
 {
-    if !are_same(&x.printed, &new.printed) {
-        return false;
+    let key = key_of(alloc, order, &x.printed)?;
+    let new_key = key_of(alloc, order, &new.printed)?;
+    if !are_same(&key, &new_key) {
+        return Ok(false);
     }
-    new.core.is_alike(&x.core)
+    Ok(new.core.is_alike(&x.core))
 }
 
 impl<'m> Entries<'m> {
     /// The first one alone. Err where memory was refused.
-    pub fn open(alloc: Global, start: Core<'m>) -> Result<Entries<'m>, AllocError>
+    pub fn open(alloc: Global, order: Order, start: Core<'m>) -> Result<Entries<'m>, AllocError>
         requires { start.world.steps ≡ 0 }
-        ensures { IfOk result (λ e. e ≡ first_entry start.entry) }
+        ensures { IfOk result (λ e. e ≡ first_entry order start.entry) }
     {
-        let digest = first_digest(alloc, &start)?;
+        let first = beginning(alloc, &start)?;
+        let over = first.core.ended();
+        let digest = found_digest(alloc, order, &first)?;
+        drop(first);
         let mut digests = Digests::new(alloc);
         digests.push(digest)?;
+        let over = Vec::from_array(alloc, [over])?;
         Ok(Entries {
             start,
+            order,
             edges: Vec::new(alloc),
             digests,
+            over,
         })
     }
 
@@ -98,10 +112,32 @@ impl<'m> Entries<'m> {
         ensures count { result ≡ length self.now.all }
         ensures found { AreFound self.now.start self.now.all }
         ensures settled { AreSettled self.now.start self.now.all }
-        ensures different { AreDifferent self.now.all }
+        ensures different { AreDifferent self.now.order self.now.all }
     {
         // The first one, and one for each edge.
         self.edges.len() + 1
+    }
+
+    /// Of each whether all have ended in it.
+    pub fn ends(&self) -> &[bool]
+        ensures { result.now ≡ ends self.now.all }
+    {
+        &self.over
+    }
+
+    /// How many steps a run has at most; so many links stand for one that is read.
+    pub fn longest(&self) -> u64
+        ensures bound { result ≡ steps_bound self.now.start.module_run }
+        ensures longest { (links : List Link) → AreLinked self.now.start.module_run self.now.all links
+            → IsLongest (graph links (ends self.now.all)) result }
+        // What is printed along links to where all have ended is printed by their steps.
+        ensures played { (links : List Link) → AreLinked self.now.start.module_run self.now.all links
+            → ArePlayed self.now.start self.now.all links }
+    {
+        let verified = self.start.module();
+        // For the law: the module is accepted.
+        let _accepted = verified.module();
+        verified.steps()
     }
 
     /// The steps that lead to one from the first, the last of which stands first.
@@ -146,61 +182,86 @@ impl<'m> Entries<'m> {
         }
     }
 
+    /// Where steps of these activities lead from the first one, and private steps behind each.
+    pub fn led(&self, alloc: Global, acts: &[u32]) -> Result<Found<'m>, AllocError>
+        ensures { IfOk result (λ x. x ≡ through acts.now (first_found self.now.start)) }
+    {
+        let mut x = beginning(alloc, &self.start)?;
+        match x.go_through(acts) {
+            Ok(()) => Ok(x),
+            Err(_) => Err(AllocError),
+        }
+    }
+
     /// Whether the new one is the same as the one of a number, to which another core is led.
     fn is_same_at(&self, alloc: Global, number: usize, new: &Found<'_>) -> Result<bool, AllocError>
         requires { number < length self.now.all }
         ensures yes { IfOk result (λ same. same ≡ true
-            → Has self.now.all new.now.core.world new.now.printed) }
+            → IsThere self.now.order self.now.all new.now.core.world new.now.printed number) }
         ensures no { IsFound self.now.start new.now → IfOk result (λ same. same ≡ false
             → (x : FoundValue) → slice_get self.now.all number ≡ Some x
-            → IsAt x new.now.core.world new.now.printed → ⊥) }
+            → IsAt self.now.order x new.now.core.world new.now.printed → ⊥) }
     {
         // For `no`: they are found.
         let _count = self.len();
         let x = self.get(alloc, number)?;
-        Ok(is_same(&x, new))
+        let same = is_same(alloc, self.order, &x, new)?;
+        Ok(same)
     }
 
-    /// Whether one like it, which has such a digest, is there already. A core is led to those of the same digest alone.
-    fn is_known(&self, alloc: Global, new: &Found<'_>, digest: u64) -> Result<bool, AllocError>
-        requires digest { digest ≡ found_digest new.now }
-        ensures yes { IfOk result (λ known. known ≡ true
-            → Has self.now.all new.now.core.world new.now.printed) }
-        ensures no { IsFound self.now.start new.now → IfOk result (λ known. known ≡ false
-            → Has self.now.all new.now.core.world new.now.printed → ⊥) }
+    /// The number of the one that is the same, which has such a digest, if one is. A core is led to those of the same digest alone.
+    fn known(
+        &self,
+        alloc: Global,
+        new: &Found<'_>,
+        digest: u64,
+    ) -> Result<Option<usize>, AllocError>
+        requires digest { digest ≡ found_digest self.now.order new.now }
+        ensures yes { IfOk result (λ known. IfSome known
+            (IsThere self.now.order self.now.all new.now.core.world new.now.printed)) }
+        ensures no { IsFound self.now.start new.now → IfOk result (λ known. IfNone known
+            (Has self.now.order self.now.all new.now.core.world new.now.printed → ⊥)) }
     {
         let mut at = self.digests.last(digest);
         while at > 0 {
             let number = at - 1;
             if self.is_same_at(alloc, number, new)? {
-                return Ok(true);
+                return Ok(Some(number));
             }
             at = self.digests.before(number);
         }
-        Ok(false)
+        Ok(None)
     }
 
-    /// Adds what a step of the activity leads to from the one of a number, if none like it is there yet.
+    /// Adds what a step of the activity leads to from the one of a number, if none is the same yet. The number of the one that is. Err where
+    /// memory was refused: nothing is added then.
     pub fn add(
         &mut self,
         alloc: Global,
         from: usize,
         act: Act,
         new: &Found<'_>,
-    ) -> Result<(), AllocError>
+    ) -> Result<usize, AllocError>
         requires { (x : FoundValue) × (slice_get self.old.all from ≡ Some x)
             × (new.now ≡ next act x) }
         ensures start { self.new.start ≡ self.old.start }
+        ensures order { self.new.order ≡ self.old.order }
         ensures grown { IsGrown self.old.all self.new.all }
-        ensures there { OnOk result (Has self.new.all new.now.core.world new.now.printed) }
+        ensures added { IfOk result (IsAdded self.old.order self.old.all self.new.all new.now) }
+        ensures same { OnErr result (self.new.all ≡ self.old.all) }
     {
-        let digest = found_digest(new);
-        if self.is_known(alloc, new, digest)? {
-            return Ok(());
+        let digest = found_digest(alloc, self.order, new)?;
+        let known = self.known(alloc, new, digest)?;
+        match known {
+            Some(number) => return Ok(number),
+            None => {}
         }
+        let number = self.len();
         self.edges.reserve(1)?;
+        self.over.reserve(1)?;
         self.digests.push(digest)?;
         self.edges.push_reserved(Edge { from, act });
-        Ok(())
+        self.over.push_reserved(new.core.ended());
+        Ok(number)
     }
 }

@@ -2,7 +2,7 @@
 
 ghost use Rattle.std.specs.Prelude.{◌≡◌, IfOk, OnOk};
 ghost use Rattle.xk_outcomes.specs.PrivateSteps.{has_private_step};
-ghost use Rattle.xk_outcomes.specs.Found.{along, at_rest, first_found, least_private, next, one_more};
+ghost use Rattle.xk_outcomes.specs.Found.{along, at_rest, first_found, least_private, next, one_more, through};
 
 use crate::private_steps::has_private_step;
 use std::alloc::{AllocError, Global};
@@ -80,6 +80,16 @@ impl<'m> Found<'m> {
     {
         self.step(act)?;
         self.settle()?;
+        Ok(())
+    }
+
+    /// Steps of these activities, the first of which stands first, and private steps behind each.
+    pub fn go_through(&mut self, acts: &[u32]) -> Result<(), AllocError>
+        ensures { OnOk result (self.new ≡ through acts.now self.old) }
+    {
+        for act in acts {
+            self.go_on(Act(*act))?;
+        }
         Ok(())
     }
 

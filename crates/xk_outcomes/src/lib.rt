@@ -2,8 +2,6 @@
 #![tactic(auto)]
 
 mod all_outcomes;
-mod digest;
-mod digests;
 mod entries;
 mod expected;
 mod found;
@@ -12,6 +10,7 @@ mod listed;
 mod listing;
 mod lone_outcome;
 mod order;
+mod paths;
 mod plain_runs;
 mod private_steps;
 mod reading;

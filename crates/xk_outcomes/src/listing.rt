@@ -1,13 +1,14 @@
 //! What was found is listed, each list of numbers once, as it is told in an order.
 
-ghost use Rattle.std.specs.Prelude.{◌≡◌, ℕ, ◌≤◌, ◌<◌, ◌+◌, ◌++◌, ◌∷◌, ◌⊎◌, [], true, false, length, max, slice_get, IfOk, Some, List};
+ghost use Rattle.std.specs.Prelude.{◌≡◌, ◌≤◌, ◌<◌, ◌+◌, true, false, length, max, IfOk, List};
 ghost use Rattle.xk_types.specs.Schedule.{all_ended};
 ghost use Rattle.xk_types.specs.Logs.{schedule_of, one_step_of};
-ghost use Rattle.xk_outcomes.specs.Found.{FoundValue};
+ghost use Rattle.xk_core.specs.Core.{CoreValue};
 ghost use Rattle.xk_outcomes.specs.declared.listing.Outcome.{Outcome as AnOutcome};
 ghost use Rattle.xk_outcomes.specs.Outcomes.{AreDistinct, IsListed};
 ghost use Rattle.xk_outcomes.specs.Listing.{AreNoted, AreOf, IsOf, KeepsListed};
 ghost use Rattle.xk_outcomes.specs.Rising.{ordered};
+ghost use Rattle.xk_outcomes.specs.Search.{IsFound};
 
 use crate::entries::Entries;
 use crate::found::Found;
@@ -32,8 +33,8 @@ pub struct Outcomes {
     pub list: Vec<Outcome>,
     /// Whether that is all.
     pub complete: bool,
-    /// How many worlds were kept, with the numbers printed by then, to find it. There are at least so many worlds at
-    /// rest, no two of them alike with the same numbers printed.
+    /// How many worlds were kept to find it: all at rest, no two of them alike; or, where the order of numbers doesn't
+    /// count, alike with the same numbers printed.
     pub entries: usize,
 }
 
@@ -63,7 +64,7 @@ fn outcome_of(alloc: Global, order: Order, x: &Found<'_>) -> Result<Outcome, All
 
 /// Lists what one that was found printed, if all have ended in it and it is listed already or fewer are than the limit says. Whether it is
 /// listed then, or isn't to be.
-fn note(
+pub(crate) fn note(
     alloc: Global,
     order: Order,
     list: &mut Listed,
@@ -75,9 +76,8 @@ fn note(
     ensures listed { IfOk result (λ noted. noted ≡ true → all_ended x.now.core.world ≡ true
         → IsListed list.new (ordered order x.now.printed)) }
     ensures full { IfOk result (λ noted. noted ≡ false → limit ≤ length list.new) }
-    ensures of { (old : List AnOutcome) (all : List FoundValue) (j : ℕ)
-        → slice_get all j ≡ Some x.now
-        → AreOf order old all list.old → AreOf order old all list.new }
+    ensures of { (start : CoreValue) (old : List AnOutcome) → IsFound start x.now
+        → AreOf order start old list.old → AreOf order start old list.new }
     ensures most { length list.new ≤ max limit (length list.old) }
 {
     if x.core.ended() {
@@ -104,10 +104,12 @@ fn note_at(
         → AreNoted order all.now.all (number + 1) list.new) }
     ensures full { IfOk result (λ noted. noted ≡ false → limit ≤ length list.new) }
     ensures kept { KeepsListed list.old list.new }
-    ensures of { (old : List AnOutcome) → AreOf order old all.now.all list.old
-        → AreOf order old all.now.all list.new }
+    ensures of { (old : List AnOutcome) → AreOf order all.now.start old list.old
+        → AreOf order all.now.start old list.new }
     ensures most { length list.new ≤ max limit (length list.old) }
 {
+    // For `of`: those are found.
+    let _count = all.len();
     let x = all.get(alloc, number)?;
     note(alloc, order, list, &x, limit)
 }
@@ -121,7 +123,7 @@ pub fn list_outcomes(
     all: &Entries<'_>,
     limit: usize,
 ) -> Result<bool, AllocError>
-    ensures of { AreOf order list.old all.now.all list.new }
+    ensures of { AreOf order all.now.start list.old list.new }
     ensures kept { KeepsListed list.old list.new }
     ensures distinct { AreDistinct list.old → AreDistinct list.new }
     ensures noted { IfOk result (λ complete. complete ≡ true

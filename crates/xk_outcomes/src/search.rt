@@ -1,13 +1,16 @@
 //! The search, in breadth: what stands before an index has been looked at, and what is new goes to the end.
 
 ghost use Rattle.std.specs.Prelude.{◌≡◌, ◌<◌, ◌≤◌, ℕ, true, false, length, slice_get, IfOk, OnOk, Some};
-ghost use Rattle.xk_outcomes.specs.Found.{FoundValue};
+ghost use Rattle.xk_outcomes.specs.Found.{FoundValue, first_found};
+ghost use Rattle.xk_outcomes.specs.Links.{AreLinked};
 ghost use Rattle.xk_outcomes.specs.Search.{AreAllFound, AreAtRest, AreDifferent, AreExpanded, AreFound, HasAfter, IsGrown};
 
 use crate::entries::Entries;
 use crate::found::Found;
+use crate::order::Order;
 use std::alloc::{AllocError, Global};
 use xk_core::Core;
+use xk_readings::Edge;
 use xk_types::Act;
 
 /// What was found, and whether that is all.
@@ -15,95 +18,161 @@ use xk_types::Act;
 pub struct Explored<'m> {
     /// What was found.
     pub found: Entries<'m>,
+    /// How one leads to another.
+    pub links: Vec<Edge>,
     /// Whether nothing is left to look at.
     pub complete: bool,
 }
 
-/// Adds what a step of the activity leads to from here, the one of a number, if it can take one and none like that is there yet.
+/// The number that stands behind these, if one does.
+fn behind(before: &[i64], all: &[i64]) -> Option<i64>
+    ensures { result ≡ slice_get all.now (length before.now) }
+{
+    all.get(before.len()).copied()
+}
+
+/// Adds what a step of the activity leads to from here, the one of a number, if it can take one and none like that is there yet; and
+/// the link to it.
 fn try_act(
     alloc: Global,
     all: &mut Entries<'_>,
+    links: &mut Vec<Edge>,
     number: usize,
     here: &Found<'_>,
     act: Act,
 ) -> Result<(), AllocError>
     requires { slice_get all.old.all number ≡ Some here.now }
     ensures start { all.new.start ≡ all.old.start }
+    ensures order { all.new.order ≡ all.old.order }
     ensures grown { IsGrown all.old.all all.new.all }
-    ensures after { OnOk result (HasAfter here.now.core.module_run all.new.all here.now act) }
+    ensures more { IsGrown links.old.items links.new.items }
+    ensures linked { OnOk result (AreLinked here.now.core.module_run all.old.all links.old.items
+        → AreLinked here.now.core.module_run all.new.all links.new.items) }
+    ensures after { OnOk result (HasAfter here.now.core.module_run all.new.order
+        all.new.all links.new.items number here.now act) }
 {
     // For the law that private steps print nothing: the module is accepted.
     let _activities = here.core.activities();
     if !here.core.enabled(act) {
         return Ok(());
     }
+    links.reserve(1)?;
     let next = all.successor(alloc, number, act)?;
-    all.add(alloc, number, act, &next)
+    let printed = behind(&here.printed, &next.printed);
+    let to = all.add(alloc, number, act, &next)?;
+    links.push_reserved(Edge {
+        from: number,
+        act: act.0,
+        printed,
+        to,
+    });
+    Ok(())
 }
 
 /// Adds what each step leads to from here, the one of a number.
 fn look(
     alloc: Global,
     all: &mut Entries<'_>,
+    links: &mut Vec<Edge>,
     number: usize,
     here: &Found<'_>,
 ) -> Result<(), AllocError>
     requires { slice_get all.old.all number ≡ Some here.now }
     ensures start { all.new.start ≡ all.old.start }
+    ensures order { all.new.order ≡ all.old.order }
     ensures grown { IsGrown all.old.all all.new.all }
-    ensures after { OnOk result ((a : ℕ)
-        → HasAfter here.now.core.module_run all.new.all here.now a) }
+    ensures more { IsGrown links.old.items links.new.items }
+    ensures linked { OnOk result (AreLinked here.now.core.module_run all.old.all links.old.items
+        → AreLinked here.now.core.module_run all.new.all links.new.items) }
+    ensures after { OnOk result ((a : ℕ) → HasAfter here.now.core.module_run all.new.order
+        all.new.all links.new.items number here.now a) }
 {
     for a in 0..here.core.activities() {
-        try_act(alloc, all, number, here, Act(a))?;
+        try_act(alloc, all, links, number, here, Act(a))?;
     }
     Ok(())
 }
 
 /// Adds what each step leads to from the one of a number.
-fn expand(alloc: Global, all: &mut Entries<'_>, number: usize) -> Result<(), AllocError>
+fn expand(
+    alloc: Global,
+    all: &mut Entries<'_>,
+    links: &mut Vec<Edge>,
+    number: usize,
+) -> Result<(), AllocError>
     requires { number < length all.old.all }
     ensures start { all.new.start ≡ all.old.start }
+    ensures order { all.new.order ≡ all.old.order }
     ensures grown { IsGrown all.old.all all.new.all }
+    ensures more { IsGrown links.old.items links.new.items }
+    ensures linked { OnOk result (AreLinked all.old.start.module_run all.old.all links.old.items
+        → AreLinked all.old.start.module_run all.new.all links.new.items) }
     ensures after { OnOk result ((x : FoundValue) → slice_get all.old.all number ≡ Some x
-        → (a : ℕ) → HasAfter x.core.module_run all.new.all x a) }
+        → (a : ℕ) → HasAfter all.old.start.module_run all.new.order
+        all.new.all links.new.items number x a) }
 {
+    // For the module of those that were found.
+    let _count = all.len();
     let here = all.get(alloc, number)?;
-    look(alloc, all, number, &here)
+    look(alloc, all, links, number, &here)
 }
 
 /// Goes on until nothing is left to look at, or more are kept than the limit says. Whether nothing is left.
-fn search(alloc: Global, all: &mut Entries<'_>, limit: usize) -> Result<bool, AllocError>
+fn search(
+    alloc: Global,
+    all: &mut Entries<'_>,
+    links: &mut Vec<Edge>,
+    limit: usize,
+) -> Result<bool, AllocError>
     ensures start { all.new.start ≡ all.old.start }
+    ensures order { all.new.order ≡ all.old.order }
     ensures grown { IsGrown all.old.all all.new.all }
+    ensures linked { OnOk result (AreLinked all.old.start.module_run all.old.all links.old.items
+        → AreLinked all.old.start.module_run all.new.all links.new.items) }
     ensures expanded { IfOk result (λ complete. complete ≡ true
-        → AreExpanded all.old.start.module_run all.new.all (length all.new.all)) }
+        → AreExpanded all.old.start.module_run all.new.order
+        all.new.all links.new.items (length all.new.all)) }
     ensures limit { IfOk result (λ complete. complete ≡ false → limit < length all.new.all) }
 {
     let mut next: usize = 0;
     while next < all.len() && all.len() <= limit {
-        expand(alloc, all, next)?;
+        expand(alloc, all, links, next)?;
         next += 1;
     }
     Ok(next == all.len())
 }
 
-/// Finds worlds that legal schedules lead to from the start, each with the numbers that are printed by then, until nothing is left to
-/// look at, or more are kept than the limit says.
-pub fn explore<'m>(alloc: Global, start: Core<'m>, limit: usize) -> Result<Explored<'m>, AllocError>
+/// Finds worlds that legal schedules lead to from the start, each with the numbers that are printed by then, and the links between them,
+/// until nothing is left to look at, or more are kept than the limit says.
+pub fn explore<'m>(
+    alloc: Global,
+    order: Order,
+    start: Core<'m>,
+    limit: usize,
+) -> Result<Explored<'m>, AllocError>
     requires { start.world.steps ≡ 0 }
+    ensures start { IfOk result (λ r. r.found.start ≡ start.entry) }
     ensures found { IfOk result (λ r. AreFound start.entry r.found.all) }
-    ensures all { IfOk result (λ r. r.complete ≡ true → AreAllFound start.entry r.found.all) }
+    ensures linked { IfOk result
+        (λ r. AreLinked start.entry.module_run r.found.all r.links.items) }
+    ensures all { IfOk result (λ r. r.complete ≡ true
+        → AreAllFound order start.entry r.found.all r.links.items) }
     ensures limit { IfOk result (λ r. r.complete ≡ false → limit < length r.found.all) }
     ensures rest { IfOk result (λ r. AreAtRest r.found.all) }
-    ensures different { IfOk result (λ r. AreDifferent r.found.all) }
+    ensures different { IfOk result (λ r. AreDifferent order r.found.all) }
+    ensures begins { IfOk result (λ r. slice_get r.found.all 0 ≡ Some (first_found start.entry)) }
 {
     let verified = start.module();
     // For the law that nothing is missed: the module is accepted.
     let _accepted = verified.module();
-    let mut found = Entries::open(alloc, start)?;
-    let complete = search(alloc, &mut found, limit)?;
+    let mut found = Entries::open(alloc, order, start)?;
+    let mut links = Vec::new(alloc);
+    let complete = search(alloc, &mut found, &mut links, limit)?;
     // For `found`, `rest` and `different`.
     let _count = found.len();
-    Ok(Explored { found, complete })
+    Ok(Explored {
+        found,
+        links,
+        complete,
+    })
 }

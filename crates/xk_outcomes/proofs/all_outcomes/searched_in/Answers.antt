@@ -2,7 +2,8 @@ use Rattle.std.specs.Prelude.{max}
 use Rattle.std.proofs.Common.{◌∙◌, ◌<◌, ◌≤◌, arith, List, length, inl, inr, true≢false, sym, subst}
 use Rattle.xk_core.specs.Core.{CoreValue}
 use Rattle.xk_outcomes.specs.declared.listing.Outcome.{Outcome}
-use Rattle.xk_outcomes.specs.Listing.{AreAllIn, AreShownIn, HasKeptIn}
+use Rattle.xk_outcomes.specs.Links.{AreLinked}
+use Rattle.xk_outcomes.specs.Listing.{AreAllIn, AreOf, AreShownIn, HasKeptIn}
 use Rattle.xk_outcomes.specs.Outcomes.{AreDistinct}
 use Rattle.xk_outcomes.specs.PlainRuns.{ArePlainListedIn, plain_runs}
 use Rattle.xk_outcomes.specs.Search.{AreFound, AreAllFound}
@@ -11,27 +12,33 @@ use Rattle.xk_outcomes.proofs.PlainRunLemmas.{more_of_none, plain_kept}
 use Rattle.xk_outcomes.proofs.all_outcomes.searched_in.Goals.{then-explored, else-explored}
 use Rattle.xk_outcomes.proofs.all_outcomes.searched_in.Goals as goal
 
+pub list_found-requires : goal.list_found-requires
+list_found-requires c =
+    let all = c.in_ok-explored.explored.found.all in
+    let links = c.in_ok-explored.explored.links.items in
+    subst (λ (s : CoreValue). AreLinked s.module_run all links) (sym c.in_ok-explored.ensures.start) c.in_ok-explored.ensures.linked
+
 pub returns-clause-shown : goal.returns-clause-shown
 returns-clause-shown c =
     let m = c.args.verified.now in
     let args = c.args.arguments.now in
-    let all = c.in_ok-explored.explored.found.all in
-    let found = subst (λ (s : CoreValue). AreFound s all) c.in_ok-start.ensures c.in_ok-explored.ensures.found in
+    let begins = c.in_ok-explored.ensures.start ∙ c.in_ok-start.ensures in
+    let of = subst (λ (s : CoreValue). AreOf c.args.order s c.note_plain.new.list c.list_found.new.list) begins c.list_found.ensures.of in
     subst (λ (list : List Outcome). AreShownIn c.args.order m args list) (sym c.in_ok-list.ensures)
-    (all_shown c.args.order m args c.note_plain.new.list all c.list_outcomes.new.list
+    (all_shown c.args.order m args c.note_plain.new.list c.list_found.new.list
     (more_of_none c.args.order m args plain_runs c.new-listed.result c.note_plain.new.list c.new-listed.ensures
-    c.note_plain.ensures.more).1 found c.list_outcomes.ensures.of)
+    c.note_plain.ensures.more).1 of)
 
 pub returns-clause-distinct : goal.returns-clause-distinct
 returns-clause-distinct c =
     subst AreDistinct (sym c.in_ok-list.ensures)
-    (c.list_outcomes.ensures.distinct
+    (c.list_found.ensures.distinct
     (more_of_none c.args.order c.args.verified.now c.args.arguments.now plain_runs c.new-listed.result c.note_plain.new.list
     c.new-listed.ensures c.note_plain.ensures.more).0)
 
 pub returns-clause-most : goal.returns-clause-most
 returns-clause-most c =
-    let most = c.list_outcomes.ensures.most in
+    let most = c.list_found.ensures.most in
     let few =
     (more_of_none c.args.order c.args.verified.now c.args.arguments.now plain_runs c.new-listed.result c.note_plain.new.list
     c.new-listed.ensures c.note_plain.ensures.more).2 in
@@ -43,7 +50,7 @@ returns-clause-plain c less =
     let m = c.args.verified.now in
     let args = c.args.arguments.now in
     subst (ArePlainListedIn c.args.order m args) (sym c.in_ok-list.ensures)
-    (plain_kept c.args.order m args c.note_plain.new.list c.list_outcomes.new.list c.list_outcomes.ensures.kept
+    (plain_kept c.args.order m args c.note_plain.new.list c.list_found.new.list c.list_found.ensures.kept
     c.in_ok-note_plain.ensures.plain)
 
 pub returns-clause-all : goal.returns-clause-all
@@ -51,11 +58,12 @@ returns-clause-all c done =
     let m = c.args.verified.now in
     let args = c.args.arguments.now in
     let all = c.in_ok-explored.explored.found.all in
+    let links = c.in_ok-explored.explored.links.items in
     elim c.if-explored.branch [
       | then-explored w ↦ subst (λ (list : List Outcome). AreAllIn c.args.order m args list) (sym c.in_ok-list.ensures)
-          (all_listed c.args.order m args all c.list_outcomes.new.list
-          (subst (λ (s : CoreValue). AreAllFound s all) c.in_ok-start.ensures (c.in_ok-explored.ensures.all w.if-explored.true))
-          (c.in_ok-all.ensures.noted (sym w.result-is ∙ done)))
+          (all_listed c.args.order m args all links c.list_found.new.list
+          (subst (λ (s : CoreValue). AreAllFound c.args.order s all links) c.in_ok-start.ensures (c.in_ok-explored.ensures.all w.if-explored.true))
+          (c.in_ok-all.ensures.met (sym w.result-is ∙ done)))
       | else-explored w ↦ absurd (true≢false (sym done ∙ w.result-is ∙ w.if-explored.false))
     ]
 
@@ -74,8 +82,10 @@ returns-clause-kept c =
     let args = c.args.arguments.now in
     let most = c.args.limit.outcomes in
     let all = c.in_ok-explored.explored.found.all in
+    let links = c.in_ok-explored.explored.links.items in
     let found = subst (λ (s : CoreValue). AreFound s all) c.in_ok-start.ensures c.in_ok-explored.ensures.found in
-    let kept = all_kept c.args.order m args most all c.list_outcomes.new.list c.in_ok-all.all found
-    c.in_ok-explored.ensures.rest c.in_ok-explored.ensures.different c.in_ok-all.ensures.noted c.in_ok-all.ensures.limit in
+    let linked = subst (λ (s : CoreValue). AreLinked s.module_run all links) c.in_ok-start.ensures c.in_ok-explored.ensures.linked in
+    let kept = all_kept c.args.order m args most all links c.list_found.new.list c.in_ok-all.all found linked
+    c.in_ok-explored.ensures.rest c.in_ok-explored.ensures.different c.in_ok-all.ensures.met c.in_ok-all.ensures.limit in
     subst (HasKeptIn c.args.order m args most c.in_ok-list.list.items) (sym c.len.ensures.count)
     (subst (λ (list : List Outcome). HasKeptIn c.args.order m args most list (length all)) (sym c.in_ok-list.ensures) kept)

@@ -13,7 +13,7 @@ pub returns-in_err-new-clause-kept : goal.returns-in_err-new-clause-kept
 returns-in_err-new-clause-kept c numbers h = h
 
 pub returns-in_err-new-clause-of : goal.returns-in_err-new-clause-of
-returns-in_err-new-clause-of c old all j there before = before
+returns-in_err-new-clause-of c start old found before = before
 
 pub returns-in_ok-new-clause-distinct : goal.returns-in_ok-new-clause-distinct
 returns-in_ok-new-clause-distinct c = c.put_within.ensures.distinct
@@ -28,8 +28,8 @@ returns-in_ok-new-clause-listed c =
     c.put_within.ensures.listed
 
 pub returns-in_ok-new-clause-of : goal.returns-in_ok-new-clause-of
-returns-in_ok-new-clause-of c old all j there before =
-    of_either c.args.order old all j c.args.x.now c.args.list.now c.put_within.new.self c.in_ok-new.new c.put_within.ensures.each there
+returns-in_ok-new-clause-of c start old found before =
+    of_either c.args.order start old c.args.x.now c.args.list.now c.put_within.new.self c.in_ok-new.new c.put_within.ensures.each found
     c.in_ok-new.ensures before
 
 pub returns-else-ended-clause-distinct : goal.returns-else-ended-clause-distinct
@@ -43,4 +43,4 @@ returns-else-ended-clause-listed c noted done =
     absurd (true≢false (sym done ∙ (ap (λ (x : FoundValue). all_ended x.core.world) (sym c.x.view_is) ∙ (sym c.ended.ensures ∙ c.if-ended.false))))
 
 pub returns-else-ended-clause-of : goal.returns-else-ended-clause-of
-returns-else-ended-clause-of c old all j there before = before
+returns-else-ended-clause-of c start old found before = before

@@ -10,4 +10,4 @@ returns-clause-noted c =
     c.note.ensures.listed
 
 pub returns-clause-of : goal.returns-clause-of
-returns-clause-of c old = c.note.ensures.of old c.args.all.now.all c.args.number c.in_ok-x.ensures
+returns-clause-of c old = c.note.ensures.of c.args.all.now.start old (c.len-count.ensures.found c.args.number c.in_ok-x.x c.in_ok-x.ensures)

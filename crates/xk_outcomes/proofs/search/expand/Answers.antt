@@ -1,12 +1,24 @@
-use Rattle.std.proofs.Common.{◌∙◌, ℕ, subst, sym}
+use Rattle.std.proofs.Common.{◌∙◌, subst, sym}
 use Rattle.std.proofs.lemmas.Option.{same_Some}
 use Rattle.std.proofs.lemmas.Result.{on_ok_weaker}
+use Rattle.xk_types.specs.Code.{ModuleValue}
 use Rattle.xk_outcomes.specs.Found.{FoundValue}
+use Rattle.xk_outcomes.specs.Links.{AreLinked}
 use Rattle.xk_outcomes.specs.Search.{HasAfter}
 use Rattle.xk_outcomes.proofs.search.expand.Goals as goal
+
+pub returns-clause-linked : goal.returns-clause-linked
+returns-clause-linked c =
+    let same_module = (c.len-count.ensures.found c.args.number c.in_ok-here.here c.in_ok-here.ensures).module_is in
+    on_ok_weaker c.look.result (λ linked before.
+    subst (λ (k : ModuleValue). AreLinked k c.look.new.all.all c.look.new.links.items) same_module
+    (linked (subst (λ (k : ModuleValue). AreLinked k c.args.all.now.all c.args.links.now.items) (sym same_module) before))) c.look.ensures.linked
 
 pub returns-clause-after : goal.returns-clause-after
 returns-clause-after c =
     let here = c.in_ok-here.here in
-    on_ok_weaker c.look.result (λ after x there.
-    subst (λ (y : FoundValue). (a : ℕ) → HasAfter y.core.module_run c.look.new.all.all y a) (same_Some here x (sym c.in_ok-here.ensures ∙ there)) after) c.look.ensures.after
+    let same_module = (c.len-count.ensures.found c.args.number here c.in_ok-here.ensures).module_is in
+    on_ok_weaker c.look.result (λ after x there a.
+    subst (λ (k : ModuleValue). HasAfter k c.look.new.all.order c.look.new.all.all c.look.new.links.items c.args.number x a) same_module
+    (subst (λ (y : FoundValue). HasAfter here.core.module_run c.look.new.all.order c.look.new.all.all c.look.new.links.items c.args.number y a)
+    (same_Some here x (sym c.in_ok-here.ensures ∙ there)) (after a))) c.look.ensures.after

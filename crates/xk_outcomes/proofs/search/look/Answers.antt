@@ -1,5 +1,6 @@
-use Rattle.std.proofs.Common.{◌≡◌, ◌∙◌, ℕ, length, ap, arith, refl}
+use Rattle.std.proofs.Common.{◌≡◌, ◌∙◌, ℕ, length, ap, arith, refl, subst, sym}
 use borrow.Author.Count.{below_more}
+use Rattle.xk_outcomes.specs.declared.order.Order.{Order}
 use Rattle.xk_outcomes.specs.Found.{FoundValue}
 use Rattle.xk_outcomes.specs.Search.{HasAfter}
 use Rattle.xk_outcomes.proofs.SearchLemmas.{after_grown, after_all}
@@ -8,7 +9,10 @@ use Rattle.xk_outcomes.proofs.search.look.Goals as goal
 pub loop-a-init : goal.loop-a-init
 loop-a-init c = record {
   start = refl;
+  order = refl;
   grown = λ k x h. h;
+  more = λ k x h. h;
+  linked = λ h. h;
   after = λ a less. absurd (omega (arith, less));
 }
 
@@ -16,13 +20,20 @@ pub loop-a-preserved : goal.loop-a-preserved
 loop-a-preserved c =
     let here = c.args.here.now in
     let m = here.core.module_run in
+    let order = c.try_act.new.all.order in
     let old = c.loop-a.all.all in
     let new = c.try_act.new.all.all in
+    let links = c.loop-a.links.items in
+    let more = c.try_act.new.links.items in
     record {
       start = c.try_act.ensures.start ∙ c.loop-a.invariant.start;
+      order = c.try_act.ensures.order ∙ c.loop-a.invariant.order;
       grown = λ k x h. c.try_act.ensures.grown k x (c.loop-a.invariant.grown k x h);
-      after = below_more (λ (a : ℕ). HasAfter m new here a) c.loop-a.a
-          (λ a less. after_grown m old new here a c.try_act.ensures.grown (c.loop-a.invariant.after a less))
+      more = λ k x h. c.try_act.ensures.more k x (c.loop-a.invariant.more k x h);
+      linked = λ h. c.in_ok-try_act.ensures.linked (c.loop-a.invariant.linked h);
+      after = below_more (λ (a : ℕ). HasAfter m order new more c.args.number here a) c.loop-a.a
+          (λ a less. after_grown m order old new links more c.args.number here a c.try_act.ensures.grown c.try_act.ensures.more
+          (subst (λ (o : Order). HasAfter m o old links c.args.number here a) (sym c.try_act.ensures.order) (c.loop-a.invariant.after a less)))
           c.in_ok-try_act.ensures.after;
     }
 
@@ -32,4 +43,5 @@ returns-clause-after c =
     let same : length c.here.inside.core.world.activities ≡ length here.core.world.activities = ap (λ (x : FoundValue). length x.core.world.activities) c.here.view_is in
     let many = c.activities-a-end.ensures.count in
     let over = c.loop-a-test.false in
-    after_all here.core.module_run c.loop-a.all.all here c.loop-a.a c.loop-a.invariant.after (omega (arith, same, many, over))
+    after_all here.core.module_run c.loop-a.all.order c.loop-a.all.all c.loop-a.links.items c.args.number here c.loop-a.a c.loop-a.invariant.after
+    (omega (arith, same, many, over))

@@ -1,4 +1,5 @@
 use Rattle.std.proofs.Common.{◌≡◌, ◌≤◌, ◌-◌, length}
+use Rattle.xk_outcomes.specs.Links.{AreLinked}
 use Rattle.xk_outcomes.specs.Search.{AreExpanded, IsGrown}
 use Rattle.xk_outcomes.proofs.search.search.Given as goal
 
@@ -6,8 +7,10 @@ use Rattle.xk_outcomes.proofs.search.search.Given as goal
 abbrev pub invariant-loop-next : goal.invariant-loop-next
 invariant-loop-next l = record {
   start : l.all.start ≡ l.fn.all.start;
+  order : l.all.order ≡ l.fn.all.order;
   grown : IsGrown l.fn.all.all l.all.all;
-  expanded : AreExpanded l.fn.all.start.module_run l.all.all l.next;
+  linked : AreLinked l.fn.all.start.module_run l.fn.all.all l.fn.links.items → AreLinked l.fn.all.start.module_run l.all.all l.links.items;
+  expanded : AreExpanded l.fn.all.start.module_run l.all.order l.all.all l.links.items l.next;
   within : l.next ≤ length l.all.all;
 }
 

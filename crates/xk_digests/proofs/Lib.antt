@@ -1,0 +1,3 @@
+pub mod PushLemmas
+pub mod DigestLemmas
+mod DigestListLemmas

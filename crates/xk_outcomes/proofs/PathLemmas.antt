@@ -1,0 +1,122 @@
+-- What is read along links is listed: from readings to outcomes, and as many outcomes as there are readings.
+use Rattle.std.proofs.Common.{◌≡◌, ◌∙◌, ℕ, ℤ, ◌+◌, ◌<◌, ◌≤◌, ◌⊎◌, inl, inr, List, [], ◌∷◌, ◌++◌, length, Some, sym, ap, subst, arith, slice_get}
+use Rattle.std.proofs.lemmas.Int.{ints}
+use Rattle.std.proofs.lemmas.Option.{same_Some, slice_get_within}
+use Rattle.indexmap.proofs.IndexTableLemmas.Probe.{pigeonhole}
+use Rattle.xk_core.specs.Core.{CoreValue}
+use Rattle.xk_readings.specs.declared.edge.Edge.{Edge}
+use Rattle.xk_readings.specs.declared.listing.Reading.{Reading}
+use Rattle.xk_readings.specs.Graphs.{graph}
+use Rattle.xk_readings.specs.Readings.{AreAllListed, AreRising, AreShown, IsBelow}
+use Rattle.xk_digests.proofs.PushLemmas.{there_is}
+use Rattle.xk_outcomes.specs.declared.listing.Outcome.{Outcome}
+use Rattle.xk_outcomes.specs.declared.order.Order.TheVariants as order
+use Rattle.xk_outcomes.specs.Found.{FoundValue, first_found}
+use Rattle.xk_outcomes.specs.Links.{AreLinked, ends}
+use Rattle.xk_outcomes.specs.Listing.{AreMet, AreNoted, ArePlayed, AreRead, AreReadingsPut, IsPlayed, KeepsListed}
+use Rattle.xk_outcomes.specs.Outcomes.{IsListed}
+use Rattle.xk_outcomes.specs.Search.{AreFound}
+use Rattle.xk_outcomes.proofs.FollowLemmas.{read_follows, read_to}
+
+-- ---- readings rise
+
+below_not : (xs : List ℤ) → IsBelow xs xs → ⊥
+below_not [] h = h
+below_not (x ∷ xs) (inl less) = omega (arith, ints, less)
+below_not (x ∷ xs) (inr h) = below_not xs h.1
+
+-- no two readings have the same numbers
+apart : (found : List Reading) → AreRising found → (i j : ℕ) (q r : Reading) → slice_get found i ≡ Some q → slice_get found j ≡ Some r
+    → q.numbers.items ≡ r.numbers.items → i ≡ j
+apart found rises i j q r hi hj same = by (split i j)
+  where
+    split : (i j : ℕ) → (i ≡ j) ⊎ ((i < j) ⊎ (j < i))
+    split i j = grind arith
+
+    by : (i ≡ j) ⊎ ((i < j) ⊎ (j < i)) → i ≡ j
+    by (inl e) = e
+    by (inr (inl less)) = absurd (below_not r.numbers.items (subst (λ ns. IsBelow ns r.numbers.items) same (rises i j q r less hi hj)))
+    by (inr (inr less)) = absurd (below_not q.numbers.items (subst (λ ns. IsBelow ns q.numbers.items) (sym same) (rises j i r q less hj hi)))
+
+-- ---- as many are listed
+
+module _ (found : List Reading) (list : List Outcome) (rises : AreRising found)
+    (listed : (i : ℕ) (r : Reading) → slice_get found i ≡ Some r → IsListed list r.numbers.items) where
+  side : (i n : ℕ) → (i < n) ⊎ (n ≤ i)
+  side i n = grind arith
+
+  -- where the numbers of a reading are listed
+  place_of : (i : ℕ) → (i < length found) ⊎ (length found ≤ i) → ℕ
+  place_of i (inl less) = let r = there_is found i less in (listed i r.0 r.1).0
+  place_of i (inr over) = 0
+
+  into : (i : ℕ) (s : (i < length found) ⊎ (length found ≤ i)) → i < length found → place_of i s < length list
+  unfolding place_of
+  into i (inl less) h = let r = there_is found i less in let l = listed i r.0 r.1 in slice_get_within list l.0 l.1 l.2
+  into i (inr over) h = absurd (omega (arith, over, h))
+
+  one : (i j : ℕ) (s : (i < length found) ⊎ (length found ≤ i)) (t : (j < length found) ⊎ (length found ≤ j)) → i < length found → j < length found
+      → place_of i s ≡ place_of j t → i ≡ j
+  unfolding place_of
+  one i j (inr over) t h g e = absurd (omega (arith, over, h))
+  one i j (inl less) (inr over) h g e = absurd (omega (arith, over, g))
+  one i j (inl less) (inl also) h g e =
+      let q = there_is found i less in
+      let r = there_is found j also in
+      let l = listed i q.0 q.1 in
+      let k = listed j r.0 r.1 in
+      let same : l.1 ≡ k.1 = same_Some l.1 k.1 (sym l.2 ∙ (ap (slice_get list) e ∙ k.2)) in
+      apart found rises i j q.0 r.0 q.1 r.1 (sym l.3 ∙ (ap (λ (o : Outcome). o.numbers.items) same ∙ k.3))
+
+  pub as_many : length found ≤ length list
+  as_many = pigeonhole (length found) (length list) (λ i. place_of i (side i (length found))) (λ i h. into i (side i (length found)) h)
+      (λ i j h g e. one i j (side i (length found)) (side j (length found)) h g e)
+
+-- ---- from readings to outcomes
+
+pub readings_more : (start : CoreValue) (found : List Reading) (place : ℕ) (here : Reading) (old new : List Outcome) → slice_get found place ≡ Some here → KeepsListed old new
+    → (IsPlayed start here.acts.items here.numbers.items → IsListed new here.numbers.items) → AreReadingsPut start found place old
+    → AreReadingsPut start found (place + 1) new
+readings_more start found place here old new there kept listed before i r less at played = by (split i place less)
+  where
+    split : (i n : ℕ) → i < n + 1 → (i < n) ⊎ (i ≡ n)
+    split i n h = grind arith
+
+    by : (i < place) ⊎ (i ≡ place) → IsListed new r.numbers.items
+    by (inl l) = kept r.numbers.items (before i r l at played)
+    by (inr e) =
+        let same : here ≡ r = same_Some here r (sym there ∙ (sym (ap (slice_get found) e) ∙ at)) in
+        subst (λ (q : Reading). IsPlayed start q.acts.items q.numbers.items → IsListed new q.numbers.items) same listed played
+
+-- each reading is played, and so listed
+pub readings_listed : (start : CoreValue) (all : List FoundValue) (links : List Edge) (found : List Reading) (list : List Outcome) → ArePlayed start all links
+    → AreShown (graph links (ends all)) found → AreReadingsPut start found (length found) list → (i : ℕ) (r : Reading) → slice_get found i ≡ Some r
+    → IsListed list r.numbers.items
+readings_listed start all links found list played shown put i r there =
+    let s = shown i r there in
+    put i r (slice_get_within found i r there) there (played s.0 r.acts.items r.numbers.items s.1)
+
+pub all_read : (all : List FoundValue) (links : List Edge) (found : List Reading) (list : List Outcome) → AreAllListed (graph links (ends all)) found
+    → ((i : ℕ) (r : Reading) → slice_get found i ≡ Some r → IsListed list r.numbers.items) → AreRead all links list
+all_read all links found list whole listed n acts numbers reads =
+    let h = whole n acts numbers reads in
+    subst (IsListed list) h.3 (listed h.0 h.1 h.2)
+
+-- whatever can be read is played by its steps
+pub played : (start : CoreValue) (all : List FoundValue) (links : List Edge) → AreLinked start.module_run all links → AreFound start all
+    → slice_get all 0 ≡ Some (first_found start) → (first_found start).printed ≡ [] → ArePlayed start all links
+played start all links linked found first silent n acts numbers reads =
+    let f = read_follows start all links linked found first n acts numbers reads in
+    record {
+      ended = f.ended;
+      prints = f.prints ∙ ap (λ ns. ns ++ numbers) silent;
+    }
+
+-- ---- what stands along links
+
+pub met_printed : (all : List FoundValue) (links : List Edge) (list : List Outcome) → AreRead all links list → AreMet order.Printed all links list
+met_printed all links list read k x numbers there ended same led = read (led.0 + 0) (led.1 ++ []) numbers (read_to all links k x numbers there ended led)
+
+pub met_rising : (all : List FoundValue) (links : List Edge) (list : List Outcome) → AreNoted order.Rising all (length all) list → AreMet order.Rising all links list
+met_rising all links list noted k x numbers there ended same led =
+    subst (IsListed list) same (noted k x (slice_get_within all k x there) there ended)

@@ -1,0 +1,16 @@
+use Rattle.std.proofs.Common.{◌≤◌, length}
+use Rattle.std.specs.Prelude.{max}
+use Rattle.xk_outcomes.specs.declared.order.Order.TheVariants as order
+use Rattle.xk_outcomes.specs.Outcomes.{AreDistinct}
+use Rattle.xk_outcomes.specs.Listing.{AreOf, AreReadingsPut, KeepsListed}
+use Rattle.xk_outcomes.proofs.paths.note_readings.Given as goal
+
+-- those before this one were listed
+abbrev pub invariant-loop-reading : goal.invariant-loop-reading
+invariant-loop-reading l = record {
+  of : AreOf order.Printed l.all.start l.fn.list l.list;
+  kept : KeepsListed l.fn.list l.list;
+  distinct : AreDistinct l.fn.list → AreDistinct l.list;
+  listed : AreReadingsPut l.all.start l.found l.reading-index l.list;
+  few : length l.list ≤ max l.limit (length l.fn.list);
+}

@@ -1,0 +1,111 @@
+//! What stands along links to where all have ended is listed.
+
+ghost use Rattle.std.specs.Prelude.{◌≡◌, ◌≤◌, true, false, length, max, IfOk, List};
+ghost use Rattle.xk_outcomes.specs.declared.listing.Outcome.{Outcome as AnOutcome};
+ghost use Rattle.xk_outcomes.specs.declared.order.Order.TheVariants as told;
+ghost use Rattle.xk_outcomes.specs.Links.{AreLinked};
+ghost use Rattle.xk_outcomes.specs.Listing.{AreMet, AreOf, AreRead, AreReadingsPut, IsPlayed, KeepsListed};
+ghost use Rattle.xk_outcomes.specs.Outcomes.{AreDistinct, IsListed};
+
+use crate::entries::Entries;
+use crate::listed::Listed;
+use crate::listing::{list_outcomes, note};
+use crate::order::Order;
+use crate::search::Explored;
+use std::alloc::{AllocError, Global};
+use xk_readings::{Edge, Reading, readings};
+
+/// Lists what the steps of a reading print, if it is listed already or fewer are than the limit says. Whether it is listed then.
+fn note_reading(
+    alloc: Global,
+    list: &mut Listed,
+    all: &Entries<'_>,
+    reading: &Reading,
+    limit: usize,
+) -> Result<bool, AllocError>
+    ensures distinct { AreDistinct list.old → AreDistinct list.new }
+    ensures kept { KeepsListed list.old list.new }
+    ensures listed { IfOk result (λ noted. noted ≡ true
+        → IsPlayed all.now.start reading.now.acts.items reading.now.numbers.items
+        → IsListed list.new reading.now.numbers.items) }
+    ensures full { IfOk result (λ noted. noted ≡ false → limit ≤ length list.new) }
+    ensures of { (old : List AnOutcome) → AreOf told.Printed all.now.start old list.old
+        → AreOf told.Printed all.now.start old list.new }
+    ensures most { length list.new ≤ max limit (length list.old) }
+{
+    let x = all.led(alloc, &reading.acts)?;
+    note(alloc, Order::Printed, list, &x, limit)
+}
+
+/// The same of each reading, until one isn't listed and as many are as the limit says. Whether all are.
+fn note_readings(
+    alloc: Global,
+    list: &mut Listed,
+    all: &Entries<'_>,
+    found: &[Reading],
+    limit: usize,
+) -> Result<bool, AllocError>
+    ensures distinct { AreDistinct list.old → AreDistinct list.new }
+    ensures kept { KeepsListed list.old list.new }
+    ensures listed { IfOk result (λ noted. noted ≡ true
+        → AreReadingsPut all.now.start found.now (length found.now) list.new) }
+    ensures full { IfOk result (λ noted. noted ≡ false → limit ≤ length list.new) }
+    ensures of { AreOf told.Printed all.now.start list.old list.new }
+    ensures most { length list.new ≤ max limit (length list.old) }
+{
+    for reading in found {
+        let noted = note_reading(alloc, list, all, reading, limit)?;
+        if !noted {
+            return Ok(false);
+        }
+    }
+    Ok(true)
+}
+
+/// Lists whatever can be read along the links, each list of numbers once, behind what is listed, up to the limit. Whether that is all.
+fn list_readings(
+    alloc: Global,
+    list: &mut Listed,
+    all: &Entries<'_>,
+    links: &[Edge],
+    limit: usize,
+) -> Result<bool, AllocError>
+    requires { AreLinked all.now.start.module_run all.now.all links.now }
+    ensures of { AreOf told.Printed all.now.start list.old list.new }
+    ensures kept { KeepsListed list.old list.new }
+    ensures distinct { AreDistinct list.old → AreDistinct list.new }
+    ensures read { IfOk result (λ complete. complete ≡ true
+        → AreRead all.now.all links.now list.new) }
+    ensures limit { IfOk result (λ complete. complete ≡ false → limit ≤ length list.new) }
+    ensures most { length list.new ≤ max limit (length list.old) }
+{
+    let longest = all.longest();
+    let found = readings(alloc, links, all.ends(), longest, limit)?;
+    let noted = note_readings(alloc, list, all, &found.list, limit)?;
+    Ok(noted && found.complete)
+}
+
+/// Lists what was found, each list of numbers once, as it is told in this order, behind what is listed, up to the limit. Whether
+/// that is all.
+pub fn list_found(
+    alloc: Global,
+    order: Order,
+    list: &mut Listed,
+    explored: &Explored<'_>,
+    limit: usize,
+) -> Result<bool, AllocError>
+    requires { AreLinked explored.now.found.start.module_run
+        explored.now.found.all explored.now.links.items }
+    ensures of { AreOf order explored.now.found.start list.old list.new }
+    ensures kept { KeepsListed list.old list.new }
+    ensures distinct { AreDistinct list.old → AreDistinct list.new }
+    ensures met { IfOk result (λ complete. complete ≡ true
+        → AreMet order explored.now.found.all explored.now.links.items list.new) }
+    ensures limit { IfOk result (λ complete. complete ≡ false → limit ≤ length list.new) }
+    ensures most { length list.new ≤ max limit (length list.old) }
+{
+    match order {
+        Order::Printed => { list_readings(alloc, list, &explored.found, &explored.links, limit) }
+        Order::Rising => list_outcomes(alloc, order, list, &explored.found, limit),
+    }
+}
