@@ -26,7 +26,7 @@ MOST = {
     "full": 0,
     "long": 16,
     "bodies": 3,
-    "forwarders": 73,
+    "forwarders": 72,
     "uncommented": 9,
     "prover": 0,
     "uncited": 1,
