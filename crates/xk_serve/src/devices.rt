@@ -102,7 +102,7 @@ pub fn serve<R: Threads + Wait + Sync, P: Source, L: Source, O: Sink, E: Sink, K
     ensures list_no_further { IsListReadToLimit (task_of job.now).doing
         (L.remaining log_in.old) (L.remaining log_in.new) }
 {
-    let crew = |drive: Drive, keeps_log: bool, verified: &Verified, arguments: &[i64]|
+    let crew = move |drive: Drive, keeps_log: bool, verified: &Verified, arguments: &[i64]|
         requires { AreArguments verified.now arguments.now }
         ensures { IfOk result (IsDriven drive keeps_log verified.now arguments.now) }
     { run_as(rt, alloc, drive, keeps_log, verified, arguments) };
