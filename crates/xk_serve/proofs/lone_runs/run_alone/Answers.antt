@@ -9,5 +9,6 @@ returns-in-Workers c =
     let args = c.args.arguments.now in
     IfOk-weaker c.run_in_order-in-Workers.result _ _
     (λ run h. rw c.in-Workers.is
-    (lone_workers c.in-Workers.field-0.count c.args.keeps_log m args run.printed.items run.steps run.rounds (option_map (λ es. es.items) run.log) h))
+    (lone_workers c.in-Workers.field-0.count c.args.keeps_log m args run.printed.items run.steps run.rounds
+    (option_map (λ es. es.items) run.log) h))
     c.run_in_order-in-Workers.ensures
