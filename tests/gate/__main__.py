@@ -11,7 +11,7 @@ import os
 import pathlib
 import sys
 
-from tests import harness
+from tests import harness, library
 from tests.gate import side_by_side
 
 # What needs no proof and no built program, in less than a minute.
@@ -26,12 +26,14 @@ STATIC = (
     "python3 -m bench.tables --check",
     "python3 -m tests.gate.links",
     "python3 -m tests.gate.scripts",
-    "python3 -m compileall -q bench dist tests",
+    "python3 -m compileall -q bench dist library python tests",
     "python3 -m tests.gate.python_style",
+    "python3 -m tests.library.header",
     "python3 -m tests.reference.meaning 20 1 --alone",
 )
 # What the built program answers, alone and with growths refused; what the reference says of schedules, of logs, of what
-# texts mean, and of modules and texts that nobody wrote; what the program does where files and the system fail it.
+# texts mean, and of modules and texts that nobody wrote; what the program does where files and the system fail it; and
+# whether the library answers the same.
 ASK = (
     "sh tests/program/answers.sh",
     "sh tests/program/transcripts.sh",
@@ -60,6 +62,8 @@ ASK = (
     "python3 -m tests.program.hostile",
     "python3 -m tests.program.wants",
     "python3 -m tests.program.release",
+    "python3 -m tests.library.calls",
+    "python3 -m tests.library.package",
 )
 
 
@@ -68,6 +72,7 @@ def prepare(program: pathlib.Path) -> None:
     if program == harness.BUILT:
         for path in (program, harness.beside(program, "xk_tests_memory")):
             harness.build(path)
+        library.built()
     if not program.exists():
         sys.exit(f"ask: no program {program}")
     os.environ["X10CLOCK"] = str(program)

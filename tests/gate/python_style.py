@@ -15,9 +15,11 @@ from collections.abc import Iterator
 
 from tests.harness import TOP
 
+FOLDERS = ("bench", "dist", "library", "python", "tests")
+
 
 def scripts() -> list[pathlib.Path]:
-    return sorted(path for folder in ("bench", "dist", "tests") for path in (TOP / folder).rglob("*.py"))
+    return sorted(path for folder in FOLDERS for path in (TOP / folder).rglob("*.py"))
 
 
 def imported(tree: ast.Module) -> Iterator[tuple[int, str]]:
@@ -29,6 +31,13 @@ def imported(tree: ast.Module) -> Iterator[tuple[int, str]]:
             yield from ((node.lineno, name.asname or name.name) for name in node.names)
 
 
+def handed_on(tree: ast.Module) -> set[str]:
+    """The names that a module hands on: those of its `__all__`."""
+    assigned = [node for node in tree.body if isinstance(node, ast.Assign)]
+    lists = [node.value for node in assigned if ast.unparse(node.targets[0]) == "__all__"]
+    return {name for value in lists for name in ast.literal_eval(value)}
+
+
 def faults(path: pathlib.Path, most: int) -> Iterator[str]:
     """What is wrong with a script."""
     text = path.read_text(encoding="utf-8")
@@ -37,7 +46,7 @@ def faults(path: pathlib.Path, most: int) -> Iterator[str]:
         if len(line) > most:
             yield f"{where}:{number}: {len(line)} columns"
     tree = ast.parse(text, str(where))
-    used = {node.id for node in ast.walk(tree) if isinstance(node, ast.Name)}
+    used = {node.id for node in ast.walk(tree) if isinstance(node, ast.Name)} | handed_on(tree)
     yield from (f"{where}:{line}: {name} isn't used" for line, name in imported(tree) if name not in used)
 
 

@@ -29,7 +29,7 @@ COLUMNS = 120
 # So many crates stand side by side in the table of times.
 ABREAST = 3
 HEADING = re.compile(r"# (?P<name>\w+): (?P<what>.+)")
-CRATE = re.compile(r"(?P<name>\w+):")
+CRATE = re.compile(r"(?P<name>\w+)(?: staticlib)?:")
 # A crate of docs/ARCHITECTURE.md and a family of crates/README.md, each on one line, with what a person wrote of it.
 IN_BRACKETS = re.compile(r"- `(?P<name>\w+)`. .*\((?P<hand>[^()]*`[^()]*)\)")
 BEHIND_CRATES = re.compile(r"- \*\*(?P<name>\w+)\*\*: (?:`\w+`[ .]*)*(?P<hand>.*)")

@@ -4,7 +4,9 @@ ghost use Rattle.std.specs.Prelude.{◌≡◌, ℕ, ℤ, List, None, false, true
 ghost use Rattle.xk_log.specs.SomeBytes.{OfSome};
 ghost use Rattle.xk_answers.specs.Results.{Check, ComesTo, Compile, IsTelling, IsText, Listing, Run, way_given};
 ghost use Rattle.xk_program.specs.Refusals.{IsNotRun, IsRefusal};
+ghost use Rattle.xk_types.specs.World.{AreArguments};
 ghost use Rattle.xk_serve.specs.Answer.{Succeeds, reads_more, task_of};
+ghost use Rattle.xk_serve.specs.Crews.{IsCrew, IsDriven};
 ghost use Rattle.xk_program.specs.Origins.{IsFrom};
 ghost use Rattle.xk_cli.specs.CommandAnswers.{explanation};
 ghost use Rattle.xk_cli.specs.declared.job.Form.{Form as FormValue};
@@ -13,13 +15,12 @@ ghost use Rattle.xk_program.specs.Lines.{status_of};
 ghost use Rattle.xk_serve.specs.Devices.{AgainstLog, IsListReadToLimit, read_of};
 ghost use Rattle.xk_program.specs.declared.fault.Fault.TheVariants.{OutOfMemory};
 
-use std::alloc::Global;
-use std::sync::Wait;
-use std::thread::Threads;
+use std::alloc::{AllocError, Global};
 use xk_answers::{
-    Done, Picture, drawn, held, lanes_given, listing, paged, raced, replayed, run_as, searched,
+    Done, Finished, Picture, drawn, held, lanes_given, listing, paged, raced, replayed, searched,
     stood, tallied, window_given,
 };
+use xk_bounds::Verified;
 use xk_cli::{Command, Drive, Job, Order};
 use xk_module::write_module;
 use xk_program::{Fault, Program, accepted, program_by, runnable};
@@ -28,13 +29,11 @@ use xk_types::{Module, Source};
 /// What a job on a file of these bytes comes to of which nothing is said but the line of a fault, as of all but `explain`; or what stands against
 /// it: a fault of the text (F1 to F15, M1 to M3), of its module (V1 to V17), of main's arguments where it is run (A1), or of the log or the list
 /// where one is read, want of memory, or a read of these that failed.
-pub(crate) fn answer<R: Threads + Wait + Sync, L: Source>(
-    rt: &R,
-    alloc: Global,
-    job: &Job<'_>,
-    bytes: &[u8],
-    log_in: &mut L,
-) -> Result<Done, Fault>
+pub(crate) fn answer<
+    F: FnOnce(Drive, bool, &Verified, &[i64]) -> Result<Finished, AllocError>,
+    L: Source,
+>(crew: F, alloc: Global, job: &Job<'_>, bytes: &[u8], log_in: &mut L) -> Result<Done, Fault>
+    requires crew { IsCrew (F.pre crew) (F.post crew) }
     requires by_line { explanation job.now.command ≡ None }
     ensures done { IfOk result (λ d. OfSome (read_of (task_of job.now) (L.remaining log_in.old))
         (λ logged. Succeeds (task_of job.now) bytes.now logged d)) }
@@ -56,7 +55,7 @@ pub(crate) fn answer<R: Threads + Wait + Sync, L: Source>(
         Command::Check => checked(alloc, program.module),
         Command::Explain { .. } => unreachable!(),
         Command::Run { drive, log } => {
-            run_driven(rt, alloc, drive, log.is_some(), program.module, arguments)
+            run_driven(crew, alloc, drive, log.is_some(), program.module, arguments)
         }
         Command::Replay { .. } => replayed(alloc, program.module, arguments, log_in),
         Command::Chart { .. } => {
@@ -160,20 +159,36 @@ fn checked(alloc: Global, m: Module) -> Result<Done, Fault>
 
 /// The run of a module with these arguments as it is to be driven, if it is accepted and main takes as many, with its log where that is to be
 /// kept.
-fn run_driven<R: Threads + Wait + Sync>(
-    rt: &R,
+fn run_driven<F: FnOnce(Drive, bool, &Verified, &[i64]) -> Result<Finished, AllocError>>(
+    crew: F,
     alloc: Global,
     drive: Option<Drive>,
     keeps_log: bool,
     m: Module,
     arguments: &[i64],
 ) -> Result<Done, Fault>
+    requires crew { IsCrew (F.pre crew) (F.post crew) }
     ensures done { IfOk result (λ d. (logged : List ℕ)
         → ComesTo (Run (way_given drive) keeps_log) m arguments.now logged d) }
     ensures fault { IfErr result (IsNotRun m arguments.now) }
 {
     let verified = runnable(alloc, m, arguments)?;
     let drive = drive.unwrap_or(Drive::Order(Order::First));
-    let run = run_as(rt, alloc, drive, keeps_log, &verified, arguments)?;
+    let run = run_by(crew, drive, keeps_log, &verified, arguments)?;
     Ok(Done::of_run(run))
+}
+
+/// The run of a module with these arguments that the crew gives.
+fn run_by<F: FnOnce(Drive, bool, &Verified, &[i64]) -> Result<Finished, AllocError>>(
+    crew: F,
+    drive: Drive,
+    keeps_log: bool,
+    verified: &Verified,
+    arguments: &[i64],
+) -> Result<Finished, AllocError>
+    requires crew { IsCrew (F.pre crew) (F.post crew) }
+    requires taken { AreArguments verified.now arguments.now }
+    ensures { IfOk result (IsDriven drive keeps_log verified.now arguments.now) }
+{
+    crew(drive, keeps_log, verified, arguments)
 }

@@ -3,6 +3,8 @@
 ghost use Rattle.std.specs.Prelude.{◌≡◌, ◌≢◌, ◌⊎◌, ◌++◌, false, [], IfOk, IfErr, OnOk, OnErr};
 ghost use Rattle.std.specs.Io.KnownBytes.{Appends};
 ghost use Rattle.xk_types.specs.Device.{Rose};
+ghost use Rattle.xk_types.specs.World.{AreArguments};
+ghost use Rattle.xk_serve.specs.Crews.{IsCrew, IsDriven};
 ghost use Rattle.xk_io.specs.Writing.{AppendsBeginning};
 ghost use Rattle.xk_cli.specs.Status.{status_device, status_done, status_memory, status_partial, status_program, status_refuted};
 ghost use Rattle.xk_log.specs.SomeBytes.{OfSome};
@@ -16,13 +18,14 @@ ghost use Rattle.xk_serve.specs.Devices.{AgainstLog, Answered, AnsweredBySome, E
 
 use crate::commands::answer;
 use crate::refusal::{Refusal, noted, tell_noted, unnoted};
-use std::alloc::Global;
+use std::alloc::{AllocError, Global};
 use std::sync::Wait;
 use std::thread::Threads;
-use xk_answers::{Done, Refused, explained, unsaid};
+use xk_answers::{Done, Finished, Refused, explained, run_as, unsaid};
+use xk_bounds::Verified;
 use xk_cli::{
-    EXCLUDED_LINE, Job, LIST_LINE, PAGE_LINE, PICK_LINE, PROCESSORS_LINE, RUNS_LINE, SEED_LINE,
-    WordsFault, status,
+    Drive, EXCLUDED_LINE, Job, LIST_LINE, PAGE_LINE, PICK_LINE, PROCESSORS_LINE, RUNS_LINE,
+    SEED_LINE, WordsFault, status,
 };
 use xk_io::{Device, write_all};
 use xk_log::write_entries;
@@ -99,7 +102,11 @@ pub fn serve<R: Threads + Wait + Sync, P: Source, L: Source, O: Sink, E: Sink, K
     ensures list_no_further { IsListReadToLimit (task_of job.now).doing
         (L.remaining log_in.old) (L.remaining log_in.new) }
 {
-    match outcome(rt, alloc, job, program, log_in) {
+    let crew = move |drive: Drive, keeps_log: bool, verified: &Verified, arguments: &[i64]|
+        requires { AreArguments verified.now arguments.now }
+        ensures { IfOk result (IsDriven drive keeps_log verified.now arguments.now) }
+    { run_as(rt, alloc, drive, keeps_log, verified, arguments) };
+    match outcome(crew, alloc, job, program, log_in) {
         Ok(done) => match done.ending(alloc) {
             Ok(ending) => print(alloc, &done, ending.as_str(), out, err, log_out),
             Err(_) => report(alloc, &Fault::OutOfMemory, err),
@@ -109,13 +116,12 @@ pub fn serve<R: Threads + Wait + Sync, P: Source, L: Source, O: Sink, E: Sink, K
 }
 
 /// What the job comes to, or what stands against it, with what is said of that beside its line.
-fn outcome<R: Threads + Wait + Sync, P: Source, L: Source>(
-    rt: &R,
-    alloc: Global,
-    job: &Job<'_>,
-    program: &mut P,
-    log_in: &mut L,
-) -> Result<Done, Refusal>
+pub(crate) fn outcome<
+    F: FnOnce(Drive, bool, &Verified, &[i64]) -> Result<Finished, AllocError>,
+    P: Source,
+    L: Source,
+>(crew: F, alloc: Global, job: &Job<'_>, program: &mut P, log_in: &mut L) -> Result<Done, Refusal>
+    requires crew { IsCrew (F.pre crew) (F.post crew) }
     ensures done { IfOk result (λ d.
         IfKnown (task_of job.now) (P.remaining program.old) (L.remaining log_in.old)
         (λ bytes logged. Succeeds (task_of job.now) bytes logged d)) }
@@ -144,20 +150,21 @@ fn outcome<R: Threads + Wait + Sync, P: Source, L: Source>(
         Ok(bytes) => bytes,
         Err(fault) => return Err(unnoted(alloc, fault)),
     };
-    match outcome_of(rt, alloc, job, &bytes, log_in) {
+    match outcome_of(crew, alloc, job, &bytes, log_in) {
         Ok(done) => Ok(done),
         Err(refused) => Err(noted(&job.command, &bytes, refused)),
     }
 }
 
 /// The same where FILE has these bytes, with what is said of a fault on standard output: only `explain` says something there.
-fn outcome_of<R: Threads + Wait + Sync, L: Source>(
-    rt: &R,
+fn outcome_of<F: FnOnce(Drive, bool, &Verified, &[i64]) -> Result<Finished, AllocError>, L: Source>(
+    crew: F,
     alloc: Global,
     job: &Job<'_>,
     bytes: &[u8],
     log_in: &mut L,
 ) -> Result<Done, Refused>
+    requires crew { IsCrew (F.pre crew) (F.post crew) }
     ensures done { IfOk result (λ d. OfSome (read_of (task_of job.now) (L.remaining log_in.old))
         (λ logged. Succeeds (task_of job.now) bytes.now logged d)) }
     ensures no_fault { OnOk result (L.fault_count log_in.new ≡ L.fault_count log_in.old) }
@@ -172,7 +179,7 @@ fn outcome_of<R: Threads + Wait + Sync, L: Source>(
 {
     match job.command.explanation() {
         Some(json) => explained(alloc, json, job.form, job.file, bytes),
-        None => match answer(rt, alloc, job, bytes, log_in) {
+        None => match answer(crew, alloc, job, bytes, log_in) {
             Ok(done) => Ok(done),
             Err(fault) => Err(unsaid(alloc, fault)),
         },
@@ -180,7 +187,7 @@ fn outcome_of<R: Threads + Wait + Sync, L: Source>(
 }
 
 /// Writes the result, and then the log of a run that is to have one. Where that fails, says so.
-fn print<O: Sink, E: Sink, K: Sink>(
+pub(crate) fn print<O: Sink, E: Sink, K: Sink>(
     alloc: Global,
     done: &Done,
     ending: &str,
@@ -253,7 +260,12 @@ fn write_log<K: Sink>(done: &Done, log_out: &mut K) -> Result<(), Device>
 
 /// Writes what is said of a fault to `out`, and then to `err` what stands before its line, and the line. Gives the status: the
 /// fault's, or 4 where memory for the line ran out, and then nothing was written before, or 5 where a write failed.
-fn refuse<O: Sink, E: Sink>(alloc: Global, refusal: &Refusal, out: &mut O, err: &mut E) -> u8
+pub(crate) fn refuse<O: Sink, E: Sink>(
+    alloc: Global,
+    refusal: &Refusal,
+    out: &mut O,
+    err: &mut E,
+) -> u8
     requires quiet { IsQuiet refusal.now.refused.fault refusal.now.refused.said.items }
     requires quiet_note { IsQuiet refusal.now.refused.fault refusal.now.note.now }
     ensures { Explained refusal.now.refused.said.items refusal.now.note.now

@@ -4,6 +4,9 @@
 mod commands;
 mod devices;
 pub mod laws;
+mod lone_caller;
+mod lone_runs;
 mod refusal;
 
 pub use devices::{report, serve, tell, tell_words};
+pub use lone_caller::serve_alone;

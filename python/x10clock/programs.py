@@ -1,0 +1,170 @@
+"""What is asked about a program: whether it is accepted, what it prints, and what of its runs can be shown."""
+
+from __future__ import annotations
+
+import json
+from collections.abc import Sequence
+from dataclasses import dataclass
+from typing import Any
+
+from x10clock import faults
+from x10clock.faults import known
+from x10clock.library import Answer, Program, call, name_of, verdict
+
+
+@dataclass(frozen=True)
+class Bounds:
+    """The most that a run takes, starts and makes."""
+
+    steps: int
+    activities: int
+    clocks: int
+
+
+@dataclass(frozen=True)
+class Run:
+    """A run: the numbers that it printed, its steps, its log where one was written, and its rounds where it ran by
+    rounds. `whole` is false where it was stopped before all had ended."""
+
+    printed: tuple[int, ...]
+    steps: int
+    log: bytes = b""
+    rounds: int | None = None
+    whole: bool = True
+
+
+@dataclass(frozen=True)
+class Outcome:
+    """A list of numbers that a run can print, and its number among all outcomes, from 1."""
+
+    number: int
+    printed: tuple[int, ...]
+
+
+@dataclass(frozen=True)
+class Outcomes:
+    """What a program can print. Where it isn't `complete` there may be more. `log` is a run with the one that was
+    picked."""
+
+    all: tuple[Outcome, ...]
+    complete: bool
+    log: bytes = b""
+
+
+@dataclass(frozen=True)
+class Races:
+    """How many races a run has, and what is told of them."""
+
+    count: int
+    text: str
+
+
+def _words(command: str, program: Program, arguments: Sequence[int], *options: object, beside: str = "") -> list[str]:
+    """The words of a command line: FILE comes behind the options, and then what is read beside it."""
+    given = [f"--arg={number}" for number in arguments]
+    behind = [beside] if beside else []
+    return [command, *(str(option) for option in options), *given, "--", name_of(program), *behind]
+
+
+def _option(name: str, value: object) -> tuple[object, ...]:
+    """An option with its value, where there is one."""
+    return () if value is None or value is False else (name,) if value is True else (name, value)
+
+
+def _asked(words: Sequence[str], program: Program, beside: Program = b"") -> Answer:
+    return known(call(words, program, beside))
+
+
+def _lines(answer: Answer) -> list[str]:
+    return answer.out.decode().splitlines()
+
+
+def _run_in(answer: Answer) -> Run:
+    """The run that an answer tells: its numbers, and then `ended steps 19`, or `stopped steps 3`."""
+    *numbers, last = _lines(answer)
+    words = last.split()
+    rounds = int(words[4]) if len(words) > 4 else None
+    return Run(tuple(map(int, numbers)), int(words[2]), answer.log, rounds, words[0] == "ended")
+
+
+def check(program: Program) -> Bounds:
+    """The bounds on the runs of a program. Raises `Refused` where it isn't accepted."""
+    status, told = verdict(program)
+    if status != faults.DONE:
+        known(call(_words("check", program, ()), program))
+    return Bounds(told.steps, told.activities, told.clocks)
+
+
+def explain(program: Program) -> dict[str, Any]:
+    """Where and why a program is refused, or what is known of one that is accepted (docs/EXPLAIN.md, "As JSON")."""
+    answer = call(_words("explain", program, (), "--json"), program)
+    if answer.status not in (faults.DONE, faults.PROGRAM):
+        known(answer)
+    found: dict[str, Any] = json.loads(answer.out)
+    return found
+
+
+def run(
+    program: Program, *arguments: int, order: str = "first", seed: int | None = None, processors: int | None = None
+) -> Run:
+    """The run in an order (`first`, `last`, `round`, `random`, `greedy`), with its log."""
+    options = ("--order", order, *_option("--seed", seed), *_option("--processors", processors), "--log", "log")
+    return _run_in(_asked(_words("run", program, arguments, *options), program))
+
+
+def replay(program: Program, log: Program, *arguments: int) -> Run:
+    """The run again that a log has. Raises `BadLog` where that is none of the program's."""
+    return _run_in(_asked(_words("replay", program, arguments, beside="log"), program, log))
+
+
+def outcomes(
+    program: Program, *arguments: int, limit: int | None = None, pick: int = 1, sets: bool = False
+) -> Outcomes:
+    """All that a program can print, and the log of a run with the outcome that is picked."""
+    options = (*_option("--limit", limit), "--pick", pick, "--log", "log", *_option("--sets", sets))
+    answer = _asked(_words("outcomes", program, arguments, *options), program)
+    *lines, last = _lines(answer)
+    return Outcomes(tuple(map(_outcome, lines)), last.endswith(" complete"), answer.log)
+
+
+def _outcome(line: str) -> Outcome:
+    """`outcome 2 prints 1 2`."""
+    words = line.split()
+    return Outcome(int(words[1]), tuple(map(int, words[3:])))
+
+
+def held_against(
+    program: Program, expected: Program, *arguments: int, limit: int | None = None, sets: bool = False
+) -> Outcome | bool:
+    """The first outcome that isn't in a list of those that may be; or whether it is certain that there is none."""
+    options = ("--expect", "list", *_option("--limit", limit), *_option("--sets", sets))
+    answer = _asked(_words("outcomes", program, arguments, *options), program, expected)
+    if answer.status == faults.REFUTED:
+        return _outcome(_lines(answer)[0])
+    return answer.status == faults.DONE
+
+
+def races(program: Program, *arguments: int, log: Program | None = None) -> Races:
+    """The races of the run in the order `first`, or of the one that a log has."""
+    beside = "" if log is None else "log"
+    answer = _asked(_words("races", program, arguments, beside=beside), program, b"" if log is None else log)
+    text = answer.out.decode()
+    counted = next(line for line in text.splitlines() if line.startswith("races "))
+    return Races(int(counted.split()[1]), text)
+
+
+def where(program: Program, log: Program, *arguments: int, at: int | None = None) -> str:
+    """Where each activity stands behind the steps that a log has, or behind one of them."""
+    words = _words("where", program, arguments, *_option("--at", at), beside="log")
+    return _asked(words, program, log).out.decode()
+
+
+def page(program: Program, log: Program, *arguments: int) -> bytes:
+    """An HTML page of the run that a log has."""
+    return _asked(_words("page", program, arguments, beside="log"), program, log).out
+
+
+def page_of_outcome(program: Program, number: int, *arguments: int, limit: int | None = None) -> bytes:
+    """An HTML page of a run with this outcome, by its number among all."""
+    options = ("--outcome", number, *_option("--limit", limit))
+    return _asked(_words("page", program, arguments, *options), program).out
