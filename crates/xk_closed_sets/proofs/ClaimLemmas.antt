@@ -1,5 +1,5 @@
 -- What activities may do is in the footprints that are made of it.
-use Rattle.std.proofs.Common.{◌≡◌, ◌∙◌, ℕ, ◌+◌, ◌⊎◌, inl, inr, Bool, true, false, true≢false, List, [], ◌∷◌, refl, sym, ap, subst}
+use Rattle.std.proofs.Common.{◌≡◌, ◌∙◌, ℕ, ◌+◌, inl, inr, Bool, true, false, true≢false, List, [], ◌∷◌, sym, ap, subst}
 use Rattle.xk_types.specs.declared.instr.Instr.{Instr}
 use Rattle.xk_types.specs.declared.instr.Instr.TheVariants as instr
 use Rattle.xk_types.specs.Code.{ModuleValue}
@@ -7,13 +7,12 @@ use Rattle.xk_types.specs.World.{Activity, Frame, World}
 use Rattle.xk_activity.specs.Activities.{act_at}
 use Rattle.xk_activity.specs.FrameStack.{outer}
 use Rattle.xk_activity.specs.Local.{FramesValue}
-use Rattle.xk_closed.specs.Closed.{IsStuck}
-use Rattle.xk_closed.specs.Footprints.{IsBounded, MayDo, MayDoNow, RestOf, Table}
+use Rattle.xk_closed.specs.Footprints.{MayDo, MayDoNow, RestOf, Table}
 use Rattle.xk_closed_sets.specs.declared.footprint.Footprint.{Footprint}
 use Rattle.xk_closed_sets.specs.declared.places.Reach.{Reach}
 use Rattle.xk_closed_sets.specs.ClosedSets.{IsHeldBySet, IsOutsider}
 use Rattle.xk_closed_sets.specs.Footprint.{Covers, has, joined}
-use Rattle.xk_closed_sets.specs.Places.{nothing, phase_in, reach_at, rest_in}
+use Rattle.xk_closed_sets.specs.Places.{phase_in, reach_at, rest_in}
 use Rattle.xk_closed_sets.proofs.FootprintLemmas.{joined_first, joined_second}
 use Rattle.xk_closed_sets.specs.Reaches.{CoversWaiting, IsReach}
 

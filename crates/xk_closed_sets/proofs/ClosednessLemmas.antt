@@ -1,7 +1,7 @@
 -- A set in which each activity fits is closed.
 use Rattle.std.proofs.Common.{◌≡◌, ◌∙◌, ℕ, zero, suc, ◌<◌, ◌≤◌, ◌⊎◌, inl, inr, Bool, true, false, true≢false, List, [], ◌∷◌, length, Option, Some, refl, sym, ap, subst, arith, slice_get, option_and_then}
 use Rattle.std.specs.Option.{option_map_or}
-use Rattle.std.specs.Prelude.{slice_index_or, not}
+use Rattle.std.specs.Prelude.{not}
 use Rattle.std.proofs.lemmas.Option.{get_or_from_slice_get, slice_get-get_or, slice_get_within}
 use Rattle.xk_types.specs.declared.instr.Instr.{Instr}
 use Rattle.xk_types.specs.declared.instr.Instr.TheVariants as instr
@@ -15,7 +15,7 @@ use Rattle.xk_activity.specs.Activities.{act_at, nobody}
 use Rattle.xk_core.specs.Core.{IsCore, is_arrived, is_living, is_waiting}
 use Rattle.xk_closed.specs.Closed.{IsClosed, IsStuck}
 use Rattle.xk_closed.specs.Footprints.{AreCovered, IsBounded, MayDo, Table}
-use Rattle.xk_closed.specs.Futures.{IsFree, IsFuture}
+use Rattle.xk_closed.specs.Futures.{IsFree}
 use Rattle.xk_closed.proofs.FootprintLaw.{footprints}
 use Rattle.xk_closed.proofs.FutureLaw.{free_closed}
 use Rattle.xk_closed.proofs.PhaseLaw.{clock_stuck}

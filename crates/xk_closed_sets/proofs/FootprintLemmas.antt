@@ -8,7 +8,7 @@ use Rattle.std.proofs.lemmas.Nat.Bits.{bit_at_or, bit_at-lt, bit_at-zero}
 use Rattle.xk_types.specs.declared.instr.Instr.{Instr}
 use Rattle.xk_types.specs.declared.instr.Instr.TheVariants as instr
 use Rattle.xk_law_commute.specs.Conflicts.{reads, puts, stores}
-use Rattle.xk_law_traces.specs.Edges.{AreApart, does, prints}
+use Rattle.xk_law_traces.specs.Edges.{AreApart, prints}
 use Rattle.xk_closed_sets.specs.declared.footprint.Footprint.{Footprint}
 use Rattle.xk_closed_sets.specs.Footprint.{Covers, has, is_apart, is_set, joined, stores_in}
 use Rattle.xk_closed_sets.specs.Places.{nothing}

@@ -1,5 +1,5 @@
 -- Tables that pass the test have all that may be carried out.
-use Rattle.std.proofs.Common.{◌≡◌, ◌∙◌, ℕ, zero, suc, ◌+◌, ◌<◌, ◌≤◌, ◌⊎◌, inl, inr, Bool, true, false, List, [], ◌∷◌, length, Option, Some, None, refl, sym, ap, subst, arith, below_more, slice_get, option_and_then}
+use Rattle.std.proofs.Common.{◌≡◌, ◌∙◌, ℕ, zero, suc, ◌+◌, ◌<◌, ◌≤◌, ◌⊎◌, inl, inr, Bool, true, false, List, [], ◌∷◌, length, Some, None, refl, sym, ap, subst, arith, below_more, slice_get}
 use Rattle.std.specs.Prelude.{slice_index_or, IsTrue}
 use Rattle.std.proofs.lemmas.Option.{option_and_then_some, same_Some, slice_get_cases, slice_get_read, slice_get_within}
 use Rattle.xk_types.specs.declared.instr.Instr.{Instr}
@@ -10,7 +10,7 @@ use Rattle.xk_types.specs.World.{Frame, instruction_at}
 use Rattle.xk_closed.specs.Footprints.{IsBehind, IsPhase, IsRest}
 use Rattle.xk_closed_sets.specs.declared.footprint.Footprint.{Footprint}
 use Rattle.xk_closed_sets.specs.declared.places.Reach.{Reach}
-use Rattle.xk_closed_sets.specs.Footprint.{Covers, has}
+use Rattle.xk_closed_sets.specs.Footprint.{Covers}
 use Rattle.xk_closed_sets.specs.Footprints.{AreFootprints, FootprintsValue, everything, known_or_all, phase_of, rest_of}
 use Rattle.xk_closed_sets.specs.Places.{AreClosed, HasThere, IsClosedAt, IsClosedIn, leads, nowhere, phase_in, reach_at, rest_in}
 use Rattle.xk_closed_sets.proofs.FootprintLemmas.{covers_nothing}

@@ -1,5 +1,5 @@
 -- What may still be carried out in a module, by two tables, as clauses see it.
-use Rattle.std.specs.Prelude.{ℕ, Bool, true, false, List}
+use Rattle.std.specs.Prelude.{Bool, true, false, List}
 use Rattle.xk_types.specs.Code.{ModuleValue}
 use Rattle.xk_closed.specs.Footprints.{Table, IsRest, IsPhase}
 use Rattle.xk_closed_sets.specs.declared.places.Reach.{Reach}

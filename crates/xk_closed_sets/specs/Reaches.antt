@@ -1,5 +1,5 @@
 -- What an activity may still do, by footprints.
-use Rattle.std.specs.Prelude.{◌≡◌, ℕ, true, List}
+use Rattle.std.specs.Prelude.{◌≡◌, true, List}
 use Rattle.xk_types.specs.declared.instr.Instr.{Instr}
 use Rattle.xk_types.specs.World.{Activity, Frame}
 use Rattle.xk_closed.specs.Footprints.{Table, RestOf, MayDo, MayDoNow}

@@ -1,4 +1,4 @@
-use Rattle.std.proofs.Common.{arith, rules}
+use Rattle.std.proofs.Common.{arith}
 use Rattle.xk_closed_sets.proofs.TableLemmas.{all_places, more_places}
 use Rattle.xk_closed_sets.proofs.rules.is_closed_in.Goals as goal
 
