@@ -249,7 +249,8 @@ class Asker:
         yield from self.held([*lines[:place], other, *lines[place:]], None)
 
     def differences(self, rng: random.Random) -> Iterator[str]:
-        count = len(Asked(sets=self.sets).outcomes(self.case.walk))
+        asked = Asked(sets=self.sets)
+        count = len(asked.outcomes(self.case.walk))
         yield from self.asked(None, None)
         spread = (
             range(1, count + 1) if count <= LOGS else [1 + place * (count - 1) // (LOGS - 1) for place in range(LOGS)]
@@ -258,7 +259,7 @@ class Asker:
             yield from self.asked(None, pick)
         yield from self.asked(None, rng.choice([count + 1, 2 * count + 1, 2**64 - 1]))
         limit = rng.choice(
-            [1, 2, 3, 10, max(1, count - 1), count, count + 1, outcomes.SPARE * Asked(sets=self.sets).worlds(self.case.walk) + 1]
+            [1, 2, 3, 10, max(1, count - 1), count, count + 1, outcomes.SPARE * asked.worlds(self.case.walk) + 1]
         )
         yield from self.asked(limit, rng.choice([None, 1, 2, count]))
         if not self.sets:

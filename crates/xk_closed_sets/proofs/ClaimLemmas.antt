@@ -18,14 +18,16 @@ use Rattle.xk_closed_sets.specs.Reaches.{CoversWaiting, IsReach}
 
 -- ---- frames that wait
 
-pub nobody_waits : (fs new : FramesValue) (rest : Table) (f : Footprint) → ◌≡◌ {A = Bool × FramesValue} (false, new) (outer fs fs.callers) → CoversWaiting f rest fs.callers
+pub nobody_waits : (fs new : FramesValue) (rest : Table) (f : Footprint)
+    → ◌≡◌ {A = Bool × FramesValue} (false, new) (outer fs fs.callers) → CoversWaiting f rest fs.callers
 nobody_waits fs new rest f e = by fs.callers e
   where
     by : (cs : List Frame) → ◌≡◌ {A = Bool × FramesValue} (false, new) (outer fs cs) → CoversWaiting f rest cs
     by [] h j r = absurd r
     by (g ∷ gs) h j r = absurd (true≢false (sym (ap (λ (p : Bool × FramesValue). p.0) h)))
 
-pub one_waits : (fs new : FramesValue) (rows : List (List Reach)) (f more : Footprint) → ◌≡◌ {A = Bool × FramesValue} (true, new) (outer fs fs.callers)
+pub one_waits : (fs new : FramesValue) (rows : List (List Reach)) (f more : Footprint)
+    → ◌≡◌ {A = Bool × FramesValue} (true, new) (outer fs fs.callers)
     → f ≡ joined (reach_at rows new.frame.unit (new.frame.place + 1)).rest more → CoversWaiting more (rest_in rows) new.callers
     → CoversWaiting f (rest_in rows) fs.callers
 one_waits fs new rows f more e is others = by fs.callers e
@@ -68,7 +70,8 @@ reach_whole rows act r behind waits is_rest is_phase = record { all = all; now =
 
 -- ---- outsiders
 
-pub bounded_of : (m : ModuleValue) (w : World) (set : ℕ → Bool) (rest phase : Table) (reach : Reach) (r : ℕ) → IsReach rest phase (act_at w.activities r) reach
+pub bounded_of : (m : ModuleValue) (w : World) (set : ℕ → Bool) (rest phase : Table) (reach : Reach) (r : ℕ)
+    → IsReach rest phase (act_at w.activities r) reach
     → reach.phase.drops ≡ false → IsHeldBySet w set r → IsOutsider m w set rest phase reach.phase r
 bounded_of m w set rest phase reach r is stays held = inr (inl (record {
   clock = held.clock;

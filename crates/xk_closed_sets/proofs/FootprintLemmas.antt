@@ -1,9 +1,11 @@
 -- What is in a footprint, and what has nothing to do with it.
-use Rattle.std.proofs.Common.{◌≡◌, ◌∙◌, ℕ, ◌%◌, ◌<◌, ◌⊎◌, inl, inr, Bool, true, false, true≢false, Option, Some, None, refl, sym, ap, subst, arith, eqb-true}
+use Rattle.std.proofs.Common.{◌≡◌, ◌∙◌, ℕ, ◌%◌, ◌<◌, ◌⊎◌, inl, inr, Bool, true, false, true≢false, Option, Some, None}
+use Rattle.std.proofs.Common.{refl, sym, ap, subst, arith, eqb-true}
 use Rattle.std.specs.Prelude.{max, ◌==◌, ◌||◌, not}
 use Rattle.std.specs.Int.{bit_at}
 use Rattle.std.specs.Int.RustNames.{bit_or}
 use Rattle.std.specs.Option.{option_map_or}
+use Rattle.std.proofs.lemmas.Bool.{or_left, or_right}
 use Rattle.std.proofs.lemmas.Nat.Bits.{bit_at_or, bit_at-lt, bit_at-zero}
 use Rattle.xk_types.specs.declared.instr.Instr.{Instr}
 use Rattle.xk_types.specs.declared.instr.Instr.TheVariants as instr
@@ -14,14 +16,6 @@ use Rattle.xk_closed_sets.specs.Footprint.{Covers, has, is_apart, is_set, joined
 use Rattle.xk_closed_sets.specs.Places.{nothing}
 
 -- ---- one in the other
-
-or_first : (a b : Bool) → a ≡ true → (a || b) ≡ true
-or_first true b h = refl
-or_first false b h = absurd (true≢false (sym h))
-
-or_second : (a b : Bool) → b ≡ true → (a || b) ≡ true
-or_second true b h = refl
-or_second false b h = h
 
 most : (x y : ℕ) → x < 2 → y < 2 → (x ≡ 1) ⊎ (y ≡ 1) → max x y ≡ 1
 most x y h k (inl e) = omega arith
@@ -44,16 +38,16 @@ pub joined_first : (f g : Footprint) → Covers (joined f g) f
 joined_first f g (instr.Get d s) h = set_first f.reads g.reads s h
 joined_first f g (instr.Put s x) h = set_first f.puts g.puts s h
 joined_first f g (instr.AddTo s x) h = set_first f.adds g.adds s h
-joined_first f g (instr.Print x) h = or_first f.prints g.prints h
-joined_first f g (instr.Drop k) h = or_first f.drops g.drops h
+joined_first f g (instr.Print x) h = or_left f.prints g.prints h
+joined_first f g (instr.Drop k) h = or_left f.drops g.drops h
 joined_first f g _ h = refl
 
 pub joined_second : (f g : Footprint) → Covers (joined f g) g
 joined_second f g (instr.Get d s) h = set_second f.reads g.reads s h
 joined_second f g (instr.Put s x) h = set_second f.puts g.puts s h
 joined_second f g (instr.AddTo s x) h = set_second f.adds g.adds s h
-joined_second f g (instr.Print x) h = or_second f.prints g.prints h
-joined_second f g (instr.Drop k) h = or_second f.drops g.drops h
+joined_second f g (instr.Print x) h = or_right f.prints g.prints h
+joined_second f g (instr.Drop k) h = or_right f.drops g.drops h
 joined_second f g _ h = refl
 
 -- what is joined with another and stays as it is covers that one
@@ -99,8 +93,8 @@ puts_in f (instr.Put s x) c h k = ap (is_set f.puts) (eqb-true c s k) ∙ h
 puts_in f _ c h k = absurd (true≢false (sym k))
 
 stored_in : (f : Footprint) (j : Instr) (c : ℕ) → has f j ≡ true → stores j c ≡ true → stores_in f c ≡ true
-stored_in f (instr.Put s x) c h k = or_first (is_set f.puts c) (is_set f.adds c) (ap (is_set f.puts) (eqb-true c s k) ∙ h)
-stored_in f (instr.AddTo s x) c h k = or_second (is_set f.puts c) (is_set f.adds c) (ap (is_set f.adds) (eqb-true c s k) ∙ h)
+stored_in f (instr.Put s x) c h k = or_left (is_set f.puts c) (is_set f.adds c) (ap (is_set f.puts) (eqb-true c s k) ∙ h)
+stored_in f (instr.AddTo s x) c h k = or_right (is_set f.puts c) (is_set f.adds c) (ap (is_set f.adds) (eqb-true c s k) ∙ h)
 stored_in f _ c h k = absurd (true≢false (sym k))
 
 -- an instruction that has nothing to do with it
@@ -110,22 +104,22 @@ reads_apart f _ c h k p = true≢false (sym k)
 
 stores_apart : (f : Footprint) (i : Instr) (c : ℕ) → is_apart f i ≡ true → stores i c ≡ true → is_set f.reads c ≡ true → ⊥
 stores_apart f (instr.Put s x) c h k p = not_true (is_set f.reads s || stores_in f s) h
-    (or_first (is_set f.reads s) (stores_in f s) (sym (ap (is_set f.reads) (eqb-true c s k)) ∙ p))
+    (or_left (is_set f.reads s) (stores_in f s) (sym (ap (is_set f.reads) (eqb-true c s k)) ∙ p))
 stores_apart f (instr.AddTo s x) c h k p = not_true (is_set f.reads s || is_set f.puts s) h
-    (or_first (is_set f.reads s) (is_set f.puts s) (sym (ap (is_set f.reads) (eqb-true c s k)) ∙ p))
+    (or_left (is_set f.reads s) (is_set f.puts s) (sym (ap (is_set f.reads) (eqb-true c s k)) ∙ p))
 stores_apart f _ c h k p = true≢false (sym k)
 
 puts_first : (f : Footprint) (i : Instr) (c : ℕ) → is_apart f i ≡ true → stores i c ≡ true → is_set f.puts c ≡ true → ⊥
 puts_first f (instr.Put s x) c h k p = not_true (is_set f.reads s || stores_in f s) h
-    (or_second (is_set f.reads s) (stores_in f s)
-    (or_first (is_set f.puts s) (is_set f.adds s) (sym (ap (is_set f.puts) (eqb-true c s k)) ∙ p)))
+    (or_right (is_set f.reads s) (stores_in f s)
+    (or_left (is_set f.puts s) (is_set f.adds s) (sym (ap (is_set f.puts) (eqb-true c s k)) ∙ p)))
 puts_first f (instr.AddTo s x) c h k p = not_true (is_set f.reads s || is_set f.puts s) h
-    (or_second (is_set f.reads s) (is_set f.puts s) (sym (ap (is_set f.puts) (eqb-true c s k)) ∙ p))
+    (or_right (is_set f.reads s) (is_set f.puts s) (sym (ap (is_set f.puts) (eqb-true c s k)) ∙ p))
 puts_first f _ c h k p = true≢false (sym k)
 
 puts_second : (f : Footprint) (i : Instr) (c : ℕ) → is_apart f i ≡ true → puts i c ≡ true → stores_in f c ≡ true → ⊥
 puts_second f (instr.Put s x) c h k p = not_true (is_set f.reads s || stores_in f s) h
-    (or_second (is_set f.reads s) (stores_in f s) (sym (ap (stores_in f) (eqb-true c s k)) ∙ p))
+    (or_right (is_set f.reads s) (stores_in f s) (sym (ap (stores_in f) (eqb-true c s k)) ∙ p))
 puts_second f _ c h k p = true≢false (sym k)
 
 prints_in : (f : Footprint) (j : Instr) → has f j ≡ true → prints j ≡ true → f.prints ≡ true
@@ -140,7 +134,8 @@ either_silent f (instr.Print x) h = inr (by f.prints h)
     by false k = refl
 either_silent f _ h = inl refl
 
-pub apart_of : (f : Footprint) (o : Option Instr) (j : Instr) → option_map_or (is_apart f) o true ≡ true → has f j ≡ true → AreApart (Some j) o
+pub apart_of : (f : Footprint) (o : Option Instr) (j : Instr) → option_map_or (is_apart f) o true ≡ true → has f j ≡ true
+    → AreApart (Some j) o
 apart_of f None j h k = record {
   second_reads = λ c s t. true≢false (sym t);
   first_reads = λ c s t. true≢false (sym s);

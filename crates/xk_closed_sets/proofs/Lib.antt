@@ -2,4 +2,5 @@ pub mod InstructionLemmas
 pub mod FootprintLemmas
 pub mod TableLemmas
 pub mod ClaimLemmas
+pub mod StuckLemmas
 pub mod ClosednessLemmas

@@ -1,5 +1,6 @@
 -- Tables that pass the test have all that may be carried out.
-use Rattle.std.proofs.Common.{◌≡◌, ◌∙◌, ℕ, zero, suc, ◌+◌, ◌<◌, ◌≤◌, ◌⊎◌, inl, inr, Bool, true, false, List, [], ◌∷◌, length, Some, None, refl, sym, ap, subst, arith, below_more, slice_get}
+use Rattle.std.proofs.Common.{◌≡◌, ◌∙◌, ℕ, zero, suc, ◌+◌, ◌<◌, ◌≤◌, ◌⊎◌, inl, inr, Bool, true, false, List, [], ◌∷◌}
+use Rattle.std.proofs.Common.{length, Some, None, refl, sym, ap, subst, arith, below_more, slice_get}
 use Rattle.std.specs.Prelude.{slice_index_or, IsTrue}
 use Rattle.std.proofs.lemmas.Option.{option_and_then_some, same_Some, slice_get_cases, slice_get_read, slice_get_within}
 use Rattle.xk_types.specs.declared.instr.Instr.{Instr}
@@ -12,7 +13,8 @@ use Rattle.xk_closed_sets.specs.declared.footprint.Footprint.{Footprint}
 use Rattle.xk_closed_sets.specs.declared.places.Reach.{Reach}
 use Rattle.xk_closed_sets.specs.Footprint.{Covers}
 use Rattle.xk_closed_sets.specs.Footprints.{AreFootprints, FootprintsValue, everything, known_or_all, phase_of, rest_of}
-use Rattle.xk_closed_sets.specs.Places.{AreClosed, HasThere, IsClosedAt, IsClosedIn, leads, nowhere, phase_in, reach_at, rest_in}
+use Rattle.xk_closed_sets.specs.Places.{AreClosed, HasThere, IsClosedAt, IsClosedIn, leads, nowhere}
+use Rattle.xk_closed_sets.specs.Places.{phase_in, reach_at, rest_in}
 use Rattle.xk_closed_sets.proofs.FootprintLemmas.{covers_nothing}
 
 -- behind the end
@@ -123,7 +125,7 @@ all_footprints m = record {
   };
 }
 
-pub known_footprints : (f : FootprintsValue) → (IsTrue f.known → AreFootprints f.module_run (rest_in f.rows) (phase_in f.rows))
+known_footprints : (f : FootprintsValue) → (IsTrue f.known → AreFootprints f.module_run (rest_in f.rows) (phase_in f.rows))
     → AreFootprints f.module_run (rest_of f) (phase_of f)
 known_footprints f h = by f.known h
   where
@@ -156,14 +158,6 @@ all_places rows u code n le each few = record {
   few = few;
   each = λ p i found. let w = slice_get_within code p i found in each p (omega (arith, w, le)) i found;
 }
-
-pub more_units : (rows : List (List Reach)) (units : List UnitValue) (n : ℕ) (x : UnitValue)
-    → ((u : ℕ) → u < n → (y : UnitValue) → slice_get units u ≡ Some y → IsClosedIn rows u y.code)
-    → n < length units → x ≡ slice_index_or units n x → IsClosedIn rows n x.code
-    → (u : ℕ) → u < n + 1 → (y : UnitValue) → slice_get units u ≡ Some y → IsClosedIn rows u y.code
-more_units rows units n x before lt is here = below_more (λ u. (y : UnitValue) → slice_get units u ≡ Some y → IsClosedIn rows u y.code) n before
-    (λ y found. subst (λ (z : UnitValue). IsClosedIn rows n z.code)
-    (same_Some x y (sym (slice_get_read units (length units) n x refl lt is) ∙ found)) here)
 
 pub all_units : (rows : List (List Reach)) (units : List UnitValue) (n : ℕ) → length units ≤ n
     → ((u : ℕ) → u < n → (y : UnitValue) → slice_get units u ≡ Some y → IsClosedIn rows u y.code)

@@ -44,8 +44,8 @@ pub(crate) fn reach_of(rows: &[Row], core: &Core<'_>, act: Act) -> Result<Reach,
     })
 }
 
-/// What the activity may do as long as nobody of the set moves: nothing, if it is stuck; what comes before its next pass of an `advance`, if
-/// somebody of the set holds it up on a clock, and it drops none before; else all that it may still do.
+/// What the activity may do as long as nobody of the set moves: nothing, if it is stuck; what comes before its next pass of an
+/// `advance`, if somebody of the set holds it up on a clock, and it drops none before; else all that it may still do.
 #[tactic(auto, using(crate::proofs::ClaimLemmas::bounded_of))]
 pub(crate) fn claim(core: &Core<'_>, members: &[bool], reach: &Reach, act: Act) -> Footprint
     requires { act < length core.now.world.activities }

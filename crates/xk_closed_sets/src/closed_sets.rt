@@ -34,7 +34,10 @@ impl ClosedSet {
     pub fn has(&self, act: Act) -> bool
         ensures { result ≡ is_in self.now act }
     {
-        is_in(&self.members, act)
+        match self.members.get(act.0 as usize) {
+            Some(inside) => *inside,
+            None => false,
+        }
     }
 
     /// For each activity whether it is in it.
@@ -86,8 +89,8 @@ fn sparing_set(
     }
 }
 
-/// A closed set of activities of which one can take a step, and another that isn't in it can, too: whoever tries the steps of its members alone
-/// misses nothing. None where no such set was found; there may be one. Err where memory was refused.
+/// A closed set of activities of which one can take a step, and another that isn't in it can, too: whoever tries the steps of its
+/// members alone misses nothing. None where no such set was found; there may be one. Err where memory was refused.
 pub fn closed_set(
     alloc: Global,
     footprints: &Footprints<'_>,

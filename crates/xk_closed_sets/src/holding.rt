@@ -107,7 +107,7 @@ pub(crate) fn is_at_end(core: &Core<'_>, act: Act) -> bool
 
 /// Whether the activity takes no step as long as nobody of the set moves, as far as is seen here: it has ended; it waits for a clock that
 /// somebody of the set holds up; or at the end of a finish under which somebody of the set lives.
-#[tactic(auto, using(crate::proofs::ClosednessLemmas::over_stuck, crate::proofs::ClosednessLemmas::waiting_stuck, crate::proofs::ClosednessLemmas::finish_stuck))]
+#[tactic(auto, using(crate::proofs::StuckLemmas::over, crate::proofs::StuckLemmas::held, crate::proofs::StuckLemmas::awaiting))]
 pub(crate) fn is_stuck(core: &Core<'_>, members: &[bool], act: Act) -> bool
     requires { act < length core.now.world.activities }
     ensures { IsTrue result

@@ -1,6 +1,7 @@
 //! Whether tables have all that may be carried out.
 
 ghost use Rattle.std.specs.Prelude.{◌≡◌, ◌<◌, ◌≤◌, ◌^◌, ◌+◌, ℕ, IsTrue, [], Some, length, slice_get, slice_index_or};
+ghost use Rattle.xk_types.specs.Code.{UnitValue};
 ghost use Rattle.xk_closed_sets.specs.Footprint.{Covers};
 ghost use Rattle.xk_closed_sets.specs.Places.{AreClosed, HasOwn, HasRun, HasThere, IsClosedAt, IsClosedIn, leads, reach_at};
 
@@ -89,7 +90,7 @@ fn is_short(rows: &[Row], unit: usize, code: &[Instr]) -> bool
     }
 }
 
-/// Whether they have it of each place of the unit.
+/// Whether they have it of each place of the code.
 fn is_closed_in(rows: &[Row], unit: usize, code: &[Instr]) -> bool
     ensures { IsTrue result → IsClosedIn rows.now unit code.now }
 {
@@ -101,11 +102,15 @@ fn is_closed_in(rows: &[Row], unit: usize, code: &[Instr]) -> bool
     is_short(rows, unit, code)
 }
 
-/// Whether they have it of each place of the unit, by its code.
-fn is_unit_closed(rows: &[Row], unit: usize, of_unit: &Unit) -> bool
-    ensures { IsTrue result → IsClosedIn rows.now unit of_unit.now.code }
+/// Whether they have it of each place of the unit, if there is one of this number.
+fn is_unit_closed(rows: &[Row], units: &[Unit], unit: usize) -> bool
+    ensures { IsTrue result → (x : UnitValue) → slice_get units.now unit ≡ Some x
+        → IsClosedIn rows.now unit x.code }
 {
-    is_closed_in(rows, unit, &of_unit.code)
+    match units.get(unit) {
+        Some(of_unit) => is_closed_in(rows, unit, &of_unit.code),
+        None => true,
+    }
 }
 
 /// Whether they have it of each place of each unit.
@@ -113,7 +118,7 @@ pub(crate) fn are_closed(rows: &[Row], units: &[Unit]) -> bool
     ensures { IsTrue result → AreClosed rows.now units.now }
 {
     for unit in 0..units.len() {
-        if !is_unit_closed(rows, unit, &units[unit]) {
+        if !is_unit_closed(rows, units, unit) {
             return false;
         }
     }

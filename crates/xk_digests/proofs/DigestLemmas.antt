@@ -15,11 +15,13 @@ use Rattle.xk_core.specs.Core.{IsCore}
 use Rattle.xk_digests.specs.Digest.{mixed, with_activity, with_numbers, with_values, word_of, world_digest}
 
 -- each activity of a core is sound
-sound : (m : ModuleValue) (w : World) (a : ℕ) → IsCore m w → a < length w.activities → IsActivitySound m (looks w.clocks a) (length w.clocks) w.steps (act_at w.activities a)
+sound : (m : ModuleValue) (w : World) (a : ℕ) → IsCore m w → a < length w.activities
+    → IsActivitySound m (looks w.clocks a) (length w.clocks) w.steps (act_at w.activities a)
 sound m w a core there =
     (reached_sound m core.limits core.accepted w core.reached).activities a (act_at w.activities a) (slice_get-get_or w.activities a nobody there)
 
-pub unit_there : (m : ModuleValue) (w : World) (a : ℕ) → IsCore m w → a < length w.activities → (act_at w.activities a).frame.unit < length m.units
+pub unit_there : (m : ModuleValue) (w : World) (a : ℕ) → IsCore m w → a < length w.activities
+    → (act_at w.activities a).frame.unit < length m.units
 unit_there m w a core there =
     let s = sound m w a core there in
     slice_get_within m.units (act_at w.activities a).frame.unit s.u s.unit
@@ -44,7 +46,8 @@ alike_digests w v numbers alike =
 
 -- ---- one more
 
-pub values_more : (digest i : ℕ) (xs : List Value) (x : Value) → slice_get xs i ≡ Some x → with_values digest (take (i + 1) xs) ≡ mixed (with_values digest (take i xs)) (word_of x)
+pub values_more : (digest i : ℕ) (xs : List Value) (x : Value) → slice_get xs i ≡ Some x
+    → with_values digest (take (i + 1) xs) ≡ mixed (with_values digest (take i xs)) (word_of x)
 values_more digest i xs x there =
     fold_more (λ d v. mixed d (word_of v)) digest xs i x (slice_get_within xs i x there)
     ∙ ap (λ v. mixed (with_values digest (take i xs)) (word_of v)) (get_or_from_slice_get xs i x x there)

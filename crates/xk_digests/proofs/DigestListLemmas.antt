@@ -1,5 +1,6 @@
 -- One digest more behind those that are linked.
-use Rattle.std.proofs.Common.{◌≡◌, ◌⊎◌, inl, inr, ◌∙◌, ℕ, suc, ◌+◌, ◌<◌, ◌≤◌, Bool, true, false, cond, nat_eq, List, [], ◌∷◌, ◌++◌, length, Option, Some, slice_get, refl, sym, ap, subst, arith}
+use Rattle.std.proofs.Common.{◌≡◌, ◌⊎◌, inl, inr, ◌∙◌, ℕ, suc, ◌+◌, ◌<◌, ◌≤◌, Bool, true, false, cond}
+use Rattle.std.proofs.Common.{nat_eq, List, [], ◌∷◌, ◌++◌, length, Option, Some, slice_get, refl, sym, ap, subst, arith}
 use Rattle.std.specs.Prelude.{unwrap_or}
 use Rattle.std.proofs.lemmas.Bool.{true≢false}
 use Rattle.std.proofs.lemmas.Bool.Decides.{Decides-eqb}
@@ -7,7 +8,8 @@ use Rattle.std.proofs.lemmas.List.{length_push}
 use Rattle.std.proofs.lemmas.Option.{slice_get_within}
 use Rattle.indexmap.specs.IndexMap.{IndexMap, Updates, get}
 use Rattle.xk_digests.specs.Digests.{AreLinked, IsLast, place_in}
-use Rattle.xk_digests.proofs.PushLemmas.{at_end, place, stays}
+use Rattle.xk_types.proofs.ListLemmas.{get-append_left as stays, get_push as at_end}
+use Rattle.xk_readings.proofs.ListLemmas.{place}
 
 -- what is last of some is so of more
 more_behind : (all : List ℕ) (d e n p : ℕ) → n ≤ length all → IsLast all e n p → IsLast (all ++ d ∷ []) e n p

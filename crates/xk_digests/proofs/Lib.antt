@@ -1,3 +1,2 @@
-pub mod PushLemmas
 pub mod DigestLemmas
 mod DigestListLemmas

@@ -1,5 +1,6 @@
 -- Worlds that are alike: the same activities have private steps in them, and those that were found there go on alike.
-use Rattle.std.proofs.Common.{false, ◌≡◌, ◌∙◌, ℕ, ℤ, zero, suc, Bool, true, true≢false, ◌&&◌, List, [], ◌∷◌, ◌++◌, length, Option, Some, None, refl, sym, ap, subst, append_assoc, slice_get}
+use Rattle.std.proofs.Common.{false, ◌≡◌, ◌∙◌, ℕ, ℤ, zero, suc, Bool, true, true≢false, ◌&&◌, List}
+use Rattle.std.proofs.Common.{[], ◌∷◌, ◌++◌, length, Option, Some, None, refl, sym, ap, subst, append_assoc, slice_get}
 use Rattle.std.specs.Prelude.{option_and_then, option_map}
 use Rattle.std.specs.Option.{option_map_or, option_to_list}
 use Rattle.std.proofs.lemmas.List.{append-nil, length-map}
@@ -38,24 +39,27 @@ pub enabled_alike : (m : ModuleValue) (w v : World) (a : ℕ) → AreAlike w v �
 enabled_alike m w v a same = sym (plain_is_step (step m w a)) ∙ ap is_step (outcomes_alike m w v a same) ∙ plain_is_step (step m v a)
 
 -- the instruction that an activity stands at is no matter of phases
-at_plain : (m : ModuleValue) (o : Option Activity) → option_and_then (λ (x : Activity). instruction_at m x.frame) (option_map plain_activity o)
+at_plain : (m : ModuleValue) (o : Option Activity)
+    → option_and_then (λ (x : Activity). instruction_at m x.frame) (option_map plain_activity o)
     ≡ option_and_then (λ (x : Activity). instruction_at m x.frame) o
 at_plain m None = refl
 at_plain m (Some x) = refl
 
 next_plain : (m : ModuleValue) (w : World) (a : ℕ) → next_instruction m (plain w) a ≡ next_instruction m w a
-next_plain m w a = ap (option_and_then (λ (x : Activity). instruction_at m x.frame)) (slice_get-map plain_activity w.activities a) ∙ at_plain m (slice_get w.activities a)
+next_plain m w a = ap (option_and_then (λ (x : Activity). instruction_at m x.frame)) (slice_get-map plain_activity w.activities a)
+    ∙ at_plain m (slice_get w.activities a)
 
 next_alike : (m : ModuleValue) (w v : World) (a : ℕ) → AreAlike w v → next_instruction m w a ≡ next_instruction m v a
 next_alike m w v a same = sym (next_plain m w a) ∙ ap (λ z. next_instruction m z a) same ∙ next_plain m v a
 
-pub private_alike : (m : ModuleValue) (w v : World) (a : ℕ) → AreAlike w v → has_private_step m w a ≡ has_private_step m v a
+private_alike : (m : ModuleValue) (w v : World) (a : ℕ) → AreAlike w v → has_private_step m w a ≡ has_private_step m v a
 private_alike m w v a same =
     ap (λ b. b && option_map_or is_private (next_instruction m w a) true) (enabled_alike m w v a same)
     ∙ ap (λ o. is_enabled m v a && option_map_or is_private o true) (next_alike m w v a same)
 
 -- private steps lead on as from a world that is alike
-pub leads_alike : (m : ModuleValue) (list : List ℕ) (u z v : World) → AreAlike u z → LeadsPrivately m list z v → (x : World) × LeadsPrivately m list u x × AreAlike x v
+pub leads_alike : (m : ModuleValue) (list : List ℕ) (u z v : World) → AreAlike u z → LeadsPrivately m list z v
+    → (x : World) × LeadsPrivately m list u x × AreAlike x v
 leads_alike m [] u z v same h = (u, refl, same ∙ ap plain h)
 leads_alike m (b ∷ list) u z v same h =
     let y = (alike_worlds_go_alike m).steps z u h.1 b h.2 (sym same) h.3 in
@@ -104,19 +108,18 @@ closed_alike m w v set same closed = record {
 
 -- ---- those that were found there
 
-many_alike : (w v : World) → AreAlike w v → length w.activities ≡ length v.activities
-many_alike w v same =
-    sym (length-map w.activities plain_activity) ∙ ap (λ (z : World). length z.activities) same ∙ length-map v.activities plain_activity
-
 least_same : (p q : ℕ → Bool) (n : ℕ) → ((a : ℕ) → p a ≡ q a) → least p n ≡ least q n
 least_same p q zero same = refl
 least_same p q (suc n) same = ap (λ o. or_this o (p n) n) (least_same p q n same) ∙ ap (λ b. or_this (least q n) b n) (same n)
 
-least_alike : (m : ModuleValue) (x y : CoreValue) → x.module_run ≡ m → y.module_run ≡ m → AreAlike x.world y.world → least_private x ≡ least_private y
+least_alike : (m : ModuleValue) (x y : CoreValue) → x.module_run ≡ m → y.module_run ≡ m → AreAlike x.world y.world
+    → least_private x ≡ least_private y
 least_alike m x y mx my same =
     ap (λ k. least (has_private_step k x.world) (length x.world.activities)) mx
     ∙ least_same (has_private_step m x.world) (has_private_step m y.world) (length x.world.activities) (λ a. private_alike m x.world y.world a same)
-    ∙ ap (least (has_private_step m y.world)) (many_alike x.world y.world same)
+    ∙ ap (least (has_private_step m y.world)) (sym (length-map x.world.activities plain_activity)
+    ∙ ap (λ (z : World). length z.activities) same
+    ∙ length-map y.world.activities plain_activity)
     ∙ sym (ap (λ k. least (has_private_step k y.world) (length y.world.activities)) my)
 
 -- One goes on to z and the other to t: to worlds that are alike, and the same was printed on the way.
@@ -129,7 +132,8 @@ pub record GoAlike (m : ModuleValue) (x y z t : FoundValue) : Type 0 where
   pub second_prints : t.printed ≡ y.printed ++ more
 
 -- neither goes on
-stay : (m : ModuleValue) (x y : FoundValue) → x.core.module_run ≡ m → y.core.module_run ≡ m → AreAlike x.core.world y.core.world → GoAlike m x y x y
+stay : (m : ModuleValue) (x y : FoundValue) → x.core.module_run ≡ m → y.core.module_run ≡ m → AreAlike x.core.world y.core.world
+    → GoAlike m x y x y
 stay m x y mx my same = record {
   first_module = mx;
   second_module = my;
@@ -149,7 +153,8 @@ joined m x y z t p q g h = record {
   second_prints = h.second_prints ∙ ap (λ ns. ns ++ h.more) g.second_prints ∙ append_assoc y.printed g.more h.more;
 }
 
-one_alike : (m : ModuleValue) (x y : FoundValue) (a : ℕ) → x.core.module_run ≡ m → y.core.module_run ≡ m → AreAlike x.core.world y.core.world
+one_alike : (m : ModuleValue) (x y : FoundValue) (a : ℕ) → x.core.module_run ≡ m → y.core.module_run ≡ m
+    → AreAlike x.core.world y.core.world
     → GoAlike m x y (one_more a x) (one_more a y)
 one_alike m x y a mx my same = subst (λ (z : FoundValue). GoAlike m x y z (one_more a y)) (sym (of x mx))
     (subst (λ (t : FoundValue). GoAlike m x y (with_outcome x a (step m x.core.world a)) t) (sym (of y my))
@@ -182,12 +187,14 @@ one_alike m x y a mx my same = subst (λ (z : FoundValue). GoAlike m x y z (one_
     by (Wrong c) Blocked g h = stay m x y mx my same
     by (Wrong c) (Wrong d) g h = stay m x y mx my same
 
-with_step_alike : (m : ModuleValue) (x y : FoundValue) (o : Option ℕ) → x.core.module_run ≡ m → y.core.module_run ≡ m → AreAlike x.core.world y.core.world
+with_step_alike : (m : ModuleValue) (x y : FoundValue) (o : Option ℕ) → x.core.module_run ≡ m → y.core.module_run ≡ m
+    → AreAlike x.core.world y.core.world
     → GoAlike m x y (with_step x o) (with_step y o)
 with_step_alike m x y None mx my same = stay m x y mx my same
 with_step_alike m x y (Some a) mx my same = one_alike m x y a mx my same
 
-settled_alike : (m : ModuleValue) (x y : FoundValue) (n : ℕ) → x.core.module_run ≡ m → y.core.module_run ≡ m → AreAlike x.core.world y.core.world
+settled_alike : (m : ModuleValue) (x y : FoundValue) (n : ℕ) → x.core.module_run ≡ m → y.core.module_run ≡ m
+    → AreAlike x.core.world y.core.world
     → GoAlike m x y (settled n x) (settled n y)
 settled_alike m x y zero mx my same = stay m x y mx my same
 settled_alike m x y (suc n) mx my same =
@@ -202,10 +209,12 @@ settled_alike m x y (suc n) mx my same =
 rest_alike : (m : ModuleValue) (x y : FoundValue) → x.core.module_run ≡ m → y.core.module_run ≡ m → AreAlike x.core.world y.core.world
     → GoAlike m x y (at_rest x) (at_rest y)
 rest_alike m x y mx my same =
-    subst (λ n. GoAlike m x y (at_rest x) (settled n y)) (ap steps_bound (mx ∙ sym my)) (settled_alike m x y (steps_bound x.core.module_run) mx my same)
+    subst (λ n. GoAlike m x y (at_rest x) (settled n y)) (ap steps_bound (mx
+    ∙ sym my)) (settled_alike m x y (steps_bound x.core.module_run) mx my same)
 
 -- a step of the activity more, and private steps behind it
-pub next_goes_alike : (m : ModuleValue) (x y : FoundValue) (a : ℕ) → x.core.module_run ≡ m → y.core.module_run ≡ m → AreAlike x.core.world y.core.world
+pub next_goes_alike : (m : ModuleValue) (x y : FoundValue) (a : ℕ) → x.core.module_run ≡ m → y.core.module_run ≡ m
+    → AreAlike x.core.world y.core.world
     → GoAlike m x y (next a x) (next a y)
 next_goes_alike m x y a mx my same =
     let g = one_alike m x y a mx my same in

@@ -1,5 +1,6 @@
 -- What a list of edges leads to.
-use Rattle.std.proofs.Common.{◌≡◌, ◌∙◌, ℕ, zero, suc, ◌+◌, ◌<◌, ◌≤◌, ◌⊎◌, inl, inr, Bool, List, [], ◌∷◌, ◌++◌, length, ◌-◌, get_or, Some, refl, sym, ap, subst, arith, slice_get}
+use Rattle.std.proofs.Common.{◌≡◌, ◌∙◌, ℕ, zero, suc, ◌+◌, ◌<◌, ◌≤◌, ◌⊎◌, inl, inr, Bool, List}
+use Rattle.std.proofs.Common.{[], ◌∷◌, ◌++◌, length, ◌-◌, get_or, Some, refl, sym, ap, subst, arith, slice_get}
 use Rattle.std.specs.Prelude.{fold}
 use Rattle.std.proofs.lemmas.List.{get_or_append_left, get_or_push, length_push}
 use Rattle.std.proofs.lemmas.List.Sums.{fold_push}
@@ -12,11 +13,13 @@ use Rattle.xk_outcomes.specs.Entries.{AreBehind, AreEntries, led_by, with_edge}
 use Rattle.xk_outcomes.specs.Found.{FoundValue, along, first_found, next}
 use Rattle.xk_outcomes.specs.Search.{AreFound, AreSettled, Has, IsFound, IsSettled, found_digest}
 use Rattle.xk_outcomes.proofs.FoundLemmas.{along_push, settled_first, settled_found, settled_next}
-use Rattle.xk_digests.proofs.PushLemmas.{each_push, place}
+use Rattle.xk_types.proofs.ListLemmas.{each_push}
+use Rattle.xk_readings.proofs.ListLemmas.{place}
 use Rattle.xk_outcomes.proofs.SearchLemmas.{different_push, digests_push, ends_push}
 
 -- what is in a list, or stands for what isn't
-each_or : {X : Type 0} (P : X → Type 0) (xs : List X) (d : X) → ((k : ℕ) (x : X) → slice_get xs k ≡ Some x → P x) → P d → (k : ℕ) → P (get_or xs k d)
+each_or : {X : Type 0} (P : X → Type 0) (xs : List X) (d : X) → ((k : ℕ) (x : X) → slice_get xs k ≡ Some x → P x) → P d → (k : ℕ)
+    → P (get_or xs k d)
 each_or P [] d all here k = here
 each_or P (x ∷ xs) d all here zero = all zero x refl
 each_or P (x ∷ xs) d all here (suc k) = each_or P xs d (λ j. all (suc j)) here k
@@ -32,7 +35,8 @@ module _ (first : FoundValue) where
       let one = length_push acc new in
       omega (arith, rest, one)
 
-  kept : (acc : List FoundValue) (edges : List Edge) (k : ℕ) → k < length acc → get_or (fold (with_edge first) acc edges) k first ≡ get_or acc k first
+  kept : (acc : List FoundValue) (edges : List Edge) (k : ℕ) → k < length acc
+      → get_or (fold (with_edge first) acc edges) k first ≡ get_or acc k first
   kept acc [] k within = refl
   kept acc (e ∷ edges) k within =
       let new = next e.act (get_or acc e.from first) in
@@ -58,8 +62,10 @@ module _ (first : FoundValue) where
           let one = length_push acc new in
           let end : length acc + zero ≡ length acc = omega arith in
           let inside : z.from < length acc = omega (arith, before) in
-          ap (λ k. get_or all k first) end ∙ kept (acc ++ new ∷ []) edges (length acc) (omega (arith, one)) ∙ get_or_push acc new first (length acc) refl
-          ∙ sym (ap (next z.act) (kept (acc ++ new ∷ []) edges z.from (omega (arith, one, inside)) ∙ get_or_append_left acc (new ∷ []) first z.from inside))
+          ap (λ k. get_or all k first) end ∙ kept (acc ++ new ∷ []) edges (length acc) (omega (arith, one))
+          ∙ get_or_push acc new first (length acc) refl
+          ∙ sym (ap (next z.act) (kept (acc ++ new ∷ []) edges z.from (omega (arith, one, inside))
+          ∙ get_or_append_left acc (new ∷ []) first z.from inside))
   by_edge acc (z ∷ edges) (suc i) e there behind =
       let new = next z.act (get_or acc z.from first) in
       let all = fold (with_edge first) (acc ++ new ∷ []) edges in
@@ -81,15 +87,17 @@ first_there start edges =
     slice_get-get_or (led_by start edges) 0 (first_found start) (omega (arith, many)) ∙ ap Some (first_led start edges)
 
 -- an edge leads there from where it goes out
-pub edge_leads : (start : CoreValue) (edges : List Edge) (i : ℕ) (e : Edge) → AreBehind edges → slice_get edges i ≡ Some e
+edge_leads : (start : CoreValue) (edges : List Edge) (i : ℕ) (e : Edge) → AreBehind edges → slice_get edges i ≡ Some e
     → get_or (led_by start edges) (i + 1) (first_found start) ≡ next e.act (get_or (led_by start edges) e.from (first_found start))
 edge_leads start edges i e behind there =
     let before = behind i e there in
     let same : i + 1 ≡ 1 + i = omega arith in
-    ap (λ k. get_or (led_by start edges) k (first_found start)) same ∙ by_edge (first_found start) (first_found start ∷ []) edges i e there (omega (arith, before))
+    ap (λ k. get_or (led_by start edges) k (first_found start)) same
+    ∙ by_edge (first_found start) (first_found start ∷ []) edges i e there (omega (arith, before))
 
 -- A way that begins at one but the first is the same as one that begins a step further back.
-pub way_more : (start : CoreValue) (edges : List Edge) (at : ℕ) (e : Edge) (way more : List ℕ) → AreBehind edges → at ≤ length edges → 0 < at → e ≡ get_or edges (at - 1) e
+pub way_more : (start : CoreValue) (edges : List Edge) (at : ℕ) (e : Edge) (way more : List ℕ) → AreBehind edges → at ≤ length edges
+    → 0 < at → e ≡ get_or edges (at - 1) e
     → more ≡ way ++ e.act ∷ []
     → (e.from < at) × (along more (get_or (led_by start edges) e.from (first_found start)) ≡ along way (get_or (led_by start edges) at (first_found start)))
 way_more start edges at e way more behind within some is longer =
@@ -99,34 +107,38 @@ way_more start edges at e way more behind within some is longer =
     let from = get_or (led_by start edges) e.from (first_found start) in (
       omega (arith, before, some),
       ap (λ l. along l from) longer ∙ along_push way e.act from
-          ∙ ap (along way) (sym (edge_leads start edges (at - 1) e behind there) ∙ ap (λ k. get_or (led_by start edges) k (first_found start)) same),
+          ∙ ap (along way) (sym (edge_leads start edges (at - 1) e behind there)
+          ∙ ap (λ k. get_or (led_by start edges) k (first_found start)) same),
     )
 
 -- all that edges lead to are settled
 pub all_settled : (start : CoreValue) (edges : List Edge) → AreSettled start (led_by start edges)
 all_settled start edges =
-    by (first_found start ∷ []) edges (each_push (IsSettled start) [] (first_found start) (λ k x h. absurd (none-some x h)) (settled_first start))
+    by (first_found start ∷ []) edges (each_push (λ i. IsSettled start) [] (first_found start) (λ k x h. absurd (none-some x h)) (settled_first start))
   where
-    by : (acc : List FoundValue) (more : List Edge) → AreSettled start acc → AreSettled start (fold (with_edge (first_found start)) acc more)
+    by : (acc : List FoundValue) (more : List Edge) → AreSettled start acc
+        → AreSettled start (fold (with_edge (first_found start)) acc more)
     by acc [] all = all
     by acc (e ∷ more) all =
         let from = get_or acc e.from (first_found start) in
         let known = each_or (IsSettled start) acc (first_found start) all (settled_first start) e.from in
         by (acc ++ next e.act from ∷ []) more
-        (each_push (IsSettled start) acc (next e.act from) all (settled_next start from e.act (settled_found start from known)))
+        (each_push (λ i. IsSettled start) acc (next e.act from) all (settled_next start from e.act (settled_found start from known)))
 
 -- so they are found
 pub all_led : (start : CoreValue) (edges : List Edge) → AreFound start (led_by start edges)
 all_led start edges k x there = settled_found start x (all_settled start edges k x there)
 
 -- so is what a step leads to from one of them
-pub new_found : (start : CoreValue) (edges : List Edge) (k a : ℕ) (x new : FoundValue) → slice_get (led_by start edges) k ≡ Some x → new ≡ next a x → IsFound start new
+pub new_found : (start : CoreValue) (edges : List Edge) (k a : ℕ) (x new : FoundValue) → slice_get (led_by start edges) k ≡ Some x
+    → new ≡ next a x → IsFound start new
 new_found start edges k a x new there is = settled_found start new (subst (IsSettled start) (sym is) (settled_next start x a (all_led start edges k x there)))
 
 -- ---- one more
 
 -- what one edge more leads to
-pub led_push : (start : CoreValue) (edges more : List Edge) (e : Edge) (x new : FoundValue) → more ≡ edges ++ e ∷ [] → slice_get (led_by start edges) e.from ≡ Some x → new ≡ next e.act x
+pub led_push : (start : CoreValue) (edges more : List Edge) (e : Edge) (x new : FoundValue) → more ≡ edges ++ e ∷ []
+    → slice_get (led_by start edges) e.from ≡ Some x → new ≡ next e.act x
     → led_by start more ≡ led_by start edges ++ new ∷ []
 led_push start edges more e x new one there is =
     ap (led_by start) one

@@ -1,5 +1,6 @@
 -- Where each that was found was looked at, nothing is missed.
-use Rattle.std.proofs.Common.{◌≡◌, ◌∙◌, ℕ, ℤ, suc, ◌⊎◌, inl, inr, true, List, [], ◌∷◌, ◌++◌, length, Some, refl, sym, ap, subst, eq-eqb, eqb-true, slice_get}
+use Rattle.std.proofs.Common.{◌≡◌, ◌∙◌, ℕ, ℤ, suc, ◌⊎◌, inl, inr, true, List, []}
+use Rattle.std.proofs.Common.{◌∷◌, ◌++◌, length, Some, refl, sym, ap, subst, eq-eqb, eqb-true, slice_get}
 use Rattle.std.specs.Option.{option_to_list}
 use Rattle.std.specs.Prelude.{fold}
 use Rattle.std.proofs.lemmas.List.{append-nil}
@@ -34,7 +35,8 @@ use Rattle.xk_outcomes.proofs.PrivateStepLemmas.{private_closed, private_enabled
 use Rattle.xk_outcomes.proofs.SearchLemmas.{printed_more}
 
 -- a schedule goes on by a step
-led_step : (m : ModuleValue) (args : List ℤ) (w u : World) (numbers : List ℤ) (a : ℕ) (e : Event) → IsLedTo m args w numbers → step m w a ≡ Stepped u e
+led_step : (m : ModuleValue) (args : List ℤ) (w u : World) (numbers : List ℤ) (a : ℕ) (e : Event) → IsLedTo m args w numbers
+    → step m w a ≡ Stepped u e
     → IsLedTo m args u (numbers ++ option_to_list (number_printed e))
 led_step m args w u numbers a e led h = record {
   list = led.list ++ a ∷ [];
@@ -45,7 +47,8 @@ led_step m args w u numbers a e led h = record {
 -- what tells two worlds apart goes by what is printed before and behind
 key_more : (order : Order) (xs ys more : List ℤ) → key order xs ≡ key order ys → key order (xs ++ more) ≡ key order (ys ++ more)
 key_more order.Printed xs ys more same = refl
-key_more order.Rising xs ys more same = fold-append put_in [] xs more ∙ ap (λ ns. fold put_in ns more) same ∙ sym (fold-append put_in [] ys more)
+key_more order.Rising xs ys more same = fold-append put_in [] xs more ∙ ap (λ ns. fold put_in ns more) same
+    ∙ sym (fold-append put_in [] ys more)
 
 module _ (order : Order) (start : CoreValue) (all : List FoundValue) (links : List Edge) (limits : IsWithinLimits start.module_run) (ok : IsAccepted start.module_run)
     (taken : AreArguments start.module_run start.world.arguments) (begins : start.world ≡ opening start.module_run start.world.arguments)
@@ -106,7 +109,8 @@ module _ (order : Order) (start : CoreValue) (all : List FoundValue) (links : Li
         same = refl;
       }
 
-  by_set : (w : World) (numbers : List ℤ) → IsLedTo m args w numbers → (meets : Meets w numbers) → IsExpanded m order all links meets.number meets.there.0
+  by_set : (w : World) (numbers : List ℤ) → IsLedTo m args w numbers → (meets : Meets w numbers)
+      → IsExpanded m order all links meets.number meets.there.0
       → HasClosed m AreAlike Finds w numbers ⊎ ((a : ℕ) → HasNextSame m AreAlike Finds w numbers a)
   by_set w numbers led meets (inl s) = inl (record {
     set = s.set;
@@ -125,7 +129,8 @@ module _ (order : Order) (start : CoreValue) (all : List FoundValue) (links : Li
       by_set w numbers led meets (closed meets.number meets.there.0 (slice_get_within all meets.number meets.there.0 meets.there.1) meets.there.1)
 
   -- the first private step on the way to one
-  by_private : (b : ℕ) (list : List ℕ) (w v : World) (numbers : List ℤ) → IsLedTo m args w numbers → LeadsPrivately m (b ∷ list) w v → Meets v numbers
+  by_private : (b : ℕ) (list : List ℕ) (w v : World) (numbers : List ℤ) → IsLedTo m args w numbers → LeadsPrivately m (b ∷ list) w v
+      → Meets v numbers
       → HasNextSame m AreAlike Finds w numbers b
   by_private b list w v numbers led private meets u e h =
       let same : (private.1 ≡ u) × (private.2 ≡ e) = same_step private.1 u private.2 e (sym private.3 ∙ h) in

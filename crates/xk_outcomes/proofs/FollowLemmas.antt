@@ -1,5 +1,6 @@
 -- What can be read along links is printed by the steps that they stand for; and no reading is longer than a run.
-use Rattle.std.proofs.Common.{◌≡◌, ◌∙◌, ℕ, ℤ, zero, suc, ◌+◌, ◌≤◌, Bool, true, List, [], ◌∷◌, ◌++◌, Option, Some, None, refl, sym, ap, subst, append_assoc, arith, slice_get}
+use Rattle.std.proofs.Common.{◌≡◌, ◌∙◌, ℕ, ℤ, zero, suc, ◌+◌, ◌≤◌, Bool, true, List, []}
+use Rattle.std.proofs.Common.{◌∷◌, ◌++◌, Option, Some, None, refl, sym, ap, subst, append_assoc, arith, slice_get}
 use Rattle.std.specs.Prelude.{option_map}
 use Rattle.std.specs.Option.{option_to_list}
 use Rattle.std.proofs.lemmas.List.{append-nil, append_cancel_left, length-map}
@@ -27,12 +28,14 @@ use Rattle.xk_outcomes.proofs.RestLemmas.{steps_within}
 -- ---- ends
 
 -- all have ended in one whose end is told so
-pub ended_there : (all : List FoundValue) (k : ℕ) (x : FoundValue) → slice_get all k ≡ Some x → slice_get (ends all) k ≡ Some true → all_ended x.core.world ≡ true
+ended_there : (all : List FoundValue) (k : ℕ) (x : FoundValue) → slice_get all k ≡ Some x → slice_get (ends all) k ≡ Some true
+    → all_ended x.core.world ≡ true
 ended_there all k x there told =
     let over : FoundValue → Bool = λ y. all_ended y.core.world in
     same_Some (all_ended x.core.world) true (sym (slice_get-map over all k ∙ ap (option_map over) there) ∙ told)
 
-pub told_there : (all : List FoundValue) (k : ℕ) (x : FoundValue) → slice_get all k ≡ Some x → all_ended x.core.world ≡ true → slice_get (ends all) k ≡ Some true
+told_there : (all : List FoundValue) (k : ℕ) (x : FoundValue) → slice_get all k ≡ Some x → all_ended x.core.world ≡ true
+    → slice_get (ends all) k ≡ Some true
 told_there all k x there ended =
     let over : FoundValue → Bool = λ y. all_ended y.core.world in
     slice_get-map over all k ∙ ap (option_map over) there ∙ ap Some ended
@@ -48,7 +51,7 @@ links_within m all links linked e there =
 
 -- ---- from links that lead to one, and on from there, to a reading
 
-pub read_on : (links : List Edge) (over : List Bool) (n i k : ℕ) (acts rest : List ℕ) (before more : List ℤ) → Leads links n k acts before
+read_on : (links : List Edge) (over : List Bool) (n i k : ℕ) (acts rest : List ℕ) (before more : List ℤ) → Leads links n k acts before
     → Reads (graph links over) i k rest more → Reads (graph links over) (n + i) 0 (acts ++ rest) (before ++ more)
 read_on links over zero i k acts rest before more led reads =
     let none : i ≡ zero + i = omega arith in
@@ -69,7 +72,8 @@ read_on links over (suc n) i k acts rest before more led reads =
     (subst (λ ns. Reads (graph links over) (n + suc i) 0 (led.4 ++ l.act ∷ rest) ns) is_numbers h))
 
 -- what stands along links to one in which all have ended can be read
-pub read_to : (all : List FoundValue) (links : List Edge) (k : ℕ) (x : FoundValue) (numbers : List ℤ) → slice_get all k ≡ Some x → all_ended x.core.world ≡ true
+pub read_to : (all : List FoundValue) (links : List Edge) (k : ℕ) (x : FoundValue) (numbers : List ℤ) → slice_get all k ≡ Some x
+    → all_ended x.core.world ≡ true
     → (led : LeadTo links k numbers) → Reads (graph links (ends all)) (led.0 + 0) 0 (led.1 ++ []) numbers
 read_to all links k x numbers there ended led =
     subst (Reads (graph links (ends all)) (led.0 + 0) 0 (led.1 ++ [])) (append-nil numbers)
@@ -103,18 +107,22 @@ steps_settled x (suc n) =
     let more = steps_with (settled n x) (least_private (settled n x).core) in
     omega (arith, before, more)
 
-steps_next : (m : ModuleValue) (x : FoundValue) (a : ℕ) → x.core.module_run ≡ m → is_enabled m x.core.world a ≡ true → suc x.core.world.steps ≤ (next a x).core.world.steps
+steps_next : (m : ModuleValue) (x : FoundValue) (a : ℕ) → x.core.module_run ≡ m → is_enabled m x.core.world a ≡ true
+    → suc x.core.world.steps ≤ (next a x).core.world.steps
 steps_next m x a same enabled =
     let taken = enabled_step (step m x.core.world a) enabled in
-    let here : one_more a x ≡ with_outcome x a (Stepped taken.0 taken.1) = ap (with_outcome x a) (ap (λ k. step k x.core.world a) same ∙ taken.2) in
+    let here : one_more a x ≡ with_outcome x a (Stepped taken.0 taken.1) = ap (with_outcome x a) (ap (λ k. step k x.core.world a) same
+    ∙ taken.2) in
     let counted = step_counts m x.core.world taken.0 a taken.1 taken.2 in
     let one : x.core.world.steps + 1 ≤ (one_more a x).core.world.steps =
     subst (λ (z : FoundValue). x.core.world.steps + 1 ≤ z.core.world.steps) (sym here) (omega (arith, counted)) in
     let rest = steps_settled (one_more a x) (steps_bound (one_more a x).core.module_run) in
     omega (arith, one, rest)
 
-pub followed : (m : ModuleValue) (all : List FoundValue) (links : List Edge) → AreLinked m all links → ((k : ℕ) (x : FoundValue) → slice_get all k ≡ Some x → x.core.module_run ≡ m)
-    → (n k : ℕ) (acts : List ℕ) (numbers : List ℤ) (x y : FoundValue) → Reads (graph links (ends all)) n k acts numbers → slice_get all k ≡ Some x
+followed : (m : ModuleValue) (all : List FoundValue) (links : List Edge) → AreLinked m all links → ((k : ℕ) (x : FoundValue)
+    → slice_get all k ≡ Some x → x.core.module_run ≡ m)
+    → (n k : ℕ) (acts : List ℕ) (numbers : List ℤ) (x y : FoundValue) → Reads (graph links (ends all)) n k acts numbers
+    → slice_get all k ≡ Some x
     → y.core.module_run ≡ m → AreAlike y.core.world x.core.world → Follows n y (through acts y) numbers
 followed m all links linked modules zero k acts numbers x y reads there is same =
     subst (λ bs. Follows zero y (through bs y) numbers) (sym reads.1) (record {
@@ -127,13 +135,16 @@ followed m all links linked modules (suc n) k acts numbers x y reads there is sa
     let l = linked.each reads.1.0 e reads.1.1 in
     let source : l.source ≡ x = same_Some l.source x (sym l.out ∙ (ap (slice_get all) reads.2 ∙ there)) in
     let enabled : is_enabled m y.core.world e.act ≡ true =
-    enabled_alike m y.core.world x.core.world e.act same ∙ subst (λ (z : FoundValue). is_enabled m z.core.world e.act ≡ true) source l.enabled in
+    enabled_alike m y.core.world x.core.world e.act same
+    ∙ subst (λ (z : FoundValue). is_enabled m z.core.world e.act ≡ true) source l.enabled in
     let alike_next : AreAlike (next e.act x).core.world l.target.core.world = subst (λ (z : FoundValue). AreAlike (next e.act z).core.world l.target.core.world) source l.alike in
     let prints_next : (next e.act x).printed ≡ x.printed ++ option_to_list e.printed =
     subst (λ (z : FoundValue). (next e.act z).printed ≡ z.printed ++ option_to_list e.printed) source l.prints in
     let g = next_goes_alike m y x e.act is (modules k x there) same in
-    let more : g.more ≡ option_to_list e.printed = append_cancel_left x.printed g.more (option_to_list e.printed) (sym g.second_prints ∙ prints_next) in
-    let f = followed m all links linked modules n e.to reads.3 reads.4 l.target (next e.act y) reads.5 l.into g.first_module (g.alike ∙ alike_next) in
+    let more : g.more ≡ option_to_list e.printed = append_cancel_left x.printed g.more (option_to_list e.printed) (sym g.second_prints
+    ∙ prints_next) in
+    let f = followed m all links linked modules n e.to reads.3 reads.4 l.target (next e.act y) reads.5 l.into g.first_module (g.alike
+    ∙ alike_next) in
     let counted = steps_next m y e.act is enabled in
     let long = f.long in
     subst (λ bs. Follows (suc n) y (through bs y) numbers) (sym reads.6) (record {
@@ -146,7 +157,8 @@ followed m all links linked modules (suc n) k acts numbers x y reads there is sa
 -- ---- where all that was found was found from a start
 
 module _ (start : CoreValue) (all : List FoundValue) (links : List Edge) (linked : AreLinked start.module_run all links)
-    (found : (k : ℕ) (x : FoundValue) → slice_get all k ≡ Some x → IsFound start x) (first : slice_get all 0 ≡ Some (first_found start)) where
+    (found : (k : ℕ) (x : FoundValue) → slice_get all k ≡ Some x
+    → IsFound start x) (first : slice_get all 0 ≡ Some (first_found start)) where
   pub read_follows : (n : ℕ) (acts : List ℕ) (numbers : List ℤ) → Reads (graph links (ends all)) n 0 acts numbers
       → Follows n (first_found start) (through acts (first_found start)) numbers
   read_follows n acts numbers reads =

@@ -1,5 +1,6 @@
 -- One that was found goes on by a step and by private steps.
-use Rattle.std.proofs.Common.{◌≡◌, ◌∙◌, ℕ, ℤ, zero, suc, ◌+◌, ◌<◌, ◌≤◌, ◌⊎◌, inl, inr, Bool, true, false, List, [], ◌∷◌, ◌++◌, length, Option, Some, None, refl, sym, ap, subst, add-one, arith, slice_get}
+use Rattle.std.proofs.Common.{◌≡◌, ◌∙◌, ℕ, ℤ, zero, suc, ◌+◌, ◌<◌, ◌≤◌, ◌⊎◌, inl, inr, Bool, true, false}
+use Rattle.std.proofs.Common.{List, [], ◌∷◌, ◌++◌, length, Option, Some, None, refl, sym, ap, subst, add-one, arith, slice_get}
 use Rattle.std.specs.Option.{option_to_list}
 use Rattle.std.proofs.lemmas.List.{append-nil}
 use Rattle.std.proofs.lemmas.Option.{none-some, same_Some}
@@ -14,7 +15,8 @@ use Rattle.xk_law_schedules.proofs.ReachabilityLemmas.{run_more}
 use Rattle.xk_outcomes.specs.PrivateSteps.{has_private_step}
 use Rattle.xk_law_commute.proofs.QuietStepLaw.{enabled_step}
 use Rattle.xk_core.specs.Core.{CoreValue}
-use Rattle.xk_outcomes.specs.Found.{FoundValue, along, at_rest, first_found, least, least_private, next, one_more, or_this, settled, through, with_outcome, with_step}
+use Rattle.xk_outcomes.specs.Found.{FoundValue, along, at_rest, first_found, least, least_private}
+use Rattle.xk_outcomes.specs.Found.{next, one_more, or_this, settled, through, with_outcome, with_step}
 use Rattle.xk_readings.specs.declared.edge.Edge.{Edge}
 use Rattle.xk_outcomes.specs.declared.order.Order.{Order}
 use Rattle.xk_outcomes.specs.Links.{HasLink}
@@ -48,7 +50,8 @@ pub least_passes : (passes : ℕ → Bool) (n a : ℕ) → least passes n ≡ So
 least_passes passes zero a h = absurd (none-some a h)
 least_passes passes (suc n) a h = by (least_passes passes n a) (least passes n) (passes n) refl refl h
   where
-    by : (least passes n ≡ Some a → passes a ≡ true) → (o : Option ℕ) (b : Bool) → least passes n ≡ o → passes n ≡ b → or_this o b n ≡ Some a → passes a ≡ true
+    by : (least passes n ≡ Some a → passes a ≡ true) → (o : Option ℕ) (b : Bool) → least passes n ≡ o → passes n ≡ b
+        → or_this o b n ≡ Some a → passes a ≡ true
     by before (Some c) b e f g = before (e ∙ g)
     by before None true e f g = subst (λ k. passes k ≡ true) (same_Some n a g) f
     by before None false e f g = absurd (none-some a g)
@@ -67,7 +70,8 @@ found_one_more start x a f = by (step x.core.module_run x.core.world a) refl
         record {
           module_is = f.module_is;
           legal = run_more m x.schedule start.world x.core.world w a e f.legal stepped;
-          prints = printed_more m x.schedule start.world x.core.world w a e f.legal stepped ∙ ap (λ l. l ++ option_to_list (number_printed e)) f.prints;
+          prints = printed_more m x.schedule start.world x.core.world w a e f.legal stepped
+              ∙ ap (λ l. l ++ option_to_list (number_printed e)) f.prints;
         }
 
 -- ---- private steps
@@ -106,12 +110,14 @@ record Settles (m : ModuleValue) (x y : FoundValue) : Type 0 where
   same_module : y.core.module_run ≡ m
   prints : y.printed ≡ x.printed
 
-private_more : (m : ModuleValue) (list : List ℕ) (w v x : World) (a : ℕ) (e : Event) → LeadsPrivately m list w v → has_private_step m v a ≡ true → step m v a ≡ Stepped x e
+private_more : (m : ModuleValue) (list : List ℕ) (w v x : World) (a : ℕ) (e : Event) → LeadsPrivately m list w v
+    → has_private_step m v a ≡ true → step m v a ≡ Stepped x e
     → LeadsPrivately m (list ++ a ∷ []) w x
 private_more m [] w v x a e h q s = (subst (λ z. has_private_step m z a ≡ true) (sym h) q, x, e, subst (λ z. step m z a ≡ Stepped x e) (sym h) s, refl)
 private_more m (b ∷ list) w v x a e h q s = (h.0, h.1, h.2, h.3, private_more m list h.1 v x a e h.4 q s)
 
-settles_more : (m : ModuleValue) → IsWithinLimits m → IsAccepted m → (x y : FoundValue) → Settles m x y → (o : Option ℕ) → least_private y.core ≡ o → Settles m x (with_step y o)
+settles_more : (m : ModuleValue) → IsWithinLimits m → IsAccepted m → (x y : FoundValue) → Settles m x y → (o : Option ℕ)
+    → least_private y.core ≡ o → Settles m x (with_step y o)
 settles_more m limits ok x y s None is = s
 settles_more m limits ok x y s (Some a) is =
     let w = y.core.world in
@@ -127,7 +133,8 @@ settles_more m limits ok x y s (Some a) is =
       prints = ap (λ n. y.printed ++ option_to_list n) (private_silent m w a q taken.0 taken.1 taken.2) ∙ append-nil y.printed ∙ s.prints;
     })
 
-settles : (m : ModuleValue) → IsWithinLimits m → IsAccepted m → (x : FoundValue) → x.core.module_run ≡ m → (n : ℕ) → Settles m x (settled n x)
+settles : (m : ModuleValue) → IsWithinLimits m → IsAccepted m → (x : FoundValue) → x.core.module_run ≡ m → (n : ℕ)
+    → Settles m x (settled n x)
 settles m limits ok x same zero = record { list = []; private = refl; same_module = same; prints = refl }
 settles m limits ok x same (suc n) = settles_more m limits ok x (settled n x) (settles m limits ok x same n) (least_private (settled n x).core) refl
 
@@ -155,7 +162,8 @@ leading m limits ok here y a same is u e t =
     subst (λ (z : FoundValue). Leading m here z u e) (sym there) (record { list = s.list; private = s.private; prints = s.prints })
 
 -- a step that can be taken prints one number at most, and private steps behind it none
-pub next_prints : (m : ModuleValue) → IsWithinLimits m → IsAccepted m → (here : FoundValue) (a : ℕ) → here.core.module_run ≡ m → is_enabled m here.core.world a ≡ true
+pub next_prints : (m : ModuleValue) → IsWithinLimits m → IsAccepted m → (here : FoundValue) (a : ℕ) → here.core.module_run ≡ m
+    → is_enabled m here.core.world a ≡ true
     → (o : Option ℤ) × ((next a here).printed ≡ here.printed ++ option_to_list o)
 next_prints m limits ok here a same enabled =
     let taken = enabled_step (step m here.core.world a) enabled in
@@ -163,7 +171,8 @@ next_prints m limits ok here a same enabled =
     (number_printed taken.1, l.prints)
 
 -- they have one where its step and private steps lead, and a link to it
-pub after_next : (m : ModuleValue) → IsWithinLimits m → IsAccepted m → (order : Order) (all : List FoundValue) (links : List Edge) (number to : ℕ) (here y : FoundValue) (a : ℕ)
+pub after_next : (m : ModuleValue) → IsWithinLimits m → IsAccepted m
+    → (order : Order) (all : List FoundValue) (links : List Edge) (number to : ℕ) (here y : FoundValue) (a : ℕ)
     → here.core.module_run ≡ m → y ≡ next a here → IsThere order all y.core.world y.printed to
     → HasLink links number (slice_get y.printed (length here.printed)) to → HasAfter m order all links number here a
 after_next m limits ok order all links number to here y a same is there link u e t =
@@ -197,7 +206,7 @@ along_push [] a x = refl
 along_push (b ∷ way) a x = ap (next b) (along_push way a x)
 
 -- what a schedule of such steps leads to was found
-pub found_next : (start : CoreValue) (x : FoundValue) (a : ℕ) → IsFound start x → IsFound start (next a x)
+found_next : (start : CoreValue) (x : FoundValue) (a : ℕ) → IsFound start x → IsFound start (next a x)
 found_next start x a f = settled_found start (next a x) (settled_next start x a f)
 
 pub first_is_found : (start : CoreValue) → IsFound start (first_found start)
@@ -206,8 +215,3 @@ first_is_found start = settled_found start (first_found start) (settled_first st
 pub found_through : (start : CoreValue) (acts : List ℕ) (x : FoundValue) → IsFound start x → IsFound start (through acts x)
 found_through start [] x f = f
 found_through start (a ∷ acts) x f = found_through start acts (next a x) (found_next start x a f)
-
--- one more at its end is taken last
-pub through_push : (acts : List ℕ) (a : ℕ) (x : FoundValue) → through (acts ++ a ∷ []) x ≡ next a (through acts x)
-through_push [] a x = refl
-through_push (b ∷ acts) a x = through_push acts a (next b x)

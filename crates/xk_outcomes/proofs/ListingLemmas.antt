@@ -1,5 +1,6 @@
 -- What one more leaves listed, and from what was found to what is listed.
-use Rattle.std.proofs.Common.{◌≡◌, ◌∙◌, ℕ, ℤ, zero, suc, ◌+◌, ◌<◌, ◌≤◌, ◌⊎◌, inl, inr, Bool, true, false, List, [], ◌∷◌, ◌++◌, length, Some, refl, sym, ap, subst, arith, slice_get}
+use Rattle.std.proofs.Common.{◌≡◌, ◌∙◌, ℕ, ℤ, zero, suc, ◌+◌, ◌<◌, ◌≤◌, ◌⊎◌, inl, inr, Bool}
+use Rattle.std.proofs.Common.{true, false, List, [], ◌∷◌, ◌++◌, length, Some, refl, sym, ap, subst, arith, slice_get}
 use Rattle.std.specs.Prelude.{count_by, map}
 use Rattle.std.specs.Ordering.{int_eq}
 use Rattle.std.proofs.lemmas.List.{length-map}
@@ -19,12 +20,14 @@ use Rattle.xk_outcomes.specs.declared.order.Order.TheVariants as order
 use Rattle.xk_outcomes.specs.Links.{AreLinked}
 use Rattle.xk_outcomes.specs.Search.{AreFound, AreAllFound, AreAtRest, AreDifferent, IsFound}
 use Rattle.xk_outcomes.specs.Rising.{key, ordered, rising}
-use Rattle.xk_outcomes.specs.Listing.{IsOf, AreApartIn, AreMet, AreOf, AreNoted, AreShownIn, AreAllIn, AreEndsListedIn, HasKeptIn, KeepsListed}
+use Rattle.xk_outcomes.specs.Listing.{IsOf, AreApartIn, AreMet, AreOf, AreNoted}
+use Rattle.xk_outcomes.specs.Listing.{AreShownIn, AreAllIn, AreEndsListedIn, HasKeptIn, KeepsListed}
 use Rattle.xk_outcomes.specs.Outcomes.{IsAtRest, IsListed, IsOutcome, AreDistinct, AreShown}
 use Rattle.xk_outcomes.specs.Limits.{HasKept}
 use Rattle.xk_outcomes.specs.Sets.{IsRising, AreSetsShown, AreSetsDistinct, AreSetsAll}
 use Rattle.xk_outcomes.proofs.RisingLemmas.{is_rising, same_rising, one_rising}
-use Rattle.xk_digests.proofs.PushLemmas.{stays, at_end, place}
+use Rattle.xk_types.proofs.ListLemmas.{get-append_left as stays, get_push as at_end}
+use Rattle.xk_readings.proofs.ListLemmas.{place}
 
 -- ---- one more
 
@@ -143,8 +146,10 @@ all_apart order m args all found rest different = record {
       let y = scheduled all j q hj in
       let f = found i x.0 x.1 in
       let g = found j y.0 y.1 in
-      let to_w : w ≡ x.0.core.world = same_through w x.0.core.world (sym lead_w ∙ (ap (λ (l : List ℕ). run m l (opening m args)) (sym x.2) ∙ f.legal)) in
-      let to_v : v ≡ y.0.core.world = same_through v y.0.core.world (sym lead_v ∙ (ap (λ (l : List ℕ). run m l (opening m args)) (sym y.2) ∙ g.legal)) in
+      let to_w : w ≡ x.0.core.world = same_through w x.0.core.world (sym lead_w
+      ∙ (ap (λ (l : List ℕ). run m l (opening m args)) (sym x.2) ∙ f.legal)) in
+      let to_v : v ≡ y.0.core.world = same_through v y.0.core.world (sym lead_v
+      ∙ (ap (λ (l : List ℕ). run m l (opening m args)) (sym y.2) ∙ g.legal)) in
       let worlds : AreAlike y.0.core.world x.0.core.world = ap plain (sym to_v) ∙ sym alike ∙ ap plain to_w in
       let numbers : key order x.0.printed ≡ key order y.0.printed =
       ap (key order) (sym f.prints ∙ ap (λ (l : List ℕ). printed m l (opening m args)) x.2) ∙ same
@@ -159,7 +164,8 @@ ends_listed : (order : Order) (m : ModuleValue) (args : List ℤ) (all : List Fo
 ends_listed order m args all links list found linked met k p numbers there o =
     let x = scheduled all k p there in
     let f = found k x.0 x.1 in
-    let same : o.last ≡ x.0.core.world = same_through o.last x.0.core.world (sym o.legal ∙ (ap (λ (l : List ℕ). run m l (opening m args)) (sym x.2) ∙ f.legal)) in
+    let same : o.last ≡ x.0.core.world = same_through o.last x.0.core.world (sym o.legal
+    ∙ (ap (λ (l : List ℕ). run m l (opening m args)) (sym x.2) ∙ f.legal)) in
     let prints : x.0.printed ≡ numbers = sym f.prints ∙ ap (λ (l : List ℕ). printed m l (opening m args)) x.2 ∙ o.prints in
     subst (λ n. IsListed list (ordered order n)) prints
     (met k x.0 x.0.printed x.1 (sym (ap all_ended same) ∙ o.over) refl (linked.led k x.0 x.1))
@@ -228,7 +234,8 @@ sets_kept m args limit list entries kept = record {
         let first = printed m p (opening m args) in
         let second = printed m q (opening m args) in
         kept.apart.apart i j p q w v hi hj lead_w lead_v alike
-        (one_rising (rising first) (rising second) (is_rising first) (is_rising second) (λ n. sym (same_rising first n) ∙ same n ∙ same_rising second n));
+        (one_rising (rising first) (rising second) (is_rising first) (is_rising second) (λ n. sym (same_rising first n) ∙ same n
+        ∙ same_rising second n));
   };
   ends = λ less k p numbers there o.
       let h = kept.ends less k p numbers there o in (h.0, h.1, h.2, λ n. same_rising numbers n ∙ ap (count_by (int_eq n)) (sym h.3));

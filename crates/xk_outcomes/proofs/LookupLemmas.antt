@@ -1,5 +1,6 @@
 -- Worlds that were found are looked for among those of one digest, the last one first.
-use Rattle.std.proofs.Common.{◌≡◌, ◌⊎◌, inl, inr, ◌∙◌, ℕ, suc, ◌-◌, ◌<◌, ◌≤◌, List, length, map, Some, option_map, slice_get, sym, ap, arith}
+use Rattle.std.proofs.Common.{◌≡◌, ◌⊎◌, inl, inr, ◌∙◌, ℕ, suc, ◌-◌, ◌<◌}
+use Rattle.std.proofs.Common.{◌≤◌, List, length, map, Some, option_map, slice_get, sym, ap, arith}
 use Rattle.std.proofs.lemmas.List.{length-map}
 use Rattle.std.proofs.lemmas.Option.{slice_get-map, slice_get_within}
 use Rattle.xk_digests.specs.Digests.{IsLast}
@@ -9,10 +10,12 @@ use Rattle.xk_outcomes.specs.Search.{IsAt, found_digest}
 use Rattle.xk_outcomes.proofs.SearchLemmas.{same_digests}
 
 -- none is like this one where none has its digest
-none_like : (order : Order) (all : List FoundValue) (new : FoundValue) (n at : ℕ) → IsLast (map (found_digest order) all) (found_digest order new) n at
+none_like : (order : Order) (all : List FoundValue) (new : FoundValue) (n at : ℕ)
+    → IsLast (map (found_digest order) all) (found_digest order new) n at
     → (j : ℕ) → at ≤ j → j < n → (y : FoundValue) → slice_get all j ≡ Some y → IsAt order y new.core.world new.printed → ⊥
 none_like order all new n at is j from less y there like =
-    is.none j from less (slice_get-map (found_digest order) all j ∙ ap (option_map (found_digest order)) there ∙ ap Some (same_digests order y new like))
+    is.none j from less (slice_get-map (found_digest order) all j ∙ ap (option_map (found_digest order)) there
+    ∙ ap Some (same_digests order y new like))
 
 -- none behind the last place is
 pub none_behind : (order : Order) (all : List FoundValue) (new : FoundValue) (at : ℕ)

@@ -17,7 +17,8 @@ use Rattle.xk_outcomes.proofs.FollowLemmas.{read_follows, read_to}
 
 -- ---- from readings to outcomes
 
-pub readings_more : (start : CoreValue) (found : List Reading) (place : ℕ) (here : Reading) (old new : List Outcome) → slice_get found place ≡ Some here → KeepsListed old new
+pub readings_more : (start : CoreValue) (found : List Reading) (place : ℕ) (here : Reading) (old new : List Outcome)
+    → slice_get found place ≡ Some here → KeepsListed old new
     → (IsPlayed start here.acts.items here.numbers.items → IsListed new here.numbers.items) → AreReadingsPut start found place old
     → AreReadingsPut start found (place + 1) new
 readings_more start found place here old new there kept listed before i r less at played = by (split i place less)
@@ -32,14 +33,17 @@ readings_more start found place here old new there kept listed before i r less a
         subst (λ (q : Reading). IsPlayed start q.acts.items q.numbers.items → IsListed new q.numbers.items) same listed played
 
 -- each reading is played, and so listed
-pub readings_listed : (start : CoreValue) (all : List FoundValue) (links : List Edge) (found : List Reading) (list : List Outcome) → ArePlayed start all links
-    → AreShown (graph links (ends all)) found → AreReadingsPut start found (length found) list → (i : ℕ) (r : Reading) → slice_get found i ≡ Some r
+pub readings_listed : (start : CoreValue) (all : List FoundValue) (links : List Edge) (found : List Reading) (list : List Outcome)
+    → ArePlayed start all links
+    → AreShown (graph links (ends all)) found → AreReadingsPut start found (length found) list → (i : ℕ) (r : Reading)
+    → slice_get found i ≡ Some r
     → IsListed list r.numbers.items
 readings_listed start all links found list played shown put i r there =
     let s = shown i r there in
     put i r (slice_get_within found i r there) there (played s.0 r.acts.items r.numbers.items s.1)
 
-pub all_read : (all : List FoundValue) (links : List Edge) (found : List Reading) (list : List Outcome) → AreAllListed (graph links (ends all)) found
+pub all_read : (all : List FoundValue) (links : List Edge) (found : List Reading) (list : List Outcome)
+    → AreAllListed (graph links (ends all)) found
     → ((i : ℕ) (r : Reading) → slice_get found i ≡ Some r → IsListed list r.numbers.items) → AreRead all links list
 all_read all links found list whole listed n acts numbers reads =
     let h = whole n acts numbers reads in
@@ -57,9 +61,11 @@ played start all links linked found first silent n acts numbers reads =
 
 -- ---- what stands along links
 
-pub met_printed : (all : List FoundValue) (links : List Edge) (list : List Outcome) → AreRead all links list → AreMet order.Printed all links list
+pub met_printed : (all : List FoundValue) (links : List Edge) (list : List Outcome) → AreRead all links list
+    → AreMet order.Printed all links list
 met_printed all links list read k x numbers there ended same led = read (led.0 + 0) (led.1 ++ []) numbers (read_to all links k x numbers there ended led)
 
-pub met_rising : (all : List FoundValue) (links : List Edge) (list : List Outcome) → AreNoted order.Rising all (length all) list → AreMet order.Rising all links list
+pub met_rising : (all : List FoundValue) (links : List Edge) (list : List Outcome) → AreNoted order.Rising all (length all) list
+    → AreMet order.Rising all links list
 met_rising all links list noted k x numbers there ended same led =
     subst (IsListed list) same (noted k x (slice_get_within all k x there) there ended)

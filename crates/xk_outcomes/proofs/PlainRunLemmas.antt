@@ -1,5 +1,6 @@
 -- What a run before any search leaves listed.
-use Rattle.std.proofs.Common.{◌≡◌, ◌∙◌, ℕ, ℤ, ◌+◌, ◌≤◌, ◌⊎◌, inl, inr, false, true, List, [], ◌∷◌, ◌++◌, length, Some, sym, ap, subst, arith, slice_get}
+use Rattle.std.proofs.Common.{◌≡◌, ◌∙◌, ℕ, ℤ, ◌+◌, ◌≤◌, ◌⊎◌, inl, inr, false, true}
+use Rattle.std.proofs.Common.{List, [], ◌∷◌, ◌++◌, length, Some, sym, ap, subst, arith, slice_get}
 use Rattle.std.specs.Prelude.{count_by}
 use Rattle.std.specs.Ordering.{int_eq}
 use Rattle.std.proofs.lemmas.Option.{none-some}
@@ -19,7 +20,7 @@ use Rattle.xk_outcomes.specs.PlainRuns.{ArePlainListedAs, ArePlainListedIn, IsLi
 use Rattle.xk_outcomes.specs.Sets.{IsSetListed}
 use Rattle.xk_outcomes.proofs.ListingLemmas.{distinct_none}
 use Rattle.xk_outcomes.proofs.RisingLemmas.{same_rising}
-use Rattle.xk_digests.proofs.PushLemmas.{place}
+use Rattle.xk_readings.proofs.ListLemmas.{place}
 
 -- ---- one run
 

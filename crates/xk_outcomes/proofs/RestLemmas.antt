@@ -1,5 +1,6 @@
 -- Private steps come to an end: who is settled is at rest.
-use Rattle.std.proofs.Common.{◌≡◌, ◌∙◌, ℕ, zero, suc, ◌<◌, ◌≤◌, ◌⊎◌, inl, inr, Bool, true, false, List, length, Option, Some, None, refl, sym, ap, subst, arith}
+use Rattle.std.proofs.Common.{◌≡◌, ◌∙◌, ℕ, zero, suc, ◌<◌, ◌≤◌, ◌⊎◌, inl, inr, Bool}
+use Rattle.std.proofs.Common.{true, false, List, length, Option, Some, None, refl, sym, ap, subst, arith}
 use Rattle.std.proofs.lemmas.Option.{none-some, slice_get_within}
 use Rattle.xk_types.specs.Acceptance.{IsAccepted}
 use Rattle.xk_types.specs.Bound.{steps_bound}
@@ -53,7 +54,8 @@ nobody_private c none a = by (has_private_step c.module_run c.world a) refl
 -- ---- each private step is counted
 
 -- there is none, or the next one is a step more
-step_more : (y : FoundValue) (n : ℕ) → n ≤ y.core.world.steps → (o : Option ℕ) → least_private y.core ≡ o → (o ≡ None) ⊎ (suc n ≤ (with_step y o).core.world.steps)
+step_more : (y : FoundValue) (n : ℕ) → n ≤ y.core.world.steps → (o : Option ℕ) → least_private y.core ≡ o
+    → (o ≡ None) ⊎ (suc n ≤ (with_step y o).core.world.steps)
 step_more y n before None is = inl refl
 step_more y n before (Some a) is =
     let m = y.core.module_run in

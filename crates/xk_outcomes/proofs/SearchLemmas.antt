@@ -1,5 +1,6 @@
 -- What is printed by one step more; and those that were found grow in number.
-use Rattle.std.proofs.Common.{◌≡◌, ◌∙◌, ℕ, ℤ, zero, suc, ◌+◌, ◌<◌, ◌≤◌, ◌⊎◌, inl, inr, not, Bool, true, false, ◌||◌, ◌==◌, List, [], ◌∷◌, ◌++◌, length, filter, Option, Some, refl, sym, ap, subst, append_assoc, arith, slice_get}
+use Rattle.std.proofs.Common.{◌≡◌, ◌∙◌, ℕ, ℤ, zero, suc, ◌+◌, ◌<◌, ◌≤◌, ◌⊎◌, inl, inr, not, Bool, true, false}
+use Rattle.std.proofs.Common.{◌||◌, ◌==◌, List, [], ◌∷◌, ◌++◌, length, filter, Option, Some, refl, sym, ap, subst, append_assoc, arith, slice_get}
 use Rattle.std.specs.List.{filter_map}
 use Rattle.std.specs.Option.{option_to_list}
 use Rattle.std.specs.Prelude.{map}
@@ -18,32 +19,22 @@ use Rattle.xk_closed_sets.specs.ClosedSets.{is_in}
 use Rattle.xk_readings.specs.declared.edge.Edge.{Edge}
 use Rattle.xk_digests.specs.Digest.{world_digest}
 use Rattle.xk_digests.proofs.DigestLemmas.{alike_digests}
-use Rattle.xk_digests.proofs.PushLemmas.{at_end, place, stays, there_is}
+use Rattle.xk_types.proofs.ListLemmas.{get-append_left as stays, get_inside as there_is, get_push as at_end}
+use Rattle.xk_readings.proofs.ListLemmas.{place}
+use Rattle.xk_closed.proofs.ClosedLaw.{printed_first}
 use Rattle.xk_outcomes.specs.declared.order.Order.{Order}
 use Rattle.xk_core.specs.Core.{CoreValue}
 use Rattle.xk_outcomes.specs.Found.{FoundValue, first_found, next}
 use Rattle.xk_outcomes.specs.Links.{AreLinked, HasLink, IsLink, LeadTo, Leads, ends}
 use Rattle.xk_outcomes.specs.Rising.{key}
-use Rattle.xk_outcomes.specs.Search.{AreDifferent, AreDigests, AreExpanded, Has, HasAfter, IsAdded, IsAt, IsExpanded, IsGrown, IsThere, found_digest, is_tried}
+use Rattle.xk_outcomes.specs.Search.{AreDifferent, AreDigests, AreExpanded, Has, HasAfter, IsAdded}
+use Rattle.xk_outcomes.specs.Search.{IsAt, IsExpanded, IsGrown, IsThere, found_digest, is_tried}
 
 -- ---- by a step
 
--- the numbers of a step and what comes behind it
-prints_on : (b : ℕ) (e : Event) (rest : List (ℕ × Event))
-    → filter_map (λ (p : ℕ × Event). number_printed p.1) (filter (λ (p : ℕ × Event). not (is_local p.1)) ((b, e) ∷ rest))
-    ≡ option_to_list (number_printed e) ++ filter_map (λ (p : ℕ × Event). number_printed p.1) (filter (λ (p : ℕ × Event). not (is_local p.1)) rest)
-prints_on b event.Local rest = refl
-prints_on b (event.Printed n) rest = refl
-prints_on b _ rest = refl
-
-printed_first : (m : ModuleValue) (list : List ℕ) (w v : World) (b : ℕ) (e : Event) → step m w b ≡ Stepped v e
-    → printed m (b ∷ list) w ≡ option_to_list (number_printed e) ++ printed m list v
-printed_first m list w v b e h =
-    ap (λ o. filter_map (λ (p : ℕ × Event). number_printed p.1) (filter (λ (p : ℕ × Event). not (is_local p.1)) (events_on b o (events m list)))) h
-    ∙ prints_on b e (events m list v)
-
 -- the numbers of one step more
-pub printed_more : (m : ModuleValue) (list : List ℕ) (w v x : World) (a : ℕ) (e : Event) → run m list w ≡ Through v → step m v a ≡ Stepped x e
+pub printed_more : (m : ModuleValue) (list : List ℕ) (w v x : World) (a : ℕ) (e : Event) → run m list w ≡ Through v
+    → step m v a ≡ Stepped x e
     → printed m (list ++ a ∷ []) w ≡ printed m list w ++ option_to_list (number_printed e)
 printed_more m [] w v x a e h g =
     printed_first m [] w x a e (ap (λ z. step m z a) (same_through w v h) ∙ g) ∙ append-nil (option_to_list (number_printed e))
@@ -62,13 +53,15 @@ grown_push old new x e k y h = subst (λ l. slice_get l k ≡ Some y) (sym e) (s
 grown_same : {X : Type 0} (old new : List X) → new ≡ old → IsGrown old new
 grown_same old new e k y h = subst (λ l. slice_get l k ≡ Some y) (sym e) h
 
-there_grown : (order : Order) (old new : List FoundValue) (w : World) (p : List ℤ) (k : ℕ) → IsGrown old new → IsThere order old w p k → IsThere order new w p k
+there_grown : (order : Order) (old new : List FoundValue) (w : World) (p : List ℤ) (k : ℕ) → IsGrown old new → IsThere order old w p k
+    → IsThere order new w p k
 there_grown order old new w p k grown h = (h.0, grown k h.0 h.1, h.2)
 
 link_grown : (old new : List Edge) (from : ℕ) (o : Option ℤ) (to : ℕ) → IsGrown old new → HasLink old from o to → HasLink new from o to
 link_grown old new from o to grown h = (h.0, h.1, grown h.0 h.1 h.2, h.3, h.4, h.5)
 
-leads_grown : (old new : List Edge) → IsGrown old new → (n k : ℕ) (acts : List ℕ) (numbers : List ℤ) → Leads old n k acts numbers → Leads new n k acts numbers
+leads_grown : (old new : List Edge) → IsGrown old new → (n k : ℕ) (acts : List ℕ) (numbers : List ℤ) → Leads old n k acts numbers
+    → Leads new n k acts numbers
 leads_grown old new grown zero k acts numbers h = h
 leads_grown old new grown (suc n) k acts numbers h =
     (h.0, h.1, grown h.1 h.0 h.2, h.3, h.4, h.5, leads_grown old new grown n h.0.from h.4 h.5 h.6, h.7, h.8)
@@ -91,7 +84,8 @@ longer old new n grown h = let y = there_is old n h in slice_get_within new n y.
 -- ---- one is added
 
 -- so it is there
-pub added_there : (order : Order) (old new : List FoundValue) (x : FoundValue) (k : ℕ) → IsAdded order old new x k → IsThere order new x.core.world x.printed k
+pub added_there : (order : Order) (old new : List FoundValue) (x : FoundValue) (k : ℕ) → IsAdded order old new x k
+    → IsThere order new x.core.world x.printed k
 added_there order old new x k (inl h) = subst (λ l. IsThere order l x.core.world x.printed k) (sym h.0) h.1
 added_there order old new x k (inr h) =
     (x, subst (λ l. slice_get l k ≡ Some x) (sym h.0) (subst (λ j. slice_get (old ++ x ∷ []) j ≡ Some x) (sym h.1) (at_end old x)), (refl, refl))
@@ -101,8 +95,10 @@ added_grown order old new x k (inl h) = grown_same old new h.0
 added_grown order old new x k (inr h) = grown_push old new x h.0
 
 -- Where those that were found were linked, they are with one more, and the link to it.
-pub linked_push : (m : ModuleValue) (order : Order) (old new : List FoundValue) (links more : List Edge) (l : Edge) (x y : FoundValue) → AreLinked m old links
-    → slice_get old l.from ≡ Some x → y ≡ next l.act x → is_enabled m x.core.world l.act ≡ true → y.printed ≡ x.printed ++ option_to_list l.printed
+pub linked_push : (m : ModuleValue) (order : Order) (old new : List FoundValue) (links more : List Edge) (l : Edge) (x y : FoundValue)
+    → AreLinked m old links
+    → slice_get old l.from ≡ Some x → y ≡ next l.act x → is_enabled m x.core.world l.act ≡ true
+    → y.printed ≡ x.printed ++ option_to_list l.printed
     → IsAdded order old new y l.to → more ≡ links ++ l ∷ [] → AreLinked m new more
 linked_push m order old new links more l x y linked out is enabled prints added one = record {
   each = λ j z there. by_link j z (place links l j z (subst (λ (e : List Edge). slice_get e j ≡ Some z) one there));
@@ -177,7 +173,8 @@ pub added_link : (links more : List Edge) (l : Edge) → more ≡ links ++ l ∷
 added_link links more l one = (length links, l, subst (λ (e : List Edge). slice_get e (length links) ≡ Some l) (sym one) (at_end links l), refl, refl, refl)
 
 -- the first one alone is linked, by no link
-pub linked_first : (m : ModuleValue) (start : CoreValue) (all : List FoundValue) (links : List Edge) → all ≡ first_found start ∷ [] → links ≡ []
+pub linked_first : (m : ModuleValue) (start : CoreValue) (all : List FoundValue) (links : List Edge) → all ≡ first_found start ∷ []
+    → links ≡ []
     → (first_found start).printed ≡ [] → AreLinked m all links
 linked_first m start all links one none silent = record {
   each = λ j l there. absurd (none-some l (subst (λ (e : List Edge). slice_get e j ≡ Some l) none there));
@@ -214,7 +211,8 @@ after_all m order all links number here test last before enough a passes = by (s
         let inside = slice_get_within here.core.world.activities a act.0 act.1 in
         absurd (omega (arith, inside, g, enough))
 
-expanded_grown : (m : ModuleValue) (order : Order) (old new : List FoundValue) (links more : List Edge) (number : ℕ) (x : FoundValue) → IsGrown old new
+expanded_grown : (m : ModuleValue) (order : Order) (old new : List FoundValue) (links more : List Edge) (number : ℕ) (x : FoundValue)
+    → IsGrown old new
     → IsGrown links more → IsExpanded m order old links number x → IsExpanded m order new more number x
 expanded_grown m order old new links more number x grown longer_links (inl s) = inl (record {
   set = s.set;
@@ -227,12 +225,14 @@ expanded_grown m order old new links more number x grown longer_links (inl s) = 
 expanded_grown m order old new links more number x grown longer_links (inr each) =
     inr (λ a. after_grown m order old new links more number x a grown longer_links (each a))
 
-pub expanded_more : (m : ModuleValue) (order : Order) (old new : List FoundValue) (links more : List Edge) (n : ℕ) → n < length old → IsGrown old new → IsGrown links more
+pub expanded_more : (m : ModuleValue) (order : Order) (old new : List FoundValue) (links more : List Edge) (n : ℕ) → n < length old
+    → IsGrown old new → IsGrown links more
     → AreExpanded m order old links n
     → ((x : FoundValue) → slice_get old n ≡ Some x → IsExpanded m order new more n x) → AreExpanded m order new more (n + 1)
 expanded_more m order old new links more n within grown longer_links before here k x less there =
     let y = there_is old k (omega (arith, less, within)) in
-    subst (λ (z : FoundValue). IsExpanded m order new more k z) (same_Some y.0 x (sym (grown k y.0 y.1) ∙ there)) (by y.0 y.1 (split k n less))
+    subst (λ (z : FoundValue). IsExpanded m order new more k z) (same_Some y.0 x (sym (grown k y.0 y.1)
+    ∙ there)) (by y.0 y.1 (split k n less))
   where
     split : (i j : ℕ) → i < j + 1 → (i < j) ⊎ (i ≡ j)
     split i j h = grind arith
@@ -244,10 +244,13 @@ expanded_more m order old new links more n within grown longer_links before here
 -- ---- no two are the same
 
 -- those that are at the same have one digest
-pub same_digests : (order : Order) (x new : FoundValue) → IsAt order x new.core.world new.printed → found_digest order x ≡ found_digest order new
-same_digests order x new at = ap (world_digest x.core.world) at.1 ∙ sym (alike_digests new.core.world x.core.world (key order new.printed) at.0)
+pub same_digests : (order : Order) (x new : FoundValue) → IsAt order x new.core.world new.printed
+    → found_digest order x ≡ found_digest order new
+same_digests order x new at = ap (world_digest x.core.world) at.1
+    ∙ sym (alike_digests new.core.world x.core.world (key order new.printed) at.0)
 
-pub different_push : (order : Order) (old new : List FoundValue) (o : FoundValue) → new ≡ old ++ o ∷ [] → (Has order old o.core.world o.printed → ⊥)
+pub different_push : (order : Order) (old new : List FoundValue) (o : FoundValue) → new ≡ old ++ o ∷ []
+    → (Has order old o.core.world o.printed → ⊥)
     → AreDifferent order old → AreDifferent order new
 different_push order old new o e fresh before i j x y hi hj same =
     by (place old o i x (subst (λ (l : List FoundValue). slice_get l i ≡ Some x) e hi)) (place old o j y (subst (λ (l : List FoundValue). slice_get l j ≡ Some y) e hj))
@@ -262,9 +265,12 @@ different_push order old new o e fresh before i j x y hi hj same =
 pub digests_push : (order : Order) (old new : List FoundValue) (digests more : List ℕ) (x : FoundValue) → new ≡ old ++ x ∷ []
     → more ≡ digests ++ found_digest order x ∷ [] → AreDigests order old digests → AreDigests order new more
 digests_push order old new digests more x e f h =
-    f ∙ ap (λ (l : List ℕ). l ++ found_digest order x ∷ []) h ∙ sym (map-append (found_digest order) old (x ∷ [])) ∙ ap (map (found_digest order)) (sym e)
+    f ∙ ap (λ (l : List ℕ). l ++ found_digest order x ∷ []) h ∙ sym (map-append (found_digest order) old (x ∷ []))
+    ∙ ap (map (found_digest order)) (sym e)
 
-pub ends_push : (old new : List FoundValue) (over more : List Bool) (x : FoundValue) → new ≡ old ++ x ∷ [] → more ≡ over ++ all_ended x.core.world ∷ []
+pub ends_push : (old new : List FoundValue) (over more : List Bool) (x : FoundValue) → new ≡ old ++ x ∷ []
+    → more ≡ over ++ all_ended x.core.world ∷ []
     → over ≡ ends old → more ≡ ends new
 ends_push old new over more x e f h =
-    f ∙ ap (λ (l : List Bool). l ++ all_ended x.core.world ∷ []) h ∙ sym (map-append (λ (y : FoundValue). all_ended y.core.world) old (x ∷ [])) ∙ ap ends (sym e)
+    f ∙ ap (λ (l : List Bool). l ++ all_ended x.core.world ∷ []) h
+    ∙ sym (map-append (λ (y : FoundValue). all_ended y.core.world) old (x ∷ [])) ∙ ap ends (sym e)

@@ -1,5 +1,6 @@
 -- Which texts a set has, with one more.
-use Rattle.std.proofs.Common.{◌≡◌, ◌⊎◌, inl, inr, ◌∙◌, ℕ, Bool, true, false, cond, List, [], ◌∷◌, ◌++◌, length, map, Some, slice_get, refl, sym, ap, subst}
+use Rattle.std.proofs.Common.{◌≡◌, ◌⊎◌, inl, inr, ◌∙◌, ℕ, Bool, true, false, cond, List}
+use Rattle.std.proofs.Common.{[], ◌∷◌, ◌++◌, length, map, Some, slice_get, refl, sym, ap, subst}
 use Rattle.std.specs.Borrow.{Bor}
 use Rattle.std.specs.Ordering.{is_eq, nat_cmp}
 use Rattle.std.specs.Cmp.Lexicographic.{bytes_decides, slice_cmp}
@@ -7,7 +8,8 @@ use Rattle.std.specs.BTreeSet.{BTreeSet, UpdatesBy, contains_by}
 use Rattle.std.proofs.lemmas.List.{map-append}
 use Rattle.std.proofs.lemmas.Map.Text.{is_eq-slice_cmp}
 use Rattle.xk_outcomes.specs.Texts.{AreTexts}
-use Rattle.xk_digests.proofs.PushLemmas.{at_end, place, stays}
+use Rattle.xk_types.proofs.ListLemmas.{get-append_left as stays, get_push as at_end}
+use Rattle.xk_readings.proofs.ListLemmas.{place}
 
 -- whether a set has a text
 abbrev has : BTreeSet (Bor (List ℕ)) → List ℕ → Bool

@@ -31,7 +31,8 @@ AreOf order start old list = (k : ℕ) (o : Outcome) → slice_get list k ≡ So
 
 -- of those before this place, what the ones print in which all have ended is listed
 abbrev pub AreNoted : Order → List FoundValue → ℕ → List Outcome → Type 0
-AreNoted order all place list = (j : ℕ) (x : FoundValue) → j < place → slice_get all j ≡ Some x → all_ended x.core.world ≡ true → IsListed list (ordered order x.printed)
+AreNoted order all place list = (j : ℕ) (x : FoundValue) → j < place → slice_get all j ≡ Some x → all_ended x.core.world ≡ true
+    → IsListed list (ordered order x.printed)
 
 -- steps of these activities lead from the first one to where all have ended, and print these numbers
 pub record IsPlayed (start : CoreValue) (acts : List ℕ) (numbers : List ℤ) : Type 0 where
@@ -40,15 +41,18 @@ pub record IsPlayed (start : CoreValue) (acts : List ℕ) (numbers : List ℤ) :
 
 -- whatever can be read along the links is played so
 abbrev pub ArePlayed : CoreValue → List FoundValue → List Edge → Type 0
-ArePlayed start all links = (n : ℕ) (acts : List ℕ) (numbers : List ℤ) → Reads (graph links (ends all)) n 0 acts numbers → IsPlayed start acts numbers
+ArePlayed start all links = (n : ℕ) (acts : List ℕ) (numbers : List ℤ) → Reads (graph links (ends all)) n 0 acts numbers
+    → IsPlayed start acts numbers
 
 -- whatever can be read along the links is listed
 abbrev pub AreRead : List FoundValue → List Edge → List Outcome → Type 0
-AreRead all links list = (n : ℕ) (acts : List ℕ) (numbers : List ℤ) → Reads (graph links (ends all)) n 0 acts numbers → IsListed list numbers
+AreRead all links list = (n : ℕ) (acts : List ℕ) (numbers : List ℤ) → Reads (graph links (ends all)) n 0 acts numbers
+    → IsListed list numbers
 
 -- of the readings before this place, those that are played so are listed
 abbrev pub AreReadingsPut : CoreValue → List Reading → ℕ → List Outcome → Type 0
-AreReadingsPut start found place list = (i : ℕ) (r : Reading) → i < place → slice_get found i ≡ Some r → IsPlayed start r.acts.items r.numbers.items
+AreReadingsPut start found place list = (i : ℕ) (r : Reading) → i < place → slice_get found i ≡ Some r
+    → IsPlayed start r.acts.items r.numbers.items
     → IsListed list r.numbers.items
 
 -- whatever stands along links to one of them in which all have ended is listed, as it is told in this order
@@ -67,11 +71,13 @@ AreShownIn order m args list = (k : ℕ) (x : Outcome) → slice_get list k ≡ 
 
 -- whatever a legal schedule prints after which all have ended is listed, told in this order
 abbrev pub AreAllIn : Order → ModuleValue → List ℤ → List Outcome → Type 0
-AreAllIn order m args list = (schedule : List ℕ) (numbers : List ℤ) → IsOutcome m args schedule numbers → IsListed list (ordered order numbers)
+AreAllIn order m args list = (schedule : List ℕ) (numbers : List ℤ) → IsOutcome m args schedule numbers
+    → IsListed list (ordered order numbers)
 
 -- what these schedules print after which all have ended is listed, told in this order
 abbrev pub AreEndsListedIn : Order → ModuleValue → List ℤ → List (List ℕ) → List Outcome → Type 0
-AreEndsListedIn order m args schedules list = (k : ℕ) (p : List ℕ) (numbers : List ℤ) → slice_get schedules k ≡ Some p → IsOutcome m args p numbers
+AreEndsListedIn order m args schedules list = (k : ℕ) (p : List ℕ) (numbers : List ℤ) → slice_get schedules k ≡ Some p
+    → IsOutcome m args p numbers
     → IsListed list (ordered order numbers)
 
 -- These schedules are legal and lead to worlds at rest, and no two of them lead to worlds that are alike, unless what is printed on the way tells them apart.

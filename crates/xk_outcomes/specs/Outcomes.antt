@@ -22,7 +22,8 @@ AreShown m args list = (k : ℕ) (x : Outcome) → slice_get list k ≡ Some x �
 
 -- no numbers are listed twice
 abbrev pub AreDistinct : List Outcome → Type 0
-AreDistinct list = (i j : ℕ) (x y : Outcome) → slice_get list i ≡ Some x → slice_get list j ≡ Some y → x.numbers.items ≡ y.numbers.items → i ≡ j
+AreDistinct list = (i j : ℕ) (x y : Outcome) → slice_get list i ≡ Some x → slice_get list j ≡ Some y
+    → x.numbers.items ≡ y.numbers.items → i ≡ j
 
 -- these numbers are listed
 abbrev pub IsListed : List Outcome → List ℤ → Type 0
@@ -47,4 +48,5 @@ pub record AreApart (m : ModuleValue) (args : List ℤ) (schedules : List (List 
 
 -- what these schedules print after which all have ended is listed
 abbrev pub AreEndsListed : ModuleValue → List ℤ → List (List ℕ) → List Outcome → Type 0
-AreEndsListed m args schedules list = (k : ℕ) (p : List ℕ) (numbers : List ℤ) → slice_get schedules k ≡ Some p → IsOutcome m args p numbers → IsListed list numbers
+AreEndsListed m args schedules list = (k : ℕ) (p : List ℕ) (numbers : List ℤ) → slice_get schedules k ≡ Some p
+    → IsOutcome m args p numbers → IsListed list numbers

@@ -70,7 +70,8 @@ IsAdded order old new x k = ((new ≡ old) × IsThere order old x.core.world x.p
 
 -- no two of them are the same
 abbrev pub AreDifferent : Order → List FoundValue → Type 0
-AreDifferent order all = (i j : ℕ) (x y : FoundValue) → slice_get all i ≡ Some x → slice_get all j ≡ Some y → IsAt order x y.core.world y.printed → i ≡ j
+AreDifferent order all = (i j : ℕ) (x y : FoundValue) → slice_get all i ≡ Some x → slice_get all j ≡ Some y
+    → IsAt order x y.core.world y.printed → i ≡ j
 
 -- the digest of one that was found
 abbrev pub found_digest : Order → FoundValue → ℕ

@@ -30,7 +30,8 @@ AreSetsShown m args list = (k : ℕ) (x : Outcome) → slice_get list k ≡ Some
 
 -- no numbers are listed twice, in whatever order
 abbrev pub AreSetsDistinct : List Outcome → Type 0
-AreSetsDistinct list = (i j : ℕ) (x y : Outcome) → slice_get list i ≡ Some x → slice_get list j ≡ Some y → HaveSameNumbers x.numbers.items y.numbers.items → i ≡ j
+AreSetsDistinct list = (i j : ℕ) (x y : Outcome) → slice_get list i ≡ Some x → slice_get list j ≡ Some y
+    → HaveSameNumbers x.numbers.items y.numbers.items → i ≡ j
 
 -- these numbers are listed, in some order
 abbrev pub IsSetListed : List Outcome → List ℤ → Type 0
@@ -42,7 +43,8 @@ AreSetsAll m args list = (schedule : List ℕ) (numbers : List ℤ) → IsOutcom
 
 -- what these schedules print after which all have ended is listed, in some order
 abbrev pub AreEndsSetListed : ModuleValue → List ℤ → List (List ℕ) → List Outcome → Type 0
-AreEndsSetListed m args schedules list = (k : ℕ) (p : List ℕ) (numbers : List ℤ) → slice_get schedules k ≡ Some p → IsOutcome m args p numbers → IsSetListed list numbers
+AreEndsSetListed m args schedules list = (k : ℕ) (p : List ℕ) (numbers : List ℤ) → slice_get schedules k ≡ Some p
+    → IsOutcome m args p numbers → IsSetListed list numbers
 
 -- These schedules are legal and lead to worlds at rest, and no two of them lead to worlds that are alike and print the same numbers on the way, in
 -- whatever order.

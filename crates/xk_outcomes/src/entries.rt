@@ -128,10 +128,12 @@ impl<'m> Entries<'m> {
     /// How many steps a run has at most; so many links stand for one that is read.
     pub fn longest(&self) -> u64
         ensures bound { result ≡ steps_bound self.now.start.module_run }
-        ensures longest { (links : List Link) → AreLinked self.now.start.module_run self.now.all links
+        ensures longest { (links : List Link)
+            → AreLinked self.now.start.module_run self.now.all links
             → IsLongest (graph links (ends self.now.all)) result }
         // What is printed along links to where all have ended is printed by their steps.
-        ensures played { (links : List Link) → AreLinked self.now.start.module_run self.now.all links
+        ensures played { (links : List Link)
+            → AreLinked self.now.start.module_run self.now.all links
             → ArePlayed self.now.start self.now.all links }
     {
         let verified = self.start.module();

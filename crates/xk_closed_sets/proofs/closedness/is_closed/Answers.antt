@@ -8,7 +8,8 @@ use Rattle.xk_closed_sets.proofs.closedness.is_closed.Goals as goal
 pub loop-a-preserved : goal.loop-a-preserved
 loop-a-preserved c =
     let core = c.args.core.now in
-    below_more (IsFitting core.module_run core.world (is_in c.args.members.now) (rest_in c.args.rows.now) (phase_in c.args.rows.now) c.args.others.now)
+    below_more (IsFitting core.module_run core.world (is_in c.args.members.now) (rest_in c.args.rows.now)
+    (phase_in c.args.rows.now) c.args.others.now)
     c.loop-a.a c.loop-a.invariant (c.in_ok-fits.ensures c.if-not-fits.false)
 
 pub returns : goal.returns

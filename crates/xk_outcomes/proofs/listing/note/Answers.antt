@@ -40,7 +40,8 @@ returns-else-ended-clause-kept c numbers h = h
 
 pub returns-else-ended-clause-listed : goal.returns-else-ended-clause-listed
 returns-else-ended-clause-listed c noted done =
-    absurd (true≢false (sym done ∙ (ap (λ (x : FoundValue). all_ended x.core.world) (sym c.x.view_is) ∙ (sym c.ended.ensures ∙ c.if-ended.false))))
+    absurd (true≢false (sym done ∙ (ap (λ (x : FoundValue). all_ended x.core.world) (sym c.x.view_is) ∙ (sym c.ended.ensures
+    ∙ c.if-ended.false))))
 
 pub returns-else-ended-clause-of : goal.returns-else-ended-clause-of
 returns-else-ended-clause-of c start old found before = before

@@ -23,7 +23,8 @@ returns-clause-read c done =
     elim c.if-noted.branch [
       | then-noted w ↦
           let shown = subst (λ over. AreShown (graph links over) found) c.ends.ensures c.in_ok-found.ensures.shown in
-          let whole = subst (λ over. AreAllListed (graph links over) found) c.ends.ensures (c.in_ok-found.ensures.all (sym w.result-is ∙ done)) in
+          let whole = subst (λ over. AreAllListed (graph links over) found) c.ends.ensures (c.in_ok-found.ensures.all (sym w.result-is
+          ∙ done)) in
           all_read all links found list whole
           (readings_listed start all links found list (c.longest-longest.ensures.played links c.requires) shown
           (subst (λ l. AreReadingsPut start l (length l) list) c.deref.ensures.value (c.in_ok-noted.ensures.listed w.if-noted.true)))

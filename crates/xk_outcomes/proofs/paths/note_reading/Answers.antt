@@ -10,7 +10,8 @@ use Rattle.xk_outcomes.proofs.paths.note_reading.Goals as goal
 pub returns-clause-listed : goal.returns-clause-listed
 returns-clause-listed c =
     let first = first_found c.args.all.now.start in
-    let is : c.in_ok-x.x ≡ through c.args.reading.now.acts.items first = c.in_ok-x.ensures ∙ ap (λ acts. through acts first) c.deref.ensures.value in
+    let is : c.in_ok-x.x ≡ through c.args.reading.now.acts.items first = c.in_ok-x.ensures
+    ∙ ap (λ acts. through acts first) c.deref.ensures.value in
     IfOk-weaker c.note.result _ _ (λ noted listed done played.
     subst (IsListed c.note.new.list) (ap (λ (y : FoundValue). y.printed) is ∙ played.prints)
     (listed done (ap (λ (y : FoundValue). all_ended y.core.world) is ∙ played.ended))) c.note.ensures.listed

@@ -15,7 +15,8 @@ returns-clause-linked c =
     (linked (subst (λ (k : ModuleValue). AreLinked k c.args.all.now.all c.args.links.now.items) (sym same_module) before))) c.look.ensures.linked
 
 pub look-requires-clause-footprints : goal.look-requires-clause-footprints
-look-requires-clause-footprints c = c.requires.footprints ∙ sym (c.len-count.ensures.found c.args.number c.in_ok-here.here c.in_ok-here.ensures).module_is
+look-requires-clause-footprints c = c.requires.footprints
+    ∙ sym (c.len-count.ensures.found c.args.number c.in_ok-here.here c.in_ok-here.ensures).module_is
 
 pub returns-clause-expanded : goal.returns-clause-expanded
 returns-clause-expanded c =

@@ -18,7 +18,8 @@ returns-clause-start c = c.search.ensures.start ∙ ap (λ (e : EntriesValue). e
 
 pub returns-clause-found : goal.returns-clause-found
 returns-clause-found c =
-    subst (λ (s : CoreValue). AreFound s c.search.new.all.all) (c.search.ensures.start ∙ ap (λ (e : EntriesValue). e.start) c.in_ok-found.ensures) c.len-count.ensures.found
+    subst (λ (s : CoreValue). AreFound s c.search.new.all.all) (c.search.ensures.start
+    ∙ ap (λ (e : EntriesValue). e.start) c.in_ok-found.ensures) c.len-count.ensures.found
 
 pub returns-clause-linked : goal.returns-clause-linked
 returns-clause-linked c =
@@ -60,11 +61,13 @@ returns-clause-rest c =
     (subst IsAccepted c.module-verified.ensures.same c.module-accepted.ensures.accepted)
     c.module-verified.ensures.taken
     (c.module-verified.ensures.opening c.requires) all
-    (subst (λ (s : CoreValue). AreSettled s all) (c.search.ensures.start ∙ ap (λ (e : EntriesValue). e.start) c.in_ok-found.ensures) c.len-count.ensures.settled)
+    (subst (λ (s : CoreValue). AreSettled s all) (c.search.ensures.start
+    ∙ ap (λ (e : EntriesValue). e.start) c.in_ok-found.ensures) c.len-count.ensures.settled)
 
 pub returns-clause-different : goal.returns-clause-different
 returns-clause-different c =
-    subst (λ (o : Order). AreDifferent o c.search.new.all.all) (c.search.ensures.order ∙ ap (λ (e : EntriesValue). e.order) c.in_ok-found.ensures) c.len-count.ensures.different
+    subst (λ (o : Order). AreDifferent o c.search.new.all.all) (c.search.ensures.order
+    ∙ ap (λ (e : EntriesValue). e.order) c.in_ok-found.ensures) c.len-count.ensures.different
 
 pub search-requires : goal.search-requires
 search-requires c =

@@ -11,5 +11,6 @@ invariant-loop-a l = record {
   grown : IsGrown l.fn.all.all l.all.all;
   more : IsGrown l.fn.links.items l.links.items;
   linked : AreLinked l.here.core.module_run l.fn.all.all l.fn.links.items → AreLinked l.here.core.module_run l.all.all l.links.items;
-  after : (a : ℕ) → a < l.a → is_tried l.members a ≡ true → HasAfter l.here.core.module_run l.all.order l.all.all l.links.items l.number l.here a;
+  after : (a : ℕ) → a < l.a → is_tried l.members a ≡ true
+      → HasAfter l.here.core.module_run l.all.order l.all.all l.links.items l.number l.here a;
 }

@@ -16,7 +16,8 @@ pub returns-clause-more : goal.returns-clause-more
 returns-clause-more c =
     let old = c.args.links.now.items in
     let l : Edge = record { from = c.args.number; act = c.args.act; printed = c.behind-printed.result; to = c.in_ok-to.to } in
-    grown_push old c.push_reserved.new.self.items l (c.push_reserved.ensures.items ∙ ap (λ (e : List Edge). e ++ record { from = c.args.number; act = c.act.inside.0; printed = c.behind-printed.result; to = c.in_ok-to.to } ∷ []) c.reserve.ensures.items
+    grown_push old c.push_reserved.new.self.items l (c.push_reserved.ensures.items
+    ∙ ap (λ (e : List Edge). e ++ record { from = c.args.number; act = c.act.inside.0; printed = c.behind-printed.result; to = c.in_ok-to.to } ∷ []) c.reserve.ensures.items
     ∙ ap (λ (a : ℕ). old ++ record { from = c.args.number; act = a; printed = c.behind-printed.result; to = c.in_ok-to.to } ∷ []) c.act.view_is)
 
 pub returns-clause-linked : goal.returns-clause-linked
@@ -26,12 +27,14 @@ returns-clause-linked c linked =
     let same : c.here.inside.core.module_run ≡ m = ap (λ (x : FoundValue). x.core.module_run) c.here.view_is in
     let core = c.activities-activities.ensures.core in
     let before : c.deref.result.now ≡ here.printed = c.deref.ensures.value ∙ ap (λ (x : FoundValue). x.printed) c.here.view_is in
-    let after : c.deref-2.result.now ≡ c.in_ok-next.next.printed = c.deref-2.ensures.value ∙ ap (λ (x : FoundValue). x.printed) c.next.view_is in
+    let after : c.deref-2.result.now ≡ c.in_ok-next.next.printed = c.deref-2.ensures.value
+    ∙ ap (λ (x : FoundValue). x.printed) c.next.view_is in
     let old = c.args.links.now.items in
     let l : Edge = record { from = c.args.number; act = c.args.act; printed = c.behind-printed.result; to = c.in_ok-to.to } in
     let is : c.in_ok-next.next ≡ next c.args.act here = c.in_ok-next.ensures here c.requires in
     let enabled : is_enabled m here.core.world c.args.act ≡ true =
-    ap (λ (x : FoundValue). is_enabled x.core.module_run x.core.world c.args.act) (sym c.here.view_is) ∙ sym c.enabled.ensures ∙ c.if-not-enabled.false in
+    ap (λ (x : FoundValue). is_enabled x.core.module_run x.core.world c.args.act) (sym c.here.view_is) ∙ sym c.enabled.ensures
+    ∙ c.if-not-enabled.false in
     let p = next_prints m (subst IsWithinLimits same core.limits) (subst IsAccepted same core.accepted) here c.args.act refl enabled in
     let all_printed : c.in_ok-next.next.printed ≡ here.printed ++ option_to_list p.0 = ap (λ (x : FoundValue). x.printed) is ∙ p.1 in
     let said : c.behind-printed.result ≡ p.0 =
@@ -39,7 +42,8 @@ returns-clause-linked c linked =
     ∙ ap (λ ns. slice_get ns (length here.printed)) (after ∙ all_printed) ∙ one_behind here.printed p.0 in
     linked_push m c.args.all.now.order c.args.all.now.all c.add.new.self.all old c.push_reserved.new.self.items l here c.in_ok-next.next linked c.requires is enabled
     (all_printed ∙ ap (λ o. here.printed ++ option_to_list o) (sym said)) c.in_ok-to.ensures.added
-    (c.push_reserved.ensures.items ∙ ap (λ (e : List Edge). e ++ record { from = c.args.number; act = c.act.inside.0; printed = c.behind-printed.result; to = c.in_ok-to.to } ∷ []) c.reserve.ensures.items
+    (c.push_reserved.ensures.items
+    ∙ ap (λ (e : List Edge). e ++ record { from = c.args.number; act = c.act.inside.0; printed = c.behind-printed.result; to = c.in_ok-to.to } ∷ []) c.reserve.ensures.items
     ∙ ap (λ (a : ℕ). old ++ record { from = c.args.number; act = a; printed = c.behind-printed.result; to = c.in_ok-to.to } ∷ []) c.act.view_is)
 
 pub returns-clause-after : goal.returns-clause-after
@@ -49,11 +53,13 @@ returns-clause-after c =
     let same : c.here.inside.core.module_run ≡ m = ap (λ (x : FoundValue). x.core.module_run) c.here.view_is in
     let core = c.activities-activities.ensures.core in
     let before : c.deref.result.now ≡ here.printed = c.deref.ensures.value ∙ ap (λ (x : FoundValue). x.printed) c.here.view_is in
-    let after : c.deref-2.result.now ≡ c.in_ok-next.next.printed = c.deref-2.ensures.value ∙ ap (λ (x : FoundValue). x.printed) c.next.view_is in
+    let after : c.deref-2.result.now ≡ c.in_ok-next.next.printed = c.deref-2.ensures.value
+    ∙ ap (λ (x : FoundValue). x.printed) c.next.view_is in
     let old = c.args.links.now.items in
     let order = c.args.all.now.order in
     let l : Edge = record { from = c.args.number; act = c.args.act; printed = c.behind-printed.result; to = c.in_ok-to.to } in
-    let one = c.push_reserved.ensures.items ∙ ap (λ (e : List Edge). e ++ record { from = c.args.number; act = c.act.inside.0; printed = c.behind-printed.result; to = c.in_ok-to.to } ∷ []) c.reserve.ensures.items
+    let one = c.push_reserved.ensures.items
+    ∙ ap (λ (e : List Edge). e ++ record { from = c.args.number; act = c.act.inside.0; printed = c.behind-printed.result; to = c.in_ok-to.to } ∷ []) c.reserve.ensures.items
     ∙ ap (λ (a : ℕ). old ++ record { from = c.args.number; act = a; printed = c.behind-printed.result; to = c.in_ok-to.to } ∷ []) c.act.view_is in
     let there = added_there order c.args.all.now.all c.add.new.self.all c.in_ok-next.next c.in_ok-to.to c.in_ok-to.ensures.added in
     let said = c.behind-printed.ensures ∙ ap (λ ns. slice_get c.deref-2.result.now (length ns)) before

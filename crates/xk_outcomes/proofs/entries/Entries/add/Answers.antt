@@ -20,7 +20,8 @@ invariant_of-self-2 c =
     let x = c.requires.0 in
     let edge : Edge = record { from = c.args.from; act = c.args.act } in
     let more = c.push_reserved.ensures.items ∙ ap (λ (l : List Edge). l ++ edge ∷ []) c.reserve.ensures.items in
-    let ended : c.ended.result ≡ all_ended new.core.world = c.ended.ensures ∙ ap (λ (y : FoundValue). all_ended y.core.world) c.new.view_is in
+    let ended : c.ended.result ≡ all_ended new.core.world = c.ended.ensures
+    ∙ ap (λ (y : FoundValue). all_ended y.core.world) c.new.view_is in
     let still = c.push_reserved-2.ensures.items ∙ ap (λ (l : List Bool). l ++ c.ended.result ∷ []) c.reserve-2.ensures.items
     ∙ ap (λ (b : Bool). over ++ b ∷ []) ended in
     let there : slice_get (led_by start edges) c.args.from ≡ Some x =
