@@ -1,4 +1,4 @@
-//! A number of 64 bits that worlds have in common which are alike, where the same was printed by then: where it differs, no more is compared.
+//! A number of 64 bits that worlds have in common which are alike, beside the same numbers: where it differs, no more is compared.
 
 ghost use Rattle.std.specs.Prelude.{◌≡◌, ◌<◌, length};
 ghost use Rattle.xk_types.specs.World.{slots_of};

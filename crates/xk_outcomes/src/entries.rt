@@ -29,8 +29,8 @@ pub struct Edge {
     pub act: Act,
 }
 
-/// Those that were found, numbered from 0. The first is found by private steps alone. No core is kept with one: whoever wants to look at it is
-/// led there again. No two are in worlds that are alike, unless the order tells them apart by what was printed by then.
+/// Those that were found, numbered from 0. The first is found by private steps alone. No core is kept with one: whoever wants to look
+/// at it is led there again. No two are in worlds that are alike, unless the order tells them apart by what was printed by then.
 #[derive(Drop)]
 pub struct Entries<'m> {
     start: Core<'m>,

@@ -1,6 +1,6 @@
 //! What is listed so far: lists of numbers, each with the log of a run that prints it.
 
-ghost use Rattle.std.specs.Prelude.{◌≡◌, ◌≤◌, ◌+◌, ◌++◌, ◌∷◌, ◌⊎◌, [], true, false, length, max, IfOk, OnOk};
+ghost use Rattle.std.specs.Prelude.{◌≡◌, ◌<◌, ◌≤◌, ◌+◌, ◌++◌, ◌∷◌, ◌⊎◌, [], true, false, length, max, IfOk, OnOk};
 ghost use Rattle.xk_outcomes.specs.Outcomes.{AreDistinct, IsListed};
 ghost use Rattle.xk_outcomes.specs.Listing.{KeepsListed};
 
@@ -36,11 +36,12 @@ impl Listed {
         }
     }
 
-    /// How many are listed.
-    pub fn len(&self) -> usize
-        ensures { result ≡ length self.now }
+    /// Whether as many are listed as the limit says.
+    pub fn is_full(&self, limit: usize) -> bool
+        ensures yes { result ≡ true → limit ≤ length self.now }
+        ensures no { result ≡ false → length self.now < limit }
     {
-        self.logs.len()
+        self.logs.len() >= limit
     }
 
     /// Lists it, if its numbers aren't listed yet. Err where memory was refused: nothing more is listed then.
@@ -73,7 +74,7 @@ impl Listed {
         if self.logs.contains_key(&new.numbers) {
             return Ok(true);
         }
-        if self.len() >= limit {
+        if self.is_full(limit) {
             return Ok(false);
         }
         self.put(new)?;

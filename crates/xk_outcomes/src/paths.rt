@@ -109,7 +109,7 @@ fn list_readings(
     ensures most { length list.new ≤ max limit (length list.old) }
 {
     let complete = list_some(alloc, list, all, links, limit, limit)?;
-    if complete || list.len() >= limit {
+    if complete || list.is_full(limit) {
         return Ok(complete);
     }
     // As many were read as are to be listed, and each once: so this isn't come to, though no contract says that none is read twice.

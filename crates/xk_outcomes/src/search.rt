@@ -3,7 +3,8 @@
 ghost use Rattle.std.specs.Prelude.{◌≡◌, ◌<◌, ◌≤◌, ℕ, true, false, length, slice_get, IfOk, OnOk, Some};
 ghost use Rattle.xk_outcomes.specs.Found.{FoundValue, first_found};
 ghost use Rattle.xk_outcomes.specs.Links.{AreLinked};
-ghost use Rattle.xk_outcomes.specs.Search.{AreAllFound, AreAtRest, AreDifferent, AreExpanded, AreFound, HasAfter, IsExpanded, IsGrown, is_tried};
+ghost use Rattle.xk_outcomes.specs.Search.{AreAllFound, AreAtRest, AreDifferent, AreExpanded, AreFound};
+ghost use Rattle.xk_outcomes.specs.Search.{HasAfter, IsExpanded, IsGrown, is_tried};
 
 use crate::entries::Entries;
 use crate::found::Found;

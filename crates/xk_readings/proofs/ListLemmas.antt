@@ -1,6 +1,6 @@
 -- Elements of lists by number.
 use Rattle.std.proofs.Common.{◌≡◌, ◌∙◌, ℕ, zero, suc, ◌+◌, ◌<◌, ◌⊎◌, inl, inr, List, [], ◌∷◌}
-use Rattle.std.proofs.Common.{◌++◌, length, get_or, set, take, drop, Some, refl, sym, ap, arith, slice_get}
+use Rattle.std.proofs.Common.{◌++◌, length, get_or, set, take, drop, Some, refl, ap, arith, slice_get}
 use Rattle.std.specs.List.Sorted.{IsPermutation}
 use Rattle.std.proofs.lemmas.List.Sorted.{Contains-permutation}
 use Rattle.std.proofs.lemmas.Option.{none-some, same_Some, slice_get_within, slice_get-get_or, get_or_from_slice_get}
