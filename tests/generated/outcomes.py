@@ -5,13 +5,15 @@ all schedules finds it (tests/reference/outcomes.py), each outcome with a log th
     python3 -m tests.generated.outcomes [CASES] [SEED] [--sets] [--program PATH] [--jobs N] [--worlds N] [--tally]
                                         [--only CASE]
 
-300 cases, seed 1, 2 jobs, crates/x10clock/out/x10clock and 3,000 worlds at most where nothing else is said. A program
-has 2 to 4 activities that print, and mostly shared numbers, clocks and finishes; some are asked about as their modules,
-some take numbers. The program is asked with no limit, for the log of each outcome, or of 8 that are spread evenly, for
-that of one which there isn't, and with a limit; with `--sets` the same where the order of numbers doesn't count. Each
-log is played again by the program, and by the reference. The page of an outcome has to be that of its log, as `page`
-makes it of FILE and LOG, and where there is no such outcome a line says so. All outcomes are held against lists, too:
-against what the program told, in another order, against that without one line or with another, and with a limit.
+The first cases are those of the folder closed-sets: written by hand, for none that is made by chance shows where one
+premise of the laws on closed sets is left out. 300 cases, seed 1, 2 jobs, crates/x10clock/out/x10clock and 3,000 worlds
+at most where nothing else is said. A program has 2 to 4 activities that print, and mostly shared numbers, clocks and
+finishes; some are asked about as their modules, some take numbers. The program is asked with no limit, for the log of
+each outcome, or of 8 that are spread evenly, for that of one which there isn't, and with a limit; with `--sets` the
+same where the order of numbers doesn't count. Each log is played again by the program, and by the reference. The page
+of an outcome has to be that of its log, as `page` makes it of FILE and LOG, and where there is no such outcome a line
+says so. All outcomes are held against lists, too: against what the program told, in another order, against that without
+one line or with another, and with a limit.
 `--tally` tells how often each answer was given; `--only` prints one program alone.
 """
 
@@ -45,6 +47,7 @@ THIS_RUN, THESE_NUMBERS, THIS_ORDER = (
 # Logs of so many outcomes of a program are looked at.
 LOGS = 8
 ACTIVITIES = range(2, 5)
+WRITTEN = sorted((pathlib.Path(__file__).parent / "closed-sets").glob("*.x10"))
 MOST_STEPS = 70
 
 
@@ -103,6 +106,16 @@ def case(rng: random.Random, worlds: int) -> Case:
         # Programs with one outcome are many, and one in ten is enough.
         if walk and walk.entries <= worlds and (len(walk.outcomes) > 1 or rng.random() < 0.1):
             return Case(text, judged, walk)
+
+
+def written(path: pathlib.Path, worlds: int) -> Case:
+    """A program that was written by hand."""
+    text = Text(path.read_bytes())
+    judged = text.judged()
+    assert isinstance(judged, Accepted), path
+    walk = outcomes.walked(judged.module, (), worlds)
+    assert walk, path
+    return Case(text, judged, walk)
 
 
 # Questions.
@@ -304,7 +317,7 @@ class Cases:
             program = Program(self.program, folder)
             for number in cases:
                 rng = random.Random(f"{self.seed} {number}")
-                made = case(rng, self.worlds)
+                made = written(WRITTEN[number], self.worlds) if number < len(WRITTEN) else case(rng, self.worlds)
                 count_case(summary.counts, made)
                 differing = [*Asker(program, made, summary.counts, self.sets).differences(rng)]
                 summary.counts["programs"] += 1
