@@ -79,7 +79,7 @@ told_out : (line out err : List ℕ) (status faults_old faults_new result : ℕ)
     → Tells line status (Some []) (Some out) faults_old faults_new result → reply ≡ reply_of status line [] []
 told_out line out err status faults_old faults_new result reply (is, memory, device) none (inl t) =
     let by_status = ap (λ s. reply_of s out err []) t.0 in
-    let by_text = ap (λ text. reply_of status text err []) t.1.0 in
+    let by_text = ap (λ text. reply_of status text err []) t.1 in
     is ∙ (by_status ∙ (by_text ∙ ap (λ text. reply_of status line text []) none))
 told_out line out err status faults_old faults_new result reply (is, memory, device) none (inr t) = absurd (device t.0)
 
@@ -88,7 +88,7 @@ told_err : (line out err : List ℕ) (status faults_old faults_new result : ℕ)
     → Tells line status (Some []) (Some err) faults_old faults_new result → reply ≡ reply_of status [] line []
 told_err line out err status faults_old faults_new result reply (is, memory, device) none (inl t) =
     let by_status = ap (λ s. reply_of s out err []) t.0 in
-    let by_text = ap (λ text. reply_of status out text []) t.1.0 in
+    let by_text = ap (λ text. reply_of status out text []) t.1 in
     is ∙ (by_status ∙ (by_text ∙ ap (λ text. reply_of status text line []) none))
 told_err line out err status faults_old faults_new result reply (is, memory, device) none (inr t) = absurd (device t.0)
 
