@@ -29,7 +29,9 @@ job_fresh : (t : Task) (program input : List ℕ) (status : ℕ) (out err log : 
     → AnswersJob t program input reply
 job_fresh t program input status out err log reply (is, memory, device) h =
     subst (AnswersJob t program input) (sym is)
-    (known_weaker t (Some program) (Some input) _ (IsAnswerTo t (reply_of status out err log))
+    (known_weaker t (Some program) (Some input) (λ bytes logged. status ≢ status_memory → status ≢ status_device
+    → Answered t bytes logged status (Some []) (Some out) (Some []) (Some err) (Some []) (Some log))
+    (IsAnswerTo t (reply_of status out err log))
     (λ bytes logged a. answer_of t bytes logged status out err log (a memory device)) h)
 
 -- the reply to a job that was served on fresh devices
