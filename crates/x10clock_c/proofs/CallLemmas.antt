@@ -29,7 +29,9 @@ job_fresh : (t : Task) (program input : List ℕ) (status : ℕ) (out err log : 
     → AnswersJob t program input reply
 job_fresh t program input status out err log reply (is, memory, device) h =
     subst (AnswersJob t program input) (sym is)
-    (known_weaker t (Some program) (Some input) _ (IsAnswerTo t (reply_of status out err log))
+    (known_weaker t (Some program) (Some input) (λ bytes logged. status ≢ status_memory → status ≢ status_device
+    → Answered t bytes logged status (Some []) (Some out) (Some []) (Some err) (Some []) (Some log))
+    (IsAnswerTo t (reply_of status out err log))
     (λ bytes logged a. answer_of t bytes logged status out err log (a memory device)) h)
 
 -- the reply to a job that was served on fresh devices
@@ -79,7 +81,7 @@ told_out : (line out err : List ℕ) (status faults_old faults_new result : ℕ)
     → Tells line status (Some []) (Some out) faults_old faults_new result → reply ≡ reply_of status line [] []
 told_out line out err status faults_old faults_new result reply (is, memory, device) none (inl t) =
     let by_status = ap (λ s. reply_of s out err []) t.0 in
-    let by_text = ap (λ text. reply_of status text err []) t.1.0 in
+    let by_text = ap (λ text. reply_of status text err []) t.1 in
     is ∙ (by_status ∙ (by_text ∙ ap (λ text. reply_of status line text []) none))
 told_out line out err status faults_old faults_new result reply (is, memory, device) none (inr t) = absurd (device t.0)
 
@@ -88,7 +90,7 @@ told_err : (line out err : List ℕ) (status faults_old faults_new result : ℕ)
     → Tells line status (Some []) (Some err) faults_old faults_new result → reply ≡ reply_of status [] line []
 told_err line out err status faults_old faults_new result reply (is, memory, device) none (inl t) =
     let by_status = ap (λ s. reply_of s out err []) t.0 in
-    let by_text = ap (λ text. reply_of status out text []) t.1.0 in
+    let by_text = ap (λ text. reply_of status out text []) t.1 in
     is ∙ (by_status ∙ (by_text ∙ ap (λ text. reply_of status text line []) none))
 told_err line out err status faults_old faults_new result reply (is, memory, device) none (inr t) = absurd (device t.0)
 

@@ -1,4 +1,6 @@
 use Rattle.std.proofs.lemmas.Result.{IfOk-weaker}
+use Rattle.xk_cli.specs.Status.{status_words}
+use Rattle.x10clock_c.specs.Call.{no_text_line}
 use Rattle.x10clock_c.proofs.CallLemmas.{line_err}
 use Rattle.x10clock_c.proofs.request.answer_no_text.Goals as goal
 
@@ -6,5 +8,6 @@ pub returns : goal.returns
 returns c =
     let fresh = c.in_ok-on.ensures in
     IfOk-weaker c.answered.result _ _
-    (λ a h. line_err _ _ c.tell-status.result a _ _ _ _ fresh.out fresh.err fresh.log h c.tell-status.ensures)
+    (λ a h. line_err no_text_line status_words c.tell-status.result a
+    c.in_ok-on.on.out c.in_ok-on.on.err c.tell-status.new.err c.in_ok-on.on.log fresh.out fresh.err fresh.log h c.tell-status.ensures)
     c.answered.ensures
