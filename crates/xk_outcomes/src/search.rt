@@ -66,7 +66,7 @@ fn try_act(
         from: number,
         act: act.0,
         printed,
-        to: to.saturating_sub(1),
+        to,
     });
     Ok(())
 }
