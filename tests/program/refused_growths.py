@@ -330,7 +330,7 @@ def each_mismatch(calls: Calls, folder: str) -> None:
 def each_search(calls: Calls) -> None:
     """All that small programs can print, with a log of one outcome; some of it, where a limit is met; and runs by
     chance, and by rounds."""
-    for name, limit, status in (("in-step.x10", "100", 0), ("ring.json", "3", 0), ("as-many.x10", "4", 6)):
+    for name, limit, status in (("in-step.x10", "100", 0), ("ring.json", "3", 0), ("as-many.x10", "2", 6)):
         row = ROWS / name
         found = calls.ask(
             f"{name}, outcomes", ["outcomes", *given(row), "--limit", limit, "--log", LOG, "-"], row.read_bytes()
