@@ -1,6 +1,7 @@
 #!/bin/sh
 # Makes the release in dist/ anew, from the present sources as `rt ci` proves, builds and tests them: the program, its
-# man page, completions, folders for editors, BUILT and SHA256SUMS. Then `git add dist`, and a commit.
+# man page, completions, folders for editors, the library for other languages with its Python wheel, BUILT and
+# SHA256SUMS. Then `git add dist`, and a commit.
 #
 # Refuses where the tree isn't clean, for what is committed is what is built; where README.md, CHANGELOG.md or the line
 # of the kit doesn't go with the version; and where `rt ci` isn't green. Nothing that `rt ci` leaves says that it was, so
@@ -52,6 +53,10 @@ cp -R editors/vim "$made/vim"
 cp -R editors/vscode "$made/vscode"
 cp editors/textmate/x10clock.tmLanguage.json "$made/vscode"
 sed "s/\"version\": \"0.0.0\"/\"version\": \"$number\"/" editors/vscode/package.json > "$made/vscode/package.json"
+# The library: for C, and as a wheel for Python.
+mkdir "$made/python"
+python3 library/build.py "$made/lib"
+python3 python/make_wheel.py "$made/lib" "$made/python"
 # The newest version of a symbol that the program takes from the C library is the oldest library that has them all.
 glibc=$(grep -ao 'GLIBC_2\.[0-9]*' "$program" | sort -u -t . -k 2n | tail -n 1)
 cat > "$made/BUILT" << END
@@ -73,4 +78,4 @@ for old in dist/*; do
 done
 cp -R "$made/." dist
 cat dist/BUILT
-python3 -m tests.answers.release
+python3 -m tests.program.release

@@ -5,7 +5,8 @@ The man page and the completions that `dist/manual.py` writes say what `--help` 
 each value of an option that takes names, and nothing else. Those in `dist/` say it of the program there. The files
 there are those of `SHA256SUMS`, and the program runs an example in a folder that has nothing else, with nothing on the
 path but what copies files and sums them up. `--version` prints the version and the kit of `dist/BUILT`, and each page
-that names the program names that version.
+that names the program names that version. The wheel there, unpacked, runs the same example by the library that lies
+beside it; both have the release's version.
 
 Where the sum in `dist/BUILT` is that of the present sources, and its kit is the present one, the program there is the
 built one, byte for byte, and all other files are what `dist/release.sh` makes now. Where sum or kit is another one,
@@ -24,6 +25,7 @@ import re
 import shutil
 import sys
 import tempfile
+import zipfile
 from collections.abc import Callable, Iterable
 from dataclasses import dataclass, field
 from typing import Any
@@ -229,8 +231,43 @@ def runs_alone(held: Held, program: pathlib.Path) -> None:
     held.wants(f"{program.name} run two-in-step.x10", ran, (0, PRINTED, ""))
 
 
+# Asks the package in the present folder.
+ASK_PACKAGE = "import sys, x10clock; print(*x10clock.run(sys.argv[1]).printed)"
+
+
+def wheel(version: str) -> pathlib.Path:
+    """The package's file."""
+    return DIST / f"python/{version.replace(' ', '-')}-py3-none-linux_x86_64.whl"
+
+
+def package_runs(held: Held, version: str) -> None:
+    """The wheel runs an example, by the library that lies beside it."""
+    pkg_config = (DIST / "lib/x10clock.pc").read_text(encoding="utf-8")
+    held.wants("dist/lib/x10clock.pc", f"\nVersion: {version.partition(' ')[2]}\n" in pkg_config, True)
+    with tempfile.TemporaryDirectory(prefix="x10clock-release-") as room:
+        with zipfile.ZipFile(wheel(version)) as packed:
+            packed.extractall(room)
+        ours, inside = DIST / "lib/libx10clock.so", pathlib.Path(room, "x10clock/libx10clock.so")
+        held.wants("the wheel's library is dist/lib's", inside.read_bytes() == ours.read_bytes(), True)
+        printed = said(sys.executable, "-c", ASK_PACKAGE, EXAMPLE, cwd=room)
+    held.wants("the package's run", printed.split(), PRINTED.split()[:4])
+
+
+def package_is_of_sources(held: Held, version: str) -> None:
+    """The header and the wheel's modules are those of the sources."""
+    header = (DIST / "lib/x10clock.h").read_bytes() == (TOP / "library/x10clock.h").read_bytes()
+    held.wants("dist/lib/x10clock.h is library/x10clock.h", header, True)
+    sources = {f"x10clock/{path.name}": path for path in (TOP / "python/x10clock").iterdir() if path.is_file()}
+    with zipfile.ZipFile(wheel(version)) as packed:
+        names = {name for name in packed.namelist() if not name.endswith((".so", "/METADATA", "/WHEEL", "/RECORD"))}
+        held.wants("the wheel's modules", sorted(names), sorted(sources))
+        for name in sorted(names & sources.keys()):
+            held.wants(f"the wheel's {name}", packed.read(name) == sources[name].read_bytes(), True)
+
+
 def is_what_sources_give(held: Held, version: str, program: pathlib.Path) -> None:
     """The release is what dist/release.sh makes now."""
+    package_is_of_sources(held, version)
     package = json.loads((DIST / "vscode/package.json").read_text(encoding="utf-8"))
     held.wants("dist/vscode/package.json: version", f"x10clock {package['version']}", version)
     source = json.loads((TOP / "editors/vscode/package.json").read_text(encoding="utf-8"))
@@ -273,6 +310,8 @@ def release(held: Held, program: pathlib.Path) -> str:
     ours = DIST / name_of(built["version"])
     sums_are_right(held)
     runs_alone(held, ours)
+    if (DIST / "lib").exists():
+        package_runs(held, built["version"])
     held.wants(f"{ours.name} -V", said(ours, "-V").strip(), built["version"])
     wanted = [built["version"], f"proved with {built['kit']}"]
     held.wants(f"{ours.name} --version", said(ours, "--version").splitlines(), wanted)
