@@ -32,8 +32,7 @@ STATIC = (
     "python3 -m tests.reference.meaning 20 1 --alone",
 )
 # What the built program answers, alone and with growths refused; what the reference says of schedules, of logs, of what
-# texts mean, and of modules and texts that nobody wrote; what the program does where files and the system fail it; and
-# whether the library answers the same.
+# texts mean, and of modules and texts that nobody wrote; and what the program does where files and the system fail it.
 ASK = (
     "sh tests/program/answers.sh",
     "sh tests/program/transcripts.sh",
@@ -62,6 +61,9 @@ ASK = (
     "python3 -m tests.program.hostile",
     "python3 -m tests.program.wants",
     "python3 -m tests.program.release",
+)
+# Whether the library answers the same, which is built of this checkout's proved crates.
+ASK_LIBRARY = (
     "python3 -m tests.library.calls",
     "python3 -m tests.library.package",
 )
@@ -78,6 +80,14 @@ def prepare(program: pathlib.Path) -> None:
     os.environ["X10CLOCK"] = str(program)
 
 
+def ask_library(program: pathlib.Path) -> tuple[str, ...]:
+    """What is asked of the library: nothing where another program is asked, and this checkout has built none."""
+    if program == harness.BUILT or library.is_built():
+        return ASK_LIBRARY
+    print("ask: left out, for want of a library:", *ASK_LIBRARY, sep="\n    ", flush=True)
+    return ()
+
+
 def main() -> int:
     parser = argparse.ArgumentParser(description="Runs the scripts of a stage of the gate side by side.")
     stages = parser.add_subparsers(dest="stage", required=True)
@@ -87,7 +97,7 @@ def main() -> int:
     if given.stage == "static":
         return 0 if side_by_side.run_all(STATIC) else 1
     prepare(given.program)
-    return 0 if side_by_side.run_all(ASK) else 1
+    return 0 if side_by_side.run_all((*ASK, *ask_library(given.program))) else 1
 
 
 if __name__ == "__main__":

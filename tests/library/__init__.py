@@ -14,6 +14,12 @@ BUILT = TOP / "crates/x10clock_c/out/library"
 sys.path.insert(0, str(TOP / "python"))
 
 
+def is_built() -> bool:
+    """Whether a library is there, without building one."""
+    named = os.environ.get("X10CLOCK_LIBRARY_FOLDER")
+    return (pathlib.Path(named) if named else BUILT).joinpath("libx10clock.so").exists()
+
+
 def built(folder: pathlib.Path | None = None) -> pathlib.Path:
     """The folder of the library: this one, or the one that X10CLOCK_LIBRARY_FOLDER names, or else the one that is built
     of what `rt ci` proved, if it isn't there yet."""
