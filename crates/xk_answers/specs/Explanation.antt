@@ -14,7 +14,7 @@ use Rattle.xk_explain.specs.Messages.{module_rule}
 use Rattle.xk_explain.specs.Explanations.{front_explanation, module_explanation, refusal_explanation}
 use Rattle.xk_explain.specs.Notes.{NoteValue, note_lines, plain_lines}
 use Rattle.xk_explain.specs.SourceExplanations.{source_explanation}
-use Rattle.xk_explain_json.specs.Objects.{json_line, text_of}
+use Rattle.xk_json.specs.Objects.{json_line, text_of}
 use Rattle.xk_explain_json.specs.Explanations.{accepted_value, front_value, module_value, refusal_value, source_value}
 use Rattle.xk_explain_faults.specs.Faults.{faults_explanation, faults_value}
 use Rattle.xk_explain_expected.specs.Notes.{expected_notes}
