@@ -105,6 +105,7 @@ fn event_json(
 }
 
 /// Tells of the steps that other activities can see, a line each.
+#[derive(Drop)]
 struct EventTeller<'a> {
     places: &'a Places<'a>,
     names: Option<&'a Names<'a>>,
