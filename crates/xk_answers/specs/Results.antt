@@ -1,5 +1,5 @@
 -- What a job on a module comes to, or tells of it: the numbers and the log of a run, what a module can print, pictures of a run. This project's own.
-use Rattle.std.specs.Prelude.{◌≡◌, ℕ, ⊤, ℤ, ◌-◌, ◌&&◌, not, Bool, true, false, List, ◌++◌, length, take, slice_get, Option, Some, None, is_some}
+use Rattle.std.specs.Prelude.{◌≡◌, ℕ, ⊤, ℤ, ◌-◌, ◌&&◌, not, Bool, true, false, List, ◌++◌, length, map, take, slice_get, Option, Some, None, is_some}
 use Rattle.std.specs.Prelude.{option_map, unwrap_or, string_bytes, codes, decimal, if◌then◌else◌}
 use Rattle.serde_json.specs.Written.{compact_text}
 use Rattle.xk_types.specs.Code.{ModuleValue}
@@ -33,6 +33,7 @@ use Rattle.xk_outcomes.specs.declared.all_outcomes.Limit.{Limit}
 use Rattle.xk_outcomes.specs.Limits.{GoesFar, limit_of}
 use Rattle.xk_outcomes.specs.Expected.{AreExpected}
 use Rattle.xk_outcomes.specs.declared.holding.Verdict.{Verdict}
+use Rattle.xk_outcomes.specs.declared.holding.Verdict.TheVariants as verdict
 use Rattle.xk_json.specs.Objects.{json_line}
 use Rattle.xk_show_json.specs.Outcomes.{held_value, outcomes_value}
 use Rattle.xk_show_json.specs.Runs.{run_value}
@@ -147,6 +148,16 @@ IsHeldOut m args sets limit bytes _ = ⊥
 
 -- ---- told as one JSON value
 
+-- what each outcome prints
+abbrev pub lists_of : List Outcome → List (List ℤ)
+lists_of list = map (λ x. x.numbers.items) list
+
+-- what outcomes say of a list, in a word
+abbrev pub verdict_name : Verdict → List ℕ
+verdict_name verdict.Complete = codes "complete"
+verdict_name verdict.Undecided = codes "undecided"
+verdict_name verdict.Refuted = codes "refuted"
+
 -- the run came to its end as it is to be driven, and its log is kept or not
 pub record IsRunShown (way : Way) (keeps : Bool) (m : ModuleValue) (args : List ℤ) (text : List ℕ) (whole : Bool) (log : Option (List Entry)) : Type 0 where
   pub numbers : List ℤ
@@ -160,13 +171,13 @@ pub record IsRunShown (way : Way) (keeps : Bool) (m : ModuleValue) (args : List 
 pub record AreOutcomesShown (m : ModuleValue) (args : List ℤ) (sets : Bool) (limit : Limit) (pick : ℕ) (keeps : Bool) (text : List ℕ) (whole : Bool) (log : Option (List Entry)) : Type 0 where
   pub lines : List ℕ
   pub found : AreOutcomes m args sets limit pick keeps lines whole log
-  pub text_is : text ≡ json_line (outcomes_value found.list found.complete)
+  pub text_is : text ≡ json_line (outcomes_value (lists_of found.list) found.complete)
 
 -- what that says of the list in these bytes, as it is told as a line
 pub record AreExpectedShown (m : ModuleValue) (args : List ℤ) (sets : Bool) (limit : Limit) (bytes text : List ℕ) (found : Verdict) : Type 0 where
   pub line : List ℕ
   pub held : AreExpected m args sets limit (list_in bytes) line found
-  pub text_is : text ≡ json_line (held_value line found)
+  pub text_is : text ≡ json_line (held_value line (verdict_name found))
 
 -- that is what it comes to
 abbrev pub IsRunTold : Way → Bool → ModuleValue → List ℤ → Done → Type 0

@@ -1,6 +1,6 @@
 //! What is told as JSON.
 
-ghost use Rattle.std.specs.Prelude.{◌≡◌, ◌≢◌, ℕ, ℤ, Bool, List, false, option_map, unwrap_or, IfOk, IfErr, OnOk};
+ghost use Rattle.std.specs.Prelude.{◌≡◌, ◌≢◌, ℕ, ℤ, Bool, List, false, map, option_map, unwrap_or, IfOk, IfErr, OnOk};
 ghost use Rattle.xk_log.specs.SomeBytes.{OfSome};
 ghost use Rattle.xk_types.specs.Code.{ModuleValue};
 ghost use Rattle.xk_types.specs.World.{AreArguments};
@@ -8,7 +8,8 @@ ghost use Rattle.xk_cli.specs.CommandLine.{Way};
 ghost use Rattle.xk_cli.specs.CommandAnswers.{have_places};
 ghost use Rattle.xk_cli.specs.Status.{status_program};
 ghost use Rattle.xk_answers.specs.OrderedRun.{IsFinished};
-ghost use Rattle.xk_answers.specs.Results.{ComesTo, ExpectedShown, IsFoundTold, IsHeldTold, IsRunTold, Json, OutcomesShown, RunShown, longest_list, way_given};
+ghost use Rattle.xk_answers.specs.Results.{ComesTo, ExpectedShown, IsFoundTold, IsHeldTold, IsRunTold, Json};
+ghost use Rattle.xk_answers.specs.Results.{OutcomesShown, RunShown, lists_of, longest_list, verdict_name, way_given};
 ghost use Rattle.xk_answers.specs.Refusals.{AgainstExpected, AgainstList};
 ghost use Rattle.xk_program.specs.Bytes.{LosesAtMost};
 ghost use Rattle.xk_program.specs.Lines.{status_of};
@@ -24,7 +25,7 @@ use std::alloc::{AllocError, Global};
 use xk_answers::{Done, Finished, LONGEST_LIST, Picture, drawn, kept_log};
 use xk_bounds::Verified;
 use xk_cli::{Drive, Job, Order, Values};
-use xk_outcomes::{Limit, ListFault, expected_outcomes, is_whole, outcomes_as};
+use xk_outcomes::{Limit, ListFault, Outcome, Verdict, expected_outcomes, is_whole, outcomes_as};
 use xk_program::{Fault, Program, read_front, runnable};
 use xk_show_json::{held_json, outcomes_json, run_json};
 use xk_types::{Module, Source};
@@ -158,10 +159,22 @@ fn found_told(
     ensures { IfOk result (IsFoundTold verified.now arguments.now sets limit pick keeps_log) }
 {
     let found = outcomes_as(alloc, sets, verified, arguments, limit)?;
-    let text = outcomes_json(alloc, &found.list, found.complete)?;
+    let lists = lists_of(alloc, &found.list)?;
+    let text = outcomes_json(alloc, &lists, found.complete)?;
     let log = kept_log(alloc, keeps_log, pick, &found.list)?;
     let whole = is_whole(found.complete, keeps_log, log.is_some());
     Ok(Done::Outcomes { text, whole, log })
+}
+
+/// What each outcome prints.
+fn lists_of<'a>(alloc: Global, list: &'a [Outcome]) -> Result<Vec<&'a [i64]>, AllocError>
+    ensures { IfOk result (λ v. map (λ x. x.now) v.items ≡ lists_of list.entry.now) }
+{
+    let mut lists = Vec::new(alloc);
+    for outcome in list {
+        lists.push(outcome.numbers.as_slice())?;
+    }
+    Ok(lists)
 }
 
 /// What a module can print that is given these arguments is held against the list, if it is accepted and main takes as many, and what
@@ -210,7 +223,7 @@ fn held_told<L: Source>(
 {
     let bytes = read_front(alloc, source, LONGEST_LIST)?;
     match expected_outcomes(alloc, sets, verified, arguments, limit, &bytes) {
-        Ok(held) => match held_json(alloc, &held.text, held.verdict) {
+        Ok(held) => match held_json(alloc, &held.text, verdict_name(held.verdict)) {
             Ok(text) => Ok(Done::Held {
                 text,
                 verdict: held.verdict,
@@ -221,5 +234,16 @@ fn held_told<L: Source>(
             ListFault::Stray(line) => Err(Fault::NoOutcome(line)),
             ListFault::OutOfMemory => Err(Fault::OutOfMemory),
         },
+    }
+}
+
+/// What outcomes say of a list, in a word.
+fn verdict_name(verdict: Verdict) -> &'static str
+    ensures { result.now ≡ verdict_name verdict }
+{
+    match verdict {
+        Verdict::Complete => "complete",
+        Verdict::Undecided => "undecided",
+        Verdict::Refuted => "refuted",
     }
 }

@@ -6,12 +6,11 @@ use Rattle.std.specs.Str.Lossy.{utf8_lossy, utf8_valid_len}
 use Rattle.serde_json.specs.Written.{compact_text}
 use Rattle.serde_json.proofs.OnLiterals.{serde_json_on_literals}
 use Rattle.xk_types.specs.declared.world.Event.TheVariants as event
-use Rattle.xk_outcomes.specs.declared.holding.Verdict.TheVariants as verdict
 use Rattle.xk_show_events.specs.Events.{no_text, places_of}
 use Rattle.xk_show_names.specs.declared.accounts.Subject.TheVariants as subject
 use Rattle.xk_show_names.specs.Events.{clock_word, shared_word}
 use Rattle.xk_show_json.specs.Runs.{run_value}
-use Rattle.xk_show_json.specs.Outcomes.{held_value, lists_value}
+use Rattle.xk_show_json.specs.Outcomes.{held_value, outcomes_value}
 use Rattle.xk_show_json.specs.Events.{event_value}
 
 run_text : compact_text (run_value (pos 1 ∷ negsuc 1 ∷ []) 12 None) ≡ codes "{\"ended\":true,\"printed\":[1,-2],\"steps\":12}"
@@ -22,12 +21,12 @@ rounds_text : compact_text (run_value [] 12 (Some 5)) ≡ codes "{\"ended\":true
 unfolding serde_json_on_literals digits
 rounds_text = refl
 
-outcomes_text : compact_text (lists_value ((pos 10 ∷ pos 21 ∷ []) ∷ (pos 21 ∷ pos 10 ∷ []) ∷ [] ∷ []) false)
+outcomes_text : compact_text (outcomes_value ((pos 10 ∷ pos 21 ∷ []) ∷ (pos 21 ∷ pos 10 ∷ []) ∷ [] ∷ []) false)
     ≡ codes "{\"complete\":false,\"outcomes\":[[10,21],[21,10],[]]}"
 unfolding serde_json_on_literals digits
 outcomes_text = refl
 
-held_text : compact_text (held_value (codes "outcome 2 prints 21 10\n") verdict.Refuted)
+held_text : compact_text (held_value (codes "outcome 2 prints 21 10\n") (codes "refuted"))
     ≡ codes "{\"text\":\"outcome 2 prints 21 10\",\"verdict\":\"refuted\"}"
 unfolding serde_json_on_literals digits utf8_lossy utf8_valid_len is_utf8 chars
 held_text = refl

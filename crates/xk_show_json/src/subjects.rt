@@ -16,8 +16,9 @@ pub(crate) fn put_subject(
     names: Option<&Names<'_>>,
     subject: Subject,
 ) -> Result<(), AllocError>
-    ensures { OnOk result
-        (Gains (subject_members (option_map (λ n. n.now) names.entry) subject) object.old object.new) }
+    ensures { OnOk result (Gains
+        (subject_members (option_map (λ n. n.now) names.entry) subject)
+        object.old object.new) }
 {
     match subject {
         Subject::Nothing => Ok(()),
@@ -40,7 +41,8 @@ fn put_clock_name(
     clock: u32,
 ) -> Result<(), AllocError>
     ensures { OnOk result (Gains
-        (name_member (option_map (λ n. clock_word n.now clock) names.entry)) object.old object.new) }
+        (name_member (option_map (λ n. clock_word n.now clock) names.entry))
+        object.old object.new) }
 {
     match names {
         Some(names) => {
@@ -59,7 +61,8 @@ fn put_shared_name(
     number: u16,
 ) -> Result<(), AllocError>
     ensures { OnOk result (Gains
-        (name_member (option_map (λ n. shared_word n.now number) names.entry)) object.old object.new) }
+        (name_member (option_map (λ n. shared_word n.now number) names.entry))
+        object.old object.new) }
 {
     match names {
         Some(names) => {

@@ -1,15 +1,11 @@
-use Rattle.std.proofs.Common.{◌≡◌, ◌∙◌, ◌&&◌, not, Option, None, Some, option_map, refl, ap}
+use Rattle.std.proofs.Common.{◌∙◌, ◌&&◌, not, refl, ap}
 use Rattle.std.specs.Prelude.{is_some}
 use Rattle.xk_outcomes.specs.Text.{outcomes_text}
 use Rattle.xk_json.specs.Objects.{json_line}
 use Rattle.xk_show_json.specs.Outcomes.{outcomes_value}
-use Rattle.xk_answers.specs.Results.{kept_log}
+use Rattle.xk_answers.specs.Results.{kept_log, lists_of}
+use Rattle.xk_answers.proofs.PrintedLemmas.{made_there}
 use Rattle.xk_serve.proofs.values.found_told.Goals as goal
-
--- what is made of something is there where that is
-made_there : {X Y : Type 0} (f : X → Y) (o : Option X) → is_some o ≡ is_some (option_map f o)
-made_there f None = refl
-made_there f (Some x) = refl
 
 pub returns : goal.returns
 returns c =
@@ -35,5 +31,6 @@ returns c =
             (c.is_some.ensures ∙ made_there (λ es. es.items) c.in_ok-log.log ∙ ap is_some log);
         log_is = log;
       };
-      text_is = c.in_ok-text.ensures.text ∙ ap (λ l. json_line (outcomes_value l found.complete)) c.deref.ensures.value;
+      text_is = c.in_ok-text.ensures.text
+          ∙ ap (λ l. json_line (outcomes_value l found.complete)) (c.in_ok-lists.ensures ∙ ap lists_of c.deref.ensures.value);
     }

@@ -15,7 +15,9 @@ returns-in-Ok-held_json-clause-done g c =
         line = held.text.items;
         held = subst (λ bytes. AreExpected c.args.verified.now c.args.arguments.now c.args.sets c.args.limit bytes held.text.items held.verdict)
             (c.deref.ensures.value ∙ is) c.in-Ok.ensures.held;
-        text_is = c.in-Ok-held_json.ensures.text ∙ ap (λ line. json_line (held_value line held.verdict)) c.deref-in-Ok.ensures.value;
+        text_is = c.in-Ok-held_json.ensures.text
+            ∙ ap (λ line. json_line (held_value line c.verdict_name.result.now)) c.deref-in-Ok.ensures.value
+            ∙ ap (λ word. json_line (held_value held.text.items word)) c.verdict_name.ensures;
       },
     ))
     (front_of _ _ _ c.in_ok-bytes.ensures.few c.in_ok-bytes.ensures.front)
