@@ -150,15 +150,16 @@ fn values_of(
 /// What others see of the steps of a run of a source text's module, a JSON object on a line for each step, in their order: `{"act":1,
 /// "after":3,"before":2,"column":9,"event":"add","line":7,"name":"total","place":5,"shared":0,"step":9,"unit":1}`. Where the log ends
 /// before the run does, a last line says so. The log is played again for it. Err where memory was refused.
-pub fn source_event_values(
+pub fn source_event_values<'t>(
     alloc: Global,
-    text: &[u8],
-    origins: &[UnitOrigins<'_>],
-    shared: &[&[u8]],
+    text: &'t [u8],
+    origins: &'t [UnitOrigins<'t>],
+    shared: &'t [&'t [u8]],
     legal: &LegalRun<'_, '_>,
 ) -> Result<Vec<u8>, AllocError>
     ensures { IfOk result (λ v. v.items ≡ source_event_values
-        (places_of text.now origins.now) (map (λ x. x.now) shared.now)
+        (places_of text.now origins.entry.now)
+        (map (λ x. x.now) shared.now)
         legal.now.module.now legal.now.core.now.world.arguments legal.now.log.now
         legal.now.core.now.world) }
 {
