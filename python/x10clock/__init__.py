@@ -13,8 +13,8 @@ refused program raises `Refused`, a refused log `BadLog`. `python -m x10clock` g
 from x10clock.faults import BadLog, BadWords, Fault, OutOfMemory, Refused
 from x10clock.grading import Asked, Verdict, judge
 from x10clock.library import Answer, Program, call
-from x10clock.programs import Bounds, Outcome, Outcomes, Races, Run, check, explain, held_against, outcomes
-from x10clock.programs import page, page_of_outcome, races, replay, run, where
+from x10clock.programs import Bounds, Outcome, Outcomes, Races, Run, check, events, explain, held_against
+from x10clock.programs import outcomes, page, page_of_outcome, races, replay, run, where
 from x10clock.stepping import Moment, Stepper
 
 __all__ = (
@@ -36,6 +36,7 @@ __all__ = (
     "Verdict",
     "call",
     "check",
+    "events",
     "explain",
     "held_against",
     "judge",

@@ -79,6 +79,12 @@ def _lines(answer: Answer) -> list[str]:
     return answer.out.decode().splitlines()
 
 
+def _value(answer: Answer) -> dict[str, Any]:
+    """The JSON object that an answer tells."""
+    found: dict[str, Any] = json.loads(answer.out)
+    return found
+
+
 def _run_in(answer: Answer) -> Run:
     """The run that an answer tells: its numbers, and then `ended steps 19`, or `stopped steps 3`."""
     *numbers, last = _lines(answer)
@@ -100,8 +106,7 @@ def explain(program: Program) -> dict[str, Any]:
     answer = call(_words("explain", program, (), "--json"), program)
     if answer.status not in (faults.DONE, faults.PROGRAM):
         known(answer)
-    found: dict[str, Any] = json.loads(answer.out)
-    return found
+    return _value(answer)
 
 
 def run(
@@ -109,7 +114,9 @@ def run(
 ) -> Run:
     """The run in an order (`first`, `last`, `round`, `random`, `greedy`), with its log."""
     options = ("--order", order, *_option("--seed", seed), *_option("--processors", processors), "--log", "log")
-    return _run_in(_asked(_words("run", program, arguments, *options), program))
+    answer = _asked(_words("run", program, arguments, "--json", *options), program)
+    told = _value(answer)
+    return Run(tuple(told["printed"]), told["steps"], answer.log, told.get("rounds"))
 
 
 def replay(program: Program, log: Program, *arguments: int) -> Run:
@@ -122,9 +129,10 @@ def outcomes(
 ) -> Outcomes:
     """All that a program can print, and the log of a run with the outcome that is picked."""
     options = (*_option("--limit", limit), "--pick", pick, "--log", "log", *_option("--sets", sets))
-    answer = _asked(_words("outcomes", program, arguments, *options), program)
-    *lines, last = _lines(answer)
-    return Outcomes(tuple(map(_outcome, lines)), last.endswith(" complete"), answer.log)
+    answer = _asked(_words("outcomes", program, arguments, "--json", *options), program)
+    told = _value(answer)
+    found = (Outcome(number, tuple(printed)) for number, printed in enumerate(told["outcomes"], start=1))
+    return Outcomes(tuple(found), told["complete"], answer.log)
 
 
 def _outcome(line: str) -> Outcome:
@@ -142,6 +150,13 @@ def held_against(
     if answer.status == faults.REFUTED:
         return _outcome(_lines(answer)[0])
     return answer.status == faults.DONE
+
+
+def events(program: Program, log: Program, *arguments: int) -> list[dict[str, Any]]:
+    """What others see of each step of the run that a log has (docs/FORMATS.md, "As JSON"). Where the log ends before
+    the run does, a last one says so."""
+    answer = _asked(_words("events", program, arguments, "--json", beside="log"), program, log)
+    return [json.loads(line) for line in _lines(answer)]
 
 
 def races(program: Program, *arguments: int, log: Program | None = None) -> Races:

@@ -37,6 +37,7 @@ ASK = (
     "sh tests/program/answers.sh",
     "sh tests/program/transcripts.sh",
     "python3 -m tests.program.pages",
+    "python3 -m tests.program.schemas",
     "python3 -m tests.program.rules",
     "python3 -m tests.program.exercises",
     "python3 -m tests.program.repairs",

@@ -33,7 +33,7 @@ from dataclasses import dataclass
 from tests import harness
 from tests.generated import tally
 from tests.harness import TOP
-from tests.reference import command_line, logs, outcomes, runs, source
+from tests.reference import command_line, logs, outcomes, runs, source, values
 from tests.reference.command_line import Job, Told
 from tests.reference.modules import Order
 from tests.reference.outcomes import Answer
@@ -100,7 +100,8 @@ def options(rng: random.Random, command: str, text: str) -> Iterator[list[str]]:
     """Some options of a command, mostly such as could be meant with this text."""
     if command != "compile" and text.endswith(".json") != (rng.random() < 0.1):
         yield ["--module"]
-    if command == "explain" and rng.random() < 0.5 or rng.random() < 0.02:
+    tells_json = command in ("check", "explain", "run", "outcomes", "events")
+    if tells_json and rng.random() < (0.5 if command == "explain" else 0.3) or rng.random() < 0.02:
         yield ["--json"]
     if command == "run" and rng.random() < 0.4:
         order = rng.choice(["random", "random", "greedy", *ORDERS[:6]] if rng.random() < 0.8 else ORDERS)
@@ -238,6 +239,8 @@ class Caller:
         """What the program answers, and what is wrong with it."""
         (right, left), (got, there) = self.told(words, given), self.called(words, given)
         job = job_of(words)
+        if job and "json" in job.flags and job.command in ("run", "outcomes"):
+            right, got = in_lines(right), in_lines(got)
         if job and job.command == "outcomes" and {right.status, got.status} <= {outcomes.WHOLE, outcomes.NOT_WHOLE}:
             return got, "; ".join(outcome_faults(job, given, got, left, there)) or None
         if job and "outcome" in job.values and {right.status, got.status} <= {outcomes.WHOLE, outcomes.NOT_WHOLE}:
@@ -307,6 +310,11 @@ def are_others_same(job: Job, left: Folder, there: Folder) -> bool:
         {name: text for name, text in files.items() if name not in (log_path(job), LINK)} for files in (left, there)
     ]
     return kept[0] == kept[1]
+
+
+def in_lines(answer: Told) -> Told:
+    """What would be told without `--json`."""
+    return Told(answer.status, values.lines(answer.out) if answer.out else "", answer.err)
 
 
 def in_any_order(answer: Told) -> Told:

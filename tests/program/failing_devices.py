@@ -82,7 +82,8 @@ CALLS = [
         "check", "explain", "explain --json", "compile", "listing", "run", "run --log LOG",
         "run --order last --log LOG", "run --workers 1 --log LOG",
         "run --order greedy --log LOG", "run --order random --runs 4",
-        "races", "outcomes", "outcomes --sets", "outcomes --log LOG", "outcomes --pick 2 --log LOG")),
+        "races", "outcomes", "outcomes --sets", "outcomes --log LOG", "outcomes --pick 2 --log LOG",
+        "check --json", "run --json", "run --json --log LOG", "outcomes --json", "outcomes --json --log LOG")),
     *(
         Call(f"{command} --module -", MODULE)
         for command in ("check", "explain", "listing", "run --log LOG", "outcomes --log LOG")
@@ -90,7 +91,8 @@ CALLS = [
     *(
         Call(f"{command} - SECOND", IN_STEP, LOG)
         for command in (
-            "replay", "chart", "events", "lanes", "lanes --svg", "page", "where", "where --at 2", "races", "span")
+            "replay", "chart", "events", "events --json", "lanes", "lanes --svg", "page", "where", "where --at 2",
+            "races", "span")
     ),
     *(Call(f"{command} --module - SECOND", MODULE, LOG) for command in ("replay", "chart")),
     Call("where --at 99 - SECOND", IN_STEP, LOG, status=6),
@@ -101,6 +103,8 @@ CALLS = [
     Call("outcomes --expect SECOND -", IN_STEP, OUTCOMES),
     Call("outcomes --expect SECOND -", IN_STEP, b"outcome 1 prints 7\n", status=7),
     Call("outcomes --expect SECOND -", IN_STEP, BEGINNING, status=3),
+    Call("outcomes --json --expect SECOND -", IN_STEP, OUTCOMES),
+    Call("outcomes --json --expect SECOND -", IN_STEP, b"outcome 1 prints 7\n", status=7),
     Call("lanes --svg - SECOND", MANY, MANY_LOG, status=6),
     Call("page - SECOND", MANY, MANY_LOG, status=6),
     Call("page --outcome 2 -", IN_STEP),

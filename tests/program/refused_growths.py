@@ -236,6 +236,7 @@ def each_row(calls: Calls) -> None:
         calls.ask(
             f"{row.name}, explained as JSON", ["explain", "--json", *given(row)[:row.suffix == ".json"], "-"], text
         )
+        calls.ask(f"{row.name}, run as JSON", ["run", "--json", *given(row), "-"], text)
         calls.ask(f"{row.name}, listed", ["listing", *given(row)[:row.suffix == ".json"], "-"], text)
         calls.ask(f"{row.name}, checked", ["check", *given(row)[:row.suffix == ".json"], "-"], text)
         calls.need(row.name, ["run", *given(row), "-"], text, 1 if err else 0, out, err)
@@ -253,6 +254,9 @@ def each_row(calls: Calls) -> None:
             calls.ask(f"{row.name}, compiled", ["compile", "-"], text)
         if not err:
             calls.ask(f"{row.name}, some outcomes", ["outcomes", *given(row), "--limit", "3", "-"], text)
+            calls.ask(
+                f"{row.name}, some outcomes as JSON", ["outcomes", "--json", *given(row), "--limit", "3", "-"], text
+            )
 
 
 def each_text(calls: Calls) -> None:
@@ -283,7 +287,8 @@ def each_log(calls: Calls, folder: str) -> None:
         if charted.status:
             raise Wrong(f"{name}, chart: {charted}")
         for command in (
-            "events", "lanes", "lanes --svg", "page", "where", "where --at 2", "where --at 999999", "races", "span"
+            "events", "events --json", "lanes", "lanes --svg", "page", "where", "where --at 2", "where --at 999999",
+            "races", "span"
         ):  # fmt: skip
             told = calls.ask(f"{name}, {command}", [*command.split(), *words, "-", str(kept)], text)
             if told.status not in ((0, 6) if command in ("races", "span") else (6,) if "999999" in command else (0,)):
@@ -308,7 +313,7 @@ def each_log(calls: Calls, folder: str) -> None:
             f"{command}, a log for FILE", [command, "-", str(LOGS / "waits.log")], waits, 1, b"",
             note + b"x10clock: F2 Syntax at 0\n"
         )
-    for command in ("events", "lanes", "lanes --svg", "page"):
+    for command in ("events", "events --json", "lanes", "lanes --svg", "page"):
         told = calls.ask(f"{command}, stops", [*command.split(), "-", str(LOGS / "stops.log")], text)
         if told.status != 6 or b"the log ends after step 11, before the run does" not in told.out:
             raise Wrong(f"{command}, stops: {told}")
@@ -386,6 +391,7 @@ def each_list(calls: Calls, folder: str) -> None:
         kept = pathlib.Path(folder) / f"{name}.list"
         kept.write_text(lines)
         calls.need(f"a list of {name}", ["outcomes", "--expect", str(kept), "-"], row.read_bytes(), status, out, err)
+        calls.ask(f"a list of {name}, as JSON", ["outcomes", "--json", "--expect", str(kept), "-"], row.read_bytes())
         calls.ask(
             f"a list of {name}, without order",
             ["outcomes", "--sets", "--limit", "4", "--expect", str(kept), "-"],
@@ -460,6 +466,11 @@ def each_mistake(calls: Calls) -> None:
                 "processors without rounds",
                 ["run", "--order", "last", "--processors", "2", "-"],
                 "x10clock: --processors goes with --order greedy",
+            ),
+            (
+                "JSON of a run by hand",
+                ["run", "--json", "--order", "ask", "list"],
+                "x10clock: --json goes without --order ask and --runs",
             ),
             (
                 "a list beside a log",

@@ -16,7 +16,7 @@ from dataclasses import dataclass, field
 from typing import BinaryIO
 
 from tests.harness import TOP
-from tests.reference import ask, explain, explain_json, listing, logs, modules, outcomes, runs, source, tally
+from tests.reference import ask, explain, explain_json, listing, logs, modules, outcomes, runs, source, tally, values
 from tests.reference.events import Program
 from tests.reference.modules import Accepted, Arguments, Refused, Way
 from tests.prover import rule_pages
@@ -39,6 +39,7 @@ PROCESSORS_ALONE = "x10clock: --processors goes with --order greedy"
 RUNS_MISPLACED = "x10clock: --runs goes with --order random, and not with --log"
 LIST_MISPLACED = "x10clock: --expect goes without --log and --pick"
 PICK_ALONE = "x10clock: --pick goes with --log"
+JSON_MISPLACED = "x10clock: --json goes without --order ask and --runs"
 PAGE_UNCLEAR = "x10clock: page takes either LOG or --outcome, and --limit goes with --outcome"
 OVER_FILE = "x10clock: --log would write over FILE"
 OVER_ANSWERS = "x10clock: --log would write over FILE or standard input"
@@ -113,16 +114,16 @@ NUMBERS = {"STEP": Option("<STEP>", COUNTS)}
 MAYBE = "?"
 # For each command its options, those that take no value, and its places.
 COMMANDS: dict[str, tuple[set[str], set[str], list[str]]] = {
-    "check": (set(), {"module"}, ["FILE"]),
+    "check": (set(), {"module", "json"}, ["FILE"]),
     "explain": (set(), {"module", "json"}, ["FILE"]),
     "compile": (set(), set(), ["FILE"]),
     "listing": (set(), {"module"}, ["FILE"]),
-    "run": ({"order", "seed", "runs", "processors", "workers", "log", "arg"}, {"module"}, ["FILE"]),
-    "outcomes": ({"limit", "pick", "log", "expect", "arg"}, {"module", "sets"}, ["FILE"]),
+    "run": ({"order", "seed", "runs", "processors", "workers", "log", "arg"}, {"module", "json"}, ["FILE"]),
+    "outcomes": ({"limit", "pick", "log", "expect", "arg"}, {"module", "sets", "json"}, ["FILE"]),
     "races": ({"arg"}, {"module"}, ["FILE", "LOG" + MAYBE]),
     "replay": ({"arg"}, {"module"}, ["FILE", "LOG"]),
     "chart": ({"arg"}, {"module"}, ["FILE", "LOG"]),
-    "events": ({"arg"}, {"module"}, ["FILE", "LOG"]),
+    "events": ({"arg"}, {"module", "json"}, ["FILE", "LOG"]),
     "lanes": ({"from", "to", "arg"}, {"module", "svg"}, ["FILE", "LOG"]),
     "page": ({"outcome", "limit", "from", "to", "arg"}, {"module"}, ["FILE", "LOG" + MAYBE]),
     "where": ({"at", "arg"}, {"module"}, ["FILE", "LOG"]),
@@ -317,6 +318,10 @@ def read(words: list[str]) -> Job:
             raise Mistake(PICK_ALONE)
         if first == "page" and is_unclear(job):
             raise Mistake(PAGE_UNCLEAR)
+        if "json" in job.flags and (job.values.get("order") == ASK or "runs" in job.values):
+            raise Mistake(JSON_MISPLACED)
+        if first == "check" and "json" in job.flags:
+            job.command = "explain"
         return job
     if first == "help":
         raise helped(rest)
@@ -371,12 +376,13 @@ class Told:
 def opened(job: Job, path: str, mode: str) -> BinaryIO | None:
     """The file, or None for a folder, which can be opened and not be read, where what is told of that is fixed."""
     is_folder = mode == "rb" and path and os.path.isdir(path)
-    if is_folder and job.command in FIXED:
+    is_fixed = job.command in FIXED and "json" not in job.flags
+    if is_folder and is_fixed:
         return None
     try:
         return open(path, mode)
     except OSError as fault:
-        raise Device("" if job.command in FIXED else unopened(path, fault.errno)) from None
+        raise Device("" if is_fixed else unopened(path, fault.errno)) from None
 
 
 def unopened(path: str, number: int | None) -> str:
@@ -445,7 +451,8 @@ def ran(job: Job, judged: Accepted, log: BinaryIO | None) -> Told:
         raise TooLong
     if log and "workers" not in job.values:
         log.write(logs.text_of(logs.log_of(judged.module, way, given)))
-    return Told(0, modules.run(judged.module, way, given).text())
+    run = modules.run(judged.module, way, given)
+    return Told(0, values.run(run) if "json" in job.flags else run.text())
 
 
 def asked(job: Job, data: bytes, judged: Accepted, answers: bytes, log: BinaryIO | None) -> Told:
@@ -489,7 +496,7 @@ def searched(job: Job, judged: Accepted, log: BinaryIO | None) -> Told:
     answer = outcomes.answer(walk, asked_outcomes(job))
     if log:
         log.write(answer.log)
-    return Told(answer.status, answer.out)
+    return Told(answer.status, values.outcomes(answer.out) if "json" in job.flags else answer.out)
 
 
 def no_outcome(pick: int, out: str) -> str:
@@ -516,7 +523,7 @@ def held(job: Job, judged: Accepted, list_in: BinaryIO | None) -> Told:
     if walk is None:
         raise TooLong
     answer = outcomes.held(walk, asked_outcomes(job), told)
-    return Told(answer.status, answer.out)
+    return Told(answer.status, values.held(answer.out, answer.status) if "json" in job.flags else answer.out)
 
 
 def first_log(judged: Accepted, arguments: Arguments) -> bytes:
@@ -567,6 +574,7 @@ def answered(job: Job, data: bytes, given: BinaryIO, log_in: BinaryIO | None, lo
         "svg" in job.flags,
         int(job.values["at"]) if "at" in job.values else None,
         int(job.values.get("STEP", "1")),
+        "json" in job.flags,
     )
     return Told(status, out, err.removesuffix("\n"))
 

@@ -27,6 +27,13 @@ class Naming:
         self.clocks = self.clock_names()
         self.writers = self.last_writers()
 
+    @classmethod
+    def of_module(cls, played: Played) -> Naming:
+        """Of a run of a module, which has no names: which clock or shared number a step was about."""
+        found = cls.__new__(cls)
+        found.played, found.shared, found.clocks = played, [], []
+        return found
+
     def instr(self, taken: Taken) -> Instr | None:
         """The instruction that a step carried out; a pass has none."""
         if taken.before.activities[taken.who].status is not Status.RUNNING:

@@ -13,7 +13,7 @@ import pathlib
 import sys
 from functools import partial
 
-from tests.reference import lanes, logs, modules, naming, page, picture, races, source, span, where, why
+from tests.reference import lanes, logs, modules, naming, page, picture, races, source, span, values, where, why
 from tests.reference.events import Program
 from tests.reference.lanes import WHOLE
 from tests.reference.logs import Answer, Played, Teller
@@ -48,7 +48,12 @@ def with_ending(told: str | tuple[str, bool], played: Played) -> tuple[str, bool
 
 
 def teller(
-    command: str, program: Program, window: range = WHOLE, is_picture: bool = False, step: int = 1
+    command: str,
+    program: Program,
+    window: range = WHOLE,
+    is_picture: bool = False,
+    step: int = 1,
+    is_json: bool = False,
 ) -> Teller:
     """What a command prints of a run of this program, whose bytes are looked at where there is one."""
     if command in ("lanes", "page"):
@@ -56,6 +61,8 @@ def teller(
             return lambda played: with_ending(lanes.drawing(program, played, window), played)
         draw = page.drawing if command == "page" else picture.drawing
         return lambda played: draw(program, played, window)
+    if command == "events" and is_json:
+        return lambda played: values.steps(program, played)
     if command == "events":
         return lambda played: with_ending(naming.text(program, played), played)
     of_program = {"races": races_of, "span": span_of, "why": partial(why.why, step=step)}
@@ -81,6 +88,7 @@ def answer(
     is_picture: bool = False,
     at: int | None = None,
     step: int = 1,
+    is_json: bool = False,
 ) -> Answer:
     """What a command answers of a log and this program."""
     if isinstance(judged, Refused):
@@ -88,7 +96,7 @@ def answer(
     if command == WHERE:
         return where.answer(program, judged, log, arguments, at)
     played_by = logs.carry_out if command in SO_FAR else logs.replay
-    return logs.answer(judged, log, teller(command, program, window, is_picture, step), arguments, played_by)
+    return logs.answer(judged, log, teller(command, program, window, is_picture, step, is_json), arguments, played_by)
 
 
 def main(words: list[str]) -> int:
@@ -106,6 +114,7 @@ def main(words: list[str]) -> int:
         arguments,
         is_picture="--svg" in flags,
         step=steps[-1] if steps else 1,
+        is_json="--json" in flags,
     )
     sys.stdout.write(out)
     sys.stderr.write(err)

@@ -539,7 +539,8 @@ fn is_left_open(command: &Command<'_>) -> bool
         | Command::Why { .. }
         | Command::Races { .. }
         | Command::Outcomes { .. }
-        | Command::Expected { .. } => true,
+        | Command::Expected { .. }
+        | Command::Json(_) => true,
     }
 }
 

@@ -124,6 +124,7 @@ words_weaker words.ProcessorsAlone P Q R S a b h = b _ _ h
 words_weaker words.MisplacedList P Q R S a b h = b _ _ h
 words_weaker words.PickAlone P Q R S a b h = b _ _ h
 words_weaker words.UnclearPage P Q R S a b h = b _ _ h
+words_weaker words.MisplacedJson P Q R S a b h = b _ _ h
 words_weaker words.OutOfMemory P Q R S a b h = b _ _ h
 
 -- the reply where words were told as no job

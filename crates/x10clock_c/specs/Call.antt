@@ -4,7 +4,7 @@ use Rattle.std.specs.Prelude.{Option, None, Some, IsUtf8, is_some, string_bytes}
 use Rattle.xk_cli.specs.Status.{status_device, status_done, status_memory, status_words}
 use Rattle.xk_cli.specs.CommandAnswers.{explanation}
 use Rattle.xk_cli.specs.CommandLine.{IsRefused, WithOrders, asked_value, blurs_in, crowds_in, excludes_in, faults_in}
-use Rattle.xk_cli.specs.CommandLine.{idles_in, job_of, misplaces_in, picks_in, strays_in}
+use Rattle.xk_cli.specs.CommandLine.{idles_in, job_of, misplaces_in, mutes_in, picks_in, strays_in}
 use Rattle.xk_cli.specs.declared.job.Form.{Form}
 use Rattle.xk_cli.specs.declared.job.Form.TheVariants as form
 use Rattle.xk_cli.specs.declared.job.HandRun.{HandRun}
@@ -72,7 +72,7 @@ AskFor given P = WithOrders (λ names. faults_in names given ≡ [])
 abbrev pub AreNoJob : List (List ℕ) → WordsFault → Type 0
 AreNoJob given f = WithOrders (λ names. IsRefused (faults_in names given) (job_of names given) (excludes_in names given)
     (strays_in names given) (misplaces_in names given) (crowds_in names given) (picks_in names given) (blurs_in names given)
-    (idles_in names given) f)
+    (idles_in names given) (mutes_in names given) f)
 
 -- that reason is told: help on standard output, and all else on standard error
 abbrev pub AnswersFault : WordsFault → Reply → Type 0

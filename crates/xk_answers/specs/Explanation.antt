@@ -14,7 +14,7 @@ use Rattle.xk_explain.specs.Messages.{module_rule}
 use Rattle.xk_explain.specs.Explanations.{front_explanation, module_explanation, refusal_explanation}
 use Rattle.xk_explain.specs.Notes.{NoteValue, note_lines, plain_lines}
 use Rattle.xk_explain.specs.SourceExplanations.{source_explanation}
-use Rattle.xk_explain_json.specs.Objects.{json_line, text_of}
+use Rattle.xk_json.specs.Objects.{json_line, text_of}
 use Rattle.xk_explain_json.specs.Explanations.{accepted_value, front_value, module_value, refusal_value, source_value}
 use Rattle.xk_explain_faults.specs.Faults.{faults_explanation, faults_value}
 use Rattle.xk_explain_expected.specs.Notes.{expected_notes}
@@ -25,6 +25,7 @@ use Rattle.xk_types.specs.Schedule.{all_ended}
 use Rattle.xk_show_events.specs.Endings.{ending_words}
 use Rattle.xk_show_events.specs.Events.{PlacesValue, events_text, no_text}
 use Rattle.xk_show_names.specs.Events.{named_events_text}
+use Rattle.xk_show_json.specs.Events.{module_event_values, source_event_values}
 use Rattle.xk_show_lanes.specs.Lanes.{are_lanes_whole, lanes_text}
 use Rattle.xk_show_lanes.specs.NamedLanes.{named_lanes_text}
 use Rattle.xk_show_lanes.specs.declared.window.Window.{Window}
@@ -166,6 +167,14 @@ events_told text m args log shared origins = all_told (events_of text shared m a
 
 abbrev pub events_so_far : List ℕ → ModuleValue → List ℤ → List Entry → World → List (List ℕ) → Option (List UnitOrigins) → Tale
 events_so_far text m args log last shared origins = told_so_far last (events_told text m args log shared origins)
+
+-- the same as JSON values, which say themselves where not all have ended
+abbrev pub event_values_of : List ℕ → List (List ℕ) → ModuleValue → List ℤ → List Entry → World → Option (List UnitOrigins) → List ℕ
+event_values_of text shared m args log last None = module_event_values m args log last
+event_values_of text shared m args log last (Some origins) = source_event_values (places_in text (Some origins)) shared m args log last
+
+abbrev pub event_values_so_far : List ℕ → ModuleValue → List ℤ → List Entry → World → List (List ℕ) → Option (List UnitOrigins) → Tale
+event_values_so_far text m args log last shared origins = (event_values_of text shared m args log last origins, all_ended last)
 
 -- the same, with a lane for each activity, of the steps in this window; the run ends in this world
 abbrev pub lanes_of : List ℕ → List (List ℕ) → Window → ModuleValue → List Entry → World → Option (List UnitOrigins) → List ℕ

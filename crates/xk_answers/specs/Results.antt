@@ -1,5 +1,5 @@
 -- What a job on a module comes to, or tells of it: the numbers and the log of a run, what a module can print, pictures of a run. This project's own.
-use Rattle.std.specs.Prelude.{◌≡◌, ℕ, ⊤, ℤ, ◌-◌, ◌&&◌, not, Bool, true, false, List, ◌++◌, length, take, slice_get, Option, Some, None, is_some}
+use Rattle.std.specs.Prelude.{◌≡◌, ℕ, ⊤, ℤ, ◌-◌, ◌&&◌, not, Bool, true, false, List, ◌++◌, length, map, take, slice_get, Option, Some, None, is_some}
 use Rattle.std.specs.Prelude.{option_map, unwrap_or, string_bytes, codes, decimal, if◌then◌else◌}
 use Rattle.serde_json.specs.Written.{compact_text}
 use Rattle.xk_types.specs.Code.{ModuleValue}
@@ -32,18 +32,30 @@ use Rattle.xk_outcomes.specs.Text.{completeness, outcomes_text}
 use Rattle.xk_outcomes.specs.declared.all_outcomes.Limit.{Limit}
 use Rattle.xk_outcomes.specs.Limits.{GoesFar, limit_of}
 use Rattle.xk_outcomes.specs.Expected.{AreExpected}
+use Rattle.xk_outcomes.specs.declared.holding.Verdict.{Verdict}
+use Rattle.xk_outcomes.specs.declared.holding.Verdict.TheVariants as verdict
+use Rattle.xk_json.specs.Objects.{json_line}
+use Rattle.xk_show_json.specs.Outcomes.{held_value, outcomes_value}
+use Rattle.xk_show_json.specs.Runs.{run_value}
 use Rattle.xk_random.specs.Runs.{IsTallyText}
 use Rattle.xk_replay.specs.Replay.{IsLegal, IsStoppedAt, IsUnfinished}
-use Rattle.xk_answers.specs.OrderedRun.{IsGreedyRun, IsLoggedGreedyRun, IsLoggedRun, IsOrderedRun, IsReplay, IsSomeRun}
+use Rattle.xk_answers.specs.OrderedRun.{IsFinished, IsGreedyRun, IsLoggedGreedyRun, IsLoggedRun, IsOrderedRun, IsReplay, IsSomeRun}
 use Rattle.xk_program.specs.Origins.{IsByNames, IsByOrigins}
 use Rattle.xk_hints.specs.Words.{HintValue}
-use Rattle.xk_answers.specs.Explanation.{HaveHints, IsProgramListed, Tale, acceptance_told, all_told, events_so_far, image_so_far}
+use Rattle.xk_answers.specs.Explanation.{HaveHints, IsProgramListed, Tale, acceptance_told, all_told, event_values_so_far, events_so_far, image_so_far}
 use Rattle.xk_answers.specs.Explanation.{lanes_so_far, page_so_far, races_told, span_told, where_told, why_told}
+
+-- what is told as one JSON value: a run in an order, by rounds, or by workers, whose log is kept or not; outcomes, of which so many are looked
+-- for, and of one the log is kept or not; or what outcomes say of a list
+pub data Shown : Type 0 where
+  RunShown : Way → Bool → Shown
+  OutcomesShown : Bool → Option ℕ → ℕ → Bool → Shown
+  ExpectedShown : Bool → Option ℕ → Shown
 
 -- what is to be done with a module; what is explained is a JSON value or not; a run is in an order, by rounds, or by workers, and has its log kept or not; some
 -- picture is drawn of one; it is told how things stand behind a log, or behind so many of its steps, which races the run in the order `first` has, or how often so many runs by chance,
 -- from this seed on, print what; of outcomes, as lists of numbers or without their order, so many are looked for, and of one, counted from 1, the log
--- is kept or not, or they are held against a list, or of one the page of its run is made
+-- is kept or not, or they are held against a list, or of one the page of its run is made; or some of this is told as one JSON value
 pub data Doing : Type 0 where
   Check : Doing
   Explain : Bool → Doing
@@ -58,6 +70,7 @@ pub data Doing : Type 0 where
   Outcomes : Bool → Option ℕ → ℕ → Bool → Doing
   Expected : Bool → Option ℕ → Doing
   OutcomePage : Window → Option ℕ → ℕ → Doing
+  Json : Shown → Doing
 
 -- a run is in the order `first` where neither an order nor workers were given
 abbrev pub way_given : Option Drive → Way
@@ -133,9 +146,61 @@ abbrev pub IsHeldOut : ModuleValue → List ℤ → Bool → Limit → List ℕ 
 IsHeldOut m args sets limit bytes (done.Held text found) = AreArguments m args × AreExpected m args sets limit (list_in bytes) text.items found
 IsHeldOut m args sets limit bytes _ = ⊥
 
+-- ---- told as one JSON value
+
+-- what each outcome prints
+abbrev pub lists_of : List Outcome → List (List ℤ)
+lists_of list = map (λ x. x.numbers.items) list
+
+-- what outcomes say of a list, in a word
+abbrev pub verdict_name : Verdict → List ℕ
+verdict_name verdict.Complete = codes "complete"
+verdict_name verdict.Undecided = codes "undecided"
+verdict_name verdict.Refuted = codes "refuted"
+
+-- the run came to its end as it is to be driven, and its log is kept or not
+pub record IsRunShown (way : Way) (keeps : Bool) (m : ModuleValue) (args : List ℤ) (text : List ℕ) (whole : Bool) (log : Option (List Entry)) : Type 0 where
+  pub numbers : List ℤ
+  pub steps : ℕ
+  pub rounds : Option ℕ
+  pub run : IsFinished way keeps m args numbers steps rounds log
+  pub text_is : text ≡ json_line (run_value numbers steps rounds)
+  pub whole_is : whole ≡ true
+
+-- what a module can print, as it is found where it is told as lines
+pub record AreOutcomesShown (m : ModuleValue) (args : List ℤ) (sets : Bool) (limit : Limit) (pick : ℕ) (keeps : Bool) (text : List ℕ) (whole : Bool) (log : Option (List Entry)) : Type 0 where
+  pub lines : List ℕ
+  pub found : AreOutcomes m args sets limit pick keeps lines whole log
+  pub text_is : text ≡ json_line (outcomes_value (lists_of found.list) found.complete)
+
+-- what that says of the list in these bytes, as it is told as a line
+pub record AreExpectedShown (m : ModuleValue) (args : List ℤ) (sets : Bool) (limit : Limit) (bytes text : List ℕ) (found : Verdict) : Type 0 where
+  pub line : List ℕ
+  pub held : AreExpected m args sets limit (list_in bytes) line found
+  pub text_is : text ≡ json_line (held_value line (verdict_name found))
+
+-- that is what it comes to
+abbrev pub IsRunTold : Way → Bool → ModuleValue → List ℤ → Done → Type 0
+IsRunTold way keeps m args (done.Outcomes text whole log) = IsRunShown way keeps m args text.items whole (option_map (λ es. es.items) log)
+IsRunTold way keeps m args _ = ⊥
+
+abbrev pub IsFoundTold : ModuleValue → List ℤ → Bool → Limit → ℕ → Bool → Done → Type 0
+IsFoundTold m args sets limit pick keeps (done.Outcomes text whole log) =
+    AreOutcomesShown m args sets limit pick keeps text.items whole (option_map (λ es. es.items) log)
+IsFoundTold m args sets limit pick keeps _ = ⊥
+
+abbrev pub IsHeldTold : ModuleValue → List ℤ → Bool → Limit → List ℕ → Done → Type 0
+IsHeldTold m args sets limit bytes (done.Held text found) = AreArguments m args × AreExpectedShown m args sets limit bytes text.items found
+IsHeldTold m args sets limit bytes _ = ⊥
+
+abbrev pub IsShown : Shown → ModuleValue → List ℤ → List ℕ → Done → Type 0
+IsShown (RunShown way keeps) m args logged d = IsRunTold way keeps m args d
+IsShown (OutcomesShown sets limit pick keeps) m args logged d = IsFoundTold m args sets (limit_of limit (activities_bound m)) pick keeps d
+IsShown (ExpectedShown sets limit) m args logged d = IsHeldTold m args sets (limit_of limit (activities_bound m)) logged d
+
 -- What is to be done with a module, whose main is given these arguments where it is run, and with the bytes of a log or a list where one is read, comes
 -- to this: for `compile` the text of the module; where the module is accepted, for `check` its bounds, for `run` its run in the order, or
--- by rounds, or, by workers, some run of it, for `replay` the run that the log has, for `outcomes` what it can print.
+-- by rounds, or, by workers, some run of it, for `replay` the run that the log has, for `outcomes` what it can print; some of it as a JSON value.
 abbrev pub ComesTo : Doing → ModuleValue → List ℤ → List ℕ → Done → Type 0
 ComesTo Compile m args logged (done.Compiled text) = string_bytes text ≡ compact_text (module_value m)
 ComesTo Check m args logged (done.Accepted steps activities clocks) =
@@ -153,14 +218,16 @@ ComesTo (Run (By n) true) m args logged (done.Ended numbers steps None (Some log
 ComesTo Replay m args logged (done.Ended numbers steps None None) = IsAccepted m × Replays m args logged numbers.items steps
 ComesTo (Outcomes sets limit pick keeps) m args logged d = IsAccepted m × IsFoundOut m args sets (limit_of limit (activities_bound m)) pick keeps d
 ComesTo (Expected sets limit) m args logged d = IsAccepted m × IsHeldOut m args sets (limit_of limit (activities_bound m)) logged d
+ComesTo (Json s) m args logged d = IsAccepted m × IsShown s m args logged d
 ComesTo _ m args logged _ = ⊥
 
 -- What is told of a run of the module that the bytes give, by their lines where they are a source text: its chart; by their names, too,
--- what others see of its steps, the same with a lane for each activity, also as an image or as a page, its races, and what a step
+-- what others see of its steps, also as JSON values, the same with a lane for each activity, also as an image or as a page, its races, and what a step
 -- rests on; or how long it had to take.
 abbrev pub IsPicture : Picture → Form → List ℕ → List ℕ → ModuleValue → List ℤ → List Entry → World → Tale → Type 0
 IsPicture picture.Chart kind file bytes m args es last told = told ≡ all_told (chart_text m args es)
 IsPicture picture.Events kind file bytes m args es last told = IsByNames kind bytes (events_so_far bytes m args es last) told
+IsPicture picture.EventValues kind file bytes m args es last told = IsByNames kind bytes (event_values_so_far bytes m args es last) told
 IsPicture (picture.Lanes window) kind file bytes m args es last told = IsByNames kind bytes (lanes_so_far bytes window m es last) told
 IsPicture (picture.Image window) kind file bytes m args es last told = IsByNames kind bytes (image_so_far bytes window m es last) told
 IsPicture (picture.Page window) kind file bytes m args es last told = IsByNames kind bytes (page_so_far file bytes window m es last) told
@@ -176,6 +243,7 @@ shows_origins _ = true
 -- whether it is one of whole runs alone; others are drawn of a run, too, in which not all have ended
 abbrev pub is_of_whole : Picture → Bool
 is_of_whole picture.Events = false
+is_of_whole picture.EventValues = false
 is_of_whole (picture.Lanes window) = false
 is_of_whole (picture.Image window) = false
 is_of_whole (picture.Page window) = false
@@ -186,6 +254,7 @@ abbrev pub picture_told : Picture → List ℕ → List ℕ → List (List ℕ) 
     → Option (List UnitOrigins) → Tale
 picture_told picture.Chart file bytes shared m args es last origins = all_told (chart_text m args es)
 picture_told picture.Events file bytes shared m args es last origins = events_so_far bytes m args es last shared origins
+picture_told picture.EventValues file bytes shared m args es last origins = event_values_so_far bytes m args es last shared origins
 picture_told (picture.Lanes window) file bytes shared m args es last origins = lanes_so_far bytes window m es last shared origins
 picture_told (picture.Image window) file bytes shared m args es last origins = image_so_far bytes window m es last shared origins
 picture_told (picture.Page window) file bytes shared m args es last origins = page_so_far file bytes window m es last shared origins

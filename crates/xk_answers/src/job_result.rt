@@ -46,12 +46,12 @@ pub enum Done {
         /// Who took a step after whom, where that is to be kept.
         log: Option<Vec<Entry>>,
     },
-    /// `outcomes`: this is told of what the module can print.
+    /// `outcomes`: this is told of what the module can print; `run --json`: of what a run printed.
     Outcomes {
         text: Vec<u8>,
         /// Whether that is all, and the log that is to be kept is there.
         whole: bool,
-        /// The log of one of them, where that is to be kept.
+        /// The log of one of them, or of the run, where that is to be kept.
         log: Option<Vec<Entry>>,
     },
     /// `outcomes --expect`: this is told of what the module can print, held against a list.

@@ -2,6 +2,7 @@
 #![tactic(auto)]
 
 mod beginning;
+mod event_values;
 mod explanation;
 mod first_races;
 mod job_result;
@@ -21,7 +22,7 @@ pub use explanation::{Refused, listing, unsaid};
 pub use first_races::raced;
 pub use job_result::Done;
 pub use outcome_page::paged;
-pub use outcome_search::{held, searched};
+pub use outcome_search::{LONGEST_LIST, held, kept_log, searched};
 pub use picture::{Picture, drawn, lanes_given, window_given};
 pub use replay::replayed;
 pub use runs::{Finished, run_as};

@@ -20,7 +20,7 @@ use xk_program::{Fault, read_front, runnable};
 use xk_types::{Entry, Module, Source};
 
 /// How many bytes of a list are read at most.
-const LONGEST_LIST: usize = 100_000_000;
+pub const LONGEST_LIST: usize = 100_000_000;
 
 /// What a module can print that is given these arguments, if it is accepted and main takes as many, with the log of one outcome where that is to be
 /// kept.
@@ -120,8 +120,9 @@ fn held_by<L: Source>(
     }
 }
 
-/// The log of the outcome of this number, counted from 1, where it is to be kept and there is such an outcome.
-pub(crate) fn kept_log(
+/// The log of the outcome of this number, counted from 1, where it is to be kept and there is such an outcome. Err where memory was
+/// refused.
+pub fn kept_log(
     alloc: Global,
     keeps_log: bool,
     pick: usize,

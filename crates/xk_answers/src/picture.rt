@@ -12,6 +12,7 @@ ghost use Rattle.xk_program.specs.Origins.{IsFrom};
 ghost use Rattle.xk_answers.specs.Explanation.{events_told, image_told, lanes_told, page_told, races_told, span_told};
 ghost use Rattle.xk_program.specs.Lines.{status_of};
 
+use crate::event_values::event_values_so_far;
 use crate::job_result::Done;
 use crate::reasons::reasons_of;
 use crate::replay::{run_again, run_so_far};
@@ -39,6 +40,8 @@ pub enum Picture {
     Chart,
     /// What others see of its steps.
     Events,
+    /// The same as JSON values.
+    EventValues,
     /// The same, with a lane for each activity, of the steps in a window.
     Lanes(Window),
     /// The same as an image.
@@ -59,7 +62,11 @@ impl Picture {
         ensures { result ≡ is_of_whole self }
     {
         match self {
-            Picture::Events | Picture::Lanes(_) | Picture::Image(_) | Picture::Page(_) => false,
+            Picture::Events
+            | Picture::EventValues
+            | Picture::Lanes(_)
+            | Picture::Image(_)
+            | Picture::Page(_) => false,
             Picture::Chart | Picture::Races | Picture::Span | Picture::Why(_) => true,
         }
     }
@@ -209,6 +216,7 @@ fn whole_told(
         Picture::Span => span_of(alloc, from, ended),
         Picture::Why(step) => reasons_of(alloc, from, ended, step),
         Picture::Events => unreachable!(),
+        Picture::EventValues => unreachable!(),
         Picture::Lanes(_) => unreachable!(),
         Picture::Image(_) => unreachable!(),
         Picture::Page(_) => unreachable!(),
@@ -232,6 +240,7 @@ fn so_far_told(
 {
     match picture {
         Picture::Events => events_so_far(alloc, from, legal),
+        Picture::EventValues => event_values_so_far(alloc, from, legal),
         Picture::Lanes(window) => lanes_so_far(alloc, from, legal, window),
         Picture::Image(window) => image_so_far(alloc, from, legal, window),
         Picture::Page(window) => page_so_far(alloc, file, from, legal, window),

@@ -2,11 +2,18 @@
 use Rattle.std.specs.Prelude.{Bool, true, false, Option, Some, None}
 use Rattle.xk_cli.specs.declared.job.Command.{Command}
 use Rattle.xk_cli.specs.declared.job.Command.TheVariants as command
+use Rattle.xk_cli.specs.declared.job.Values.{Values}
+use Rattle.xk_cli.specs.declared.job.Values.TheVariants as values
 
 -- of `explain`, whether it is as a JSON value
 abbrev pub explanation : Command → Option Bool
 explanation (command.Explain json) = Some json
 explanation _ = None
+
+-- whether values have them
+abbrev pub have_places : Values → Bool
+have_places (values.Events log) = true
+have_places _ = false
 
 -- whether what is printed has the lines of a source text
 abbrev pub shows_origins : Command → Bool
@@ -20,4 +27,5 @@ shows_origins (command.Where log at) = true
 shows_origins (command.Span log) = true
 shows_origins (command.Why log step) = true
 shows_origins (command.Races path) = true
+shows_origins (command.Json v) = have_places v
 shows_origins _ = false

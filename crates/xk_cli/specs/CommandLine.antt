@@ -21,6 +21,8 @@ use Rattle.xk_cli.specs.declared.job.Drive.{Drive}
 use Rattle.xk_cli.specs.declared.job.Drive.TheVariants as drive
 use Rattle.xk_cli.specs.declared.job.Form.{Form}
 use Rattle.xk_cli.specs.declared.job.Form.TheVariants as form
+use Rattle.xk_cli.specs.declared.job.Values.{Values}
+use Rattle.xk_cli.specs.declared.job.Values.TheVariants as values
 use Rattle.xk_cli.specs.declared.job.Order.{Order}
 use Rattle.xk_cli.specs.declared.job.Order.TheVariants as order
 use Rattle.xk_cli.specs.declared.job.Request.{Request}
@@ -51,6 +53,10 @@ flag name = record (new_rule name) { long = Some name; action = Some action.SetT
 -- `--module`
 abbrev pub module_flag : Rule
 module_flag = flag (codes "module")
+
+-- `--json`
+abbrev pub json_flag : Rule
+json_flag = flag (codes "json")
 
 -- LOG, which has to be there
 abbrev pub log_place : Rule
@@ -124,13 +130,13 @@ with_rules a (r ∷ rs) = with_rules (with_rule a r) rs
 abbrev pub on_file : Text → List Rule → App
 on_file name further = with_rules (new_app name) (place (codes "FILE") ∷ further)
 
--- says whether a program is accepted
+-- says whether a program is accepted, maybe as a JSON value
 abbrev pub check_line : App
-check_line = on_file (codes "check") (module_flag ∷ [])
+check_line = on_file (codes "check") (module_flag ∷ json_flag ∷ [])
 
 -- explains, maybe as a JSON value
 abbrev pub explain_line : App
-explain_line = on_file (codes "explain") (module_flag ∷ flag (codes "json") ∷ [])
+explain_line = on_file (codes "explain") (module_flag ∷ json_flag ∷ [])
 
 -- compiles a source text
 abbrev pub compile_line : App
@@ -144,13 +150,13 @@ listing_line = on_file (codes "listing") (module_flag ∷ [])
 abbrev pub run_line : Names → App
 run_line names = on_file (codes "run")
     (module_flag ∷ order_option names ∷ seed_option ∷ count_option (codes "RUNS") (codes "runs") ∷ count_option (codes "P") (codes "processors")
-    ∷ workers_option ∷ log_option ∷ arg_option ∷ [])
+    ∷ workers_option ∷ log_option ∷ arg_option ∷ json_flag ∷ [])
 
 -- prints outcomes, so many at most, of which one may be picked, or holds them against a list
 abbrev pub outcomes_line : App
 outcomes_line = on_file (codes "outcomes")
     (module_flag ∷ limit_option ∷ count_option (codes "K") (codes "pick") ∷ log_option ∷ flag (codes "sets")
-    ∷ option (codes "FILE2") (codes "expect") ∷ arg_option ∷ [])
+    ∷ option (codes "FILE2") (codes "expect") ∷ arg_option ∷ json_flag ∷ [])
 
 -- prints races, maybe of the run that a log has
 abbrev pub races_line : App
@@ -159,6 +165,10 @@ races_line = on_file (codes "races") (module_flag ∷ log_choice ∷ arg_option 
 -- a command of this name on the run that a log has
 abbrev pub on_run : Text → App
 on_run name = on_file name (module_flag ∷ log_place ∷ arg_option ∷ [])
+
+-- prints what others see of steps, maybe as JSON values
+abbrev pub events_line : App
+events_line = on_file (codes "events") (module_flag ∷ log_place ∷ arg_option ∷ json_flag ∷ [])
 
 -- draws lanes, maybe from a step on and up to one, maybe as a picture
 abbrev pub lanes_line : App
@@ -191,7 +201,7 @@ with_commands a (c ∷ cs) = with_commands (with_subcommand a c.top) cs
 abbrev pub command_line : Names → App
 command_line names = with_commands program
     (check_line ∷ explain_line ∷ compile_line ∷ listing_line ∷ run_line names ∷ outcomes_line ∷ races_line
-    ∷ on_run (codes "replay") ∷ on_run (codes "chart") ∷ on_run (codes "events") ∷ lanes_line ∷ page_line ∷ where_line
+    ∷ on_run (codes "replay") ∷ on_run (codes "chart") ∷ events_line ∷ lanes_line ∷ page_line ∷ where_line
     ∷ on_run (codes "span") ∷ why_line ∷ [])
 
 -- none of the arguments is one of subcommands too
@@ -241,7 +251,7 @@ way_value (drive.Workers w) = By w.count
 -- log's path, and after a step, where that was given; what a step rests on has both; races have the log's path, where it was given; the
 -- others on a log have its path. Outcomes have how many there are at most, which is picked, and the path of its log; numbers of them
 -- may have no order. Where they are held against a list they have its path, how many there are at most, and whether numbers of them
--- have no order.
+-- have no order. Some of these may be told as JSON.
 pub data Task : Type 0 where
   Check : Task
   Compile : Task
@@ -262,6 +272,14 @@ pub data Task : Type 0 where
   Races : Option Text → Task
   Outcomes : Option ℕ → Option ℕ → Option Text → Bool → Task
   Expected : Text → Option ℕ → Bool → Task
+  Json : Task → Task
+
+-- what is told as JSON, without where its texts lie in memory
+abbrev pub told_value : Values → Task
+told_value (values.Run given log) = Run (option_map way_value given) (option_map (λ s. s.now) log)
+told_value (values.Events log) = Events log.now
+told_value (values.Outcomes limit pick log sets) = Outcomes limit pick (option_map (λ s. s.now) log) sets
+told_value (values.Expected list limit sets) = Expected list.now limit sets
 
 abbrev pub task_value : Command → Task
 task_value command.Check = Check
@@ -282,6 +300,7 @@ task_value (command.Why log step) = Why log.now step
 task_value (command.Races log) = Races (option_map (λ s. s.now) log)
 task_value (command.Outcomes limit pick log sets) = Outcomes limit pick (option_map (λ s. s.now) log) sets
 task_value (command.Expected list limit sets) = Expected list.now limit sets
+task_value (command.Json v) = Json (told_value v)
 
 -- a run by hand, without where the path of its log lies
 abbrev pub hand_task : Option (Bor Text) → Task
@@ -306,6 +325,14 @@ asked_value (request.ByHand run) = record { task = hand_task run.log; form = run
 -- whether the flag of a name was given: its value is `true` then
 abbrev pub is_flagged : Text → List Row → Bool
 is_flagged name given = option_map_or (λ value. bytes_eq value (codes "true")) (first_of name given) false
+
+-- `--json` was given
+abbrev pub is_json : List Row → Bool
+is_json given = is_flagged (codes "json") given
+
+-- a task, told as JSON or not
+abbrev pub told_as : Bool → Task → Task
+told_as json t = if json then Json t else t
 
 -- what stands in FILE
 abbrev pub form_in : List Row → Form
@@ -387,24 +414,33 @@ way_of None n = option_map By n
 abbrev pub drive_in : List Row → Option Way
 drive_in given = if is_greedy given then Some (Greedy (processors_in given)) else way_of (order_in given) (workers_in given)
 
--- so many runs from this seed on, or else one
-abbrev pub runs_of : Option ℕ → ℕ → Option Way → Option Text → Task
-runs_of (Some runs) seed given log = Tally seed runs
-runs_of None seed given log = Run given log
+-- `--json` was given, and an order that a person is asked for, or a number of runs
+abbrev pub is_json_misplaced : List Row → Bool
+is_json_misplaced given = is_json given && (is_asked given || is_some (first_of (codes "RUNS") given))
+
+-- so many runs from this seed on, or else this one
+abbrev pub runs_of : Option ℕ → ℕ → Task → Task
+runs_of (Some runs) seed one = Tally seed runs
+runs_of None seed one = one
+
+-- one run with what was given to it
+abbrev pub one_run : List Row → Task
+one_run given = told_as (is_json given) (Run (drive_in given) (first_of (codes "PATH") given))
 
 -- `run` with what was given to it, where no person is asked for the order
 abbrev pub run_in : List Row → Task
-run_in given = runs_of (count_in (codes "RUNS") given) (seed_in given) (drive_in given) (first_of (codes "PATH") given)
+run_in given = runs_of (count_in (codes "RUNS") given) (seed_in given) (one_run given)
 
 -- `run` with what was given to it
 abbrev pub run_asked : List Row → Task
 run_asked given = if is_asked given then ByHand (first_of (codes "PATH") given) else run_in given
 
 -- An order and workers exclude each other, a seed is for an order by chance, and so is a number of runs, which have no log; processors
--- are for an order by rounds.
+-- are for an order by rounds; and what is told as JSON is one run that nobody is asked for.
 abbrev pub run_by : List Row → Option Task
 run_by given =
-    if is_both given || is_seed_alone given || are_runs_misplaced given || are_processors_alone given then None else Some (run_asked given)
+    if is_both given || is_seed_alone given || are_runs_misplaced given || are_processors_alone given || is_json_misplaced given then None
+    else Some (run_asked given)
 
 -- a list was given, and an outcome to pick or a log's path
 abbrev pub is_list_misplaced : List Row → Bool
@@ -412,9 +448,9 @@ is_list_misplaced given = is_some (first_of (codes "FILE2") given) && (is_some (
 
 -- outcomes that are held against this list, or else told, maybe with a log
 abbrev pub outcomes_of : Option Text → List Row → Task
-outcomes_of (Some list) given = Expected list (count_in (codes "LIMIT") given) (is_flagged (codes "sets") given)
-outcomes_of None given =
-    Outcomes (count_in (codes "LIMIT") given) (count_in (codes "K") given) (first_of (codes "PATH") given) (is_flagged (codes "sets") given)
+outcomes_of (Some list) given = told_as (is_json given) (Expected list (count_in (codes "LIMIT") given) (is_flagged (codes "sets") given))
+outcomes_of None given = told_as (is_json given)
+    (Outcomes (count_in (codes "LIMIT") given) (count_in (codes "K") given) (first_of (codes "PATH") given) (is_flagged (codes "sets") given))
 
 -- `outcomes` with what was given to it
 abbrev pub outcomes_in : List Row → Task
@@ -474,7 +510,7 @@ abbrev pub command_on : Text → Text → List Row → Option Task
 command_on name log given =
     if bytes_eq name (codes "replay") then Some (Replay log)
     else (if bytes_eq name (codes "chart") then Some (Chart log)
-    else (if bytes_eq name (codes "events") then Some (Events log)
+    else (if bytes_eq name (codes "events") then Some (told_as (is_json given) (Events log))
     else (if bytes_eq name (codes "lanes") then Some (lanes_on log given)
     else (if bytes_eq name (codes "where") then Some (where_on log given)
     else (if bytes_eq name (codes "span") then Some (Span log)
@@ -484,12 +520,16 @@ command_on name log given =
 abbrev pub command_by_log : Text → List Row → Option Task
 command_by_log name given = option_and_then (λ log. command_on name log given) (first_of (codes "LOG") given)
 
+-- `check`: as a JSON value it is what `explain` tells
+abbrev pub check_in : List Row → Task
+check_in given = if is_json given then Explain true else Check
+
 -- the command of a name other than `run`, with what else was given to it
 abbrev pub command_by : Text → List Row → Option Task
 command_by name given =
-    if bytes_eq name (codes "check") then Some Check
+    if bytes_eq name (codes "check") then Some (check_in given)
     else (if bytes_eq name (codes "compile") then Some Compile
-    else (if bytes_eq name (codes "explain") then Some (Explain (is_flagged (codes "json") given))
+    else (if bytes_eq name (codes "explain") then Some (Explain (is_json given))
     else (if bytes_eq name (codes "listing") then Some Listing
     else (if bytes_eq name (codes "outcomes") then outcomes_by given
     else (if bytes_eq name (codes "page") then page_by given
@@ -570,6 +610,14 @@ blurs_by found = option_map_or (λ p. is_page_unclear p.0 p.1) found false
 unfoldable pub blurs_in : Names → List Text → Bool
 blurs_in names words = blurs_by (subcommand_of (command_line names) words)
 
+-- `--json` was given to the command that was found, and has no place there
+abbrev pub mutes_by : Option (Text × List Row) → Bool
+mutes_by found = option_map_or (λ p. is_json_misplaced p.1) found false
+
+-- the words have it so, as `clap` takes them apart
+unfoldable pub mutes_in : Names → List Text → Bool
+mutes_in names words = mutes_by (subcommand_of (command_line names) words)
+
 -- ---- why words are refused
 
 -- the fault fits the kind of `clap`'s error
@@ -583,6 +631,7 @@ FitsKind k fault.ProcessorsAlone = ⊥
 FitsKind k fault.MisplacedList = ⊥
 FitsKind k fault.PickAlone = ⊥
 FitsKind k fault.UnclearPage = ⊥
+FitsKind k fault.MisplacedJson = ⊥
 FitsKind k fault.OutOfMemory = ⊤
 
 -- a mistake is among the kinds: one that is no request for help or for the version
@@ -592,22 +641,24 @@ HasMistake kinds = (k : ErrorKind) × IsAmong k kinds × (k ≢ kind.DisplayHelp
 -- Help is told only where it was asked for, words are called not understood only where `clap` finds a mistake in them, or where it
 -- finds nothing wrong and no job. The order and the workers are called to exclude each other only where both were given, a seed or
 -- processors to stand alone only where they do, a number of runs or a list to be misplaced only where it is, an outcome to be picked
--- for no log only where that is so, and a page to be of no clear run only where it is, and nothing is wrong else.
-abbrev pub IsRefused : Kinds → Option Asked → Bool → Bool → Bool → Bool → Bool → Bool → Bool → WordsFault → Type 0
-IsRefused kinds asked both alone misplaced crowded unlogged unclear idle (fault.Help text) =
+-- for no log only where that is so, a page to be of no clear run only where it is, and `--json` to be misplaced only where it is, and
+-- nothing is wrong else.
+abbrev pub IsRefused : Kinds → Option Asked → Bool → Bool → Bool → Bool → Bool → Bool → Bool → Bool → WordsFault → Type 0
+IsRefused kinds asked both alone misplaced crowded unlogged unclear idle mute (fault.Help text) =
     IsAmong kind.DisplayHelp kinds ⊎ IsAmong kind.DisplayVersion kinds
-IsRefused kinds asked both alone misplaced crowded unlogged unclear idle (fault.NotUnderstood text) =
+IsRefused kinds asked both alone misplaced crowded unlogged unclear idle mute (fault.NotUnderstood text) =
     HasMistake kinds
     ⊎ ((kinds ≡ []) × (asked ≡ None) × (both ≡ false) × (alone ≡ false) × (misplaced ≡ false) × (crowded ≡ false) × (unlogged ≡ false)
-    × (unclear ≡ false) × (idle ≡ false))
-IsRefused kinds asked both alone misplaced crowded unlogged unclear idle fault.OrderAndWorkers = (kinds ≡ []) × (both ≡ true)
-IsRefused kinds asked both alone misplaced crowded unlogged unclear idle fault.SeedAlone = (kinds ≡ []) × (alone ≡ true)
-IsRefused kinds asked both alone misplaced crowded unlogged unclear idle fault.MisplacedRuns = (kinds ≡ []) × (misplaced ≡ true)
-IsRefused kinds asked both alone misplaced crowded unlogged unclear idle fault.ProcessorsAlone = (kinds ≡ []) × (idle ≡ true)
-IsRefused kinds asked both alone misplaced crowded unlogged unclear idle fault.MisplacedList = (kinds ≡ []) × (crowded ≡ true)
-IsRefused kinds asked both alone misplaced crowded unlogged unclear idle fault.PickAlone = (kinds ≡ []) × (unlogged ≡ true)
-IsRefused kinds asked both alone misplaced crowded unlogged unclear idle fault.UnclearPage = (kinds ≡ []) × (unclear ≡ true)
-IsRefused kinds asked both alone misplaced crowded unlogged unclear idle fault.OutOfMemory = ⊤
+    × (unclear ≡ false) × (idle ≡ false) × (mute ≡ false))
+IsRefused kinds asked both alone misplaced crowded unlogged unclear idle mute fault.OrderAndWorkers = (kinds ≡ []) × (both ≡ true)
+IsRefused kinds asked both alone misplaced crowded unlogged unclear idle mute fault.SeedAlone = (kinds ≡ []) × (alone ≡ true)
+IsRefused kinds asked both alone misplaced crowded unlogged unclear idle mute fault.MisplacedRuns = (kinds ≡ []) × (misplaced ≡ true)
+IsRefused kinds asked both alone misplaced crowded unlogged unclear idle mute fault.ProcessorsAlone = (kinds ≡ []) × (idle ≡ true)
+IsRefused kinds asked both alone misplaced crowded unlogged unclear idle mute fault.MisplacedList = (kinds ≡ []) × (crowded ≡ true)
+IsRefused kinds asked both alone misplaced crowded unlogged unclear idle mute fault.PickAlone = (kinds ≡ []) × (unlogged ≡ true)
+IsRefused kinds asked both alone misplaced crowded unlogged unclear idle mute fault.UnclearPage = (kinds ≡ []) × (unclear ≡ true)
+IsRefused kinds asked both alone misplaced crowded unlogged unclear idle mute fault.MisplacedJson = (kinds ≡ []) × (mute ≡ true)
+IsRefused kinds asked both alone misplaced crowded unlogged unclear idle mute fault.OutOfMemory = ⊤
 
 -- the status that the program ends with
 abbrev pub status_of : WordsFault → ℕ
@@ -620,4 +671,5 @@ status_of fault.ProcessorsAlone = status_words
 status_of fault.MisplacedList = status_words
 status_of fault.PickAlone = status_words
 status_of fault.UnclearPage = status_words
+status_of fault.MisplacedJson = status_words
 status_of fault.OutOfMemory = status_memory

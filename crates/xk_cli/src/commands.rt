@@ -3,13 +3,13 @@
 ghost use Rattle.std.specs.Prelude.{◌≡◌, IfOk, codes, map};
 ghost use Rattle.clap.specs.Words.{App, app_of, rule_of, with_subcommand};
 ghost use Rattle.xk_cli.specs.CommandLine.{AreLocal, HasNoGlobals, WithOrders, check_line, command_line, compile_line};
-ghost use Rattle.xk_cli.specs.CommandLine.{explain_line, lanes_line, listing_line, on_file, on_run, outcomes_line};
+ghost use Rattle.xk_cli.specs.CommandLine.{events_line, explain_line, lanes_line, listing_line, on_file, on_run, outcomes_line};
 ghost use Rattle.xk_cli.specs.CommandLine.{page_line, program, races_line, run_line, where_line, why_line};
 
 use crate::options::{
-    arg_option, at_option, count_option, flag, from_option, limit_option, log_choice, log_option,
-    log_place, module_flag, option, order_option, outcome_option, place, seed_option, step_place,
-    to_option, workers_option,
+    arg_option, at_option, count_option, flag, from_option, json_flag, limit_option, log_choice,
+    log_option, log_place, module_flag, option, order_option, outcome_option, place, seed_option,
+    step_place, to_option, workers_option,
 };
 use clap::Arg;
 use std::alloc::{AllocError, Global};
@@ -70,7 +70,7 @@ fn check_line<'a>(alloc: Global) -> Result<clap::Command<'a>, AllocError>
     ensures local { IfOk result HasNoGlobals }
 {
     let about = "Says whether a program is accepted.";
-    let options = [module_flag(alloc)];
+    let options = [module_flag(alloc), json_flag(alloc)];
     on_file(alloc, "check", about, Vec::from_array(alloc, options)?)
 }
 
@@ -81,10 +81,7 @@ fn explain_line<'a>(alloc: Global) -> Result<clap::Command<'a>, AllocError>
 {
     let about =
         "Says where and why a program is refused; where FILE is the code of a rule, as V9, tells that rule.";
-    let options = [
-        module_flag(alloc),
-        flag(alloc, "json", "Says it as a JSON value on one line"),
-    ];
+    let options = [module_flag(alloc), json_flag(alloc)];
     on_file(alloc, "explain", about, Vec::from_array(alloc, options)?)
 }
 
@@ -132,6 +129,7 @@ fn run_line<'a>(alloc: Global) -> Result<clap::Command<'a>, AllocError>
         workers_option(alloc),
         log_option(alloc),
         arg_option(alloc),
+        json_flag(alloc),
     ];
     on_file(alloc, "run", about, Vec::from_array(alloc, options)?)
 }
@@ -164,6 +162,7 @@ fn outcomes_line<'a>(alloc: Global) -> Result<clap::Command<'a>, AllocError>
             "A list of outcomes as this command prints them: tells the first outcome that isn't in it",
         ),
         arg_option(alloc),
+        json_flag(alloc),
     ];
     on_file(alloc, "outcomes", about, Vec::from_array(alloc, options)?)
 }
@@ -204,11 +203,21 @@ fn chart_line<'a>(alloc: Global) -> Result<clap::Command<'a>, AllocError>
 
 /// The command `events`.
 fn events_line<'a>(alloc: Global) -> Result<clap::Command<'a>, AllocError>
-    ensures shape { IfOk result (λ c. app_of c ≡ on_run (codes "events")) }
+    ensures shape { IfOk result (λ c. app_of c ≡ events_line) }
     ensures local { IfOk result HasNoGlobals }
 {
     let about = "Prints what others see of each step of the run that a log has.";
-    let options = [module_flag(alloc), log_place(alloc), arg_option(alloc)];
+    let json = flag(
+        alloc,
+        "json",
+        "Says it as JSON, a value on a line for each step",
+    );
+    let options = [
+        module_flag(alloc),
+        log_place(alloc),
+        arg_option(alloc),
+        json,
+    ];
     on_file(alloc, "events", about, Vec::from_array(alloc, options)?)
 }
 

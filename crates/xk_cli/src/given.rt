@@ -4,7 +4,7 @@ ghost use Rattle.std.specs.Prelude.{◌≡◌, IfOk, option_map};
 ghost use Rattle.clap.specs.Words.{first_of, found_of, rows_of};
 ghost use Rattle.xk_cli.specs.CommandLine.{are_processors_alone, are_runs_misplaced, arguments_in, count_in, drive_in, form_in, is_both};
 ghost use Rattle.xk_cli.specs.CommandLine.{is_flagged, is_list_misplaced, is_order, is_pick_alone, is_seed_alone, order_in};
-ghost use Rattle.xk_cli.specs.CommandLine.{is_page_unclear, is_run_unclear, order_named, processors_in, seed_in};
+ghost use Rattle.xk_cli.specs.CommandLine.{is_json, is_json_misplaced, is_page_unclear, is_run_unclear, order_named, processors_in, seed_in};
 ghost use Rattle.xk_cli.specs.CommandLine.{way_value, workers_in, workers_named};
 
 use crate::job::{Drive, Form, Order, Processors, Workers};
@@ -86,6 +86,20 @@ pub(crate) fn are_processors_alone(given: &ArgMatches<'_>) -> bool
     ensures { result ≡ are_processors_alone (rows_of (found_of given.now)) }
 {
     given_in(given, "P").is_some() && !is_order(given, "greedy")
+}
+
+/// Whether `--json` was given.
+pub(crate) fn is_json(given: &ArgMatches<'_>) -> bool
+    ensures { result ≡ is_json (rows_of (found_of given.now)) }
+{
+    is_flagged(given, "json")
+}
+
+/// Whether `--json` was given, and an order that a person is asked for, or a number of runs.
+pub(crate) fn is_json_misplaced(given: &ArgMatches<'_>) -> bool
+    ensures { result ≡ is_json_misplaced (rows_of (found_of given.now)) }
+{
+    is_json(given) && (is_order(given, "ask") || given_in(given, "RUNS").is_some())
 }
 
 /// Whether the order of this name was given.

@@ -121,6 +121,71 @@ pub enum Command<'a> {
         /// `--sets`, as for `outcomes`.
         sets: bool,
     },
+    /// `--json`: tell this as JSON, a value on each line.
+    Json(Values<'a>),
+}
+
+/// What may be told as JSON. What its parts mean, the command of the same name says.
+#[derive(Clone, Copy, Debug, PartialEq, Eq)]
+pub enum Values<'a> {
+    /// `run --json`: what the run of FILE prints, and how long it was, as one value.
+    Run {
+        drive: Option<Drive>,
+        log: Option<&'a str>,
+    },
+    /// `events --json`: what others see of the steps of the run of FILE that a log has, a value each.
+    Events {
+        log: &'a str,
+    },
+    /// `outcomes --json`: all that FILE can print, as one value.
+    Outcomes {
+        limit: Option<u64>,
+        pick: Option<u64>,
+        log: Option<&'a str>,
+        sets: bool,
+    },
+    /// `outcomes --expect --json`: whether all that FILE can print is in a list, as one value.
+    Expected {
+        list: &'a str,
+        limit: Option<u64>,
+        sets: bool,
+    },
+}
+
+impl<'a> Values<'a> {
+    ghost use Rattle.xk_cli.specs.CommandAnswers.{have_places};
+    ghost use Rattle.xk_cli.specs.CommandFiles.{values_read, values_written};
+
+    /// The path of the log or the list of outcomes that is read, if one is.
+    fn read_path(&self) -> Option<&'a str>
+        ensures { option_map (λ path. path.now) result ≡ values_read self.now }
+    {
+        match *self {
+            Values::Events { log } => Some(log),
+            Values::Expected { list, .. } => Some(list),
+            Values::Run { .. } | Values::Outcomes { .. } => None,
+        }
+    }
+
+    /// The path of the log that is written, if one is.
+    fn written_path(&self) -> Option<&'a str>
+        ensures { option_map (λ path. path.now) result ≡ values_written self.now }
+    {
+        match *self {
+            Values::Run { log, .. } | Values::Outcomes { log, .. } => log,
+            Values::Events { .. } | Values::Expected { .. } => None,
+        }
+    }
+
+    /// Whether they have the lines of a source text.
+    fn have_places(&self) -> bool
+        ensures { result ≡ have_places self.now }
+    {
+        match *self {
+            Values::Events { .. } => true,
+            Values::Run { .. } | Values::Outcomes { .. } | Values::Expected { .. } => false,
+        }
+    }
 }
 
 impl<'a> Command<'a> {
@@ -142,6 +207,7 @@ impl<'a> Command<'a> {
             | Command::Why { log, .. } => Some(log),
             Command::Expected { list, .. } => Some(list),
             Command::Races { log } => log,
+            Command::Json(values) => values.read_path(),
             Command::Check
             | Command::Compile
             | Command::Explain { .. }
@@ -159,6 +225,7 @@ impl<'a> Command<'a> {
     {
         match *self {
             Command::Run { log, .. } | Command::Outcomes { log, .. } => log,
+            Command::Json(values) => values.written_path(),
             Command::Check
             | Command::Compile
             | Command::Explain { .. }
@@ -200,7 +267,8 @@ impl<'a> Command<'a> {
             | Command::Why { .. }
             | Command::Races { .. }
             | Command::Outcomes { .. }
-            | Command::Expected { .. } => None,
+            | Command::Expected { .. }
+            | Command::Json(_) => None,
         }
     }
 
@@ -219,6 +287,7 @@ impl<'a> Command<'a> {
             | Command::Span { .. }
             | Command::Why { .. }
             | Command::Races { .. } => true,
+            Command::Json(values) => values.have_places(),
             Command::Check
             | Command::Compile
             | Command::Run { .. }

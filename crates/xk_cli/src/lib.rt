@@ -11,10 +11,10 @@ pub mod status;
 mod words_fault;
 
 pub use job::{
-    Command, Drive, Form, HandRun, Job, MOST_WORKERS, Order, Processors, Request, Workers,
+    Command, Drive, Form, HandRun, Job, MOST_WORKERS, Order, Processors, Request, Values, Workers,
 };
 pub use request::read_job;
 pub use words_fault::{
-    EXCLUDED_LINE, LIST_LINE, PAGE_LINE, PICK_LINE, PROCESSORS_LINE, RUNS_LINE, SEED_LINE,
-    WordsFault,
+    EXCLUDED_LINE, JSON_LINE, LIST_LINE, PAGE_LINE, PICK_LINE, PROCESSORS_LINE, RUNS_LINE,
+    SEED_LINE, WordsFault,
 };

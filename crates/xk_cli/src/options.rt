@@ -2,7 +2,7 @@
 
 ghost use Rattle.std.specs.Prelude.{◌≡◌, false};
 ghost use Rattle.clap.specs.Words.{rule_of};
-ghost use Rattle.xk_cli.specs.CommandLine.{WithOrders, arg_option, at_option, count_option, flag, from_option, limit_option, log_choice};
+ghost use Rattle.xk_cli.specs.CommandLine.{WithOrders, arg_option, at_option, count_option, flag, from_option, json_flag, limit_option, log_choice};
 ghost use Rattle.xk_cli.specs.CommandLine.{log_option, log_place, module_flag, option, order_option, outcome_option, place};
 ghost use Rattle.xk_cli.specs.CommandLine.{seed_option, step_place, to_option, workers_option};
 
@@ -167,6 +167,14 @@ pub(crate) fn module_flag<'a>(alloc: Global) -> Arg<'a>
     ensures local { result.global ≡ false }
 {
     flag(alloc, "module", "FILE is a module text")
+}
+
+/// `--json`.
+pub(crate) fn json_flag<'a>(alloc: Global) -> Arg<'a>
+    ensures rule { rule_of result ≡ json_flag }
+    ensures local { result.global ≡ false }
+{
+    flag(alloc, "json", "Says it as a JSON value on one line")
 }
 
 /// A flag of this name, which is its long name too.

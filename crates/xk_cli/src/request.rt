@@ -8,15 +8,16 @@ ghost use Rattle.xk_cli.specs.CommandLine.{crowds_in, excludes_by, excludes_in, 
 ghost use Rattle.xk_cli.specs.CommandLine.{blurs_by, blurs_in, idles_by, idles_in, is_page_unclear, outcome_page_of, page_by};
 ghost use Rattle.xk_cli.specs.CommandLine.{is_list_misplaced, is_pick_alone, is_seed_alone, job_of, misplaces_by, misplaces_in};
 ghost use Rattle.xk_cli.specs.CommandLine.{outcomes_by, outcomes_in, picks_by, picks_in, run_asked, run_by, run_in, strays_by, strays_in};
-ghost use Rattle.xk_cli.specs.CommandLine.{task_by, task_value, texts, why_on};
+ghost use Rattle.xk_cli.specs.CommandLine.{Events, Run, check_in, is_json_misplaced, mutes_by, mutes_in, outcomes_of};
+ghost use Rattle.xk_cli.specs.CommandLine.{task_by, task_value, texts, told_as, way_value, why_on};
 
 use crate::commands::line;
 use crate::given::{
     are_processors_alone, are_runs_misplaced, arguments_in, count_in, drive_in, form_in, given_in,
-    is_both, is_flagged, is_list_misplaced, is_order, is_page_unclear, is_pick_alone,
-    is_run_unclear, is_seed_alone, seed_in,
+    is_both, is_flagged, is_json, is_json_misplaced, is_list_misplaced, is_order, is_page_unclear,
+    is_pick_alone, is_run_unclear, is_seed_alone, seed_in,
 };
-use crate::job::{Command, Form, HandRun, Job, Request};
+use crate::job::{Command, Drive, Form, HandRun, Job, Request, Values};
 use crate::words_fault::WordsFault;
 use clap::ArgMatches;
 use clap::error::ErrorKind;
@@ -45,7 +46,8 @@ pub fn read_job<'a>(alloc: Global, words: &'a [&'a str]) -> Result<Request<'a>, 
         (crowds_in names (texts words.entry.now))
         (picks_in names (texts words.entry.now))
         (blurs_in names (texts words.entry.now))
-        (idles_in names (texts words.entry.now)) fault)) }
+        (idles_in names (texts words.entry.now))
+        (mutes_in names (texts words.entry.now)) fault)) }
 {
     let command_line = line(alloc)?;
     match command_line.try_get_matches_from(words) {
@@ -65,7 +67,8 @@ fn asked<'a>(alloc: Global, matches: &ArgMatches<'a>) -> Result<Request<'a>, Wor
         (crowds_by (subcommand_rows_of matches.now))
         (picks_by (subcommand_rows_of matches.now))
         (blurs_by (subcommand_rows_of matches.now))
-        (idles_by (subcommand_rows_of matches.now))) }
+        (idles_by (subcommand_rows_of matches.now))
+        (mutes_by (subcommand_rows_of matches.now))) }
 {
     match matches.subcommand() {
         Some((name, given)) => asked_by(alloc, name, given),
@@ -89,7 +92,8 @@ fn asked_by<'a>(
         (is_list_misplaced (rows_of (found_of given.now)))
         (is_pick_alone (rows_of (found_of given.now)))
         (is_page_unclear name.now (rows_of (found_of given.now)))
-        (are_processors_alone (rows_of (found_of given.now)))) }
+        (are_processors_alone (rows_of (found_of given.now)))
+        (is_json_misplaced (rows_of (found_of given.now)))) }
 {
     match request_by(alloc, name, given)? {
         Some(request) => Ok(request),
@@ -166,8 +170,8 @@ fn task_by<'a>(name: &str, given: &ArgMatches<'a>) -> Option<Found<'a>>
     }
 }
 
-/// The command `run` with what was given to it. None where both an order and workers were, or a seed, or a number of
-/// runs or of processors, that has no place there.
+/// The command `run` with what was given to it. None where both an order and workers were, or a seed, a number of runs
+/// or of processors, or `--json`, that has no place there.
 fn run_by<'a>(given: &ArgMatches<'a>) -> Option<Found<'a>>
     ensures { option_map found_task result ≡ run_by (rows_of (found_of given.now)) }
 {
@@ -175,6 +179,7 @@ fn run_by<'a>(given: &ArgMatches<'a>) -> Option<Found<'a>>
         || is_seed_alone(given)
         || are_runs_misplaced(given)
         || are_processors_alone(given)
+        || is_json_misplaced(given)
     {
         return None;
     }
@@ -193,11 +198,19 @@ fn run_in<'a>(given: &ArgMatches<'a>) -> Command<'a>
             seed: seed_in(given),
             runs,
         },
-        None => Command::Run {
-            drive: drive_in(given),
-            log: given_in(given, "PATH"),
-        },
+        None => one_run(is_json(given), drive_in(given), given_in(given, "PATH")),
     }
+}
+
+/// One run, told as JSON or not.
+fn one_run<'a>(json: bool, drive: Option<Drive>, log: Option<&'a str>) -> Command<'a>
+    ensures { task_value result ≡ told_as json
+        (Run (option_map way_value drive) (option_map (λ s. s.now) log.entry)) }
+{
+    if json {
+        return Command::Json(Values::Run { drive, log });
+    }
+    Command::Run { drive, log }
 }
 
 /// The command of this name, which isn't `run`, with what else was given to it.
@@ -205,10 +218,10 @@ fn command_by<'a>(name: &str, given: &ArgMatches<'a>) -> Option<Command<'a>>
     ensures { option_map task_value result ≡ command_by name.now (rows_of (found_of given.now)) }
 {
     match name {
-        "check" => Some(Command::Check),
+        "check" => Some(check_in(given)),
         "compile" => Some(Command::Compile),
         "explain" => Some(Command::Explain {
-            json: is_flagged(given, "json"),
+            json: is_json(given),
         }),
         "listing" => Some(Command::Listing),
         "outcomes" => outcomes_by(given),
@@ -220,6 +233,16 @@ fn command_by<'a>(name: &str, given: &ArgMatches<'a>) -> Option<Command<'a>>
     }
 }
 
+/// The command `check` with what was given to it: as a JSON value it is what `explain` tells.
+fn check_in<'a>(given: &ArgMatches<'a>) -> Command<'a>
+    ensures { task_value result ≡ check_in (rows_of (found_of given.now)) }
+{
+    if is_json(given) {
+        return Command::Explain { json: true };
+    }
+    Command::Check
+}
+
 /// The command of this name that wants a log, with what else was given to it.
 fn command_by_log<'a>(name: &str, given: &ArgMatches<'a>) -> Option<Command<'a>>
     ensures { option_map task_value result
@@ -229,7 +252,7 @@ fn command_by_log<'a>(name: &str, given: &ArgMatches<'a>) -> Option<Command<'a>>
     match name {
         "replay" => Some(Command::Replay { log }),
         "chart" => Some(Command::Chart { log }),
-        "events" => Some(Command::Events { log }),
+        "events" => Some(events_on(is_json(given), log)),
         "lanes" => Some(Command::Lanes {
             log,
             from: count_in(given, "FROM"),
@@ -244,6 +267,16 @@ fn command_by_log<'a>(name: &str, given: &ArgMatches<'a>) -> Option<Command<'a>>
         "why" => why_on(log, given),
         _ => None,
     }
+}
+
+/// The command `events` on this log, told as JSON or not.
+fn events_on<'a>(json: bool, log: &'a str) -> Command<'a>
+    ensures { task_value result ≡ told_as json (Events log.entry.now) }
+{
+    if json {
+        return Command::Json(Values::Events { log });
+    }
+    Command::Events { log }
 }
 
 /// The command `why` on this log, with the step that was given to it.
@@ -293,22 +326,50 @@ fn outcomes_by<'a>(given: &ArgMatches<'a>) -> Option<Command<'a>>
         return None;
     }
     match given_in(given, "FILE2") {
-        Some(list) => Some(Command::Expected {
-            list,
-            limit: count_in(given, "LIMIT"),
-            sets: is_flagged(given, "sets"),
-        }),
-        None => Some(Command::Outcomes {
-            limit: count_in(given, "LIMIT"),
-            pick: count_in(given, "K"),
-            log: given_in(given, "PATH"),
-            sets: is_flagged(given, "sets"),
-        }),
+        Some(list) => Some(expected_in(list, given)),
+        None => Some(found_in(given)),
+    }
+}
+
+/// Outcomes that are held against this list, told as JSON or not.
+fn expected_in<'a>(list: &'a str, given: &ArgMatches<'a>) -> Command<'a>
+    ensures { task_value result
+        ≡ outcomes_of (Some list.entry.now) (rows_of (found_of given.now)) }
+{
+    let limit = count_in(given, "LIMIT");
+    let sets = is_flagged(given, "sets");
+    if is_json(given) {
+        return Command::Json(Values::Expected { list, limit, sets });
+    }
+    Command::Expected { list, limit, sets }
+}
+
+/// Outcomes that are printed, maybe with a log, told as JSON or not.
+fn found_in<'a>(given: &ArgMatches<'a>) -> Command<'a>
+    ensures { task_value result ≡ outcomes_of None (rows_of (found_of given.now)) }
+{
+    let limit = count_in(given, "LIMIT");
+    let pick = count_in(given, "K");
+    let log = given_in(given, "PATH");
+    let sets = is_flagged(given, "sets");
+    if is_json(given) {
+        return Command::Json(Values::Outcomes {
+            limit,
+            pick,
+            log,
+            sets,
+        });
+    }
+    Command::Outcomes {
+        limit,
+        pick,
+        log,
+        sets,
     }
 }
 
 /// Why a command with what was given to it is no job: an order stands beside workers, or a seed, a number of runs or of
-/// processors, a list or an outcome to pick has no place there, or it is unclear of which run a page is to be.
+/// processors, a list, an outcome to pick or `--json` has no place there, or it is unclear of which run a page is to be.
 fn no_job(alloc: Global, name: &str, given: &ArgMatches<'_>) -> WordsFault
     ensures { IsRefused [] None (is_both (rows_of (found_of given.now)))
         (is_seed_alone (rows_of (found_of given.now)))
@@ -316,7 +377,8 @@ fn no_job(alloc: Global, name: &str, given: &ArgMatches<'_>) -> WordsFault
         (is_list_misplaced (rows_of (found_of given.now)))
         (is_pick_alone (rows_of (found_of given.now)))
         (is_page_unclear name.now (rows_of (found_of given.now)))
-        (are_processors_alone (rows_of (found_of given.now))) result }
+        (are_processors_alone (rows_of (found_of given.now)))
+        (is_json_misplaced (rows_of (found_of given.now))) result }
 {
     if is_both(given) {
         return WordsFault::OrderAndWorkers;
@@ -339,12 +401,15 @@ fn no_job(alloc: Global, name: &str, given: &ArgMatches<'_>) -> WordsFault
     if is_page_unclear(name, given) {
         return WordsFault::UnclearPage;
     }
+    if is_json_misplaced(given) {
+        return WordsFault::MisplacedJson;
+    }
     not_a_job(alloc)
 }
 
 /// The fault where `clap` took the words, nothing in them excludes anything else, and they name no job. It doesn't come to that.
 fn not_a_job(alloc: Global) -> WordsFault
-    ensures { IsRefused [] None false false false false false false false result }
+    ensures { IsRefused [] None false false false false false false false false result }
 {
     match String::from_str(alloc, "error: no command on a file was given\n") {
         Ok(text) => WordsFault::NotUnderstood(text),

@@ -28,6 +28,9 @@ pub const PICK_LINE: &str = "x10clock: --pick goes with --log\n";
 pub const PAGE_LINE: &str =
     "x10clock: page takes either LOG or --outcome, and --limit goes with --outcome\n";
 
+/// The line of words that have `--json` with a run that is told by no value.
+pub const JSON_LINE: &str = "x10clock: --json goes without --order ask and --runs\n";
+
 /// The words are no job.
 #[derive(Debug, Drop, Error)]
 pub enum WordsFault {
@@ -58,6 +61,9 @@ pub enum WordsFault {
     /// `page` stands beside both LOG and `--outcome`, or neither; or `--limit` beside LOG.
     #[error("{line}", line = PAGE_LINE)]
     UnclearPage,
+    /// `--json` stands beside `--order ask` or `--runs`.
+    #[error("{line}", line = JSON_LINE)]
+    MisplacedJson,
     /// Memory ran out.
     #[error("out of memory")]
     OutOfMemory,
@@ -79,7 +85,8 @@ impl WordsFault {
             | WordsFault::ProcessorsAlone
             | WordsFault::MisplacedList
             | WordsFault::PickAlone
-            | WordsFault::UnclearPage => status::WORDS,
+            | WordsFault::UnclearPage
+            | WordsFault::MisplacedJson => status::WORDS,
             WordsFault::OutOfMemory => status::MEMORY,
         }
     }

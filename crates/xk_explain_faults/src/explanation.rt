@@ -3,7 +3,7 @@
 ghost use Rattle.std.specs.Prelude.{◌≡◌, ◌++◌, IfOk, OnOk};
 ghost use Rattle.std.specs.List.{flat_map};
 ghost use Rattle.xk_tree.specs.Program.{tree_value};
-ghost use Rattle.xk_explain_json.specs.Objects.{json_line};
+ghost use Rattle.xk_json.specs.Objects.{json_line};
 ghost use Rattle.xk_explain_faults.specs.Faults.{faults_explanation, faults_value, finding_text, more_text};
 
 use crate::further::{behind_of, found};

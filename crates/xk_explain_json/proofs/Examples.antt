@@ -9,7 +9,7 @@ use Rattle.xk_types.specs.declared.rules.Rule.TheVariants as rule
 use Rattle.xk_tree.specs.declared.fault.FrontRule.TheVariants as front
 use Rattle.xk_explain.specs.declared.module_rule.ModuleRule.TheVariants as text
 use Rattle.xk_explain_json.specs.Explanations.{accepted_value, bound_groups, front_value, module_value, notes_alone}
-use Rattle.xk_explain_json.specs.Objects.{object_of}
+use Rattle.xk_json.specs.Objects.{object_of}
 
 accepted_text : compact_text (accepted_value (codes "a.x10") None 19 2 1 [])
     ≡ codes "{\"accepted\":true,\"activities\":2,\"clocks\":1,\"file\":\"a.x10\",\"notes\":[],\"steps\":19}"

@@ -24,7 +24,7 @@ use Rattle.xk_explain.specs.FrontRepairs.{repair_of}
 use Rattle.xk_explain.specs.Explanations.{has_place, shown_at}
 use Rattle.xk_explain.specs.SourceExplanations.{is_name, mark_end, origin_at, slot_name}
 use Rattle.xk_explain.specs.Notes.{NoteValue, place_title}
-use Rattle.xk_explain_json.specs.Objects.{array_of, bytes_value, number_value, object_of, Group}
+use Rattle.xk_json.specs.Objects.{array_of, bytes_value, number_value, object_of, Group}
 
 -- ---- groups of members
 

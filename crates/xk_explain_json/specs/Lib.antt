@@ -1,3 +1,1 @@
-pub mod Plain
-pub mod Objects
 pub mod Explanations

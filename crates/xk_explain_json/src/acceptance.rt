@@ -2,13 +2,13 @@
 
 ghost use Rattle.std.specs.Prelude.{◌≡◌, IfOk, OnOk, option_map};
 ghost use Rattle.xk_explain_json.specs.Explanations.{accepted, accepted_value};
-ghost use Rattle.xk_explain_json.specs.Objects.{json_line, Gains, IsReadBack};
+ghost use Rattle.xk_json.specs.Objects.{json_line, Gains, IsReadBack};
 
 use crate::members::put_accepted;
 use crate::notes::put_notes;
-use crate::object::Object;
 use std::alloc::{AllocError, Global};
 use xk_explain::Note;
+use xk_json::Object;
 
 /// All that is said of the program in FILE that is accepted, with these notes: a JSON object in one line, `{"accepted":true,"activities":2,"clocks":1,
 /// "file":"FILE","notes":[],"steps":19}`. Of a source text notes have their places. Err where memory was refused.

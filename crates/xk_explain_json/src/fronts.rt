@@ -4,15 +4,15 @@ ghost use Rattle.std.specs.Prelude.{◌≡◌, IfOk, OnOk};
 ghost use Rattle.serde_json.specs.View.{view};
 ghost use Rattle.xk_explain_json.specs.Explanations.{finding_value, front_groups, front_place, front_value, fronts_value};
 ghost use Rattle.xk_explain_json.specs.Explanations.{further_members, module_value};
-ghost use Rattle.xk_explain_json.specs.Objects.{array_of, json_line, Gains, GainsAll, IsReadBack};
+ghost use Rattle.xk_json.specs.Objects.{array_of, json_line, Gains, GainsAll, IsReadBack};
 
 use crate::finding::Finding;
 use crate::members::{put_front_repair, put_place, put_refused_by_front, put_refused_by_module};
 use crate::notes::put_notes_in;
-use crate::object::Object;
 use serde_json::Value;
 use std::alloc::{AllocError, Global};
 use xk_explain::{ModuleRule, Note, SourceText, has_place, shown_at};
+use xk_json::Object;
 use xk_tree::FrontFault;
 
 /// All that is said of a fault of the source text in FILE, with these notes: a JSON object in one line, `{"accepted":false,"column":5,

@@ -7,7 +7,6 @@ mod fronts;
 mod members;
 mod names;
 mod notes;
-mod object;
 mod refusals;
 mod source_refusals;
 mod walks;

@@ -5,15 +5,15 @@ ghost use Rattle.serde_json.specs.Data.{boolean};
 ghost use Rattle.xk_explain_json.specs.Explanations.{end_members, front_repair_member, instruction_members, limit_member, place_members};
 ghost use Rattle.xk_explain_json.specs.Explanations.{position_members};
 ghost use Rattle.xk_explain_json.specs.Explanations.{refused, refused_by, refused_by_front, refused_by_module, slot_members};
-ghost use Rattle.xk_explain_json.specs.Objects.{Gains};
+ghost use Rattle.xk_json.specs.Objects.{Gains};
 
-use crate::object::Object;
 use serde_json::Value;
 use std::alloc::{AllocError, Global};
 use xk_explain::{
     ModuleRule, Note, SourceText, front_message, kind_message, module_message, module_repair,
     repair_of, rule_repair, shown_at,
 };
+use xk_json::Object;
 use xk_lines::Position;
 use xk_tree::FrontFault;
 use xk_types::{Kind, Rule};

@@ -2,13 +2,13 @@
 
 ghost use Rattle.std.specs.Prelude.{◌≡◌, IfOk, OnOk};
 ghost use Rattle.xk_explain_json.specs.Explanations.{origin_members, slot_name_member, unit_name};
-ghost use Rattle.xk_explain_json.specs.Objects.{Gains};
+ghost use Rattle.xk_json.specs.Objects.{Gains};
 
 use crate::members::put_place;
-use crate::object::Object;
 use serde_json::Value;
 use std::alloc::{AllocError, Global};
 use xk_explain::{SourceText, is_name, origin_at, place_title, slot_name};
+use xk_json::Object;
 use xk_unit_origins::{Head, UnitOrigins};
 
 /// `main`, `f`, or `async at 3:5`.

@@ -3,13 +3,13 @@
 ghost use Rattle.std.specs.Prelude.{◌≡◌, IfOk, OnOk, option_map};
 ghost use Rattle.serde_json.specs.View.{view};
 ghost use Rattle.xk_explain_json.specs.Explanations.{note_alone, note_in, notes_alone, notes_in, notes_of};
-ghost use Rattle.xk_explain_json.specs.Objects.{array_of, Gains};
+ghost use Rattle.xk_json.specs.Objects.{array_of, Gains};
 
 use crate::members::put_place;
-use crate::object::Object;
 use serde_json::Value;
 use std::alloc::{AllocError, Global};
 use xk_explain::{Note, SourceText};
+use xk_json::Object;
 
 /// A note on a text, with its place there, if it has one.
 fn note_in(alloc: Global, source: &SourceText<'_>, note: &Note) -> Result<Value, AllocError>

@@ -2,15 +2,15 @@
 
 ghost use Rattle.std.specs.Prelude.{◌≡◌, IfOk, IfSome, OnOk};
 ghost use Rattle.xk_explain_json.specs.Explanations.{bound_groups, is_memory, kind_groups, refusal_groups, refusal_value, shape_groups};
-ghost use Rattle.xk_explain_json.specs.Objects.{text_of, GainsAll, IsReadBack};
+ghost use Rattle.xk_json.specs.Objects.{text_of, GainsAll, IsReadBack};
 
 use crate::members::{put_instruction, put_limit, put_refused_by, put_slot};
 use crate::notes::put_notes_alone;
-use crate::object::Object;
 use crate::walks::put_walk_alone;
 use std::alloc::{AllocError, Global};
 use xk_bounds::{BoundFault, Refusal};
 use xk_explain::{Note, rule_message};
+use xk_json::Object;
 use xk_shape::ShapeFault;
 use xk_typestate::KindFault;
 

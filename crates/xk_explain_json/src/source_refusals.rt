@@ -2,17 +2,17 @@
 
 ghost use Rattle.std.specs.Prelude.{◌≡◌, IfOk, IfSome, OnOk};
 ghost use Rattle.xk_explain_json.specs.Explanations.{kind_in_source, shape_in_source, source_groups, source_value};
-ghost use Rattle.xk_explain_json.specs.Objects.{text_of, GainsAll, IsReadBack};
+ghost use Rattle.xk_json.specs.Objects.{text_of, GainsAll, IsReadBack};
 
 use crate::members::{put_instruction, put_refused_by, put_slot};
 use crate::names::{put_origin, put_slot_name};
 use crate::notes::put_notes_in;
-use crate::object::Object;
 use crate::refusals::{is_memory, put_bound, put_kind, put_shape};
 use crate::walks::put_walk_in;
 use std::alloc::{AllocError, Global};
 use xk_bounds::Refusal;
 use xk_explain::{Note, SourceText, source_message};
+use xk_json::Object;
 use xk_shape::ShapeFault;
 use xk_typestate::KindFault;
 use xk_unit_origins::UnitOrigins;

@@ -3,13 +3,13 @@
 ghost use Rattle.std.specs.Prelude.{◌≡◌, IfOk, OnOk};
 ghost use Rattle.serde_json.specs.View.{view};
 ghost use Rattle.xk_explain_json.specs.Explanations.{stop_alone, stop_in, stop_members, walk_alone, walk_in};
-ghost use Rattle.xk_explain_json.specs.Objects.{array_of, Gains};
+ghost use Rattle.xk_json.specs.Objects.{array_of, Gains};
 
 use crate::members::put_position;
-use crate::object::Object;
 use serde_json::Value;
 use std::alloc::{AllocError, Global};
 use xk_explain::{SourceText, origin_at};
+use xk_json::Object;
 use xk_types::Visit;
 use xk_unit_origins::UnitOrigins;
 

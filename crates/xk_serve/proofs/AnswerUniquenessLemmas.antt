@@ -32,8 +32,9 @@ use Rattle.xk_program.specs.declared.fault.Fault.{Fault}
 use Rattle.xk_program.specs.declared.fault.Fault.TheVariants as fault
 use Rattle.xk_serve.specs.Notes.{told_of}
 use Rattle.xk_serve.specs.Answer.{Answers, IsSaidBy, Reply, Task, asks_verifier, done_reply, fault_reply, reads_list, reads_log, runs}
-use Rattle.xk_answers.specs.Results.{Check, ComesTo, Compile, Doing, Draw, Expected, Explain, IsLogText, IsNoRun, IsTelling}
-use Rattle.xk_answers.specs.Results.{IsText, Listing, OutcomePage, Outcomes, Races, Replay, Run, Tally, Where, is_of_whole, list_in}
+use Rattle.xk_answers.specs.Results.{Check, ComesTo, Compile, Doing, Draw, Expected, ExpectedShown, Explain, IsLogText, IsNoRun, IsTelling}
+use Rattle.xk_answers.specs.Results.{OutcomesShown, RunShown}
+use Rattle.xk_answers.specs.Results.{IsText, Json, Listing, OutcomePage, Outcomes, Races, Replay, Run, Tally, Where, is_of_whole, list_in}
 use Rattle.xk_program.specs.Refusals.{IsMisfit}
 use Rattle.xk_answers.specs.Printed.{done_status, whole_status, done_log, done_text}
 use Rattle.xk_answers.specs.Explanation.{Tale}
@@ -47,6 +48,7 @@ use Rattle.xk_program.specs.Programs.{Gives, IsCompiledTo, IsNoModule, IsNoSourc
 use Rattle.xk_serve.proofs.LogUniquenessLemmas.{no_run_once, text_not_cut, text_not_wrong, text_once, whole_not_refused}
 use Rattle.xk_serve.proofs.RefusalUniquenessLemmas.{not_accepted, refusal_once, refused_status}
 use Rattle.xk_serve.proofs.RunUniquenessLemmas.{greedy_logged_once, greedy_once, list_once, logged_once, ordered_once, run_taken}
+use Rattle.xk_serve.proofs.ShownUniquenessLemmas.{PrintsShown, prints_shown, shown_once, shown_status, shown_taken}
 use Rattle.xk_serve.proofs.TaskLemmas.{MayStand}
 use Rattle.xk_serve.proofs.TellingUniquenessLemmas.{telling_once}
 use Rattle.xk_serve.proofs.TextUniquenessLemmas.{one_text, unfit_none, unfit_once}
@@ -79,6 +81,7 @@ Prints (Tally seed runs) m args logged out log = ⊥
 Prints (OutcomePage window limit pick) m args logged out log = ⊥
 Prints (Outcomes sets limit pick kept) m args logged out log = IsAccepted m × AreArguments m args
 Prints (Expected sets limit) m args logged out log = IsAccepted m × AreArguments m args × (stray_line (list_in logged) ≡ None)
+Prints (Json s) m args logged out log = IsAccepted m × PrintsShown s m args logged out log
 
 pub prints : (what : Doing) (m : ModuleValue) (args : List ℤ) (logged : List ℕ) (d : Done) → ComesTo what m args logged d
     → Prints what m args logged (done_text d) (done_log d)
@@ -114,6 +117,7 @@ prints (Outcomes sets limit pick kept) m args logged (done.Outcomes t whole log)
 prints (Outcomes sets limit pick kept) m args logged _ h = absurd h.1
 prints (Expected sets limit) m args logged (done.Held t found) h = (h.0, h.1.0, h.1.1.may_stand)
 prints (Expected sets limit) m args logged _ h = absurd h.1
+prints (Json s) m args logged d h = (h.0, prints_shown s m args logged d h.1)
 
 -- what it comes to has the status of what is done, but where outcomes are looked for
 pub done_zero : (what : Doing) (m : ModuleValue) (args : List ℤ) (logged : List ℕ) (d : Done) → HasOneStatus what
@@ -136,6 +140,9 @@ done_zero (Tally seed runs) m args logged (done.Outcomes t whole log) one h = ab
 done_zero (OutcomePage window limit pick) m args logged (done.Outcomes t whole log) one h = absurd h
 done_zero (Outcomes sets limit pick kept) m args logged (done.Outcomes t whole log) one h = absurd one
 done_zero (Expected sets limit) m args logged (done.Outcomes t whole log) one h = absurd one
+done_zero (Json (RunShown way kept)) m args logged (done.Outcomes t whole log) one h = ap whole_status h.1.whole_is
+done_zero (Json (OutcomesShown sets limit pick kept)) m args logged (done.Outcomes t whole log) one h = absurd one
+done_zero (Json (ExpectedShown sets limit)) m args logged (done.Outcomes t whole log) one h = absurd one
 done_zero Compile m args logged (done.Held t found) one h = absurd h
 done_zero Check m args logged (done.Held t found) one h = absurd h
 done_zero (Explain json) m args logged (done.Held t found) one h = absurd h
@@ -154,6 +161,9 @@ done_zero (Tally seed runs) m args logged (done.Held t found) one h = absurd h
 done_zero (OutcomePage window limit pick) m args logged (done.Held t found) one h = absurd h
 done_zero (Outcomes sets limit pick kept) m args logged (done.Held t found) one h = absurd one
 done_zero (Expected sets limit) m args logged (done.Held t found) one h = absurd one
+done_zero (Json (RunShown way kept)) m args logged (done.Held t found) one h = absurd h.1
+done_zero (Json (OutcomesShown sets limit pick kept)) m args logged (done.Held t found) one h = absurd one
+done_zero (Json (ExpectedShown sets limit)) m args logged (done.Held t found) one h = absurd one
 done_zero what m args logged (done.Compiled t) one h = refl
 done_zero what m args logged (done.Accepted steps activities clocks) one h = refl
 done_zero Compile m args logged (done.Told t whole) one h = absurd h
@@ -174,6 +184,9 @@ done_zero (Tally seed runs) m args logged (done.Told t whole) one h = absurd h
 done_zero (OutcomePage window limit pick) m args logged (done.Told t whole) one h = absurd h
 done_zero (Outcomes sets limit pick kept) m args logged (done.Told t whole) one h = absurd h.1
 done_zero (Expected sets limit) m args logged (done.Told t whole) one h = absurd h.1
+done_zero (Json (RunShown way kept)) m args logged (done.Told t whole) one h = absurd h.1
+done_zero (Json (OutcomesShown sets limit pick kept)) m args logged (done.Told t whole) one h = absurd one
+done_zero (Json (ExpectedShown sets limit)) m args logged (done.Told t whole) one h = absurd one
 done_zero what m args logged (done.Ended numbers steps rounds log) one h = refl
 
 -- what asks the verifier prints nothing of another module than one that is accepted
@@ -196,6 +209,7 @@ prints_accepted (Tally seed runs) m args logged out log asks h = absurd h
 prints_accepted (OutcomePage window limit pick) m args logged out log asks h = absurd h
 prints_accepted (Outcomes sets limit pick kept) m args logged out log asks h = h.0
 prints_accepted (Expected sets limit) m args logged out log asks h = h.0
+prints_accepted (Json s) m args logged out log asks h = h.0
 
 -- main of a run takes as many numbers as it is given
 prints_taken : (what : Doing) (m : ModuleValue) (args : List ℤ) (logged out log : List ℕ) → runs what ≡ true
@@ -217,6 +231,7 @@ prints_taken (Tally seed runs) m args logged out log run h = absurd h
 prints_taken (OutcomePage window limit pick) m args logged out log run h = absurd h
 prints_taken (Outcomes sets limit pick kept) m args logged out log run h = h.1
 prints_taken (Expected sets limit) m args logged out log run h = h.1
+prints_taken (Json s) m args logged out log run h = shown_taken s m args logged out log h.1
 
 replay_whole : (m : ModuleValue) (args numbers : List ℤ) (steps : ℕ) (es : List Entry) → IsReplay m args es numbers steps
     → IsWhole m args es
@@ -239,6 +254,7 @@ prints_whole (Tally seed runs) m args logged out log reads h = absurd h
 prints_whole (OutcomePage window limit pick) m args logged out log reads h = absurd h
 prints_whole (Outcomes sets limit pick kept) m args logged out log reads h = absurd (false≢true reads)
 prints_whole (Expected sets limit) m args logged out log reads h = absurd (false≢true reads)
+prints_whole (Json s) m args logged out log reads h = absurd (false≢true reads)
 
 -- the lines of a run
 same_lines : (numbers others : List ℤ) (n k : ℕ) → numbers ≡ others → n ≡ k
@@ -283,6 +299,7 @@ prints_once (Tally seed runs) m args logged out log other kept none p q = absurd
 prints_once (OutcomePage window limit pick) m args logged out log other kept none p q = absurd p
 prints_once (Outcomes sets limit pick written) m args logged out log other kept none p q = absurd none
 prints_once (Expected sets limit) m args logged out log other kept none p q = absurd none
+prints_once (Json s) m args logged out log other kept none p q = shown_once s m args logged out log other kept none p.1 q.1
 
 pub done_once : (what : Doing) (m : ModuleValue) (args : List ℤ) (logged : List ℕ) (d e : Done) → ComesToOne what
     → ComesTo what m args logged d
@@ -308,6 +325,7 @@ said_determined (Tally seed runs) kind file bytes said f h one = h
 said_determined (OutcomePage window limit pick) kind file bytes said f h one = h
 said_determined (Outcomes sets limit pick kept) kind file bytes said f h one = h
 said_determined (Expected sets limit) kind file bytes said f h one = h
+said_determined (Json s) kind file bytes said f h one = h
 
 -- ---- what is told of it
 
@@ -363,6 +381,7 @@ telling_stands (Run way kept) kind file bytes m args logged told f reads h told_
 telling_stands Replay kind file bytes m args logged told f reads h told_by may not4 = h
 telling_stands (Outcomes sets limit pick kept) kind file bytes m args logged told f reads h told_by may not4 = h
 telling_stands (Expected sets limit) kind file bytes m args logged told f reads h told_by may not4 = h
+telling_stands (Json s) kind file bytes m args logged told f reads h told_by may not4 = h
 
 -- main of what is run takes as many numbers as it is given
 telling_taken : (what : Doing) (kind : Form) (file bytes : List ℕ) (m : ModuleValue) (args : List ℤ) (logged : List ℕ) (told : Tale) → runs what ≡ true
@@ -380,6 +399,7 @@ telling_taken (Run way kept) kind file bytes m args logged told run h = absurd h
 telling_taken Replay kind file bytes m args logged told run h = absurd h
 telling_taken (Outcomes sets limit pick kept) kind file bytes m args logged told run h = absurd h
 telling_taken (Expected sets limit) kind file bytes m args logged told run h = absurd h
+telling_taken (Json s) kind file bytes m args logged told run h = absurd h
 
 -- what is told isn't printed
 telling_unprinted : (what : Doing) (kind : Form) (file bytes : List ℕ) (m : ModuleValue) (args : List ℤ) (logged : List ℕ) (told : Tale) (out log : List ℕ)
@@ -397,6 +417,7 @@ telling_unprinted (Run way kept) kind file bytes m args logged told out log h p 
 telling_unprinted Replay kind file bytes m args logged told out log h p = h
 telling_unprinted (Outcomes sets limit pick kept) kind file bytes m args logged told out log h p = h
 telling_unprinted (Expected sets limit) kind file bytes m args logged told out log h p = h
+telling_unprinted (Json s) kind file bytes m args logged told out log h p = h
 
 telling_accepted : (what : Doing) (kind : Form) (file bytes : List ℕ) (m : ModuleValue) (args : List ℤ) (logged : List ℕ) (told : Tale) → asks_verifier what ≡ true
     → IsTelling what kind file bytes m args logged told → IsAccepted m
@@ -413,6 +434,7 @@ telling_accepted (Run way kept) kind file bytes m args logged told asks h = absu
 telling_accepted Replay kind file bytes m args logged told asks h = absurd h
 telling_accepted (Outcomes sets limit pick kept) kind file bytes m args logged told asks h = absurd h
 telling_accepted (Expected sets limit) kind file bytes m args logged told asks h = absurd h
+telling_accepted (Json s) kind file bytes m args logged told asks h = absurd h
 
 -- it goes to standard output, and nothing to the log, and the status says whether it is whole
 pub text_told : (P : Tale → Type 0) (d : Done) → IsText P d
@@ -436,9 +458,13 @@ told_once t bytes logged m d e one given p q =
 
 -- ---- lists
 
--- what reads a list holds outcomes against it
-lists_alone : (what : Doing) → reads_list what ≡ true → (sets : Bool) × (limit : Option ℕ) × (what ≡ Expected sets limit)
-lists_alone (Expected sets limit) lists = (sets, limit, refl)
+-- what reads a list holds outcomes against it, and says so in a line or in a value
+lists_alone : (what : Doing) → reads_list what ≡ true
+    → (sets : Bool) × (limit : Option ℕ) × ((what ≡ Expected sets limit) ⊎ (what ≡ Json (ExpectedShown sets limit)))
+lists_alone (Expected sets limit) lists = (sets, limit, inl refl)
+lists_alone (Json (RunShown way kept)) lists = absurd (false≢true lists)
+lists_alone (Json (OutcomesShown sets limit pick kept)) lists = absurd (false≢true lists)
+lists_alone (Json (ExpectedShown sets limit)) lists = (sets, limit, inr refl)
 lists_alone (Outcomes sets limit pick kept) lists = absurd (false≢true lists)
 lists_alone (Explain json) lists = absurd (false≢true lists)
 lists_alone Check lists = absurd (false≢true lists)
@@ -454,23 +480,39 @@ lists_alone (OutcomePage window limit pick) lists = absurd (false≢true lists)
 
 -- and reads no log
 list_or_log : (what : Doing) → reads_list what ≡ true → reads_log what ≡ true → ⊥
-list_or_log what lists reads = let e = lists_alone what lists in false≢true (ap reads_log (sym e.2) ∙ reads)
+list_or_log what lists reads = by (lists_alone what lists).2
+  where
+    by : {sets : Bool} {limit : Option ℕ} → (what ≡ Expected sets limit) ⊎ (what ≡ Json (ExpectedShown sets limit)) → ⊥
+    by (inl e) = false≢true (ap reads_log (sym e) ∙ reads)
+    by (inr e) = false≢true (ap reads_log (sym e) ∙ reads)
 
 -- where outcomes are held against a list, each of its lines may stand there
 prints_listed : (what : Doing) (m : ModuleValue) (args : List ℤ) (logged out log : List ℕ) (line : ℕ) → reads_list what ≡ true → Prints what m args logged out log
     → stray_line (list_in logged) ≡ Some line → ⊥
-prints_listed what m args logged out log line lists p stray =
-    let e = lists_alone what lists in
-    let held : Prints (Expected e.0 e.1) m args logged out log = subst (λ x. Prints x m args logged out log) e.2 p in
-    none-some line (sym held.2 ∙ stray)
+prints_listed what m args logged out log line lists p stray = by (lists_alone what lists).2
+  where
+    by : {sets : Bool} {limit : Option ℕ} → (what ≡ Expected sets limit) ⊎ (what ≡ Json (ExpectedShown sets limit)) → ⊥
+    by {sets = sets} {limit = limit} (inl e) =
+        let held : Prints (Expected sets limit) m args logged out log = subst (λ x. Prints x m args logged out log) e p in
+        none-some line (sym held.2 ∙ stray)
+    by {sets = sets} {limit = limit} (inr e) =
+        let held : Prints (Json (ExpectedShown sets limit)) m args logged out log = subst (λ x. Prints x m args logged out log) e p in
+        none-some line (sym held.1.1 ∙ stray)
 
 -- of what reads a list nothing is told
 telling_unlisted : (what : Doing) (kind : Form) (file bytes : List ℕ) (m : ModuleValue) (args : List ℤ) (logged : List ℕ) (told : Tale) → reads_list what ≡ true
     → IsTelling what kind file bytes m args logged told → ⊥
-telling_unlisted what kind file bytes m args logged told lists h =
-    let e = lists_alone what lists in
-    let none : IsTelling (Expected e.0 e.1) kind file bytes m args logged told = subst (λ x. IsTelling x kind file bytes m args logged told) e.2 h in
-    none
+telling_unlisted what kind file bytes m args logged told lists h = by (lists_alone what lists).2
+  where
+    by : {sets : Bool} {limit : Option ℕ} → (what ≡ Expected sets limit) ⊎ (what ≡ Json (ExpectedShown sets limit)) → ⊥
+    by {sets = sets} {limit = limit} (inl e) =
+        let none : IsTelling (Expected sets limit) kind file bytes m args logged told =
+        subst (λ x. IsTelling x kind file bytes m args logged told) e h in
+        none
+    by {sets = sets} {limit = limit} (inr e) =
+        let none : IsTelling (Json (ExpectedShown sets limit)) kind file bytes m args logged told =
+        subst (λ x. IsTelling x kind file bytes m args logged told) e h in
+        none
 
 -- ---- what is said of a module
 
@@ -525,6 +567,7 @@ determined (Tally seed runs) one = tt
 determined (OutcomePage window limit pick) one = absurd one
 determined (Outcomes sets limit pick kept) one = absurd one
 determined (Expected sets limit) one = absurd one
+determined (Json s) one = one
 
 -- and has one status
 determined_status : (what : Doing) → IsDetermined what → HasOneStatus what
@@ -543,6 +586,7 @@ determined_status (Tally seed runs) one = tt
 determined_status (OutcomePage window limit pick) one = absurd one
 determined_status (Outcomes sets limit pick kept) one = absurd one
 determined_status (Expected sets limit) one = absurd one
+determined_status (Json s) one = shown_status s one
 
 module _ (t : Task) (bytes : List ℕ) (m : ModuleValue) (logged : List ℕ) (r s : Reply) (given : Gives t.form bytes m) where
   same_said : Said t bytes m logged r → Said t bytes m logged s → IsSameReply t.doing r s

@@ -28,3 +28,4 @@ explains (command.Why log step) json e = cc
 explains (command.Races log) json e = cc
 explains (command.Outcomes limit pick log sets) json e = cc
 explains (command.Expected list limit sets) json e = cc
+explains (command.Json v) json e = cc

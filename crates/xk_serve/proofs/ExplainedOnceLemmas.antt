@@ -25,7 +25,7 @@ use Rattle.xk_answers.specs.declared.job_result.Done.TheVariants as done
 use Rattle.xk_answers.specs.Explanation.{IsExplanation, Tale, fault_said, refusal_said}
 use Rattle.xk_answers.specs.Printed.{done_status, done_text, whole_status}
 use Rattle.xk_answers.specs.Results.{Check, ComesTo, Compile, Doing, Draw, Expected, Explain, IsTelling}
-use Rattle.xk_answers.specs.Results.{IsText, Listing, OutcomePage, Outcomes, Races, Replay, Run, Tally, Where}
+use Rattle.xk_answers.specs.Results.{IsText, Json, Listing, OutcomePage, Outcomes, Races, Replay, Run, Tally, Where}
 use Rattle.xk_serve.specs.Notes.{may_note}
 use Rattle.xk_serve.proofs.NoteLemmas.{unnoted}
 use Rattle.xk_serve.specs.Answer.{Answers, FailsBy, IsSaidBy, IsSaidOf, Reply, Task, done_reply, fault_reply, reads_list, reads_log, runs}
@@ -88,6 +88,7 @@ said_by_once (Tally seed count) kind file bytes f a b h k = h ∙ sym k
 said_by_once (OutcomePage window limit pick) kind file bytes f a b h k = h ∙ sym k
 said_by_once (Outcomes sets limit pick kept) kind file bytes f a b h k = h ∙ sym k
 said_by_once (Expected sets limit) kind file bytes f a b h k = h ∙ sym k
+said_by_once (Json s) kind file bytes f a b h k = h ∙ sym k
 
 pub said_once : (t : Task) (bytes : List ℕ) (f : Fault) (a b : List ℕ) → IsSaidOf t bytes f a → IsSaidOf t bytes f b → a ≡ b
 said_once t bytes f a b h k = said_by_once t.doing t.form t.file bytes f a b h k

@@ -7,6 +7,7 @@ pub mod RunUniquenessLemmas
 pub mod NoteLemmas
 pub mod ReplyLemmas
 pub mod RunLogLemmas
+pub mod ShownUniquenessLemmas
 pub mod LoneRunLemmas
 pub mod SomeBytesLemmas
 pub mod TaskLemmas

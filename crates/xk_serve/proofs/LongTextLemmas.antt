@@ -16,7 +16,7 @@ use Rattle.xk_module.specs.declared.fault.ModuleFault.{ModuleFault}
 use Rattle.xk_program.specs.Programs.{Gives, IsNoModule, IsNoSource, IsNoText, IsTooLong, longest_module, longest_source}
 use Rattle.xk_program.specs.Bytes.{kept}
 use Rattle.xk_answers.specs.Results.{Check, ComesTo, Compile, Doing, Draw, Expected, Explain, IsTelling}
-use Rattle.xk_answers.specs.Results.{IsText, Listing, OutcomePage, Outcomes, Races, Replay, Run, Tally, Where}
+use Rattle.xk_answers.specs.Results.{IsText, Json, Listing, OutcomePage, Outcomes, Races, Replay, Run, Tally, Where}
 use Rattle.xk_serve.specs.Answer.{FailsBy, GivesAccepted, IsSaidBy, IsSaidOf, Succeeds, Task}
 use Rattle.xk_explain_expected.specs.Notes.{expected_notes}
 use Rattle.xk_program.specs.Origins.{IsByProgram, IsByTree}
@@ -180,6 +180,7 @@ same_said (Tally seed runs) kind file bytes known said f e h = h
 same_said (OutcomePage window limit pick) kind file bytes known said f e h = h
 same_said (Outcomes sets limit pick kept) kind file bytes known said f e h = h
 same_said (Expected sets limit) kind file bytes known said f e h = h
+same_said (Json s) kind file bytes known said f e h = h
 
 said_kept : (t : Task) (bytes known logged said : List ℕ) (f : Fault) → bytes ≡ kept t.form known → FailsBy t bytes logged f → IsSaidOf t bytes f said → IsSaidOf t known f said
 said_kept t bytes known logged said f e h =
@@ -200,6 +201,7 @@ device_unsaid (Tally seed runs) kind file bytes said h = h
 device_unsaid (OutcomePage window limit pick) kind file bytes said h = h
 device_unsaid (Outcomes sets limit pick kept) kind file bytes said h = h
 device_unsaid (Expected sets limit) kind file bytes said h = h
+device_unsaid (Json s) kind file bytes said h = h
 
 -- the same of the faults that are no device's
 stands : (t : Task) (known logged : Option (List ℕ)) (bytes : List ℕ) (n : Reads) (f : Fault) (said : List ℕ) → n.program_new ≡ n.program_old → n.log_new ≡ n.log_old

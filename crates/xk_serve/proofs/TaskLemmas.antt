@@ -10,7 +10,7 @@ use Rattle.xk_answers.specs.declared.job_result.Done.{Done}
 use Rattle.xk_program.specs.declared.fault.Fault.{Fault}
 use Rattle.xk_program.specs.declared.fault.Fault.TheVariants as fault
 use Rattle.xk_answers.specs.Results.{Check, ComesTo, Compile, Doing, Draw, Expected, Explain, IsNoRun, IsTelling}
-use Rattle.xk_answers.specs.Results.{IsText, Listing, OutcomePage, Outcomes, Races, Replay, Run, Tally, Where}
+use Rattle.xk_answers.specs.Results.{IsText, Json, Listing, OutcomePage, Outcomes, Races, Replay, Run, Tally, Where}
 use Rattle.xk_serve.specs.Answer.{FailsBy, Succeeds, Task, asks_verifier, reads_list, reads_log, reads_more, runs, wants_legal, wants_whole}
 use Rattle.xk_program.specs.Refusals.{IsNotRun, IsRefusal}
 use Rattle.std.proofs.lemmas.Result.{IfOk-weaker}
@@ -193,6 +193,7 @@ runs_asks (Tally seed runs) h = refl
 runs_asks (OutcomePage window limit pick) h = refl
 runs_asks (Outcomes sets limit pick kept) h = refl
 runs_asks (Expected sets limit) h = refl
+runs_asks (Json s) h = refl
 
 against_not_run : (t : Task) (bytes : List ℕ) (known : Option (List ℕ)) (old new : ℕ) (m : ModuleValue) (f : Fault) → new ≡ old → runs t.doing ≡ true
     → Gives t.form bytes m → IsNotRun m t.arguments f → AgainstLog t bytes known old new f
@@ -290,6 +291,7 @@ reads_runs (Tally seed runs) h = refl
 reads_runs (OutcomePage window limit pick) h = refl
 reads_runs (Outcomes sets limit pick kept) h = refl
 reads_runs (Expected sets limit) h = refl
+reads_runs (Json s) h = refl
 
 against_either : (t : Task) (bytes : List ℕ) (known : Option (List ℕ)) (old new : ℕ) (m : ModuleValue) (f : Fault) → reads_log t.doing ≡ true
     → MayStand t.doing f → Gives t.form bytes m → AgainstModule m t.arguments known old new f → AgainstLog t bytes known old new f
@@ -354,6 +356,7 @@ lists_runs (Tally seed runs) h = refl
 lists_runs (OutcomePage window limit pick) h = refl
 lists_runs (Outcomes sets limit pick kept) h = refl
 lists_runs (Expected sets limit) h = refl
+lists_runs (Json s) h = refl
 
 -- a module that isn't run, or a line that may not stand in a list
 against_listed : (t : Task) (bytes : List ℕ) (known : Option (List ℕ)) (old new : ℕ) (m : ModuleValue) (f : Fault) → reads_list t.doing ≡ true → Gives t.form bytes m

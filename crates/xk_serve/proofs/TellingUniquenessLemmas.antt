@@ -17,9 +17,9 @@ use Rattle.xk_types.specs.declared.world.Entry.{Entry}
 use Rattle.xk_answers.specs.declared.picture.Picture.{Picture}
 use Rattle.xk_answers.specs.declared.picture.Picture.TheVariants as picture
 use Rattle.xk_answers.specs.Results.{Check, Compile, Doing, Draw, Expected, Explain, IsPicture, IsTelling}
-use Rattle.xk_answers.specs.Results.{Listing, OutcomePage, Outcomes, Races, Replay, Run, Tally, Where}
+use Rattle.xk_answers.specs.Results.{Json, Listing, OutcomePage, Outcomes, Races, Replay, Run, Tally, Where}
 use Rattle.xk_program.specs.Origins.{HaveOrigins, HaveSharedNames, IsByNames, IsByOrigins}
-use Rattle.xk_answers.specs.Explanation.{HaveHints, IsListed, Tale, acceptance_told, events_so_far, image_so_far, lanes_so_far, page_so_far, races_told, span_told, where_told}
+use Rattle.xk_answers.specs.Explanation.{HaveHints, IsListed, Tale, acceptance_told, event_values_so_far, events_so_far, image_so_far, lanes_so_far, page_so_far, races_told, span_told, where_told}
 use Rattle.xk_answers.specs.Explanation.{why_told}
 use Rattle.xk_cli.specs.declared.job.Order.TheVariants as order
 use Rattle.xk_program.specs.Programs.{Gives}
@@ -82,6 +82,8 @@ picture_once : (p : Picture) (kind : Form) (file bytes : List ℕ) (m : ModuleVa
 picture_once picture.Chart kind file bytes m args es last a b given h k = h ∙ sym k
 picture_once picture.Events kind file bytes m args es last a b given h k =
     by_names_once kind bytes m (events_so_far bytes m args es last) a b given h k
+picture_once picture.EventValues kind file bytes m args es last a b given h k =
+    by_names_once kind bytes m (event_values_so_far bytes m args es last) a b given h k
 picture_once (picture.Lanes window) kind file bytes m args es last a b given h k =
     by_names_once kind bytes m (lanes_so_far bytes window m es last) a b given h k
 picture_once (picture.Image window) kind file bytes m args es last a b given h k =
@@ -129,4 +131,5 @@ telling_once (Run way kept) kind file bytes m args logged a b one given h k = ab
 telling_once Replay kind file bytes m args logged a b one given h k = absurd h
 telling_once (Outcomes sets limit pick kept) kind file bytes m args logged a b one given h k = absurd h
 telling_once (Expected sets limit) kind file bytes m args logged a b one given h k = absurd h
+telling_once (Json s) kind file bytes m args logged a b one given h k = absurd h
 telling_once (OutcomePage window limit pick) kind file bytes m args logged a b one given h k = absurd one

@@ -5,6 +5,8 @@ use Rattle.xk_types.specs.World.{AreArguments}
 use Rattle.xk_types.specs.Acceptance.{IsAccepted}
 use Rattle.xk_cli.specs.declared.job.Command.{Command}
 use Rattle.xk_cli.specs.declared.job.Command.TheVariants as command
+use Rattle.xk_cli.specs.declared.job.Values.{Values}
+use Rattle.xk_cli.specs.declared.job.Values.TheVariants as values
 use Rattle.xk_cli.specs.declared.job.Form.{Form}
 use Rattle.xk_cli.specs.declared.job.Form.TheVariants as form
 use Rattle.xk_cli.specs.declared.job.Job.{Job}
@@ -21,7 +23,7 @@ use Rattle.xk_serve.specs.Notes.{told_of}
 use Rattle.xk_program.specs.Programs.{Gives, IsNoModule, IsNoSource}
 use Rattle.xk_answers.specs.Explanation.{IsExplanation}
 use Rattle.xk_answers.specs.Results.{Doing, way_given, window_given, lanes_given, list_in, ComesTo, IsTelling, IsText, IsNoRun, is_of_whole, Check, Explain, Compile, Listing, Run, Replay, Draw, Where, Races, Tally, Outcomes, Expected}
-use Rattle.xk_answers.specs.Results.{OutcomePage}
+use Rattle.xk_answers.specs.Results.{ExpectedShown, Json, OutcomePage, OutcomesShown, RunShown, Shown}
 use Rattle.xk_program.specs.Refusals.{IsMisfit}
 
 -- whether the module is run, and main given its arguments
@@ -45,9 +47,15 @@ reads_log (Draw picture) = true
 reads_log (Where at) = true
 reads_log _ = false
 
+-- whether outcomes are held against a list
+abbrev pub is_held : Shown → Bool
+is_held (ExpectedShown sets limit) = true
+is_held _ = false
+
 -- whether a list of outcomes is read
 abbrev pub reads_list : Doing → Bool
 reads_list (Expected sets limit) = true
+reads_list (Json s) = is_held s
 reads_list _ = false
 
 -- whether one of these is, beside the program
@@ -70,6 +78,13 @@ abbrev pub races_by : Bool → Doing
 races_by true = Draw picture.Races
 races_by false = Races
 
+-- what is told as JSON: a value for each step of the run that a log has, or one value
+abbrev pub values_doing : Values → Doing
+values_doing (values.Run given path) = Json (RunShown (way_given given) (is_some path))
+values_doing (values.Events log) = Draw picture.EventValues
+values_doing (values.Outcomes limit pick path sets) = Json (OutcomesShown sets limit (unwrap_or pick 1) (is_some path))
+values_doing (values.Expected list limit sets) = Json (ExpectedShown sets limit)
+
 -- a log is kept where there is a path for it
 abbrev pub doing_of : Command → Doing
 doing_of command.Check = Check
@@ -90,6 +105,7 @@ doing_of (command.Races path) = races_by (is_some path)
 doing_of (command.Tally seed runs) = Tally seed runs
 doing_of (command.Outcomes limit pick path sets) = Outcomes sets limit (unwrap_or pick 1) (is_some path)
 doing_of (command.Expected list limit sets) = Expected sets limit
+doing_of (command.Json v) = values_doing v
 
 -- what is to be done with a file, what it is called, what stands in it, and what main is given where it is run
 pub record Task : Type 0 where

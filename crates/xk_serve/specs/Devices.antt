@@ -19,7 +19,7 @@ use Rattle.xk_answers.specs.Results.{Doing, longest_list}
 use Rattle.xk_program.specs.Bytes.{LosesAtMost, kept}
 use Rattle.xk_program.specs.Lines.{device_line, fault_line, status_of}
 use Rattle.xk_answers.specs.Printed.{done_log, done_text}
-use Rattle.xk_serve.specs.Lines.{excluded_line, list_line, page_line, pick_line, processors_line, runs_line, seed_line}
+use Rattle.xk_serve.specs.Lines.{excluded_line, json_line, list_line, page_line, pick_line, processors_line, runs_line, seed_line}
 use Rattle.xk_messages.specs.Lines.{memory_line}
 
 -- all that is printed of it went to standard output, and its log to the log's device
@@ -170,4 +170,5 @@ TellsWords words.ProcessorsAlone On_out On_err = On_err processors_line status_w
 TellsWords words.MisplacedList On_out On_err = On_err list_line status_words
 TellsWords words.PickAlone On_out On_err = On_err pick_line status_words
 TellsWords words.UnclearPage On_out On_err = On_err page_line status_words
+TellsWords words.MisplacedJson On_out On_err = On_err json_line status_words
 TellsWords words.OutOfMemory On_out On_err = On_err memory_line status_memory

@@ -28,3 +28,7 @@ pick_line = codes "x10clock: --pick goes with --log\n"
 -- they have a page, and it is unclear of which run
 abbrev pub page_line : List ℕ
 page_line = codes "x10clock: page takes either LOG or --outcome, and --limit goes with --outcome\n"
+
+-- they have `--json` with a run that is told by no value
+abbrev pub json_line : List ℕ
+json_line = codes "x10clock: --json goes without --order ask and --runs\n"

@@ -19,7 +19,7 @@ use Rattle.xk_program.specs.declared.fault.Fault.TheVariants as fault
 use Rattle.xk_bounds.specs.declared.refusal.Refusal.{Refusal}
 use Rattle.xk_bounds.specs.declared.refusal.Refusal.TheVariants as refusal
 use Rattle.xk_serve.specs.Answer.{Answers, IsSaidOf, Reply, Task, done_reply, fault_reply}
-use Rattle.xk_answers.specs.Results.{Check, Doing, Draw, Expected, Explain, IsLogText, OutcomePage, Outcomes, Replay, Run}
+use Rattle.xk_answers.specs.Results.{Check, Doing, Draw, Expected, Explain, IsLogText, Json, OutcomePage, Outcomes, Replay, Run, RunShown, Shown}
 use Rattle.xk_messages.specs.Lines.{ended_line, kind_text, line, rounds_line}
 use Rattle.xk_program.specs.Programs.{Gives, IsSource, SpellsNone}
 
@@ -49,11 +49,23 @@ pub record TellWalks (a b : List ℕ) : Type 0 where
 abbrev pub IsSameLine : List ℕ → List ℕ → Type 0
 IsSameLine a b = (a ≡ b) ⊎ TellWalks a b
 
+-- what is told as one value is one: of a run that no workers take
+abbrev pub IsOneShown : Shown → Type 0
+IsOneShown (RunShown (By n) kept) = ⊥
+IsOneShown (RunShown way kept) = ⊤
+IsOneShown _ = ⊥
+
+-- and has one status: of any run
+abbrev pub HasOneShownStatus : Shown → Type 0
+HasOneShownStatus (RunShown way kept) = ⊤
+HasOneShownStatus _ = ⊥
+
 -- what it comes to is one: no workers take the steps, and no outcomes are looked for, which may be told in any order, and of which one may be without all
 abbrev pub ComesToOne : Doing → Type 0
 ComesToOne (Run (By n) kept) = ⊥
 ComesToOne (Outcomes sets limit pick kept) = ⊥
 ComesToOne (Expected sets limit) = ⊥
+ComesToOne (Json s) = IsOneShown s
 ComesToOne _ = ⊤
 
 -- what goes to standard output is one: what it comes to is, and no page is made of an outcome, of which there may be several runs, and no refusal is
@@ -64,6 +76,7 @@ IsDetermined (Outcomes sets limit pick kept) = ⊥
 IsDetermined (Expected sets limit) = ⊥
 IsDetermined (OutcomePage window limit pick) = ⊥
 IsDetermined (Explain json) = ⊥
+IsDetermined (Json s) = IsOneShown s
 IsDetermined _ = ⊤
 
 -- the status is one: no outcomes are looked for, which may be all or not, and of which one may be there or not
@@ -71,6 +84,7 @@ abbrev pub HasOneStatus : Doing → Type 0
 HasOneStatus (Outcomes sets limit pick kept) = ⊥
 HasOneStatus (Expected sets limit) = ⊥
 HasOneStatus (OutcomePage window limit pick) = ⊥
+HasOneStatus (Json s) = HasOneShownStatus s
 HasOneStatus _ = ⊤
 
 -- Two replies to a job are one, but for the walk to a refusal of kinds; where workers take the steps, but for the numbers and the log of the run; where

@@ -15,6 +15,7 @@ ghost use Rattle.xk_program.specs.Lines.{status_of};
 ghost use Rattle.xk_serve.specs.Devices.{AgainstLog, IsListReadToLimit, read_of};
 ghost use Rattle.xk_program.specs.declared.fault.Fault.TheVariants.{OutOfMemory};
 
+use crate::values::answer_values;
 use std::alloc::{AllocError, Global};
 use xk_answers::{
     Done, Finished, Picture, drawn, held, lanes_given, listing, paged, raced, replayed, searched,
@@ -118,6 +119,7 @@ pub(crate) fn answer<
         Command::Expected { limit, sets, .. } => {
             held(alloc, sets, limit, program.module, arguments, log_in)
         }
+        Command::Json(values) => answer_values(crew, alloc, values, job, bytes, program, log_in),
     }
 }
 
@@ -179,7 +181,7 @@ fn run_driven<F: FnOnce(Drive, bool, &Verified, &[i64]) -> Result<Finished, Allo
 }
 
 /// The run of a module with these arguments that the crew gives.
-fn run_by<F: FnOnce(Drive, bool, &Verified, &[i64]) -> Result<Finished, AllocError>>(
+pub(crate) fn run_by<F: FnOnce(Drive, bool, &Verified, &[i64]) -> Result<Finished, AllocError>>(
     crew: F,
     drive: Drive,
     keeps_log: bool,

@@ -24,8 +24,8 @@ use std::thread::Threads;
 use xk_answers::{Done, Finished, Refused, explained, run_as, unsaid};
 use xk_bounds::Verified;
 use xk_cli::{
-    Drive, EXCLUDED_LINE, Job, LIST_LINE, PAGE_LINE, PICK_LINE, PROCESSORS_LINE, RUNS_LINE,
-    SEED_LINE, WordsFault, status,
+    Drive, EXCLUDED_LINE, JSON_LINE, Job, LIST_LINE, PAGE_LINE, PICK_LINE, PROCESSORS_LINE,
+    RUNS_LINE, SEED_LINE, WordsFault, status,
 };
 use xk_io::{Device, write_all};
 use xk_log::write_entries;
@@ -343,6 +343,7 @@ pub fn tell_words<O: Sink, E: Sink>(fault: &WordsFault, out: &mut O, err: &mut E
         WordsFault::MisplacedList => tell(LIST_LINE, status::WORDS, err),
         WordsFault::PickAlone => tell(PICK_LINE, status::WORDS, err),
         WordsFault::UnclearPage => tell(PAGE_LINE, status::WORDS, err),
+        WordsFault::MisplacedJson => tell(JSON_LINE, status::WORDS, err),
         WordsFault::OutOfMemory => tell(MEMORY_LINE, status::MEMORY, err),
     }
 }

@@ -1,14 +1,14 @@
 //! What stands against a job, with what is said of it beside its line.
 
 ghost use Rattle.std.specs.Prelude.{◌≡◌, ◌++◌, []};
-ghost use Rattle.xk_serve.specs.Answer.{doing_of};
+ghost use Rattle.xk_serve.specs.Answer.{doing_of, values_doing};
 ghost use Rattle.xk_serve.specs.Devices.{IsQuiet, Tells};
 ghost use Rattle.xk_serve.specs.Notes.{may_note, note_of};
 
 use crate::devices::tell;
 use std::alloc::Global;
 use xk_answers::{Refused, unsaid};
-use xk_cli::{Command, status};
+use xk_cli::{Command, Values, status};
 use xk_io::write_all;
 use xk_program::Fault;
 use xk_types::Sink;
@@ -90,6 +90,7 @@ fn may_note(command: &Command<'_>) -> bool
         | Command::Span { .. }
         | Command::Why { .. } => true,
         Command::Races { log } => log.is_some(),
+        Command::Json(values) => may_note_values(values),
         Command::Check
         | Command::Explain { .. }
         | Command::Listing
@@ -101,6 +102,16 @@ fn may_note(command: &Command<'_>) -> bool
         | Command::OutcomePage { .. }
         | Command::Outcomes { .. }
         | Command::Expected { .. } => false,
+    }
+}
+
+/// The same of what is told as JSON.
+fn may_note_values(values: &Values<'_>) -> bool
+    ensures { result ≡ may_note (values_doing values.now) }
+{
+    match values {
+        Values::Events { .. } => true,
+        Values::Run { .. } | Values::Outcomes { .. } | Values::Expected { .. } => false,
     }
 }
 

@@ -1,13 +1,9 @@
-use Rattle.std.proofs.Common.{◌≡◌, ◌∙◌, ◌&&◌, not, Option, None, Some, option_map, refl, ap}
+use Rattle.std.proofs.Common.{◌∙◌, ◌&&◌, not, ap}
 use Rattle.std.specs.Prelude.{is_some}
 use Rattle.xk_outcomes.specs.Text.{outcomes_text}
 use Rattle.xk_answers.specs.Results.{kept_log}
+use Rattle.xk_answers.proofs.PrintedLemmas.{made_there}
 use Rattle.xk_answers.proofs.outcome_search.found_out.Goals as goal
-
--- what is made of something is there where that is
-made_there : {X Y : Type 0} (f : X → Y) (o : Option X) → is_some o ≡ is_some (option_map f o)
-made_there f None = refl
-made_there f (Some x) = refl
 
 pub returns : goal.returns
 returns c =

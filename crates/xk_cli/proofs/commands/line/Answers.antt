@@ -1,6 +1,6 @@
 use Rattle.std.proofs.lemmas.Result.{IfOk-weaker}
 use Rattle.std.specs.Prelude.{codes}
-use Rattle.xk_cli.specs.CommandLine.{check_line, compile_line, explain_line, lanes_line, listing_line, on_run, outcomes_line, page_line, program, races_line, run_line, where_line, why_line}
+use Rattle.xk_cli.specs.CommandLine.{check_line, compile_line, events_line, explain_line, lanes_line, listing_line, on_run, outcomes_line, page_line, program, races_line, run_line, where_line, why_line}
 use Rattle.xk_cli.proofs.CommandLineLemmas.{names_of}
 use Rattle.xk_cli.proofs.commands.line.Goals as goal
 
@@ -16,7 +16,7 @@ returns c =
     let seven = c.add-line-7.ensures _ races_line six c.races_line.ensures.shape c.races_line.ensures.local in
     let eight = c.add-line-8.ensures _ (on_run (codes "replay")) seven c.replay_line.ensures.shape c.replay_line.ensures.local in
     let nine = c.add-line-9.ensures _ (on_run (codes "chart")) eight c.chart_line.ensures.shape c.chart_line.ensures.local in
-    let ten = c.add-line-10.ensures _ (on_run (codes "events")) nine c.events_line.ensures.shape c.events_line.ensures.local in
+    let ten = c.add-line-10.ensures _ events_line nine c.events_line.ensures.shape c.events_line.ensures.local in
     let eleven = c.add-line-11.ensures _ lanes_line ten c.lanes_line.ensures.shape c.lanes_line.ensures.local in
     let twelve = c.add-line-12.ensures _ page_line eleven c.page_line.ensures.shape c.page_line.ensures.local in
     let thirteen = c.add-line-13.ensures _ where_line twelve c.where_line.ensures.shape c.where_line.ensures.local in

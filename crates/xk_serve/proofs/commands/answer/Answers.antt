@@ -205,3 +205,12 @@ pub returns-in-Expected-clause-fault : goal.returns-in-Expected-clause-fault
 returns-in-Expected-clause-fault g c =
     let what = Expected c.in-Expected.sets c.in-Expected.limit in
     against_list (task_of c.args.job.now) c.args.bytes.now (g.L.Source.remaining c.args.log_in.now) _ _ _ what c.as_slice-arguments.result.now c.held.result (ap doing_of c.in-Expected.is) c.as_slice-arguments.ensures.value refl c.in_ok-program.ensures.module c.held.ensures.fault
+
+pub answer_values-requires-clause-doing : goal.answer_values-requires-clause-doing
+answer_values-requires-clause-doing g c = ap doing_of c.in-Json.is
+
+pub answer_values-requires-clause-from : goal.answer_values-requires-clause-from
+answer_values-requires-clause-from g c = (
+  c.in_ok-program.ensures.from.0,
+  λ shows. c.in_ok-program.ensures.from.1 (c.shows_origins.ensures ∙ ap shows_origins c.in-Json.is ∙ shows),
+)

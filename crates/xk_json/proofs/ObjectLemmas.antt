@@ -11,8 +11,8 @@ use Rattle.serde_json.specs.Data.{Data, object, Members, no_members, member, put
 use Rattle.serde_json.specs.View.{items_of, members_view}
 use Rattle.serde_json.specs.declared.value.Value.{Value}
 use Rattle.serde_json.specs.Written.{has_float, items_have_float, members_have_float}
-use Rattle.xk_explain_json.specs.Objects.{array_of}
-use Rattle.xk_explain_json.specs.Plain.{IsPlain, ArePlain}
+use Rattle.xk_json.specs.Objects.{array_of}
+use Rattle.xk_json.specs.Plain.{IsPlain, ArePlain}
 
 put_no_float : (k : List ℕ) (d : Data) (ms : Members) → has_float d ≡ false → members_have_float ms ≡ false → members_have_float (put k d ms) ≡ false
 put_no_float k d no_members p q = or_from (has_float d) false p refl

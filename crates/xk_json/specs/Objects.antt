@@ -1,16 +1,21 @@
 -- JSON objects that are put together from groups of members, and the line that each is written in. This project's own.
-use Rattle.std.specs.Prelude.{◌≡◌, ℕ, List, [], ◌∷◌, ◌++◌, map, codes, Option, Some, None}
+use Rattle.std.specs.Prelude.{◌≡◌, ℕ, ℤ, List, [], ◌∷◌, ◌++◌, map, codes, Option, Some, None}
 use Rattle.std.specs.Str.Lossy.{utf8_lossy}
 use Rattle.serde_json.specs.Data.{Data, number, string, array, object, unsigned, Members, no_members, put}
+use Rattle.serde_json.specs.Find.{of_integer}
 use Rattle.serde_json.specs.Read.{read}
 use Rattle.serde_json.specs.View.{items_of, members_view}
 use Rattle.serde_json.specs.Written.{compact_text}
-use Rattle.xk_explain_json.specs.declared.object.Object.{Object}
+use Rattle.xk_json.specs.declared.object.Object.{Object}
 
 -- ---- values
 
 abbrev pub number_value : ℕ → Data
 number_value n = number (unsigned n)
+
+-- a number that may be less than 0
+abbrev pub integer_value : ℤ → Data
+integer_value z = number (of_integer z)
 
 -- bytes as a text: what is no UTF-8 among them is told by the sign U+FFFD
 abbrev pub bytes_value : List ℕ → Data
@@ -19,6 +24,10 @@ bytes_value bytes = string (utf8_lossy bytes)
 -- the values of a list's elements, in its order
 abbrev pub array_of : {A : Type 0} → (A → Data) → List A → Data
 array_of value xs = array (items_of (map value xs))
+
+-- a list of numbers
+abbrev pub integers_value : List ℤ → Data
+integers_value ns = array_of integer_value ns
 
 -- ---- objects
 

@@ -1,6 +1,6 @@
 use Rattle.serde_json.specs.View.{view}
-use Rattle.xk_explain_json.proofs.ObjectLemmas.{put_in_plain}
-use Rattle.xk_explain_json.proofs.object.Object.put.Goals as goal
+use Rattle.xk_json.proofs.ObjectLemmas.{put_in_plain}
+use Rattle.xk_json.proofs.object.Object.put.Goals as goal
 
 pub invariant_of-self : goal.invariant_of-self
 invariant_of-self c = record {

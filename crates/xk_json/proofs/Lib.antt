@@ -1,0 +1,3 @@
+mod Examples
+pub mod ObjectLemmas
+pub mod PlainLemmas
