@@ -123,7 +123,7 @@ COMMANDS: dict[str, tuple[set[str], set[str], list[str]]] = {
     "replay": ({"arg"}, {"module"}, ["FILE", "LOG"]),
     "chart": ({"arg"}, {"module"}, ["FILE", "LOG"]),
     "events": ({"arg"}, {"module"}, ["FILE", "LOG"]),
-    "lanes": ({"from", "to", "arg"}, {"module", "svg"}, ["FILE", "LOG"]),
+    "lanes": ({"from", "to", "arg"}, {"module", "svg", "path"}, ["FILE", "LOG"]),
     "page": ({"outcome", "limit", "from", "to", "arg"}, {"module"}, ["FILE", "LOG" + MAYBE]),
     "where": ({"at", "arg"}, {"module"}, ["FILE", "LOG"]),
     "span": ({"arg"}, {"module"}, ["FILE", "LOG"]),
@@ -567,6 +567,7 @@ def answered(job: Job, data: bytes, given: BinaryIO, log_in: BinaryIO | None, lo
         "svg" in job.flags,
         int(job.values["at"]) if "at" in job.values else None,
         int(job.values.get("STEP", "1")),
+        "path" in job.flags,
     )
     return Told(status, out, err.removesuffix("\n"))
 
