@@ -422,6 +422,8 @@ class Comparer:
                 ["events"],
                 ["lanes"],
                 ["lanes", "--svg"],
+                ["lanes", "--path"],
+                ["lanes", "--svg", "--path"],
                 ["page"],
                 ["races"],
                 ["span"],
@@ -436,9 +438,10 @@ class Comparer:
                         Program(text, not self.source),
                         logs.text_of(log),
                         given,
-                        is_picture=flags == ["--svg"],
+                        is_picture="--svg" in flags,
                         at=step if flags and command == "where" else None,
                         step=of,
+                        has_path="--path" in flags,
                     )
                 )
                 behind = (file.name, str(of)) if command == "why" else (file.name,)

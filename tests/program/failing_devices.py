@@ -91,8 +91,8 @@ CALLS = [
     *(
         Call(f"{command} - SECOND", IN_STEP, LOG)
         for command in (
-            "replay", "chart", "events", "events --json", "lanes", "lanes --svg", "page", "where", "where --at 2",
-            "races", "span")
+            "replay", "chart", "events", "events --json", "lanes", "lanes --svg", "lanes --path", "lanes --svg --path",
+            "page", "where", "where --at 2", "races", "span")
     ),
     *(Call(f"{command} --module - SECOND", MODULE, LOG) for command in ("replay", "chart")),
     Call("where --at 99 - SECOND", IN_STEP, LOG, status=6),

@@ -124,7 +124,7 @@ COMMANDS: dict[str, tuple[set[str], set[str], list[str]]] = {
     "replay": ({"arg"}, {"module"}, ["FILE", "LOG"]),
     "chart": ({"arg"}, {"module"}, ["FILE", "LOG"]),
     "events": ({"arg"}, {"module", "json"}, ["FILE", "LOG"]),
-    "lanes": ({"from", "to", "arg"}, {"module", "svg"}, ["FILE", "LOG"]),
+    "lanes": ({"from", "to", "arg"}, {"module", "svg", "path"}, ["FILE", "LOG"]),
     "page": ({"outcome", "limit", "from", "to", "arg"}, {"module"}, ["FILE", "LOG" + MAYBE]),
     "where": ({"at", "arg"}, {"module"}, ["FILE", "LOG"]),
     "span": ({"arg"}, {"module"}, ["FILE", "LOG"]),
@@ -575,6 +575,7 @@ def answered(job: Job, data: bytes, given: BinaryIO, log_in: BinaryIO | None, lo
         int(job.values["at"]) if "at" in job.values else None,
         int(job.values.get("STEP", "1")),
         "json" in job.flags,
+        "path" in job.flags,
     )
     return Told(status, out, err.removesuffix("\n"))
 

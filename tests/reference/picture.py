@@ -119,7 +119,8 @@ class Sheet:
         if naming:
             made = sum(taken.step.event == "Made" for taken in played.taken if taken.number < window.stop)
             behind = BEHIND_NAME + min(MOST_NAME, max(map(len, naming.clocks[:made]), default=0))
-        self.width = max(NARROWEST, self.labels + (SIGN * behind if self.bands else 0) + 8)
+        self.room = SIGN * behind if self.bands else 0
+        self.width = max(NARROWEST, self.labels + self.room + 8)
         self.height = TOP + ROW * self.rows + 16
 
     def fits(self) -> bool:

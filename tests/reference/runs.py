@@ -1,9 +1,9 @@
 #!/usr/bin/env python3
-"""The reference for commands on a log: `replay`, `chart`, `races`, `span` and `why` of a whole run, `events`, `lanes`
-and `page` of one that may go on, too, and `where` of any log.
+"""The reference for commands on a log: `replay`, `chart`, `races`, `span`, `why` and `lanes --path` of a whole run,
+`events`, `lanes` and `page` of one that may go on, too, and `where` of any log.
 
     python3 -m tests.reference.runs events [--module] FILE LOG [--arg=N]..
-    python3 -m tests.reference.runs lanes [--module] [--svg] FILE LOG [--arg=N]..
+    python3 -m tests.reference.runs lanes [--module] [--svg] [--path] FILE LOG [--arg=N]..
     python3 -m tests.reference.runs why [--module] --step=STEP FILE LOG [--arg=N]..
 """
 
@@ -13,7 +13,7 @@ import pathlib
 import sys
 from functools import partial
 
-from tests.reference import lanes, logs, modules, naming, page, picture, races, source, span, values, where, why
+from tests.reference import lanes, logs, modules, naming, page, path, picture, races, source, span, values, where, why
 from tests.reference.events import Program
 from tests.reference.lanes import WHOLE
 from tests.reference.logs import Answer, Played, Teller
@@ -54,8 +54,12 @@ def teller(
     is_picture: bool = False,
     step: int = 1,
     is_json: bool = False,
+    has_path: bool = False,
 ) -> Teller:
     """What a command prints of a run of this program, whose bytes are looked at where there is one."""
+    if has_path:
+        draw = path.picture_drawing if is_picture else path.drawing
+        return lambda played: draw(program, played, window)
     if command in ("lanes", "page"):
         if command == "lanes" and not is_picture:
             return lambda played: with_ending(lanes.drawing(program, played, window), played)
@@ -89,14 +93,16 @@ def answer(
     at: int | None = None,
     step: int = 1,
     is_json: bool = False,
+    has_path: bool = False,
 ) -> Answer:
     """What a command answers of a log and this program."""
     if isinstance(judged, Refused):
         return 1, "", f"{note(command, program)}x10clock: {judged.line}\n"
     if command == WHERE:
         return where.answer(program, judged, log, arguments, at)
-    played_by = logs.carry_out if command in SO_FAR else logs.replay
-    return logs.answer(judged, log, teller(command, program, window, is_picture, step, is_json), arguments, played_by)
+    played_by = logs.carry_out if command in SO_FAR and not has_path else logs.replay
+    tell = teller(command, program, window, is_picture, step, is_json, has_path)
+    return logs.answer(judged, log, tell, arguments, played_by)
 
 
 def main(words: list[str]) -> int:
@@ -115,6 +121,7 @@ def main(words: list[str]) -> int:
         is_picture="--svg" in flags,
         step=steps[-1] if steps else 1,
         is_json="--json" in flags,
+        has_path="--path" in flags,
     )
     sys.stdout.write(out)
     sys.stderr.write(err)

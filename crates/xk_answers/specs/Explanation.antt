@@ -31,6 +31,8 @@ use Rattle.xk_show_lanes.specs.NamedLanes.{named_lanes_text}
 use Rattle.xk_show_lanes.specs.declared.window.Window.{Window}
 use Rattle.xk_show_picture.specs.Picture.{is_drawn, named_picture_text, picture_text}
 use Rattle.xk_show_page.specs.Page.{named_page_text, page_text}
+use Rattle.xk_show_path.specs.declared.forms.PathForm.{PathForm}
+use Rattle.xk_show_path.specs.Forms.{is_path_whole, path_text}
 use Rattle.xk_races.specs.Races.{is_race_free}
 use Rattle.xk_races.specs.Text.{races_text}
 use Rattle.xk_show_races.specs.Text.{named_races_text}
@@ -208,6 +210,16 @@ page_told file text window m log last shared origins = (page_of file text shared
 
 abbrev pub page_so_far : List ℕ → List ℕ → Window → ModuleValue → List Entry → World → List (List ℕ) → Option (List UnitOrigins) → Tale
 page_so_far file text window m log last shared origins = drawn_so_far last (page_told file text window m log last shared origins)
+
+-- a run that came to its end with a lane for each activity, as a text or as an image, with the rounds of its steps and a critical path
+abbrev pub path_of : PathForm → List ℕ → List (List ℕ) → Window → ModuleValue → List Entry → World → Option (List UnitOrigins) → List ℕ
+path_of form text shared window m log last None = path_text form no_text None window m log last
+path_of form text shared window m log last (Some origins) =
+    path_text form (places_in text (Some origins)) (Some shared) window m log last
+
+abbrev pub path_told : PathForm → List ℕ → Window → ModuleValue → List Entry → World → List (List ℕ) → Option (List UnitOrigins) → Tale
+path_told form text window m log last shared origins =
+    (path_of form text shared window m log last origins, is_path_whole form window m log last)
 
 -- how long it had to take, and what takes longest
 abbrev pub span_told : List ℕ → ModuleValue → List ℤ → List Entry → Option (List UnitOrigins) → Tale

@@ -17,6 +17,7 @@ use Rattle.xk_answers.specs.declared.job_result.Done.{Done}
 use Rattle.xk_answers.specs.declared.job_result.Done.TheVariants as done
 use Rattle.xk_show_lanes.specs.declared.window.Window.{Window}
 use Rattle.xk_show_lanes.specs.Lanes.{whole_run}
+use Rattle.xk_show_path.specs.Forms.{form_of}
 use Rattle.xk_answers.specs.declared.picture.Picture.{Picture}
 use Rattle.xk_answers.specs.declared.picture.Picture.TheVariants as picture
 use Rattle.xk_program.specs.declared.fault.Fault.{Fault}
@@ -43,7 +44,7 @@ use Rattle.xk_answers.specs.OrderedRun.{IsFinished, IsGreedyRun, IsLoggedGreedyR
 use Rattle.xk_program.specs.Origins.{IsByNames, IsByOrigins}
 use Rattle.xk_hints.specs.Words.{HintValue}
 use Rattle.xk_answers.specs.Explanation.{HaveHints, IsProgramListed, Tale, acceptance_told, all_told, event_values_so_far, events_so_far, image_so_far}
-use Rattle.xk_answers.specs.Explanation.{lanes_so_far, page_so_far, races_told, span_told, where_told, why_told}
+use Rattle.xk_answers.specs.Explanation.{lanes_so_far, page_so_far, path_told, races_told, span_told, where_told, why_told}
 
 -- what is told as one JSON value: a run in an order, by rounds, or by workers, whose log is kept or not; outcomes, of which so many are looked
 -- for, and of one the log is kept or not; or what outcomes say of a list
@@ -80,9 +81,11 @@ way_given given = unwrap_or (option_map way_value given) (In order.First)
 abbrev pub window_given : Option ℕ → Option ℕ → Window
 window_given from to = record { first = unwrap_or from whole_run.first; last = unwrap_or to whole_run.last }
 
--- as a text, or as an image
-abbrev pub lanes_given : Option ℕ → Option ℕ → Bool → Picture
-lanes_given from to svg = if svg then picture.Image (window_given from to) else picture.Lanes (window_given from to)
+-- as a text or as an image, with a critical path or without
+abbrev pub lanes_given : Option ℕ → Option ℕ → Bool → Bool → Picture
+lanes_given from to svg path =
+    if path then picture.Path (form_of svg) (window_given from to)
+    else (if svg then picture.Image (window_given from to) else picture.Lanes (window_given from to))
 
 -- these bytes are the text of a log of these entries
 abbrev pub IsLogText : List ℕ → List Entry → Type 0
@@ -222,14 +225,15 @@ ComesTo (Json s) m args logged d = IsAccepted m × IsShown s m args logged d
 ComesTo _ m args logged _ = ⊥
 
 -- What is told of a run of the module that the bytes give, by their lines where they are a source text: its chart; by their names, too,
--- what others see of its steps, also as JSON values, the same with a lane for each activity, also as an image or as a page, its races, and what a step
--- rests on; or how long it had to take.
+-- what others see of its steps, also as JSON values, the same with a lane for each activity, also as an image, with a critical path, or as a
+-- page, its races, and what a step rests on; or how long it had to take.
 abbrev pub IsPicture : Picture → Form → List ℕ → List ℕ → ModuleValue → List ℤ → List Entry → World → Tale → Type 0
 IsPicture picture.Chart kind file bytes m args es last told = told ≡ all_told (chart_text m args es)
 IsPicture picture.Events kind file bytes m args es last told = IsByNames kind bytes (events_so_far bytes m args es last) told
 IsPicture picture.EventValues kind file bytes m args es last told = IsByNames kind bytes (event_values_so_far bytes m args es last) told
 IsPicture (picture.Lanes window) kind file bytes m args es last told = IsByNames kind bytes (lanes_so_far bytes window m es last) told
 IsPicture (picture.Image window) kind file bytes m args es last told = IsByNames kind bytes (image_so_far bytes window m es last) told
+IsPicture (picture.Path form window) kind file bytes m args es last told = IsByNames kind bytes (path_told form bytes window m es last) told
 IsPicture (picture.Page window) kind file bytes m args es last told = IsByNames kind bytes (page_so_far file bytes window m es last) told
 IsPicture picture.Races kind file bytes m args es last told = IsByNames kind bytes (races_told bytes m args es) told
 IsPicture picture.Span kind file bytes m args es last told = IsByOrigins kind bytes (span_told bytes m args es) told
@@ -257,6 +261,7 @@ picture_told picture.Events file bytes shared m args es last origins = events_so
 picture_told picture.EventValues file bytes shared m args es last origins = event_values_so_far bytes m args es last shared origins
 picture_told (picture.Lanes window) file bytes shared m args es last origins = lanes_so_far bytes window m es last shared origins
 picture_told (picture.Image window) file bytes shared m args es last origins = image_so_far bytes window m es last shared origins
+picture_told (picture.Path form window) file bytes shared m args es last origins = path_told form bytes window m es last shared origins
 picture_told (picture.Page window) file bytes shared m args es last origins = page_so_far file bytes window m es last shared origins
 picture_told picture.Races file bytes shared m args es last origins = races_told bytes m args es shared origins
 picture_told picture.Span file bytes shared m args es last origins = span_told bytes m args es origins

@@ -9,7 +9,7 @@ ghost use Rattle.xk_cli.specs.declared.job.Form.{Form as FormValue};
 ghost use Rattle.xk_answers.specs.Results.{Draw, IsTelling, IsText, is_of_whole, lanes_given, picture_told, shows_origins, window_given};
 ghost use Rattle.xk_answers.specs.Refusals.{AgainstModule, AgainstRun, MayStand};
 ghost use Rattle.xk_program.specs.Origins.{IsFrom};
-ghost use Rattle.xk_answers.specs.Explanation.{events_told, image_told, lanes_told, page_told, races_told, span_told};
+ghost use Rattle.xk_answers.specs.Explanation.{events_told, image_told, lanes_told, page_told, path_told, races_told, span_told};
 ghost use Rattle.xk_program.specs.Lines.{status_of};
 
 use crate::event_values::event_values_so_far;
@@ -27,6 +27,7 @@ use xk_show_events::{LegalRun, module_events};
 use xk_show_lanes::{Window, lanes_with_names, module_lanes};
 use xk_show_names::named_events;
 use xk_show_page::{module_page, source_page};
+use xk_show_path::{PathForm, form_of, module_path, source_path};
 use xk_show_picture::{module_picture, source_picture};
 use xk_show_races::source_races;
 use xk_show_span::{module_span, source_span};
@@ -46,6 +47,8 @@ pub enum Picture {
     Lanes(Window),
     /// The same as an image.
     Image(Window),
+    /// The same in this form, with the rounds of steps and a critical path.
+    Path(PathForm, Window),
     /// The same as a page that goes through it step by step.
     Page(Window),
     /// Its races.
@@ -67,7 +70,8 @@ impl Picture {
             | Picture::Lanes(_)
             | Picture::Image(_)
             | Picture::Page(_) => false,
-            Picture::Chart | Picture::Races | Picture::Span | Picture::Why(_) => true,
+            Picture::Path(..) | Picture::Chart | Picture::Races => true,
+            Picture::Span | Picture::Why(_) => true,
         }
     }
 }
@@ -90,11 +94,14 @@ pub fn window_given(from: Option<u64>, to: Option<u64>) -> Window
     }
 }
 
-/// The lanes of these steps, as a text or as an image.
-pub fn lanes_given(from: Option<u64>, to: Option<u64>, svg: bool) -> Picture
-    ensures { result ≡ lanes_given from to svg }
+/// The lanes of these steps, as a text or as an image, with a critical path or without.
+pub fn lanes_given(from: Option<u64>, to: Option<u64>, svg: bool, path: bool) -> Picture
+    ensures { result ≡ lanes_given from to svg path }
 {
     let window = window_given(from, to);
+    if path {
+        return Picture::Path(form_of(svg), window);
+    }
     if svg {
         return Picture::Image(window);
     }
@@ -214,6 +221,7 @@ fn whole_told(
         }),
         Picture::Races => races_of(alloc, from, ended),
         Picture::Span => span_of(alloc, from, ended),
+        Picture::Path(form, window) => path_of(alloc, from, ended, form, window),
         Picture::Why(step) => reasons_of(alloc, from, ended, step),
         Picture::Events => unreachable!(),
         Picture::EventValues => unreachable!(),
@@ -244,6 +252,7 @@ fn so_far_told(
         Picture::Lanes(window) => lanes_so_far(alloc, from, legal, window),
         Picture::Image(window) => image_so_far(alloc, from, legal, window),
         Picture::Page(window) => page_so_far(alloc, file, from, legal, window),
+        Picture::Path(..) => unreachable!(),
         Picture::Chart => unreachable!(),
         Picture::Races => unreachable!(),
         Picture::Span => unreachable!(),
@@ -368,6 +377,36 @@ fn named_image_of(
         legal.now.core.now.world (map (λ x. x.now) from.now.shared.items) (Some units.now)) }
 {
     let drawing = source_picture(alloc, from.text, units, &from.shared, legal, window)?;
+    Ok(Tale {
+        text: drawing.text,
+        whole: drawing.whole,
+    })
+}
+
+/// A run that came to its end in this form, with a lane for each activity, with the rounds of its steps and a critical path.
+fn path_of(
+    alloc: Global,
+    from: &Provenance<'_>,
+    ended: &Ended<'_>,
+    form: PathForm,
+    window: Window,
+) -> Result<Tale, AllocError>
+    ensures { IfOk result (λ tale. (tale.text.items, tale.whole)
+        ≡ path_told form from.now.text.now window ended.now.module.now ended.now.log.items
+        ended.now.core.world (map (λ x. x.now) from.now.shared.items) from.now.origins) }
+{
+    let drawing = match &from.origins {
+        Some(origins) => source_path(
+            alloc,
+            form,
+            from.text,
+            origins.units(),
+            &from.shared,
+            ended,
+            window,
+        )?,
+        None => module_path(alloc, form, ended, window)?,
+    };
     Ok(Tale {
         text: drawing.text,
         whole: drawing.whole,

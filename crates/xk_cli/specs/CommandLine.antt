@@ -170,9 +170,10 @@ on_run name = on_file name (module_flag ∷ log_place ∷ arg_option ∷ [])
 abbrev pub events_line : App
 events_line = on_file (codes "events") (module_flag ∷ log_place ∷ arg_option ∷ json_flag ∷ [])
 
--- draws lanes, maybe from a step on and up to one, maybe as a picture
+-- draws lanes, maybe from a step on and up to one, maybe as a picture, maybe with a critical path
 abbrev pub lanes_line : App
-lanes_line = on_file (codes "lanes") (module_flag ∷ log_place ∷ arg_option ∷ from_option ∷ to_option ∷ flag (codes "svg") ∷ [])
+lanes_line = on_file (codes "lanes")
+    (module_flag ∷ log_place ∷ arg_option ∷ from_option ∷ to_option ∷ flag (codes "svg") ∷ flag (codes "path") ∷ [])
 
 -- makes a page of the run that a log has, or of an outcome, of which so many are looked for, maybe from a step on and up to one
 abbrev pub page_line : App
@@ -246,8 +247,8 @@ way_value (drive.Workers w) = By w.count
 
 -- A command without where its texts lie in memory. What is explained may be a JSON value. A run has who takes its steps, and the log's
 -- path, where they were given; one by hand, whose order a person is asked for, has the log's path; a tally has the first seed, and how
--- many runs there are. Lanes have the log's path, the first step and the last, where they were given, and may be a picture; a page has
--- the same steps. That of an outcome has its number, how many there are at most, and the same steps. How things stand is told by the
+-- many runs there are. Lanes have the log's path, the first step and the last, where they were given, and may be a picture and have a
+-- critical path; a page has the same steps. That of an outcome has its number, how many there are at most, and the same steps. How things stand is told by the
 -- log's path, and after a step, where that was given; what a step rests on has both; races have the log's path, where it was given; the
 -- others on a log have its path. Outcomes have how many there are at most, which is picked, and the path of its log; numbers of them
 -- may have no order. Where they are held against a list they have its path, how many there are at most, and whether numbers of them
@@ -263,7 +264,7 @@ pub data Task : Type 0 where
   Replay : Text → Task
   Chart : Text → Task
   Events : Text → Task
-  Lanes : Text → Option ℕ → Option ℕ → Bool → Task
+  Lanes : Text → Option ℕ → Option ℕ → Bool → Bool → Task
   Page : Text → Option ℕ → Option ℕ → Task
   OutcomePage : ℕ → Option ℕ → Option ℕ → Option ℕ → Task
   Where : Text → Option ℕ → Task
@@ -291,7 +292,7 @@ task_value (command.Tally seed runs) = Tally seed runs
 task_value (command.Replay log) = Replay log.now
 task_value (command.Chart log) = Chart log.now
 task_value (command.Events log) = Events log.now
-task_value (command.Lanes log from to svg) = Lanes log.now from to svg
+task_value (command.Lanes log from to svg path) = Lanes log.now from to svg path
 task_value (command.Page log from to) = Page log.now from to
 task_value (command.OutcomePage pick limit from to) = OutcomePage pick limit from to
 task_value (command.Where log at) = Where log.now at
@@ -466,7 +467,8 @@ outcomes_by given = if is_list_misplaced given || is_pick_alone given then None 
 
 -- `lanes` on a log, with what else was given to it
 abbrev pub lanes_on : Text → List Row → Task
-lanes_on log given = Lanes log (count_in (codes "FROM") given) (count_in (codes "TO") given) (is_flagged (codes "svg") given)
+lanes_on log given =
+    Lanes log (count_in (codes "FROM") given) (count_in (codes "TO") given) (is_flagged (codes "svg") given) (is_flagged (codes "path") given)
 
 -- `page` on a log, with what else was given to it
 abbrev pub page_on : Text → List Row → Task

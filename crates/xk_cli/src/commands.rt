@@ -234,6 +234,11 @@ fn lanes_line<'a>(alloc: Global) -> Result<clap::Command<'a>, AllocError>
         from_option(alloc),
         to_option(alloc),
         flag(alloc, "svg", "Draws it as an SVG picture"),
+        flag(
+            alloc,
+            "path",
+            "Draws the round of each step, and a critical path",
+        ),
     ];
     on_file(alloc, "lanes", about, Vec::from_array(alloc, options)?)
 }

@@ -56,6 +56,8 @@ pub enum Command<'a> {
         to: Option<u64>,
         /// `--svg`: as an SVG picture.
         svg: bool,
+        /// `--path`: with the round of each step, and a critical path.
+        path: bool,
     },
     /// `page`: make an HTML page of the run of FILE that a log has, to go through it step by step.
     Page {

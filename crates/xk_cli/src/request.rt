@@ -258,6 +258,7 @@ fn command_by_log<'a>(name: &str, given: &ArgMatches<'a>) -> Option<Command<'a>>
             from: count_in(given, "FROM"),
             to: count_in(given, "TO"),
             svg: is_flagged(given, "svg"),
+            path: is_flagged(given, "path"),
         }),
         "where" => Some(Command::Where {
             log,

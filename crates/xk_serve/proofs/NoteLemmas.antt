@@ -22,10 +22,11 @@ use Rattle.xk_serve.specs.Notes.{begins_log, log_note, may_note, note_of}
 
 -- ---- which commands have one
 
--- lanes are drawn of a log, as a text or as an image
-pub lanes_noted : (from to : Option ℕ) (svg : Bool) → true ≡ may_note (Draw (lanes_given from to svg))
-lanes_noted from to false = refl
-lanes_noted from to true = refl
+-- lanes are drawn of a log, as a text or as an image, with a critical path or without
+pub lanes_noted : (from to : Option ℕ) (svg path : Bool) → true ≡ may_note (Draw (lanes_given from to svg path))
+lanes_noted from to false false = refl
+lanes_noted from to true false = refl
+lanes_noted from to svg true = refl
 
 -- races are those of a log where one is given
 pub races_noted : (given : Bool) → given ≡ may_note (races_by given)

@@ -67,8 +67,14 @@ pub(crate) fn answer<
             let events = Picture::Events;
             drawn(alloc, events, job.file, program, arguments, log_in)
         }
-        Command::Lanes { from, to, svg, .. } => {
-            let lanes = lanes_given(from, to, svg);
+        Command::Lanes {
+            from,
+            to,
+            svg,
+            path,
+            ..
+        } => {
+            let lanes = lanes_given(from, to, svg, path);
             drawn(alloc, lanes, job.file, program, arguments, log_in)
         }
         Command::Page { from, to, .. } => {

@@ -89,8 +89,8 @@ fn push_bar_lane(
     push_bar_cell(line, grid.lane, here, before, behind)
 }
 
-/// Adds what the bar of a clock shows in all lanes.
-pub(crate) fn push_bar_lanes(
+/// Adds what the bar of a clock shows in all lanes. Err where memory was refused.
+pub fn push_bar_lanes(
     line: &mut Vec<u8>,
     core: &Core<'_>,
     grid: Grid,

@@ -5,15 +5,15 @@ ghost use Rattle.xk_show_lanes.specs.Fields.{at_left, at_right, trimmed, whole_l
 
 use std::alloc::AllocError;
 
-/// Adds a text.
-pub(crate) fn push_text(out: &mut Vec<u8>, text: &str) -> Result<(), AllocError>
+/// Adds a text. Err where memory was refused.
+pub fn push_text(out: &mut Vec<u8>, text: &str) -> Result<(), AllocError>
     ensures { OnOk result (out.new.items ≡ out.old.items ++ text.now) }
 {
     out.extend_from_slice(text.as_bytes())
 }
 
-/// Adds a byte so many times.
-pub(crate) fn push_times(out: &mut Vec<u8>, byte: u8, count: usize) -> Result<(), AllocError>
+/// Adds a byte so many times. Err where memory was refused.
+pub fn push_times(out: &mut Vec<u8>, byte: u8, count: usize) -> Result<(), AllocError>
     ensures { OnOk result (out.new.items ≡ out.old.items ++ replicate count byte) }
 {
     for _ in 0..count {
@@ -31,9 +31,9 @@ pub(crate) fn push_at_left(out: &mut Vec<u8>, width: usize, field: &[u8]) -> Res
     push_times(out, b' ', width.saturating_sub(field.len()))
 }
 
-/// Adds a field of this width at least, what it says at its right.
+/// Adds a field of this width at least, what it says at its right. Err where memory was refused.
 #[tactic(auto, unfolding(crate::specs::Fields::at_right))]
-pub(crate) fn push_at_right(out: &mut Vec<u8>, width: usize, field: &[u8]) -> Result<(), AllocError>
+pub fn push_at_right(out: &mut Vec<u8>, width: usize, field: &[u8]) -> Result<(), AllocError>
     ensures { OnOk result (out.new.items ≡ out.old.items ++ at_right width field.now) }
 {
     push_times(out, b' ', width.saturating_sub(field.len()))?;
@@ -47,9 +47,9 @@ fn trimmed(line: &[u8]) -> &[u8]
     line.trim_ascii_end()
 }
 
-/// Adds a line, without the blanks at its end.
+/// Adds a line, without the blanks at its end. Err where memory was refused.
 #[tactic(auto, unfolding(crate::specs::Fields::whole_line))]
-pub(crate) fn push_line(out: &mut Vec<u8>, line: &[u8]) -> Result<(), AllocError>
+pub fn push_line(out: &mut Vec<u8>, line: &[u8]) -> Result<(), AllocError>
     ensures { OnOk result (out.new.items ≡ out.old.items ++ whole_line line.now) }
 {
     out.extend_from_slice(trimmed(line))?;

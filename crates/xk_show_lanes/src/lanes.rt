@@ -66,8 +66,8 @@ impl Describe<u8> for LaneTeller<'_, '_> {
     }
 }
 
-/// Adds how many activities have no lane, if some have none.
-pub(crate) fn push_left_out(alloc: Global, out: &mut Vec<u8>, count: u32) -> Result<(), AllocError>
+/// Adds how many activities have no lane, if some have none. Err where memory was refused.
+pub fn push_left_out(alloc: Global, out: &mut Vec<u8>, count: u32) -> Result<(), AllocError>
     ensures { OnOk result (out.new.items ≡ out.old.items ++ left_out_by count) }
 {
     if count == 0 {
@@ -142,8 +142,8 @@ fn steps_asked(
     Ok(steps)
 }
 
-/// The columns for these steps of a run.
-fn grid_for(
+/// The columns for these steps of a run. Err where memory was refused.
+pub fn grid_for(
     alloc: Global,
     places: &Places<'_>,
     legal: &LegalRun<'_, '_>,

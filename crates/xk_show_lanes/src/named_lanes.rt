@@ -117,8 +117,9 @@ impl Recount<Account> for KeptAccounts {
     }
 }
 
-/// The steps of a run by which clocks have their names, and columns their widths. The log is played again for it.
-fn accounts_kept(
+/// The steps of a run by which clocks have their names, and columns their widths. The log is played again for it. Err
+/// where memory was refused.
+pub fn accounts_kept(
     alloc: Global,
     legal: &LegalRun<'_, '_>,
     window: Window,

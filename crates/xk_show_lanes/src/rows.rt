@@ -54,9 +54,9 @@ fn push_titles(alloc: Global, line: &mut Vec<u8>, grid: Grid) -> Result<(), Allo
     Ok(())
 }
 
-/// Adds the head: `  step  at     main        act 1`.
+/// Adds the head: `  step  at     main        act 1`. Err where memory was refused.
 #[tactic(auto, unfolding(crate::specs::Lanes::lane_line))]
-pub(crate) fn push_head(alloc: Global, out: &mut Vec<u8>, grid: Grid) -> Result<(), AllocError>
+pub fn push_head(alloc: Global, out: &mut Vec<u8>, grid: Grid) -> Result<(), AllocError>
     ensures { OnOk result (out.new.items ≡ out.old.items ++ head_line grid) }
 {
     let mut line = line_front(alloc, grid, b"step", b"at")?;
@@ -93,8 +93,8 @@ fn push_cell(
     push_at_left(line, grid.lane, mark(core, Act(lane)).as_bytes())
 }
 
-/// Adds what stands in all lanes.
-pub(crate) fn push_cells(
+/// Adds what stands in all lanes behind a step, whose words are these. Err where memory was refused.
+pub fn push_cells(
     line: &mut Vec<u8>,
     core: &Core<'_>,
     grid: Grid,
@@ -110,8 +110,8 @@ pub(crate) fn push_cells(
     Ok(())
 }
 
-/// The first two fields of a step's row.
-pub(crate) fn row_front(
+/// The first two fields of a step's row. Err where memory was refused.
+pub fn row_front(
     alloc: Global,
     grid: Grid,
     places: &Places<'_>,
@@ -126,8 +126,8 @@ pub(crate) fn row_front(
     line_front(alloc, grid, number.as_bytes(), place.as_bytes())
 }
 
-/// Adds who took the step and what was done, words that are given, if that one has no lane.
-pub(crate) fn push_words_behind(
+/// Adds who took the step and what was done, words that are given, if that one has no lane. Err where memory was refused.
+pub fn push_words_behind(
     alloc: Global,
     line: &mut Vec<u8>,
     grid: Grid,

@@ -14,7 +14,7 @@ use xk_show_names::{Account, Recount, recount_run_by_both};
 use xk_types::Event;
 
 /// Whether the step that led to the core, and was seen to do this, is shown.
-pub(crate) fn is_shown(core: &Core<'_>, window: Window, event: Event) -> bool
+pub fn is_shown(core: &Core<'_>, window: Window, event: Event) -> bool
     ensures { result ≡ is_shown window core.now.world event }
 {
     window.asks(core.steps_done()) && (is_seen(event) || !core.is_quiet())
@@ -155,7 +155,7 @@ pub(crate) fn named_layout_of(
 }
 
 /// In which row a step is drawn.
-pub(crate) fn row_of(rows: &[u64], number: u64) -> u32
+pub fn row_of(rows: &[u64], number: u64) -> u32
     ensures { result ≡ row_of rows.now number }
 {
     let above = rows.iter().filter(|k| **k < number).count();

@@ -77,8 +77,8 @@ impl Recount<u8> for PictureTeller<'_, '_> {
     }
 }
 
-/// Adds the titles of all lanes.
-fn push_titles(alloc: Global, out: &mut Vec<u8>, sheet: Sheet) -> Result<(), AllocError>
+/// Adds the titles of all lanes. Err where memory was refused.
+pub fn push_titles(alloc: Global, out: &mut Vec<u8>, sheet: Sheet) -> Result<(), AllocError>
     ensures { OnOk result (out.new.items ≡ out.old.items
         ++ each_below (lane_head sheet) sheet.lanes) }
 {
@@ -90,15 +90,15 @@ fn push_titles(alloc: Global, out: &mut Vec<u8>, sheet: Sheet) -> Result<(), All
     Ok(())
 }
 
-/// How high the picture is.
-fn high(rows: usize) -> u64
+/// How high the picture of so many rows is.
+pub fn high(rows: usize) -> u64
     ensures { result ≡ high rows }
 {
     top(rows.min(ROWS) as u32) + 16
 }
 
-/// Adds what stands in each picture.
-fn push_furniture(out: &mut Vec<u8>) -> Result<(), AllocError>
+/// Adds what stands in each picture. Err where memory was refused.
+pub fn push_furniture(out: &mut Vec<u8>) -> Result<(), AllocError>
     ensures { OnOk result (out.new.items ≡ out.old.items ++ furniture) }
 {
     put(out, style())?;

@@ -6,7 +6,7 @@ ghost use Rattle.xk_show_picture.specs.Shapes.{arrow, box_frame, box_head, box_w
 use std::alloc::{AllocError, Global};
 
 /// How far down a row begins.
-pub(crate) fn top(row: u32) -> u64
+pub fn top(row: u32) -> u64
     ensures { result ≡ top row }
 {
     112 + 24 * u64::from(row)
@@ -94,9 +94,9 @@ pub(crate) fn box_words(alloc: Global, x: u64, y: u64, words: &str) -> Result<St
     format!(in alloc; "<text class='words' x='{x}' y='{y}'>{words}</text></g>\n")
 }
 
-/// How large the picture is.
+/// How large the picture is. Err where memory was refused.
 #[tactic(auto, unfolding(crate::specs::Shapes::svg_head))]
-pub(crate) fn svg_head(alloc: Global, wide: u64, high: u64) -> Result<String, AllocError>
+pub fn svg_head(alloc: Global, wide: u64, high: u64) -> Result<String, AllocError>
     ensures { IfOk result (λ t. string_bytes t ≡ svg_head wide high) }
 {
     format!(in alloc;

@@ -43,7 +43,7 @@ fn halves(half: u16, lane: u32) -> u64
 }
 
 /// Where a lane begins.
-pub(crate) fn lane_left(sheet: Sheet, lane: u32) -> u64
+pub fn lane_left(sheet: Sheet, lane: u32) -> u64
     ensures place { result ≡ lane_left sheet lane }
     ensures small { result < 2 ^ 50 }
 {
@@ -94,7 +94,7 @@ fn room(sheet: Sheet) -> u64
 }
 
 /// How wide the picture is.
-pub(crate) fn wide(sheet: Sheet) -> u64
+pub fn wide(sheet: Sheet) -> u64
     ensures { result ≡ wide sheet }
 {
     (labels(sheet) + (room(sheet) + 8)).max(680)

@@ -10,8 +10,8 @@ use xk_show_lanes::{bar_label, named_label};
 use xk_show_names::{Account, Names, account_words, clock_word};
 use xk_types::ClockId;
 
-/// What a step did.
-pub(crate) fn words_of(
+/// What a step did. Err where memory was refused.
+pub fn words_of(
     alloc: Global,
     names: &Option<Names<'_>>,
     account: &Account,
@@ -24,8 +24,8 @@ pub(crate) fn words_of(
     }
 }
 
-/// What is said of the bar of a clock, which advanced in a step of this activity.
-pub(crate) fn label_of(
+/// What is said of the bar of a clock, which advanced in a step of this activity. Err where memory was refused.
+pub fn label_of(
     alloc: Global,
     core: &Core<'_>,
     names: &Option<Names<'_>>,

@@ -1,0 +1,4 @@
+pub mod Rounds
+pub mod PathLanes
+pub mod PathPicture
+pub mod Forms

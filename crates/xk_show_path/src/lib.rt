@@ -1,0 +1,13 @@
+//! The critical path of a run, in its lanes and in its picture: the steps that had to come one after another, and the round of each step.
+#![tactic(auto)]
+
+mod columns;
+mod forms;
+mod lanes;
+mod line;
+mod marks;
+mod picture;
+mod rounds;
+mod shapes;
+
+pub use forms::{PathForm, form_of, module_path, source_path};
