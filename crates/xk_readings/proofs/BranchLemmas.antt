@@ -1,6 +1,7 @@
 -- Groups of ways, one for each number that comes next.
-use Rattle.std.proofs.Common.{◌≡◌, ◌∙◌, ℕ, ℤ, ◌+◌, ◌<◌, ◌≤◌, ◌⊎◌, inl, inr, List, [], ◌∷◌, ◌++◌}
+use Rattle.std.proofs.Common.{◌≡◌, ◌∙◌, ℕ, ℤ, ◌+◌, ◌-◌, ◌<◌, ◌≤◌, ◌⊎◌, inl, inr, List, [], ◌∷◌, ◌++◌}
 use Rattle.std.proofs.Common.{length, pos, suc, Option, Some, None, option_map, refl, sym, ap, subst, arith, slice_get}
+use Rattle.std.specs.Prelude.{◌<ℤ◌}
 use Rattle.std.proofs.lemmas.Bool.{cases_lt}
 use Rattle.std.specs.List.Sorted.{IsPermutation}
 use Rattle.std.proofs.lemmas.List.{length_push}
@@ -11,11 +12,13 @@ use Rattle.xk_readings.specs.declared.branches.Branch.{Branch}
 use Rattle.xk_readings.specs.declared.branches.Group.{Group}
 use Rattle.xk_readings.specs.Graphs.{GraphValue}
 use Rattle.xk_readings.specs.Ways.{Standing, WaysValue, along, at}
-use Rattle.xk_readings.specs.Branches.{AreAllOf, AreBranches, AreBranchesAt, AreGrouped, AreStacked, HasBranch}
+use Rattle.xk_readings.specs.Branches.{AreAllOf, AreBranches, AreBranchesAt, AreFalling, AreGrouped, AreLess}
+use Rattle.xk_readings.specs.Branches.{AreRisingBranches, AreStacked, HasBranch}
 use Rattle.xk_readings.specs.Branches.{HasWay, IsAlong, IsBranch, IsGroup, IsNew, branch_of}
 use Rattle.xk_readings.proofs.GrowthLemmas.{at_kept, each_grown}
 use Rattle.xk_types.proofs.ListLemmas.{get-append_left as stays, get_inside as there_is, get_once as same_at, get_push as at_end}
 use Rattle.xk_readings.proofs.ListLemmas.{permuted, place}
+use Rattle.xk_readings.proofs.RisingLemmas.{most_less, not_equal_less}
 
 -- the way of a branch is the same where more ways are added
 along_kept : (branches : List Branch) (old new : List Standing)
@@ -133,6 +136,64 @@ module _ (branches : List Branch) (place' end : ℕ) (old now new : WaysValue) (
           absurd (omega (arith, end', within, less))
       ordered i j a b less (inr x) (inr y) = (let same = ap (λ (c : Group). c.to) (sym x.1 ∙ y.1) in omega (arith, same))
 
+  falling_more : AreRisingBranches branches → AreFalling branches place' old.all new.all (length under) over
+  falling_more rises = record {
+    above = λ i a behind there. above i a behind (over_at i a there);
+    fall = λ i j a b behind less x y. fall i j a b behind less (over_at i a x) (over_at j b y);
+  }
+    where
+      was : AreFalling branches end old.all now.all (length under) mid
+      was = are.falling rises
+
+      ends : place' < end
+      ends = is.less
+
+      -- the branches before the group print lesser numbers: the last of them another one, and those before it no greater one
+      less_before : AreLess branches place' first.number
+      less_before i b less there = by (cases_lt (suc i) place')
+        where
+          last : (j : ℕ) (c : Branch) → suc j ≡ place' → slice_get branches j ≡ Some c → c.number <ℤ first.number
+          last j c next at_j =
+              let most = rises j place' c first (omega (arith, next)) at_j first_is in
+              let other = is.other j c first next at_j first_is in
+              not_equal_less c.number first.number most other
+
+          by : (suc i < place') ⊎ (place' ≤ suc i) → b.number <ℤ first.number
+          by (inl before) =
+              let inside = slice_get_within branches place' first first_is in
+              let c = there_is branches (place' - 1) (omega (arith, inside, before)) in
+              let most = rises i (place' - 1) b c.0 (omega (arith, before)) there c.1 in
+              let later = last (place' - 1) c.0 (omega (arith, before)) c.1 in
+              most_less b.number c.0.number first.number most later
+          by (inr after) = last i b (omega (arith, less, after)) there
+
+      above : (i : ℕ) (a : Group) → length under ≤ i → (slice_get mid i ≡ Some a) ⊎ ((i ≡ length mid) × (group ≡ a))
+          → (x : ℤ) × IsNew branches old.all new.all x a × AreLess branches place' x
+      above i a behind (inl known) =
+          let up = was.above i a behind known in
+          (up.0, new_kept up.0 a up.1, λ k b less there. up.2 k b (omega (arith, less, ends)) there)
+      above i a behind (inr last) = (first.number, subst (IsNew branches old.all new.all first.number) last.1 is_group, less_before)
+
+      fall : (i j : ℕ) (a b : Group) → length under ≤ i → i < j → (slice_get mid i ≡ Some a) ⊎ ((i ≡ length mid) × (group ≡ a))
+          → (slice_get mid j ≡ Some b) ⊎ ((j ≡ length mid) × (group ≡ b))
+          → (x y : ℤ) × IsNew branches old.all new.all x a × IsNew branches old.all new.all y b × (y <ℤ x)
+      fall i j a b behind less (inl x) (inl y) =
+          let f = was.fall i j a b behind less x y in
+          (f.0, f.1, new_kept f.0 a f.2, new_kept f.1 b f.3, f.4)
+      fall i j a b behind less (inl x) (inr y) =
+          let up = was.above i a behind x in (
+            up.0,
+            first.number,
+            new_kept up.0 a up.1,
+            subst (IsNew branches old.all new.all first.number) y.1 is_group,
+            up.2 place' first ends first_is,
+          )
+      fall i j a b behind less (inr x) (inl y) =
+          let inside = slice_get_within mid j b y in
+          let end' = x.0 in
+          absurd (omega (arith, inside, end', less))
+      fall i j a b behind less (inr x) (inr y) = (let one = x.0 in let two = y.0 in absurd (omega (arith, one, two, less)))
+
   there_more : (i : ℕ) (b : Branch) → place' ≤ i → slice_get branches i ≡ Some b
       → (j : ℕ) × (a : Group) × (length under ≤ j) × (slice_get over j ≡ Some a) × IsNew branches old.all new.all b.number a
       × HasWay new.all a b.edge.to
@@ -166,6 +227,7 @@ module _ (branches : List Branch) (place' end : ℕ) (old now new : WaysValue) (
     groups_kept = λ i a there. mid_over i a (are.groups_kept i a there);
     each = each_group;
     stacked = stacked_more;
+    falling = falling_more;
     there = there_more;
   }
 

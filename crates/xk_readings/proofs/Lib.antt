@@ -4,6 +4,7 @@ mod GraphLemmas
 mod NodeSetLemmas
 mod StandLemmas
 mod ReadingLemmas
+pub mod RisingLemmas
 mod GrowthLemmas
 mod BranchLemmas
 mod WalkLemmas

@@ -4,6 +4,7 @@ use Rattle.xk_readings.specs.declared.edge.Edge.{Edge}
 use Rattle.xk_readings.specs.declared.listing.Reading.{Reading}
 use Rattle.xk_readings.specs.Graphs.{GraphValue, HasEdge, HasSameEdges, IsWithin, graph}
 use Rattle.xk_readings.specs.Readings.{AreAllListed, AreShown, IsLongest, Reads}
+use Rattle.xk_readings.specs.Rising.{AreFirst}
 use Rattle.xk_readings.specs.Useful.{AreKept, AreUseful, IsReadable}
 use Rattle.xk_readings.specs.Closures.{AreTrim}
 
@@ -55,3 +56,6 @@ module _ (g h : GraphValue) (is : IsTrimmed g h) where
 
   pub all_whole : (list : List Reading) → AreAllListed h list → AreAllListed g list
   all_whole list all n acts numbers r = all n acts numbers (reads_trimmed g h is n 0 acts numbers r)
+
+  pub first_whole : (list : List Reading) → AreFirst h list → AreFirst g list
+  first_whole list first n acts numbers r = first n acts numbers (reads_trimmed g h is n 0 acts numbers r)

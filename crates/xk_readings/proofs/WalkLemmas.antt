@@ -16,12 +16,15 @@ use Rattle.xk_readings.specs.Readings.{AreShown, IsListed, IsLongest, Reads}
 use Rattle.xk_readings.specs.Ways.{Standing, WaysValue, at, start}
 use Rattle.xk_readings.specs.Useful.{IsReadable}
 use Rattle.xk_readings.specs.Closures.{AreReached, AreTrim, IsClosed, IsReached, IsSpread, NoneEnds, PrintsFrom}
-use Rattle.xk_readings.specs.Branches.{AreBranches, AreStacked, IsAlong, IsGrouped, IsNew}
+use Rattle.xk_readings.specs.Branches.{AreBranches, AreRisingBranches, AreStacked, IsAlong, IsGrouped, IsNew}
+use Rattle.xk_readings.specs.Rising.{AreBefore, AreFirst, AreRising, ComesBefore, PartsBelow}
 use Rattle.xk_readings.specs.Walks.{IsAwaited, IsEndListed, IsListedFrom, IsNearer, IsOneOf, IsOpened}
-use Rattle.xk_readings.specs.Walks.{IsPending, IsWalk, depth, last_group, weight}
+use Rattle.xk_readings.specs.Walks.{IsPending, IsWalk, depth, last_group, numbers_of, weight}
 use Rattle.xk_types.proofs.ListLemmas.{get-append_left as stays, get_inside as there_is, get_once as same_at, get_push as at_end}
 use Rattle.xk_readings.proofs.ListLemmas.{from_take, in_take, place, read}
 use Rattle.xk_readings.proofs.GrowthLemmas.{at_kept, prints_all}
+use Rattle.xk_readings.proofs.RisingLemmas.{before_longer, before_more, before_one_more, parts_before, parts_last}
+use Rattle.xk_readings.proofs.RisingLemmas.{parts_longer, rising_more}
 use Rattle.xk_readings.proofs.ReadingLemmas.{GoesOn, HasEnd, progress, reached_along, reached_length, reading_there}
 
 -- ---- ways that are kept
@@ -81,7 +84,8 @@ module _ (g : GraphValue) (w w1 w2 : WaysValue) (under over : List Group) (group
     (branches : List Branch) (limit : ℕ) (trim : AreTrim g)
     (walk : IsWalk g w (under ++ group ∷ []) list) (opened : IsOpened g group w w1)
     (listed : ((NoneEnds g w1.all group.from) × (more ≡ list)) ⊎ ((length list < limit) × IsEndListed g w1.all group.from list more))
-    (are : AreBranches g w1.all group.from branches) (grouped : IsGrouped branches w1 w2 under over) where
+    (are : AreBranches g w1.all group.from branches) (rises : AreRisingBranches branches)
+    (grouped : IsGrouped branches w1 w2 under over) where
   abbrev p : List ℤ
   p = (at w.all group.from).numbers
 
@@ -174,6 +178,86 @@ module _ (g : GraphValue) (w w1 w2 : WaysValue) (under over : List Group) (group
                 subst (λ (l : List ℕ). Reads g is.0 0 l r.numbers.items) (sym one.acts ∙ ap (λ (q : Reading). q.acts.items) new.1)
                     (subst (λ (l : List ℤ). Reads g is.0 0 s.acts l) (sym one.numbers ∙ ap (λ (q : Reading). q.numbers.items) new.1) is.1),
               )
+
+  -- ---- what is listed rises
+
+  -- the ways of a group below print what they did
+  under_numbers : (i : ℕ) (a : Group) → slice_get under i ≡ Some a → numbers_of w2.all a ≡ numbers_of w.all a
+  under_numbers i a there =
+      let is = walk.each i a (stays under (group ∷ []) i a there) in
+      let some : a.from < a.to = is.some in
+      let within = is.within in
+      let to = under_to i a there in
+      ap (λ (t : Standing). t.numbers)
+      (at_kept w.all w2.all a.from (omega (arith, some, within)) (λ t at_t. kept_through a.from t (omega (arith, some, to)) at_t))
+
+  -- what is listed comes before what the group prints
+  before_group : AreBefore list p
+  before_group = walk.before (length under) group (at_end under group)
+
+  below_group : (i : ℕ) (a : Group) → slice_get under i ≡ Some a → PartsBelow p (numbers_of w.all a)
+  below_group i a there = walk.falling i (length under) a group (slice_get_within under i a there) (stays under (group ∷ []) i a there)
+      (at_end under group)
+
+  -- what ends here prints what the group does
+  end_numbers : (one : IsEndListed g w1.all group.from list more) → one.reading.numbers.items ≡ p
+  end_numbers one = one.numbers ∙ opened.prints one.number (at w1.all one.number) one.behind (read w1.all one.number start one.within)
+
+  -- what is listed now comes before whatever comes behind what was, and behind what the group prints
+  before_now : (numbers : List ℤ) → AreBefore list numbers → ComesBefore p numbers → AreBefore more numbers
+  before_now numbers before last = by listed
+    where
+      by : ((NoneEnds g w1.all group.from) × (more ≡ list)) ⊎ ((length list < limit) × IsEndListed g w1.all group.from list more)
+          → AreBefore more numbers
+      by (inl none) = subst (λ (l : List Reading). AreBefore l numbers) (sym none.1) before
+      by (inr (few, one)) = before_one_more list more one.reading numbers one.listed before
+          (subst (λ (l : List ℤ). ComesBefore l numbers) (sym (end_numbers one)) last)
+
+  rising_after : AreRising more
+  rising_after = by listed
+    where
+      by : ((NoneEnds g w1.all group.from) × (more ≡ list)) ⊎ ((length list < limit) × IsEndListed g w1.all group.from list more)
+          → AreRising more
+      by (inl none) = subst AreRising (sym none.1) walk.rising
+      by (inr (few, one)) =
+          rising_more list more one.reading one.listed walk.rising (subst (AreBefore list) (sym (end_numbers one)) before_group)
+
+  before_after : (i : ℕ) (a : Group) → slice_get over i ≡ Some a → AreBefore more (numbers_of w2.all a)
+  before_after i a there = by (is_new i a there)
+    where
+      by : (slice_get under i ≡ Some a) ⊎ (length under ≤ i) → AreBefore more (numbers_of w2.all a)
+      by (inl old) = subst (AreBefore more) (sym (under_numbers i a old))
+          (before_now (numbers_of w.all a) (walk.before i a (stays under (group ∷ []) i a old))
+          (parts_before p (numbers_of w.all a) (below_group i a old)))
+      by (inr from) =
+          let new = grouped.each i a from there in
+          subst (AreBefore more) (sym (new_first new.0 a new.1))
+          (before_now (p ++ new.0 ∷ []) (λ k r at_k. before_longer r.numbers.items p (new.0 ∷ []) (before_group k r at_k))
+          (before_more p new.0 []))
+
+  behind_group : (i : ℕ) (a : Group) (x : ℤ) → slice_get under i ≡ Some a → PartsBelow (p ++ x ∷ []) (numbers_of w.all a)
+  behind_group i a x old =
+      subst (PartsBelow (p ++ x ∷ [])) (append-nil (numbers_of w.all a))
+      (parts_longer p (numbers_of w.all a) (x ∷ []) [] (below_group i a old))
+
+  falling_after : (i j : ℕ) (a b : Group) → i < j → slice_get over i ≡ Some a → slice_get over j ≡ Some b
+      → PartsBelow (numbers_of w2.all b) (numbers_of w2.all a)
+  falling_after i j a b less at_i at_j = by (is_new i a at_i) (is_new j b at_j)
+    where
+      by : (slice_get under i ≡ Some a) ⊎ (length under ≤ i) → (slice_get under j ≡ Some b) ⊎ (length under ≤ j)
+          → PartsBelow (numbers_of w2.all b) (numbers_of w2.all a)
+      by (inl x) (inl y) =
+          subst (λ (l : List ℤ). PartsBelow l (numbers_of w2.all a)) (sym (under_numbers j b y))
+          (subst (PartsBelow (numbers_of w.all b)) (sym (under_numbers i a x))
+          (walk.falling i j a b less (stays under (group ∷ []) i a x) (stays under (group ∷ []) j b y)))
+      by (inl x) (inr from) =
+          let new = grouped.each j b from at_j in
+          subst (λ (l : List ℤ). PartsBelow l (numbers_of w2.all a)) (sym (new_first new.0 b new.1))
+          (subst (PartsBelow (p ++ new.0 ∷ [])) (sym (under_numbers i a x)) (behind_group i a new.0 x))
+      by (inr from) y =
+          let f = (grouped.falling rises).fall i j a b from less at_i at_j in
+          subst (λ (l : List ℤ). PartsBelow l (numbers_of w2.all a)) (sym (new_first f.1 b f.3))
+          (subst (PartsBelow (p ++ f.1 ∷ [])) (sym (new_first f.0 a f.2)) (parts_last p f.1 f.0 f.4))
 
   -- what ends here is listed
   end_listed : HasEnd g w1.all group.from → IsListed more p
@@ -290,6 +374,9 @@ module _ (g : GraphValue) (w w1 w2 : WaysValue) (under over : List Group) (group
     each = each_after;
     stacked = stacked_after;
     shown = shown_after;
+    rising = rising_after;
+    before = before_after;
+    falling = falling_after;
     all = all_after;
   }
 
@@ -420,6 +507,17 @@ depth_most g w under group list longest walk most =
     let there = read w.all group.from start (omega (arith, some, many)) in
     reached_length g (at w.all group.from) longest (walk.reached group.from (at w.all group.from) there) most
 
+-- whatever isn't listed comes behind all that is
+pub first_listed : (g : GraphValue) (w : WaysValue) (groups : List Group) (list : List Reading) → IsWalk g w groups list → AreFirst g list
+first_listed g w groups list walk n acts numbers r = by (walk.all n acts numbers r)
+  where
+    by : IsListed list numbers ⊎ IsAwaited g w.all groups numbers → IsListed list numbers ⊎ AreBefore list numbers
+    by (inl is) = inl is
+    by (inr (i, a, there, (k, s, from, less, at_k, m, rest, left, reads, is))) =
+        inr (λ j q at_j. subst (ComesBefore q.numbers.items)
+        (sym (is ∙ ap (λ (l : List ℤ). l ++ left) ((walk.each i a there).prints k s from less at_k)))
+        (before_longer q.numbers.items (numbers_of w.all a) left (walk.before i a there j q at_j)))
+
 -- ---- what the parts of a step give
 
 -- the ways of the group alone, and those that come from there without a number being printed
@@ -460,10 +558,11 @@ pub stepped : (g : GraphValue) (w now same w2 : WaysValue) (under mid over : Lis
     (branches : List Branch) (limit : ℕ) (going : Bool)
     → AreTrim g → IsWalk g w (under ++ group ∷ []) list → IsOpened g group w now → kept ≡ list
     → IsListedFrom g now.all group.from limit kept more going → going ≡ true
-    → same ≡ now → mid ≡ under → AreBranches g same.all group.from branches → IsGrouped branches same w2 mid over
+    → same ≡ now → mid ≡ under → AreBranches g same.all group.from branches → AreRisingBranches branches
+    → IsGrouped branches same w2 mid over
     → IsWalk g w2 over more × IsNearer limit w.all group list w2.all over more
 stepped g w now same w2 under mid over group list kept more branches limit going trim walk opened was listed goes is stays_under are
-    grouped =
+    rises grouped =
     let opened' = subst (IsOpened g group w) (sym is) opened in
     let there = subst (λ (z : WaysValue). IsListedFrom g z.all group.from limit kept more going) (sym is) listed in
     let going_on = subst (λ (b : Bool). IsListedFrom g same.all group.from limit kept more b) goes there in
@@ -472,8 +571,8 @@ stepped g w now same w2 under mid over group list kept more branches limit going
     subst (λ (l : List Reading). ((NoneEnds g same.all group.from) × (more ≡ l))
     ⊎ ((length l < limit) × IsEndListed g same.all group.from l more)) was going_on in
     let grouped' = subst (λ (l : List Group). IsGrouped branches same w2 l over) stays_under grouped in (
-      walk_after g w same w2 under over group list more branches limit trim walk opened' listed' are grouped',
-      nearer_after g w same w2 under over group list more branches limit trim walk opened' listed' are grouped',
+      walk_after g w same w2 under over group list more branches limit trim walk opened' listed' are rises grouped',
+      nearer_after g w same w2 under over group list more branches limit trim walk opened' listed' are rises grouped',
     )
 
 -- ---- the walk begins
@@ -490,7 +589,11 @@ begun g w groups list one room first none readable = record {
         ∙ x) (ap (λ (l : List Group). slice_get l j) (sym first) ∙ y);
     within = λ i a there. (each i a (ap (λ (l : List Group). slice_get l i) (sym first) ∙ there)).within;
   };
-  shown = λ i r there. absurd (none-some r (ap (λ (l : List Reading). slice_get l i) (sym none) ∙ there));
+  shown = λ i r there. absurd (nothing i r there);
+  rising = λ i j r s less x y. absurd (nothing i r x);
+  before = λ i a there k r at_k. absurd (nothing k r at_k);
+  falling = λ i j a b less x y. absurd (one_alone i j a b less
+      (ap (λ (l : List Group). slice_get l i) (sym first) ∙ x) (ap (λ (l : List Group). slice_get l j) (sym first) ∙ y));
   all = λ n acts numbers r.
       inr (
         0,
@@ -510,6 +613,13 @@ begun g w groups list one room first none readable = record {
     is_whole : (i : ℕ) (a : Group) → slice_get (whole ∷ []) i ≡ Some a → whole ≡ a
     is_whole zero a there = same_Some whole a there
     is_whole (suc i) a there = absurd (none-some a there)
+
+    nothing : (i : ℕ) (r : Reading) → slice_get list i ≡ Some r → ⊥
+    nothing i r there = none-some r (ap (λ (l : List Reading). slice_get l i) (sym none) ∙ there)
+
+    one_alone : (i j : ℕ) (a b : Group) → i < j → slice_get (whole ∷ []) i ≡ Some a → slice_get (whole ∷ []) j ≡ Some b → ⊥
+    one_alone i zero a b less x y = omega (arith, less)
+    one_alone i (suc j) a b less x y = none-some b y
 
     one_way : IsOneOf w.all whole
     one_way = record {

@@ -1,5 +1,5 @@
 -- Which number comes next. This project's own.
-use Rattle.std.specs.Prelude.{◌≡◌, ℕ, ◌<◌, ◌≤◌, ℤ, List, length, Option, Some, option_map, slice_get}
+use Rattle.std.specs.Prelude.{◌≡◌, ℕ, suc, ◌<◌, ◌≤◌, ℤ, ◌<ℤ◌, ◌≤ℤ◌, List, length, Option, Some, option_map, slice_get}
 use Rattle.xk_readings.specs.declared.edge.Edge.{Edge}
 use Rattle.xk_readings.specs.declared.branches.Branch.{Branch}
 use Rattle.xk_readings.specs.declared.branches.Group.{Group}
@@ -36,6 +36,11 @@ pub record AreBranches (g : GraphValue) (all : List Standing) (first : ℕ) (bra
   pub each : (i : ℕ) (b : Branch) → slice_get branches i ≡ Some b → IsBranch g all b × (first ≤ b.before)
   pub there : (k : ℕ) → first ≤ k → k < length all → AreAllOf g branches (at all k)
 
+-- none prints a greater number than one behind it
+abbrev pub AreRisingBranches : List Branch → Type 0
+AreRisingBranches branches = (i j : ℕ) (b c : Branch) → i ≤ j → slice_get branches i ≡ Some b → slice_get branches j ≡ Some c
+    → b.number ≤ℤ c.number
+
 -- the branches stand behind ways that are there, and lead to nodes of the graph
 abbrev pub AreBefore : List Branch → WaysValue → Type 0
 AreBefore branches w = (i : ℕ) (b : Branch) → slice_get branches i ≡ Some b → (b.before < length w.all) × (b.edge.to < w.here.room)
@@ -54,6 +59,8 @@ pub record IsGroup (branches : List Branch) (start end : ℕ) (old new : WaysVal
       → IsAlong branches old.all b.number s
   pub same : (i : ℕ) (b c : Branch) → start ≤ i → i < end → slice_get branches i ≡ Some b → slice_get branches start ≡ Some c
       → b.number ≡ c.number
+  pub other : (i : ℕ) (b c : Branch) → suc i ≡ start → slice_get branches i ≡ Some b → slice_get branches start ≡ Some c
+      → b.number ≡ c.number → ⊥
   pub there : (i : ℕ) (b : Branch) → start ≤ i → i < end → slice_get branches i ≡ Some b → HasStanding new.all (length old.all) b.edge.to
 
 -- the group is of ways of branches that print a number
@@ -76,6 +83,17 @@ pub record AreStacked (groups : List Group) (many : ℕ) : Type 0 where
   pub in_order : AreInOrder groups
   pub within : (i : ℕ) (a : Group) → slice_get groups i ≡ Some a → a.to ≤ many
 
+-- the branches before a place print lesser numbers
+abbrev pub AreLess : List Branch → ℕ → ℤ → Type 0
+AreLess branches place x = (i : ℕ) (b : Branch) → i < place → slice_get branches i ≡ Some b → b.number <ℤ x
+
+-- the groups from this one on are of numbers that fall, and that are greater than what the branches before a place print
+pub record AreFalling (branches : List Branch) (place : ℕ) (old new : List Standing) (first : ℕ) (groups : List Group) : Type 0 where
+  pub above : (i : ℕ) (a : Group) → first ≤ i → slice_get groups i ≡ Some a
+      → (x : ℤ) × IsNew branches old new x a × AreLess branches place x
+  pub fall : (i j : ℕ) (a b : Group) → first ≤ i → i < j → slice_get groups i ≡ Some a → slice_get groups j ≡ Some b
+      → (x y : ℤ) × IsNew branches old new x a × IsNew branches old new y b × (y <ℤ x)
+
 -- groups were added for all branches from a place on
 pub record AreGrouped (branches : List Branch) (place : ℕ) (old new : WaysValue) (under over : List Group) : Type 0 where
   pub room : new.here.room ≡ old.here.room
@@ -86,6 +104,7 @@ pub record AreGrouped (branches : List Branch) (place : ℕ) (old new : WaysValu
   pub groups_kept : (i : ℕ) (a : Group) → slice_get under i ≡ Some a → slice_get over i ≡ Some a
   pub each : (i : ℕ) (a : Group) → length under ≤ i → slice_get over i ≡ Some a → (x : ℤ) × IsNew branches old.all new.all x a
   pub stacked : AreStacked under (length old.all) → AreStacked over (length new.all)
+  pub falling : AreRisingBranches branches → AreFalling branches place old.all new.all (length under) over
   pub there : (i : ℕ) (b : Branch) → place ≤ i → slice_get branches i ≡ Some b
       → (j : ℕ) × (a : Group) × (length under ≤ j) × (slice_get over j ≡ Some a) × IsNew branches old.all new.all b.number a
       × HasWay new.all a b.edge.to

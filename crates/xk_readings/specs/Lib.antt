@@ -1,5 +1,6 @@
 pub mod Graphs
 pub mod Readings
+pub mod Rising
 pub mod Useful
 pub mod NodeSets
 pub mod Ways

@@ -6,6 +6,7 @@ use Rattle.xk_readings.specs.declared.branches.Group.{Group}
 use Rattle.xk_readings.specs.declared.listing.Reading.{Reading}
 use Rattle.xk_readings.specs.Graphs.{GraphValue}
 use Rattle.xk_readings.specs.Readings.{AreShown, IsListed, Reads}
+use Rattle.xk_readings.specs.Rising.{AreBefore, AreRising, PartsBelow}
 use Rattle.xk_readings.specs.Ways.{Standing, WaysValue, at}
 use Rattle.xk_readings.specs.Closures.{AreReached, IsClosed, NoneEnds, PrintsFrom}
 use Rattle.xk_readings.specs.Branches.{AreStacked}
@@ -26,13 +27,22 @@ IsPending g all group numbers =
 abbrev pub IsAwaited : GraphValue → List Standing → List Group → List ℤ → Type 0
 IsAwaited g all groups numbers = (i : ℕ) × (a : Group) × (slice_get groups i ≡ Some a) × IsPending g all a numbers
 
--- what is listed is read, and whatever else is read is so behind a way of one of the groups
+-- what the ways of a group print
+abbrev pub numbers_of : List Standing → Group → List ℤ
+numbers_of all group = (at all group.from).numbers
+
+-- What is listed is read, and rises; whatever else is read is so behind a way of one of the groups, and comes behind what is listed: first
+-- what is read behind the last group.
 pub record IsWalk (g : GraphValue) (w : WaysValue) (groups : List Group) (list : List Reading) : Type 0 where
   pub room : w.here.room ≡ length g.ends
   pub reached : AreReached g w.all
   pub each : (i : ℕ) (a : Group) → slice_get groups i ≡ Some a → IsOneOf w.all a
   pub stacked : AreStacked groups (length w.all)
   pub shown : AreShown g list
+  pub rising : AreRising list
+  pub before : (i : ℕ) (a : Group) → slice_get groups i ≡ Some a → AreBefore list (numbers_of w.all a)
+  pub falling : (i j : ℕ) (a b : Group) → i < j → slice_get groups i ≡ Some a → slice_get groups j ≡ Some b
+      → PartsBelow (numbers_of w.all b) (numbers_of w.all a)
   pub all : (n : ℕ) (acts : List ℕ) (numbers : List ℤ) → Reads g n 0 acts numbers → IsListed list numbers ⊎ IsAwaited g w.all groups numbers
 
 -- to the ways of the group those were added that come from there without a number being printed

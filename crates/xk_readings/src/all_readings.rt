@@ -3,6 +3,7 @@
 ghost use Rattle.std.specs.Prelude.{◌≡◌, ◌≤◌, true, false, length, IfOk};
 ghost use Rattle.xk_readings.specs.Graphs.{IsWithin, graph};
 ghost use Rattle.xk_readings.specs.Readings.{AreAllListed, AreShown, IsLongest};
+ghost use Rattle.xk_readings.specs.Rising.{AreFirst, AreRising};
 
 use crate::edge::Edge;
 use crate::graph::Graph;
@@ -27,6 +28,10 @@ pub fn readings(
         → AreAllListed (graph edges.now ends.now) r.list.items) }
     ensures limit { IfOk result (λ r. r.complete ≡ false → limit ≤ length r.list.items) }
     ensures most { IfOk result (λ r. length r.list.items ≤ limit) }
+    // No list is there twice.
+    ensures rising { IfOk result (λ r. AreRising r.list.items) }
+    // What isn't listed where the limit is met comes behind all that is.
+    ensures first { IfOk result (λ r. AreFirst (graph edges.now ends.now) r.list.items) }
 {
     let useful = useful_nodes(alloc, edges, ends)?;
     if !is_first_useful(&useful) {

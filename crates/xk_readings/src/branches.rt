@@ -2,7 +2,7 @@
 
 ghost use Rattle.std.specs.Prelude.{◌≡◌, ◌<◌, ◌≤◌, length, IfOk, OnOk};
 ghost use Rattle.std.specs.Bool.{Decides};
-ghost use Rattle.xk_readings.specs.Branches.{AreBefore, AreBranches, AreBranchesAt, IsGroup, IsGrouped, branch_of};
+ghost use Rattle.xk_readings.specs.Branches.{AreBefore, AreBranches, AreBranchesAt, AreRisingBranches, IsGroup, IsGrouped, branch_of};
 
 use crate::edge::Edge;
 use crate::graph::Graph;
@@ -74,7 +74,8 @@ pub fn branches_from(
     ways: &Ways,
     first: usize,
 ) -> Result<Vec<Branch>, AllocError>
-    ensures { IfOk result (λ b. AreBranches graph.now ways.now.all first b.items) }
+    ensures branches { IfOk result (λ b. AreBranches graph.now ways.now.all first b.items) }
+    ensures rising { IfOk result (λ b. AreRisingBranches b.items) }
 {
     let mut branches = Vec::new(alloc);
     for before in first..ways.len() {

@@ -3,6 +3,7 @@
 ghost use Rattle.std.specs.Prelude.{◌≡◌, ◌<◌, ◌≤◌, ◌∷◌, ◌++◌, [], ℕ, true, false, length, slice_get, IfOk, OnOk};
 ghost use Rattle.xk_readings.specs.Graphs.{IsWithin};
 ghost use Rattle.xk_readings.specs.Readings.{AreAllListed, AreShown, IsLongest};
+ghost use Rattle.xk_readings.specs.Rising.{AreFirst, AreRising};
 ghost use Rattle.xk_readings.specs.Useful.{IsReadable};
 ghost use Rattle.xk_readings.specs.Ways.{start};
 ghost use Rattle.xk_readings.specs.Closures.{AreReached, AreTrim};
@@ -113,6 +114,8 @@ fn go_through(
     ensures limit { IfOk result (λ complete. complete ≡ false
         → limit ≤ length walk.new.list.items) }
     ensures most { OnOk result (length walk.new.list.items ≤ limit) }
+    ensures rising { OnOk result (AreRising walk.new.list.items) }
+    ensures first { OnOk result (AreFirst graph.now walk.new.list.items) }
 {
     while let Some(group) = walk.groups.pop() {
         if !go_on(alloc, graph, walk, group, limit)? {
@@ -156,6 +159,8 @@ pub fn walk_all(
     ensures all { IfOk result (λ r. r.complete ≡ true → AreAllListed graph.now r.list.items) }
     ensures limit { IfOk result (λ r. r.complete ≡ false → limit ≤ length r.list.items) }
     ensures most { IfOk result (λ r. length r.list.items ≤ limit) }
+    ensures rising { IfOk result (λ r. AreRising r.list.items) }
+    ensures first { IfOk result (λ r. AreFirst graph.now r.list.items) }
 {
     let mut walk = beginning(alloc, nodes)?;
     let complete = go_through(alloc, graph, &mut walk, longest, limit)?;

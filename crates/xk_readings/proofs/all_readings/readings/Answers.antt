@@ -4,8 +4,9 @@ use Rattle.std.proofs.lemmas.Result.{IfOk-weaker}
 use Rattle.xk_readings.specs.declared.listing.Readings.{Readings as Listing}
 use Rattle.xk_readings.specs.Graphs.{graph}
 use Rattle.xk_readings.specs.Readings.{AreAllListed, AreShown}
+use Rattle.xk_readings.specs.Rising.{AreFirst}
 use Rattle.xk_readings.specs.Useful.{AreUseful}
-use Rattle.xk_readings.proofs.TrimLemmas.{IsTrimmed, all_whole, longest_trimmed, readable_trimmed}
+use Rattle.xk_readings.proofs.TrimLemmas.{IsTrimmed, all_whole, first_whole, longest_trimmed, readable_trimmed}
 use Rattle.xk_readings.proofs.TrimLemmas.{shown_whole, trim_trimmed, trimmed, within_trimmed}
 use Rattle.xk_readings.proofs.all_readings.readings.Goals.{In_ok-graph}
 use Rattle.xk_readings.proofs.all_readings.readings.Goals as goal
@@ -63,3 +64,10 @@ returns-clause-all c =
     IfOk-weaker c.walk_all.result (λ (r : Listing). r.complete ≡ true → AreAllListed h r.list.items) (λ (r : Listing). r.complete ≡ true
     → AreAllListed g r.list.items)
     (λ r all done. all_whole g h (trim (goal.at.returns-clause-all c).In_ok-graph) r.list.items (all done)) c.walk_all.ensures.all
+
+pub returns-clause-first : goal.returns-clause-first
+returns-clause-first c =
+    let g = graph c.args.edges.now c.args.ends.now in
+    let h = c.in_ok-graph.graph in
+    IfOk-weaker c.walk_all.result (λ (r : Listing). AreFirst h r.list.items) (λ (r : Listing). AreFirst g r.list.items)
+    (λ r. first_whole g h (trim (goal.at.returns-clause-first c).In_ok-graph) r.list.items) c.walk_all.ensures.first

@@ -1,5 +1,7 @@
-use Rattle.std.proofs.Common.{arith}
+use Rattle.std.proofs.Common.{arith, rules}
 use Rattle.xk_readings.proofs.BranchLemmas.{all_of_more, branches_more, branches_sorted}
+use Rattle.xk_readings.proofs.BranchLemmas.{no_branch}
+use Rattle.xk_readings.proofs.RisingLemmas.{rising_by_key}
 use Rattle.xk_readings.proofs.branches.branches_from.Goals as goal
 
 pub loop-before-preserved : goal.loop-before-preserved
@@ -14,8 +16,8 @@ loop-before-preserved c =
       there = all_of_more g all c.args.first c.loop-before.before old new c.in_ok-add_branches.ensures c.loop-before.invariant.there;
     }
 
-pub returns : goal.returns
-returns c =
+pub returns-clause-branches : goal.returns-clause-branches
+returns-clause-branches c =
     let over = c.loop-before-test.false in
     let count = c.len-before-end.ensures in
     branches_sorted c.args.graph.now c.args.ways.now.all c.args.first c.loop-before.branches.items c.sort_by_key.new.self.items
@@ -23,3 +25,7 @@ returns c =
       each = c.loop-before.invariant.each;
       there = λ k from less. c.loop-before.invariant.there k from (omega (arith, less, over, count));
     })
+
+pub returns-clause-rising : goal.returns-clause-rising
+returns-clause-rising c =
+    rising_by_key c.sort_by_key.new.self.items no_branch c.in_ok-sort_by_key.ensures.sorted (λ a r q k. search rules)
