@@ -25,7 +25,7 @@ CLAUSE, CODE, DOC, FILE = 100, 140, 120, 800
 MOST = {
     "full": 0,
     "long": 16,
-    "bodies": 3,
+    "bodies": 2,
     "forwarders": 72,
     "uncommented": 9,
     "prover": 0,

@@ -1,5 +1,6 @@
 -- What a job on a module comes to, or tells of it: the numbers and the log of a run, what a module can print, pictures of a run. This project's own.
-use Rattle.std.specs.Prelude.{◌≡◌, ℕ, ⊤, ℤ, ◌-◌, ◌&&◌, not, Bool, true, false, List, ◌++◌, length, map, take, slice_get, Option, Some, None, is_some}
+use Rattle.std.specs.Prelude.{◌≡◌, ℕ, ⊤, ℤ, ◌-◌, ◌&&◌, not, Bool, true, false, List, ◌++◌, length, map, take, slice_get, Option, Some}
+use Rattle.std.specs.Prelude.{None, is_some}
 use Rattle.std.specs.Prelude.{option_map, unwrap_or, string_bytes, codes, decimal, if◌then◌else◌}
 use Rattle.serde_json.specs.Written.{compact_text}
 use Rattle.xk_types.specs.Code.{ModuleValue}
@@ -43,11 +44,12 @@ use Rattle.xk_replay.specs.Replay.{IsLegal, IsStoppedAt, IsUnfinished}
 use Rattle.xk_answers.specs.OrderedRun.{IsFinished, IsGreedyRun, IsLoggedGreedyRun, IsLoggedRun, IsOrderedRun, IsReplay, IsSomeRun}
 use Rattle.xk_program.specs.Origins.{IsByNames, IsByOrigins}
 use Rattle.xk_hints.specs.Words.{HintValue}
-use Rattle.xk_answers.specs.Explanation.{HaveHints, IsProgramListed, Tale, acceptance_told, all_told, event_values_so_far, events_so_far, image_so_far}
+use Rattle.xk_answers.specs.Explanation.{HaveHints, IsProgramListed, Tale, acceptance_told, all_told, event_values_so_far}
+use Rattle.xk_answers.specs.Explanation.{events_so_far, image_so_far}
 use Rattle.xk_answers.specs.Explanation.{lanes_so_far, page_so_far, path_told, races_told, span_told, where_told, why_told}
 
--- what is told as one JSON value: a run in an order, by rounds, or by workers, whose log is kept or not; outcomes, of which so many are looked
--- for, and of one the log is kept or not; or what outcomes say of a list
+-- what is told as one JSON value: a run in an order, by rounds, or by workers, whose log is kept or not; outcomes, of which so many are
+-- looked for, and of one the log is kept or not; or what outcomes say of a list
 pub data Shown : Type 0 where
   RunShown : Way → Bool → Shown
   OutcomesShown : Bool → Option ℕ → ℕ → Bool → Shown
@@ -162,7 +164,8 @@ verdict_name verdict.Undecided = codes "undecided"
 verdict_name verdict.Refuted = codes "refuted"
 
 -- the run came to its end as it is to be driven, and its log is kept or not
-pub record IsRunShown (way : Way) (keeps : Bool) (m : ModuleValue) (args : List ℤ) (text : List ℕ) (whole : Bool) (log : Option (List Entry)) : Type 0 where
+pub record IsRunShown (way : Way) (keeps : Bool) (m : ModuleValue) (args : List ℤ) (text : List ℕ) (whole : Bool)
+    (log : Option (List Entry)) : Type 0 where
   pub numbers : List ℤ
   pub steps : ℕ
   pub rounds : Option ℕ
@@ -171,13 +174,15 @@ pub record IsRunShown (way : Way) (keeps : Bool) (m : ModuleValue) (args : List 
   pub whole_is : whole ≡ true
 
 -- what a module can print, as it is found where it is told as lines
-pub record AreOutcomesShown (m : ModuleValue) (args : List ℤ) (sets : Bool) (limit : Limit) (pick : ℕ) (keeps : Bool) (text : List ℕ) (whole : Bool) (log : Option (List Entry)) : Type 0 where
+pub record AreOutcomesShown (m : ModuleValue) (args : List ℤ) (sets : Bool) (limit : Limit) (pick : ℕ) (keeps : Bool) (text : List ℕ)
+    (whole : Bool) (log : Option (List Entry)) : Type 0 where
   pub lines : List ℕ
   pub found : AreOutcomes m args sets limit pick keeps lines whole log
   pub text_is : text ≡ json_line (outcomes_value (lists_of found.list) found.complete)
 
 -- what that says of the list in these bytes, as it is told as a line
-pub record AreExpectedShown (m : ModuleValue) (args : List ℤ) (sets : Bool) (limit : Limit) (bytes text : List ℕ) (found : Verdict) : Type 0 where
+pub record AreExpectedShown (m : ModuleValue) (args : List ℤ) (sets : Bool) (limit : Limit) (bytes text : List ℕ) (found : Verdict)
+    : Type 0 where
   pub line : List ℕ
   pub held : AreExpected m args sets limit (list_in bytes) line found
   pub text_is : text ≡ json_line (held_value line (verdict_name found))
@@ -198,7 +203,8 @@ IsHeldTold m args sets limit bytes _ = ⊥
 
 abbrev pub IsShown : Shown → ModuleValue → List ℤ → List ℕ → Done → Type 0
 IsShown (RunShown way keeps) m args logged d = IsRunTold way keeps m args d
-IsShown (OutcomesShown sets limit pick keeps) m args logged d = IsFoundTold m args sets (limit_of limit (activities_bound m)) pick keeps d
+IsShown (OutcomesShown sets limit pick keeps) m args logged d =
+    IsFoundTold m args sets (limit_of limit (activities_bound m)) pick keeps d
 IsShown (ExpectedShown sets limit) m args logged d = IsHeldTold m args sets (limit_of limit (activities_bound m)) logged d
 
 -- What is to be done with a module, whose main is given these arguments where it is run, and with the bytes of a log or a list where one is read, comes

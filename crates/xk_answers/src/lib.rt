@@ -13,7 +13,6 @@ mod reasons;
 mod replay;
 mod runs;
 mod so_far;
-mod tally;
 mod verdict;
 mod whereabouts;
 
@@ -26,6 +25,5 @@ pub use outcome_search::{LONGEST_LIST, held, kept_log, searched};
 pub use picture::{Picture, drawn, lanes_given, window_given};
 pub use replay::replayed;
 pub use runs::{Finished, run_as};
-pub use tally::tallied;
 pub use verdict::explained;
 pub use whereabouts::stood;

@@ -1,6 +1,7 @@
 -- The answer to a job is one.
-use Rattle.std.proofs.Common.{◌≡◌, ◌≢◌, ◌<◌, ◌≤◌, ◌∙◌, ℕ, ℤ, Bool, true, false, List, Option, [], ◌++◌, length, codes, None, Some, inl, inr, refl, sym, ap, subst, arith}
-use Rattle.std.specs.Prelude.{◌⊎◌, ⊤}
+use Rattle.std.proofs.Common.{◌≡◌, ◌≢◌, ◌<◌, ◌≤◌, ◌∙◌, ℕ, ℤ, Bool, true, false, List, Option, [], ◌++◌, length, codes, None, Some, inl}
+use Rattle.std.proofs.Common.{inr, refl, sym, ap, subst, arith}
+use Rattle.std.specs.Prelude.{◌⊎◌}
 use Rattle.std.proofs.lemmas.Bool.{false≢true}
 use Rattle.std.proofs.lemmas.Option.{none-some, same_Some}
 use Rattle.xk_outcomes.specs.Expected.{stray_line}
@@ -48,6 +49,7 @@ use Rattle.xk_program.specs.Programs.{Gives, IsCompiledTo, IsNoModule, IsNoSourc
 use Rattle.xk_serve.proofs.LogUniquenessLemmas.{no_run_once, text_not_cut, text_not_wrong, text_once, whole_not_refused}
 use Rattle.xk_serve.proofs.RefusalUniquenessLemmas.{not_accepted, refusal_once, refused_status}
 use Rattle.xk_serve.proofs.RunUniquenessLemmas.{greedy_logged_once, greedy_once, list_once, logged_once, ordered_once, run_taken}
+use Rattle.xk_serve.proofs.DoneStatusLemmas.{done_zero}
 use Rattle.xk_serve.proofs.ShownUniquenessLemmas.{PrintsShown, prints_shown, shown_once, shown_status, shown_taken}
 use Rattle.xk_serve.proofs.TaskLemmas.{MayStand}
 use Rattle.xk_serve.proofs.TellingUniquenessLemmas.{telling_once}
@@ -118,76 +120,6 @@ prints (Outcomes sets limit pick kept) m args logged _ h = absurd h.1
 prints (Expected sets limit) m args logged (done.Held t found) h = (h.0, h.1.0, h.1.1.may_stand)
 prints (Expected sets limit) m args logged _ h = absurd h.1
 prints (Json s) m args logged d h = (h.0, prints_shown s m args logged d h.1)
-
--- what it comes to has the status of what is done, but where outcomes are looked for
-pub done_zero : (what : Doing) (m : ModuleValue) (args : List ℤ) (logged : List ℕ) (d : Done) → HasOneStatus what
-    → ComesTo what m args logged d → done_status d ≡ 0
-done_zero Compile m args logged (done.Outcomes t whole log) one h = absurd h
-done_zero Check m args logged (done.Outcomes t whole log) one h = absurd h
-done_zero (Explain json) m args logged (done.Outcomes t whole log) one h = absurd h
-done_zero Listing m args logged (done.Outcomes t whole log) one h = absurd h
-done_zero (Run (In o) false) m args logged (done.Outcomes t whole log) one h = absurd h
-done_zero (Run (In o) true) m args logged (done.Outcomes t whole log) one h = absurd h
-done_zero (Run (Greedy p) false) m args logged (done.Outcomes t whole log) one h = absurd h
-done_zero (Run (Greedy p) true) m args logged (done.Outcomes t whole log) one h = absurd h
-done_zero (Run (By n) false) m args logged (done.Outcomes t whole log) one h = absurd h
-done_zero (Run (By n) true) m args logged (done.Outcomes t whole log) one h = absurd h
-done_zero Replay m args logged (done.Outcomes t whole log) one h = absurd h
-done_zero (Draw picture) m args logged (done.Outcomes t whole log) one h = absurd h
-done_zero (Where at) m args logged (done.Outcomes t whole log) one h = absurd h
-done_zero Races m args logged (done.Outcomes t whole log) one h = absurd h
-done_zero (Tally seed runs) m args logged (done.Outcomes t whole log) one h = absurd h
-done_zero (OutcomePage window limit pick) m args logged (done.Outcomes t whole log) one h = absurd h
-done_zero (Outcomes sets limit pick kept) m args logged (done.Outcomes t whole log) one h = absurd one
-done_zero (Expected sets limit) m args logged (done.Outcomes t whole log) one h = absurd one
-done_zero (Json (RunShown way kept)) m args logged (done.Outcomes t whole log) one h = ap whole_status h.1.whole_is
-done_zero (Json (OutcomesShown sets limit pick kept)) m args logged (done.Outcomes t whole log) one h = absurd one
-done_zero (Json (ExpectedShown sets limit)) m args logged (done.Outcomes t whole log) one h = absurd one
-done_zero Compile m args logged (done.Held t found) one h = absurd h
-done_zero Check m args logged (done.Held t found) one h = absurd h
-done_zero (Explain json) m args logged (done.Held t found) one h = absurd h
-done_zero Listing m args logged (done.Held t found) one h = absurd h
-done_zero (Run (In o) false) m args logged (done.Held t found) one h = absurd h
-done_zero (Run (In o) true) m args logged (done.Held t found) one h = absurd h
-done_zero (Run (Greedy p) false) m args logged (done.Held t found) one h = absurd h
-done_zero (Run (Greedy p) true) m args logged (done.Held t found) one h = absurd h
-done_zero (Run (By n) false) m args logged (done.Held t found) one h = absurd h
-done_zero (Run (By n) true) m args logged (done.Held t found) one h = absurd h
-done_zero Replay m args logged (done.Held t found) one h = absurd h
-done_zero (Draw picture) m args logged (done.Held t found) one h = absurd h
-done_zero (Where at) m args logged (done.Held t found) one h = absurd h
-done_zero Races m args logged (done.Held t found) one h = absurd h
-done_zero (Tally seed runs) m args logged (done.Held t found) one h = absurd h
-done_zero (OutcomePage window limit pick) m args logged (done.Held t found) one h = absurd h
-done_zero (Outcomes sets limit pick kept) m args logged (done.Held t found) one h = absurd one
-done_zero (Expected sets limit) m args logged (done.Held t found) one h = absurd one
-done_zero (Json (RunShown way kept)) m args logged (done.Held t found) one h = absurd h.1
-done_zero (Json (OutcomesShown sets limit pick kept)) m args logged (done.Held t found) one h = absurd one
-done_zero (Json (ExpectedShown sets limit)) m args logged (done.Held t found) one h = absurd one
-done_zero what m args logged (done.Compiled t) one h = refl
-done_zero what m args logged (done.Accepted steps activities clocks) one h = refl
-done_zero Compile m args logged (done.Told t whole) one h = absurd h
-done_zero Check m args logged (done.Told t whole) one h = absurd h
-done_zero (Explain json) m args logged (done.Told t whole) one h = absurd h
-done_zero Listing m args logged (done.Told t whole) one h = absurd h
-done_zero (Run (In o) false) m args logged (done.Told t whole) one h = absurd h
-done_zero (Run (In o) true) m args logged (done.Told t whole) one h = absurd h
-done_zero (Run (Greedy p) false) m args logged (done.Told t whole) one h = absurd h
-done_zero (Run (Greedy p) true) m args logged (done.Told t whole) one h = absurd h
-done_zero (Run (By n) false) m args logged (done.Told t whole) one h = absurd h
-done_zero (Run (By n) true) m args logged (done.Told t whole) one h = absurd h
-done_zero Replay m args logged (done.Told t whole) one h = absurd h
-done_zero (Draw picture) m args logged (done.Told t whole) one h = absurd h
-done_zero (Where at) m args logged (done.Told t whole) one h = absurd h
-done_zero Races m args logged (done.Told t whole) one h = absurd h
-done_zero (Tally seed runs) m args logged (done.Told t whole) one h = absurd h
-done_zero (OutcomePage window limit pick) m args logged (done.Told t whole) one h = absurd h
-done_zero (Outcomes sets limit pick kept) m args logged (done.Told t whole) one h = absurd h.1
-done_zero (Expected sets limit) m args logged (done.Told t whole) one h = absurd h.1
-done_zero (Json (RunShown way kept)) m args logged (done.Told t whole) one h = absurd h.1
-done_zero (Json (OutcomesShown sets limit pick kept)) m args logged (done.Told t whole) one h = absurd one
-done_zero (Json (ExpectedShown sets limit)) m args logged (done.Told t whole) one h = absurd one
-done_zero what m args logged (done.Ended numbers steps rounds log) one h = refl
 
 -- what asks the verifier prints nothing of another module than one that is accepted
 prints_accepted : (what : Doing) (m : ModuleValue) (args : List ℤ) (logged out log : List ℕ) → asks_verifier what ≡ true

@@ -1,4 +1,5 @@
 pub mod CommandLemmas
+pub mod DoneStatusLemmas
 pub mod LongTextLemmas
 pub mod AnswerUniquenessLemmas
 pub mod LogUniquenessLemmas

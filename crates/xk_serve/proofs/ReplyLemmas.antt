@@ -25,7 +25,7 @@ appends_none None = tt
 appends_none (Some xs) = sym (append-nil xs)
 
 -- what holds of whatever list is known
-pub if_known : (known : Option (List ℕ)) (P : List ℕ → Type 0) → ((xs : List ℕ) → known ≡ Some xs → P xs) → IfSome known P
+if_known : (known : Option (List ℕ)) (P : List ℕ → Type 0) → ((xs : List ℕ) → known ≡ Some xs → P xs) → IfSome known P
 if_known None P f = tt
 if_known (Some xs) P f = f xs refl
 

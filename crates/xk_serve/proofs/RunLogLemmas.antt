@@ -27,7 +27,8 @@ use Rattle.xk_serve.specs.OneAnswer.{IsChartOf, IsCharted, MayChart, PrintsAgain
 use Rattle.xk_answers.specs.OrderedRun.{IsReplay, IsWholeRun}
 use Rattle.xk_replay.specs.Replay.{IsLegal}
 use Rattle.xk_program.specs.Programs.{Gives}
-use Rattle.xk_serve.proofs.AnswerUniquenessLemmas.{done_zero, prints, prints_once, whole_done}
+use Rattle.xk_serve.proofs.AnswerUniquenessLemmas.{prints, prints_once, whole_done}
+use Rattle.xk_serve.proofs.DoneStatusLemmas.{done_zero}
 use Rattle.xk_serve.proofs.TellingUniquenessLemmas.{same_tale}
 
 -- ---- what was written

@@ -39,7 +39,7 @@ same_step v w d e h = cc
 
 module _ {S : Type 0} (answer : S → List ℕ → ℕ) (after : S → List ℕ → S) (m : ModuleValue) where
   -- two lists that follow one chooser to an end are one
-  pub follows_once : (l k : List ℕ) (s : S) (w x y : World) → Follows answer after m s w l → Follows answer after m s w k → run m l w ≡ Through x → run m k w ≡ Through y
+  follows_once : (l k : List ℕ) (s : S) (w x y : World) → Follows answer after m s w l → Follows answer after m s w k → run m l w ≡ Through x → run m k w ≡ Through y
       → all_ended x ≡ true → all_ended y ≡ true → l ≡ k
   follows_once [] [] s w x y p q left right over end = refl
   follows_once [] (b ∷ k) s w x y p q left right over end =

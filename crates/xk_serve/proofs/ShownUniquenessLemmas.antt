@@ -18,7 +18,7 @@ use Rattle.xk_serve.specs.OneAnswer.{HasOneShownStatus, IsOneShown}
 use Rattle.xk_serve.proofs.RunUniquenessLemmas.{greedy_logged_once, greedy_once, logged_once, ordered_once, run_taken}
 
 -- the text of a log that is kept
-abbrev pub kept_text : Option (List Entry) → List ℕ
+abbrev kept_text : Option (List Entry) → List ℕ
 kept_text log = option_map_or log_text log []
 
 -- a run came to its end, which this tells

@@ -1,5 +1,6 @@
 -- From what is said of a module to what is said of the task on the bytes that give it.
-use Rattle.std.proofs.Common.{◌≡◌, ◌∙◌, ◌||◌, ℕ, ℤ, List, [], Bool, true, false, Option, Some, Result, Ok, Err, IfOk, IfErr, if◌then◌else◌, inl, inr, refl, ap, sym, subst}
+use Rattle.std.proofs.Common.{◌≡◌, ◌∙◌, ◌||◌, ℕ, ℤ, List, [], Bool, true, false, Option, Some, Result, Ok, Err, IfOk, IfErr}
+use Rattle.std.proofs.Common.{if◌then◌else◌, inl, inr, refl, ap, sym, subst}
 use Rattle.std.specs.Prelude.{⊤}
 use Rattle.xk_log.specs.SomeBytes.{OfSome}
 use Rattle.xk_types.specs.Acceptance.{IsAccepted}

@@ -15,11 +15,12 @@ ghost use Rattle.xk_program.specs.Lines.{status_of};
 ghost use Rattle.xk_serve.specs.Devices.{AgainstLog, IsListReadToLimit, read_of};
 ghost use Rattle.xk_program.specs.declared.fault.Fault.TheVariants.{OutOfMemory};
 
+use crate::tally::tallied;
 use crate::values::answer_values;
 use std::alloc::{AllocError, Global};
 use xk_answers::{
     Done, Finished, Picture, drawn, held, lanes_given, listing, paged, raced, replayed, searched,
-    stood, tallied, window_given,
+    stood, window_given,
 };
 use xk_bounds::Verified;
 use xk_cli::{Command, Drive, Job, Order};

@@ -14,7 +14,9 @@ ghost use Rattle.xk_program.specs.Bytes.{IsReadToLimit};
 ghost use Rattle.xk_program.specs.Lines.{device_line, fault_line, status_of};
 ghost use Rattle.xk_answers.specs.Printed.{done_ending, done_log};
 ghost use Rattle.xk_messages.specs.Lines.{memory_line};
-ghost use Rattle.xk_serve.specs.Devices.{AgainstLog, Answered, AnsweredBySome, ErrBegins, Explained, IfKnown, IsBegun, IsListReadToLimit, IsNoted, IsOutcomeOfSome, IsQuiet, IsWritten, OutBegins, Reports, StandsAgainst, Tells, TellsWords, read_of, reads};
+ghost use Rattle.xk_serve.specs.Devices.{AgainstLog, Answered, AnsweredBySome, ErrBegins, Explained, IfKnown, IsBegun};
+ghost use Rattle.xk_serve.specs.Devices.{IsListReadToLimit, IsNoted, IsOutcomeOfSome, IsQuiet, IsWritten, OutBegins, Reports};
+ghost use Rattle.xk_serve.specs.Devices.{StandsAgainst, Tells, TellsWords, read_of, reads};
 
 use crate::commands::answer;
 use crate::refusal::{Refusal, noted, tell_noted, unnoted};

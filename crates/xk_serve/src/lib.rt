@@ -7,6 +7,7 @@ pub mod laws;
 mod lone_caller;
 mod lone_runs;
 mod refusal;
+mod tally;
 mod values;
 
 pub use devices::{report, serve, tell, tell_words};

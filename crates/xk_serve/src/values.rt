@@ -105,7 +105,8 @@ fn run_shown<F: FnOnce(Drive, bool, &Verified, &[i64]) -> Result<Finished, Alloc
     let verified = runnable(alloc, m, arguments)?;
     let drive = drive.unwrap_or(Drive::Order(Order::First));
     let run = run_by(crew, drive, keeps_log, &verified, arguments)?;
-    Ok(run_told(alloc, run)?)
+    let done = run_told(alloc, run)?;
+    Ok(done)
 }
 
 /// A run that came to its end, told as one value.

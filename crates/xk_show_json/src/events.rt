@@ -165,9 +165,10 @@ pub fn source_event_values<'t>(
 {
     let places = Places::of_source(alloc, text, origins)?;
     let names = Names::of_run(alloc, text, origins, shared, legal)?;
+    let known = Some(&names);
     let teller = EventTeller {
         places: &places,
-        names: Some(&names),
+        names: known,
     };
     values_of(alloc, &teller, legal)
 }

@@ -47,57 +47,55 @@ impl Write for Halting {
 }
 
 /// Every kind of failure but an interruption.
-fn kinds() -> [ErrorKind; 41] {
-    [
-        ErrorKind::NotFound,
-        ErrorKind::PermissionDenied,
-        ErrorKind::ConnectionRefused,
-        ErrorKind::ConnectionReset,
-        ErrorKind::HostUnreachable,
-        ErrorKind::NetworkUnreachable,
-        ErrorKind::ConnectionAborted,
-        ErrorKind::NotConnected,
-        ErrorKind::AddrInUse,
-        ErrorKind::AddrNotAvailable,
-        ErrorKind::NetworkDown,
-        ErrorKind::BrokenPipe,
-        ErrorKind::AlreadyExists,
-        ErrorKind::WouldBlock,
-        ErrorKind::NotADirectory,
-        ErrorKind::IsADirectory,
-        ErrorKind::DirectoryNotEmpty,
-        ErrorKind::ReadOnlyFilesystem,
-        ErrorKind::FilesystemLoop,
-        ErrorKind::StaleNetworkFileHandle,
-        ErrorKind::InvalidInput,
-        ErrorKind::InvalidData,
-        ErrorKind::TimedOut,
-        ErrorKind::WriteZero,
-        ErrorKind::StorageFull,
-        ErrorKind::NotSeekable,
-        ErrorKind::QuotaExceeded,
-        ErrorKind::FileTooLarge,
-        ErrorKind::ResourceBusy,
-        ErrorKind::ExecutableFileBusy,
-        ErrorKind::Deadlock,
-        ErrorKind::CrossesDevices,
-        ErrorKind::TooManyLinks,
-        ErrorKind::InvalidFilename,
-        ErrorKind::ArgumentListTooLong,
-        ErrorKind::Unsupported,
-        ErrorKind::UnexpectedEof,
-        ErrorKind::OutOfMemory,
-        ErrorKind::InProgress,
-        ErrorKind::Other,
-        ErrorKind::Uncategorized,
-    ]
-}
+const KINDS: [ErrorKind; 41] = [
+    ErrorKind::NotFound,
+    ErrorKind::PermissionDenied,
+    ErrorKind::ConnectionRefused,
+    ErrorKind::ConnectionReset,
+    ErrorKind::HostUnreachable,
+    ErrorKind::NetworkUnreachable,
+    ErrorKind::ConnectionAborted,
+    ErrorKind::NotConnected,
+    ErrorKind::AddrInUse,
+    ErrorKind::AddrNotAvailable,
+    ErrorKind::NetworkDown,
+    ErrorKind::BrokenPipe,
+    ErrorKind::AlreadyExists,
+    ErrorKind::WouldBlock,
+    ErrorKind::NotADirectory,
+    ErrorKind::IsADirectory,
+    ErrorKind::DirectoryNotEmpty,
+    ErrorKind::ReadOnlyFilesystem,
+    ErrorKind::FilesystemLoop,
+    ErrorKind::StaleNetworkFileHandle,
+    ErrorKind::InvalidInput,
+    ErrorKind::InvalidData,
+    ErrorKind::TimedOut,
+    ErrorKind::WriteZero,
+    ErrorKind::StorageFull,
+    ErrorKind::NotSeekable,
+    ErrorKind::QuotaExceeded,
+    ErrorKind::FileTooLarge,
+    ErrorKind::ResourceBusy,
+    ErrorKind::ExecutableFileBusy,
+    ErrorKind::Deadlock,
+    ErrorKind::CrossesDevices,
+    ErrorKind::TooManyLinks,
+    ErrorKind::InvalidFilename,
+    ErrorKind::ArgumentListTooLong,
+    ErrorKind::Unsupported,
+    ErrorKind::UnexpectedEof,
+    ErrorKind::OutOfMemory,
+    ErrorKind::InProgress,
+    ErrorKind::Other,
+    ErrorKind::Uncategorized,
+];
 
 /// An interrupted call is made again; one that fails otherwise isn't, whatever the kind, and counts as a failure.
 #[test]
 fn failures_are_counted(rt: HostRuntime) {
     let mut buf = [0; 4];
-    for kind in kinds() {
+    for kind in KINDS {
         let mut reader = Halting::new(kind);
         assert!(rt; reader.read(&mut buf) == Ok(1) && reader.faults() == 0);
         assert!(rt;

@@ -24,4 +24,5 @@ returns-clause-done g c =
 
 pub returns-clause-fault : goal.returns-clause-fault
 returns-clause-fault g c =
-    list_stands _ _ (g.L.Source.remaining c.args.source.now) _ _ c.held_told.result c.in_ok-verified.ensures.accepted.1 c.in_ok-verified.ensures.taken c.held_told.ensures.fault
+    let is = c.in_ok-verified.ensures in
+    list_stands _ _ (g.L.Source.remaining c.args.source.now) _ _ c.held_told.result is.accepted.1 is.taken c.held_told.ensures.fault

@@ -13,7 +13,8 @@ returns-in-Ok-held_json-clause-done g c =
       c.requires,
       record {
         line = held.text.items;
-        held = subst (λ bytes. AreExpected c.args.verified.now c.args.arguments.now c.args.sets c.args.limit bytes held.text.items held.verdict)
+        held = subst
+            (λ bytes. AreExpected c.args.verified.now c.args.arguments.now c.args.sets c.args.limit bytes held.text.items held.verdict)
             (c.deref.ensures.value ∙ is) c.in-Ok.ensures.held;
         text_is = c.in-Ok-held_json.ensures.text
             ∙ ap (λ line. json_line (held_value line c.verdict_name.result.now)) c.deref-in-Ok.ensures.value

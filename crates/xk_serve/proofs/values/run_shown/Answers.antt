@@ -16,6 +16,6 @@ returns-clause-done g c = λ logged.
     let driven = ap way_value c.unwrap_or-drive.ensures ∙ way_taken c.args.drive in
     let of_module = subst (λ m. IsFinished (way_value c.unwrap_or-drive.result) keeps m args run.printed.items run.steps run.rounds log) accepted.0 c.in_ok-run.ensures in (
       accepted.1,
-      c.in_ok.ensures (way_given c.args.drive) keeps c.args.m args
+      c.in_ok-done.ensures (way_given c.args.drive) keeps c.args.m args
           (subst (λ way. IsFinished way keeps c.args.m args run.printed.items run.steps run.rounds log) driven of_module),
     )

@@ -5,14 +5,14 @@ ghost use Rattle.xk_program.specs.Refusals.{IsNotRun};
 ghost use Rattle.xk_answers.specs.Results.{IsTelling, IsText, Tally};
 ghost use Rattle.xk_cli.specs.declared.job.Form.{Form as FormValue};
 
-use crate::job_result::Done;
 use std::alloc::Global;
+use xk_answers::Done;
 use xk_program::{Fault, runnable};
 use xk_random::tally;
 use xk_types::Module;
 
 /// How often so many runs by chance, from this seed on, with these arguments, print what, if the module is accepted and main takes as many.
-pub fn tallied(
+pub(crate) fn tallied(
     alloc: Global,
     seed: u64,
     runs: u64,
