@@ -39,8 +39,10 @@ struct PathTeller<'a, 't> {
 fn marked(alloc: Global, critical: bool, words: &str) -> Result<String, AllocError>
     ensures { IfOk result (λ text. string_bytes text ≡ marked critical words.now) }
 {
-    let mark = if critical { "*" } else { "" };
-    format!(in alloc; "{mark}{words}")
+    if critical {
+        return format!(in alloc; "*{words}");
+    }
+    format!(in alloc; "{words}")
 }
 
 /// The words of a step's row.
