@@ -48,7 +48,10 @@ ANSWERS = b"0\n0\n9\n1\n0\n1\n"
 BROKEN = r"x10clock: ([FV])(\d+) \w+(?: unit (\d+))?(?: at (\d+)| over \d+)"
 # Words that are no job, or ask for help, and a word that is no text.
 ALONE = ((), ("--help",), ("run", "--help"), ("--version",), ("walk",), ("check",), ("explain", "V12"))
-PICTURES = (("chart",), ("events",), ("lanes",), ("lanes", "--svg"), ("lanes", "--path"), ("page",), ("where",), ("where", "--at", "2"))
+PICTURES = (
+    ("chart",), ("events",), ("lanes",), ("lanes", "--svg"), ("lanes", "--path"), ("page",), ("where",),
+    ("where", "--at", "2")
+)  # fmt: skip
 
 
 @dataclass(frozen=True)

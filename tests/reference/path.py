@@ -1,5 +1,5 @@
-"""The reference for `lanes --path` and its picture: what `lanes` draws, with the round of each step and the critical path
-that `span` prints."""
+"""The reference for `lanes --path` and its picture: what `lanes` draws, with the round of each step and the critical
+path that `span` prints."""
 
 from __future__ import annotations
 
@@ -90,7 +90,7 @@ def picture_drawing(program: Program, played: Played, window: Window = WHOLE) ->
         row += 1 + len(taken.advances)
     boxes = [taken for taken in path.steps if taken.number in window and taken.step.event]
     told = "".join(f" step {taken.number} act {taken.who} round {path.rounds[taken.number]};" for taken in boxes)
-    follows = f" A line follows a critical path, {len(path.steps)} steps long, along these of its steps:{told} no others."
+    follows = f" Along a critical path of {len(path.steps)} steps goes a line, by these of them:{told} no others."
     head = sheet.head().replace("The lanes of a run<", "The lanes of a run, and its critical path<")
     return (
         head.replace("</desc>", f"{follows}</desc>")

@@ -1,1 +1,3 @@
 pub mod MarkLemmas
+pub mod RoundLemmas
+mod PathExamples

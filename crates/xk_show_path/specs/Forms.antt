@@ -16,7 +16,8 @@ use Rattle.xk_show_path.specs.PathPicture.{path_picture_text}
 abbrev pub form_of : Bool → PathForm
 form_of picture = if picture then path_form.Picture else path_form.Lanes
 
--- what is told of these steps of the run that a log stands for, which ends in this world; by names, where those of the shared numbers are known
+-- what is told of these steps of the run that a log stands for, which ends in this world; by names, where those of the shared numbers
+-- are known
 abbrev pub path_text : PathForm → PlacesValue → Option (List (List ℕ)) → Window → ModuleValue → List Entry → World → List ℕ
 path_text path_form.Lanes p shared w m log last = path_lanes_text p shared w m log last
 path_text path_form.Picture p shared w m log last = path_picture_text p shared w m log last

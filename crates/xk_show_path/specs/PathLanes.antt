@@ -70,8 +70,8 @@ path_lanes_in r g p n m log last =
 abbrev pub path_lanes_by : Rounds → PlacesValue → Option NamesValue → Window → ModuleValue → List Entry → World → List ℕ
 path_lanes_by r p n w m log last = path_lanes_in r (columns p n w m log last) p n m log last
 
--- The lanes of these steps of the run that a log stands for, which ends in this world, with the rounds and the path that `span` tells of it;
--- by names, where those of the shared numbers are known.
+-- The lanes of these steps of the run that a log stands for, which ends in this world, with the rounds and the path that `span` tells of
+-- it; by names, where those of the shared numbers are known.
 abbrev pub path_lanes_text : PlacesValue → Option (List (List ℕ)) → Window → ModuleValue → List Entry → World → List ℕ
 path_lanes_text p shared w m log last =
     path_lanes_by (rounds_of_run m last.arguments log) p (names_for p shared w m log last) w m log last

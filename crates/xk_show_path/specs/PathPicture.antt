@@ -17,7 +17,8 @@ use Rattle.xk_show_lanes.specs.Lanes.{is_asked}
 use Rattle.xk_show_picture.specs.declared.sheet.Sheet.{Sheet}
 use Rattle.xk_show_picture.specs.Sheet.{lane_left, wide}
 use Rattle.xk_show_picture.specs.Shapes.{svg_head, too_large, top}
-use Rattle.xk_show_picture.specs.Picture.{drawn_step, furniture, high, is_drawn, is_shown, lane_head, names_for, picture_end, row_of, rows_of, sheet_for}
+use Rattle.xk_show_picture.specs.Picture.{drawn_step, furniture, high, is_drawn, is_shown, lane_head, names_for, picture_end, row_of}
+use Rattle.xk_show_picture.specs.Picture.{rows_of, sheet_for}
 use Rattle.xk_show_path.specs.Rounds.{Rounds, round_of, rounds_of_run}
 
 -- ---- the column of rounds, between places and lanes
@@ -39,7 +40,8 @@ column s = s.left - 12
 
 -- `<text class='number' x='148' y='128'>43</text>`
 unfoldable pub number : ℕ → ℕ → List ℕ → List ℕ
-number x y words = codes "<text class='number' x='" ++ (decimal x ++ (codes "' y='" ++ (decimal y ++ (codes "'>" ++ (words ++ codes "</text>\n")))))
+number x y words =
+    codes "<text class='number' x='" ++ (decimal x ++ (codes "' y='" ++ (decimal y ++ (codes "'>" ++ (words ++ codes "</text>\n")))))
 
 -- the round of a step, in its row
 abbrev pub round_label : Rounds → Sheet → List ℕ → RunStep → List ℕ
@@ -94,14 +96,15 @@ line_of s rows (step ∷ more) = line_along s rows step more
 unfoldable pub step_words : Rounds → RunStep → List ℕ
 step_words r step =
     codes " step "
-    ++ (decimal step.number ++ (codes " act " ++ (decimal step.act ++ (codes " round " ++ (decimal (round_of r step.number) ++ codes ";")))))
+    ++ (decimal step.number ++ (codes " act " ++ (decimal step.act
+    ++ (codes " round " ++ (decimal (round_of r step.number) ++ codes ";")))))
 
 unfoldable pub described_first : ℕ → ℕ → ℕ → List ℕ
 described_first activities rows rounds =
     codes "<title id='title'>The lanes of a run, and its critical path</title>\n<desc id='desc'>A lane for each of "
     ++ (decimal activities ++ (codes " activities, and " ++ (decimal rows
-    ++ (codes " rows, from the top: one for each step that others see, and one for each advance of a clock. A line follows a critical path, "
-    ++ (decimal rounds ++ codes " steps long, along these of its steps:")))))
+    ++ (codes " rows, from the top: one for each step that others see, and one for each advance of a clock. Along a critical path of "
+    ++ (decimal rounds ++ codes " steps goes a line, by these of them:")))))
 
 abbrev pub described : Rounds → Window → ℕ → ℕ → List ℕ
 described r w activities rows =
@@ -120,7 +123,8 @@ legend =
 
 unfoldable pub head : Rounds → Sheet → ℕ → List ℕ → List ℕ
 head r s activities rows =
-    ((((svg_head (wide s) (high (length rows)) ++ described r s.window activities (length rows)) ++ furniture) ++ legend) ++ number (column s) 104 (codes "round")) ++ each_below (lane_head s) s.lanes
+    ((((svg_head (wide s) (high (length rows)) ++ described r s.window activities (length rows)) ++ furniture) ++ legend)
+    ++ number (column s) 104 (codes "round")) ++ each_below (lane_head s) s.lanes
 
 -- on this sheet
 abbrev pub path_picture_on : Rounds → Sheet → List ℕ → PlacesValue → Option NamesValue → ModuleValue → List Entry → World → List ℕ

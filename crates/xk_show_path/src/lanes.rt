@@ -4,8 +4,8 @@ ghost use Rattle.std.specs.Prelude.{◌≡◌, ◌<◌, ◌++◌, length, map, o
 ghost use Rattle.xk_core.specs.Core.{advanced_now};
 ghost use Rattle.xk_show_lanes.specs.Fields.{at_right};
 ghost use Rattle.xk_show_lanes.specs.Lanes.{are_lanes_whole};
-ghost use Rattle.xk_show_path.specs.PathLanes.{marked, marked_words, path_bar, path_head, path_lanes_in, path_lanes_of_step, path_lanes_text};
-ghost use Rattle.xk_show_path.specs.PathLanes.{path_row_and_bars, path_row_if_seen, row_with};
+ghost use Rattle.xk_show_path.specs.PathLanes.{marked, marked_words, path_bar, path_head, path_lanes_in, path_lanes_of_step};
+ghost use Rattle.xk_show_path.specs.PathLanes.{path_lanes_text, path_row_and_bars, path_row_if_seen, row_with};
 ghost use Rattle.xk_show_path.specs.Rounds.{round_of};
 
 use crate::columns::columns_for;
@@ -39,8 +39,10 @@ struct PathTeller<'a, 't> {
 fn marked(alloc: Global, critical: bool, words: &str) -> Result<String, AllocError>
     ensures { IfOk result (λ text. string_bytes text ≡ marked critical words.now) }
 {
-    let mark = if critical { "*" } else { "" };
-    format!(in alloc; "{mark}{words}")
+    if critical {
+        return format!(in alloc; "*{words}");
+    }
+    format!(in alloc; "{words}")
 }
 
 /// The words of a step's row.

@@ -1,6 +1,6 @@
 //! The picture of a run, with its rounds and its critical path.
 
-ghost use Rattle.std.specs.Prelude.{◌≡◌, ◌+◌, ◌++◌, length, map, option_map, flat_map, IfOk, OnOk, codes};
+ghost use Rattle.std.specs.Prelude.{◌≡◌, ◌≤◌, ◌+◌, ◌++◌, length, map, option_map, flat_map, IfOk, OnOk, codes};
 ghost use Rattle.xk_show_picture.specs.Picture.{is_drawn, sheet_for};
 ghost use Rattle.xk_show_path.specs.PathPicture.{boxes_of, column, described, drawn_with_round, head, path_picture_on, path_picture_text};
 ghost use Rattle.xk_show_path.specs.PathPicture.{round_label, step_words, with_column};
@@ -22,6 +22,7 @@ use xk_unit_origins::UnitOrigins;
 
 /// Lanes begin further right, where rounds have a column.
 fn with_column(sheet: Sheet) -> Sheet
+    requires { sheet.left ≤ 416 }
     ensures { result ≡ with_column sheet }
 {
     Sheet {
@@ -185,6 +186,7 @@ fn path_picture_on(
 
 /// The plan, with a column of rounds.
 fn plan_with_column(plan: Plan<'_>) -> Plan<'_>
+    requires { plan.sheet.left ≤ 416 }
     ensures sheet { result.sheet ≡ with_column plan.sheet }
     ensures names { result.names ≡ plan.names }
     ensures rows { result.rows.items ≡ plan.rows.items }

@@ -44,7 +44,10 @@ pub(crate) fn described_first(
     ensures { IfOk result (λ t. string_bytes t ≡ described_first activities rows rounds) }
 {
     format!(in alloc;
-        "<title id='title'>The lanes of a run, and its critical path</title>\n<desc id='desc'>A lane for each of {activities} activities, and {rows} rows, from the top: one for each step that others see, and one for each advance of a clock. A line follows a critical path, {rounds} steps long, along these of its steps:"
+        "<title id='title'>The lanes of a run, and its critical path</title>\n\
+         <desc id='desc'>A lane for each of {activities} activities, and {rows} rows, from the top: \
+         one for each step that others see, and one for each advance of a clock. \
+         Along a critical path of {rounds} steps goes a line, by these of them:"
     )
 }
 
