@@ -14,13 +14,13 @@ use Rattle.xk_law_commute.proofs.ExplorationLaw.{nobody_steps}
 use Rattle.xk_law_names.specs.Names.{all_named}
 use Rattle.xk_law_traces.specs.Classes.{Turn, AreSwapped, AreJoined, AreOneClass, names_along, name_in}
 use Rattle.xk_law_traces.specs.RaceFreedom.{HasNoRace}
-use Rattle.xk_law_traces.specs.Edges.{StepName, turns_of, IsTaken, IsLink, AreSound}
+use Rattle.xk_law_traces.specs.Edges.{StepName, turns_of, IsEdge, IsTaken, AreSound}
 use Rattle.xk_law_traces.specs.OneRun.{GoesAsWell, IsBegun, IsWholeRun}
 use Rattle.xk_law_traces.proofs.ClassLemmas.{deeds, same_deeds}
 use Rattle.xk_law_traces.proofs.SwapLemmas.{deed_named}
 use Rattle.xk_law_traces.proofs.EdgeLaw.{turns_on, turns_done}
 use Rattle.xk_law_traces.proofs.OneRunLaw.{same, begun}
-use Rattle.xk_law_rounds.specs.Rounds.{IsRound, AreRounds, steps_in, IsChain, HasNoLonger}
+use Rattle.xk_law_rounds.specs.Rounds.{IsRound, AreRounds, steps_in, IsChainBy, HasNoLonger, HasNoLongerBy}
 
 -- ---- a whole run is of the class
 
@@ -62,32 +62,44 @@ same_work m args s t z y limits ok taken one free other =
     let member = whole_member m args limits ok taken s t z y one free other in
     joined_length m (opening m args) member.between s t member.joined
 
+-- each activity takes as many steps in both
+pub same_turns : (m : ModuleValue) (args : List ℤ) → IsWithinLimits m → IsAccepted m → AreArguments m args
+    → (s t : List ℕ) (z : World) → IsWholeRun m args s z → (whole : AreOneClass m (opening m args) s t) (a : ℕ)
+    → turns_of (name_in whole a) t ≡ turns_of a s
+same_turns m args limits ok taken s t z one whole a =
+    let w = opening m args in
+    let g : GoesAsWell m w s t whole z = same m args limits ok taken s t z one.legal whole in
+    sym (turns_done m t w g.last (name_in whole a) g.legal)
+    ∙ ap length (same_deeds m limits ok w z (opening_reached m args taken) s t whole one.legal a)
+    ∙ length-map (deeds m s w a) (deed_named (names_along whole.between))
+    ∙ turns_done m s w z a one.legal
+
 -- ---- rounds
 
 module _ (m : ModuleValue) (args : List ℤ) (limits : IsWithinLimits m) (ok : IsAccepted m) (taken : AreArguments m args)
-    (s : List ℕ) (z y : World) (edges : List (StepName × StepName)) (t : List ℕ)
-    (one : IsWholeRun m args s z) (sound : AreSound m (opening m args) s edges)
-    (whole : AreOneClass m (opening m args) s t) where
+    (s : List ℕ) (z y : World) (Leads : StepName → StepName → Type 0) (t : List ℕ)
+    (one : IsWholeRun m args s z) (whole : AreOneClass m (opening m args) s t)
+    (sound : (x k : StepName) → Leads x k → (before after : List ℕ) (v : World) → t ≡ before ++ after
+    → run m before (opening m args) ≡ Through v
+    → turns_of (name_in whole k.0) before ≡ k.1 → is_enabled m v (name_in whole k.0) ≡ true
+    → IsTaken before (name_in whole x.0, x.1)) where
   abbrev w : World
   w = opening m args
 
-  -- a link to a step that can be taken
+  -- what leads to a step that can be taken
   pub link_taken : (before after : List ℕ) (v : World) → t ≡ before ++ after → run m before w ≡ Through v
-      → (x k : StepName) → IsLink edges x k
+      → (x k : StepName) → Leads x k ⊎ ((x.0 ≡ k.0) × (x.1 < k.1))
       → turns_of (name_in whole k.0) before ≡ k.1 → is_enabled m v (name_in whole k.0) ≡ true
       → IsTaken before (name_in whole x.0, x.1)
-  link_taken before after v is leads x k (inl edge) turn enabled =
-      let member : AreOneClass m w s (before ++ after) =
-      record { between = whole.between; joined = subst (AreJoined m w s whole.between) is whole.joined } in
-      sound x k edge before after v member leads turn enabled
+  link_taken before after v is leads x k (inl cause) turn enabled = sound x k cause before after v is leads turn enabled
   link_taken before after v is leads x k (inr own) turn enabled =
       let lower : x.1 < k.1 = own.1 in
       let less : x.1 < turns_of (name_in whole k.0) before = omega (arith, lower, turn) in
       subst (λ a. x.1 < turns_of (name_in whole a) before) (sym own.0) less
 
   -- no chain up to a step that is taken by then has more steps
-  abbrev NoLonger : List ℕ → ℕ → Type 0
-  NoLonger before n = (k : StepName) (xs : List StepName) → IsChain edges k xs → IsTaken before (name_in whole k.0, k.1)
+  abbrev pub NoLonger : List ℕ → ℕ → Type 0
+  NoLonger before n = (k : StepName) (xs : List StepName) → IsChainBy Leads k xs → IsTaken before (name_in whole k.0, k.1)
       → suc (length xs) ≤ n
 
   -- after one more round
@@ -99,7 +111,7 @@ module _ (m : ModuleValue) (args : List ℤ) (limits : IsWithinLimits m) (ok : I
       some : k.1 < turns_of (name_in whole k.0) before + turns_of (name_in whole k.0) r
       some = subst (λ i. k.1 < i) (turns_on (name_in whole k.0) before r) taken
 
-      of : (xs : List StepName) → IsChain edges k xs → turns_of (name_in whole k.0) before ≤ k.1 → suc (length xs) ≤ suc n
+      of : (xs : List StepName) → IsChainBy Leads k xs → turns_of (name_in whole k.0) before ≤ k.1 → suc (length xs) ≤ suc n
       of [] c ge = omega arith
       of (x ∷ xs) c ge =
           let most = round.once (name_in whole k.0) in
@@ -124,25 +136,42 @@ module _ (m : ModuleValue) (args : List ℤ) (limits : IsWithinLimits m) (ok : I
       (one_more before r (steps_in rest) v rounds.0 n is leads rounds.1 none) k xs chain taken in
       omega (arith, a)
 
-  -- each activity takes as many steps in both
-  pub same_turns : (a : ℕ) → turns_of (name_in whole a) t ≡ turns_of a s
-  same_turns a =
-      let g : GoesAsWell m w s t whole z = same m args limits ok taken s t z one.legal whole in
-      sym (turns_done m t w g.last (name_in whole a) g.legal)
-      ∙ ap length (same_deeds m limits ok w z (opening_reached m args taken) s t whole one.legal a)
-      ∙ length-map (deeds m s w a) (deed_named (names_along whole.between))
-      ∙ turns_done m s w z a one.legal
+  -- up to a round, no chain has more steps than there are rounds
+  pub by_round : (ps : List (List ℕ)) (r : List ℕ) (after : List (List ℕ)) (before : List ℕ) (v : World) (n : ℕ)
+      → t ≡ before ++ steps_in (ps ++ r ∷ after) → run m before w ≡ Through v → AreRounds m v (ps ++ r ∷ after) y → NoLonger before n
+      → NoLonger ((before ++ steps_in ps) ++ r) (suc (n + length ps))
+  by_round [] r after before v n is leads rounds none =
+      let e : suc n ≡ suc (n + 0) = omega arith in
+      subst (λ l. NoLonger (l ++ r) (suc (n + 0))) (sym (append-nil before))
+      (subst (NoLonger (before ++ r)) e (one_more before r (steps_in after) v rounds.0 n is leads rounds.1 none))
+  by_round (p ∷ ps) r after before v n is leads rounds none =
+      let e : suc (suc n + length ps) ≡ suc (n + suc (length ps)) = omega arith in
+      subst (λ l. NoLonger (l ++ r) (suc (n + suc (length ps)))) (append_assoc before p (steps_in ps))
+      (subst (NoLonger (((before ++ p) ++ steps_in ps) ++ r)) e
+      (by_round ps r after (before ++ p) rounds.0 (suc n) (is ∙ sym (append_assoc before p (steps_in (ps ++ r ∷ after))))
+      (run_then m before p w v leads ∙ rounds.1.leads) rounds.2
+      (one_more before p (steps_in (ps ++ r ∷ after)) v rounds.0 n is leads rounds.1 none)))
 
   -- a step of the one run is taken in the other
   taken_there : (k : StepName) → IsTaken s k → IsTaken t (name_in whole k.0, k.1)
-  taken_there k h = subst (λ i. k.1 < i) (sym (same_turns k.0)) h
+  taken_there k h = subst (λ i. k.1 < i) (sym (same_turns m args limits ok taken s t z one whole k.0)) h
 
-  first : NoLonger [] 0
+  pub first : NoLonger [] 0
   first k xs chain taken = absurd (omega (arith, taken))
 
-  no_longer : (rounds : List (List ℕ)) → t ≡ steps_in rounds → AreRounds m w rounds y → HasNoLonger edges s (length rounds)
+  pub no_longer : (rounds : List (List ℕ)) → t ≡ steps_in rounds → AreRounds m w rounds y → HasNoLongerBy Leads s (length rounds)
   no_longer rounds is all k xs chain here =
       let a = all_rounds rounds [] w 0 is refl all first k xs chain (taken_there k here) in omega (arith, a)
+
+-- where edges are sound, what they lead from is taken before in each schedule of the class
+pub sound_there : (m : ModuleValue) (w : World) (s t : List ℕ) (edges : List (StepName × StepName)) (whole : AreOneClass m w s t)
+    → AreSound m w s edges
+    → (x k : StepName) → IsEdge edges x k → (before after : List ℕ) (v : World) → t ≡ before ++ after → run m before w ≡ Through v
+    → turns_of (name_in whole k.0) before ≡ k.1 → is_enabled m v (name_in whole k.0) ≡ true → IsTaken before (name_in whole x.0, x.1)
+sound_there m w s t edges whole sound x k edge before after v is leads turn enabled =
+    let member : AreOneClass m w s (before ++ after) =
+    record { between = whole.between; joined = subst (AreJoined m w s whole.between) is whole.joined } in
+    sound x k edge before after v member leads turn enabled
 
 pub at_least : (m : ModuleValue) (args : List ℤ) (s : List ℕ) (z y : World) (edges : List (StepName × StepName)) (rounds : List (List ℕ))
     → IsWithinLimits m → IsAccepted m → AreArguments m args
@@ -150,5 +179,6 @@ pub at_least : (m : ModuleValue) (args : List ℤ) (s : List ℕ) (z y : World) 
     → AreRounds m (opening m args) rounds y → IsWholeRun m args (steps_in rounds) y
     → HasNoLonger edges s (length rounds)
 at_least m args s z y edges rounds limits ok taken one free sound all other =
-    no_longer m args limits ok taken s z y edges (steps_in rounds) one sound
-    (whole_member m args limits ok taken s (steps_in rounds) z y one free other) rounds refl all
+    let whole = whole_member m args limits ok taken s (steps_in rounds) z y one free other in
+    no_longer m args limits ok taken s z y (IsEdge edges) (steps_in rounds) one whole
+    (sound_there m (opening m args) s (steps_in rounds) edges whole sound) rounds refl all

@@ -1,11 +1,11 @@
 -- Runs by rounds: as many processors as there are activities, each of which takes a step or none in a round. What can be taken is
 -- settled when the round begins: nobody waits in a round for what another does in it.
-use Rattle.std.specs.Prelude.{◌≡◌, ℕ, suc, ◌<◌, ◌≤◌, ◌⊎◌, true, false, List, [], ◌∷◌, ◌++◌, length}
+use Rattle.std.specs.Prelude.{◌≡◌, ℕ, suc, ◌<◌, ◌≤◌, ◌⊎◌, true, false, List, [], ◌∷◌, ◌++◌, length, map}
 use Rattle.xk_types.specs.Code.{ModuleValue}
 use Rattle.xk_types.specs.World.{World}
 use Rattle.xk_types.specs.Schedule.{Through, run, is_enabled}
-use Rattle.xk_law_traces.specs.Classes.{AreOneClass, name_in}
-use Rattle.xk_law_traces.specs.Edges.{StepName, turns_of, IsTaken, IsEdge, IsLink}
+use Rattle.xk_law_traces.specs.Moments.{started_by}
+use Rattle.xk_law_traces.specs.Edges.{StepName, turns_of, IsCause, IsTaken, IsEdge}
 
 -- By a round from world w to world v: each of these can take a step in w, and they take one each, in this order.
 pub record IsRound (m : ModuleValue) (w : World) (list : List ℕ) (v : World) : Type 0 where
@@ -23,14 +23,54 @@ abbrev pub steps_in : List (List ℕ) → List ℕ
 steps_in [] = []
 steps_in (r ∷ rs) = r ++ steps_in rs
 
--- a chain of steps up to y, each linked to the next; the last one first
-abbrev pub IsChain : List (StepName × StepName) → StepName → List StepName → Type 0
-IsChain edges y [] = y ≡ y
-IsChain edges y (x ∷ xs) = IsLink edges x y × IsChain edges x xs
+-- ---- chains
+
+-- a chain of steps up to y: each leads to the next, or one activity takes both, in this order; the last one first
+abbrev pub IsChainBy : (StepName → StepName → Type 0) → StepName → List StepName → Type 0
+IsChainBy Leads y [] = y ≡ y
+IsChainBy Leads y (x ∷ xs) = (Leads x y ⊎ ((x.0 ≡ y.0) × (x.1 < y.1))) × IsChainBy Leads x xs
 
 -- no chain up to a step of this schedule has more steps
+abbrev pub HasNoLongerBy : (StepName → StepName → Type 0) → List ℕ → ℕ → Type 0
+HasNoLongerBy Leads s n = (y : StepName) (xs : List StepName) → IsChainBy Leads y xs → IsTaken s y → suc (length xs) ≤ n
+
+-- some chain up to a step of this schedule has n steps, unless n is 0
+abbrev pub HasChainBy : (StepName → StepName → Type 0) → List ℕ → ℕ → Type 0
+HasChainBy Leads s n = (n ≡ 0) ⊎ ((y : StepName) × (xs : List StepName) × IsChainBy Leads y xs × IsTaken s y × (suc (length xs) ≡ n))
+
+-- The span of a schedule is n: some chain of its steps by their causes has so many, and none has more. A cause is a start, the end of a
+-- finish or an `advance` (`Edges.antt` of `xk_law_traces`).
+pub record IsSpan (m : ModuleValue) (w : World) (s : List ℕ) (n : ℕ) : Type 0 where
+  pub reached : HasChainBy (IsCause m w s) s n
+  pub most : HasNoLongerBy (IsCause m w s) s n
+
+-- Step y of the schedule comes in round n: some such chain up to it has n steps, and none has more.
+pub record IsInRound (m : ModuleValue) (w : World) (s : List ℕ) (y : StepName) (n : ℕ) : Type 0 where
+  pub taken : IsTaken s y
+  pub chain : List StepName
+  pub caused : IsChainBy (IsCause m w s) y chain
+  pub long : suc (length chain) ≡ n
+  pub most : (xs : List StepName) → IsChainBy (IsCause m w s) y xs → suc (length xs) ≤ n
+
+-- Each step of schedule s is one of schedule t, by its activity's number there, and comes in the same round; no two are one. Main keeps
+-- its number, and what an activity starts first, second and so on in s it starts so in t.
+pub record HaveSameRounds (m : ModuleValue) (w : World) (s t : List ℕ) : Type 0 where
+  pub names : ℕ → ℕ
+  pub back : ℕ → ℕ
+  pub once : (y : StepName) → IsTaken s y → back (names y.0) ≡ y.0
+  pub main : names 0 ≡ 0
+  pub starts : (a : ℕ) → map names (started_by m s w a) ≡ started_by m t w (names a)
+  pub rounds : (y : StepName) (n : ℕ) → IsInRound m w s y n → IsInRound m w t (names y.0, y.1) n
+
+-- by edges: each is linked to the next
+abbrev pub IsChain : List (StepName × StepName) → StepName → List StepName → Type 0
+IsChain edges y xs = IsChainBy (IsEdge edges) y xs
+
 abbrev pub HasNoLonger : List (StepName × StepName) → List ℕ → ℕ → Type 0
-HasNoLonger edges s n = (y : StepName) (xs : List StepName) → IsChain edges y xs → IsTaken s y → suc (length xs) ≤ n
+HasNoLonger edges s n = HasNoLongerBy (IsEdge edges) s n
+
+abbrev pub HasChain : List (StepName × StepName) → List ℕ → ℕ → Type 0
+HasChain edges s n = HasChainBy (IsEdge edges) s n
 
 -- ---- greedy
 
@@ -43,21 +83,15 @@ abbrev pub AreGreedy : ModuleValue → World → List (List ℕ) → World → T
 AreGreedy m w [] z = w ≡ z
 AreGreedy m w (r ∷ rs) z = (v : World) × IsRound m w r v × IsFull m w r × (0 < length r) × AreGreedy m v rs z
 
--- Edges are complete if in each schedule of the class of s, where an activity can't take its next step yet, an edge leads to that
--- from one that wasn't taken.
-abbrev pub AreComplete : ModuleValue → World → List ℕ → List (StepName × StepName) → Type 0
-AreComplete m w s edges = (y : StepName) → IsTaken s y
-    → (before after : List ℕ) (v : World) (member : AreOneClass m w s (before ++ after))
-    → run m before w ≡ Through v → turns_of (name_in member y.0) before ≡ y.1 → is_enabled m v (name_in member y.0) ≡ false
-    → (x : StepName) × IsEdge edges x y × (IsTaken before (name_in member x.0, x.1) → ⊥)
+-- step y is taken in round r behind these
+abbrev pub IsTakenIn : List (List ℕ) → List ℕ → StepName → Type 0
+IsTakenIn before r y = (turns_of y.0 (steps_in before) ≤ y.1) × IsTaken (steps_in before ++ r) y
 
--- The same in this schedule alone.
-abbrev pub AreCompleteThere : ModuleValue → World → List ℕ → List (StepName × StepName) → Type 0
-AreCompleteThere m w s edges = (y : StepName) → IsTaken s y
+-- ---- causes
+
+-- Where an activity can't take its next step of this schedule yet, a step of the schedule causes that one which wasn't taken yet.
+abbrev pub AreComplete : ModuleValue → World → List ℕ → Type 0
+AreComplete m w s = (y : StepName) → IsTaken s y
     → (before after : List ℕ) (v : World) → s ≡ before ++ after
     → run m before w ≡ Through v → turns_of y.0 before ≡ y.1 → is_enabled m v y.0 ≡ false
-    → (x : StepName) × IsEdge edges x y × (IsTaken before x → ⊥)
-
--- some chain up to a step of this schedule has n steps, unless n is 0
-abbrev pub HasChain : List (StepName × StepName) → List ℕ → ℕ → Type 0
-HasChain edges s n = (n ≡ 0) ⊎ ((y : StepName) × (xs : List StepName) × IsChain edges y xs × IsTaken s y × (suc (length xs) ≡ n))
+    → (x : StepName) × IsCause m w s x y × IsTaken s x × (IsTaken before x → ⊥)

@@ -1,0 +1,206 @@
+-- Along a run: who takes no step stays as it is, and stands so on each clock; what governs an activity stays, and so does who is under a
+-- finish; and who comes to be there was started.
+use Rattle.std.proofs.Common.{◌≡◌, ℕ, zero, suc, ◌+◌, ◌<◌, ◌≤◌, ◌==◌, ◌⊎◌, inl, inr, Bool, true, false, cond, List, [], ◌∷◌, ◌++◌, length, set}
+use Rattle.std.proofs.Common.{Some, refl, sym, ap, ◌∙◌, subst, arith}
+use Rattle.std.specs.Prelude.{slice_get}
+use Rattle.std.proofs.lemmas.Bool.{eqb-false, cases_lt}
+use Rattle.std.proofs.lemmas.Option.{same_Some, slice_get_within}
+use Rattle.xk_types.specs.declared.world.Event.{Event}
+use Rattle.xk_types.specs.declared.world.Event.TheVariants as event
+use Rattle.xk_types.specs.Acceptance.{IsAccepted}
+use Rattle.xk_types.specs.Code.{ModuleValue, IsWithinLimits}
+use Rattle.xk_types.specs.World.{Finish, Activity, World}
+use Rattle.xk_types.specs.Step.{Outcome, Blocked, Wrong, Stepped, child, onward, left, ended, arrived, is_under, step}
+use Rattle.xk_types.specs.Schedule.{Through, run, IsReached}
+use Rattle.xk_types.proofs.ListLemmas.{get-set_same, get-set_other, get-append_left, get_inside}
+use Rattle.xk_law_schedules.proofs.ReachabilityLemmas.{same_through, first_step, reached_step, reached_scoped}
+use Rattle.xk_law_schedules.proofs.StepFormLemmas.{step_kind}
+use Rattle.xk_law_schedules.proofs.ScopeLemmas.FinishOwnerLemmas.{AreOwned, under_governed, under_owner, under_cases}
+use Rattle.xk_law_commute.proofs.AwaitIndependenceLemmas.{same_or_not}
+use Rattle.xk_law_names.proofs.ActivityNameOrderLaw.{run_first}
+use Rattle.xk_law_traces.specs.Moments.{is_start}
+use Rattle.xk_law_traces.specs.Edges.{turns_of}
+use Rattle.xk_law_traces.proofs.StageLemmas.{stage_at, moves_on}
+use Rattle.xk_law_traces.proofs.StepEventLemmas.{grown, others_stay, wider}
+use Rattle.xk_law_traces.proofs.EdgeLaw.{turns_same, turns_other}
+
+-- ---- who takes no step
+
+-- an activity that takes none of these steps isn't who takes the first one, and takes none of the rest
+idle_first : (a d : ℕ) (list : List ℕ) → turns_of a (d ∷ list) ≡ 0 → (a ≡ d → ⊥) × (turns_of a list ≡ 0)
+idle_first a d list idle = by (d == a) refl
+  where
+    by : (q : Bool) → (d == a) ≡ q → (a ≡ d → ⊥) × (turns_of a list ≡ 0)
+    by true g = let n = turns_same a d list g in absurd (omega (arith, n, idle))
+    by false g = (λ same. eqb-false d a g (sym same), sym (turns_other a d list g) ∙ idle)
+
+-- stays as it is
+pub idle_stays : (m : ModuleValue) (list : List ℕ) (v h : World) (a : ℕ) (act : Activity) → turns_of a list ≡ 0 → run m list v ≡ Through h
+    → slice_get v.activities a ≡ Some act → slice_get h.activities a ≡ Some act
+idle_stays m [] v h a act idle legal at = ap (λ (z : World). slice_get z.activities a) (sym (same_through v h legal)) ∙ at
+idle_stays m (d ∷ list) v h a act idle legal at =
+    let x = first_step v h (step m v d) (run m list) legal in
+    let i = idle_first a d list idle in
+    idle_stays m list x.0 h a act i.1 x.3 (others_stay m v x.0 d a x.1 act x.2 i.0 at)
+
+-- and at its stage on each clock
+pub idle_stage : (m : ModuleValue) → IsWithinLimits m → IsAccepted m → (list : List ℕ) (v h : World) (k a : ℕ) → IsReached m v
+    → a < length v.activities → turns_of a list ≡ 0 → run m list v ≡ Through h → stage_at h k a ≡ stage_at v k a
+idle_stage m limits ok [] v h k a reached inside idle legal = ap (λ (z : World). stage_at z k a) (sym (same_through v h legal))
+idle_stage m limits ok (d ∷ list) v h k a reached inside idle legal =
+    let x = first_step v h (step m v d) (run m list) legal in
+    let i = idle_first a d list idle in
+    let more = wider m v x.0 d x.1 x.2 in
+    idle_stage m limits ok list x.0 h k a (reached_step m v x.0 d x.1 reached x.2) (omega (arith, inside, more)) i.1 x.3
+    ∙ (moves_on m limits ok v x.0 d x.1 reached x.2).others k a inside i.0
+
+-- ---- what governs an activity
+
+-- the activity is there, and governed by this finish
+abbrev IsThere : World → ℕ → Finish → Type 0
+IsThere w a f = (y : Activity) × (slice_get w.activities a ≡ Some y) × (y.governed ≡ f)
+
+-- it isn't a step, or each activity is still there and governed by the same finish
+abbrev KeepsGoverned : World → Outcome → Type 0
+KeepsGoverned w Blocked = Unit {0}
+KeepsGoverned w (Wrong c) = Unit {0}
+KeepsGoverned w (Stepped u e) = (b : ℕ) (x : Activity) → slice_get w.activities b ≡ Some x → IsThere u b x.governed
+
+step_governed : (m : ModuleValue) (w : World) (a : ℕ) → KeepsGoverned w (step m w a)
+step_governed m w a = step_kind (KeepsGoverned w) m w a tt (λ c. tt) (λ act found lives. record {
+  closed = λ n some nobody runs. kept act found (left act n) refl;
+  over = λ here none. kept act found (ended act) refl;
+  arrives = kept act found (arrived act) refl;
+  done = λ next change e goes quiet rests. kept act found next goes.governed;
+  made = λ next goes. kept act found next goes.governed;
+  stored = λ s n e goes quiet. kept act found (onward act) refl;
+  spawned = λ t args values at goes. λ b x there.
+      (let r = kept act found (onward act) refl b x there in
+      (r.0, get-append_left (set w.activities a (onward act)) (child m a act t values ∷ []) b r.0 r.1, r.2));
+})
+  where
+    kept : (act : Activity) → slice_get w.activities a ≡ Some act → (next : Activity) → next.governed ≡ act.governed
+        → (b : ℕ) (x : Activity) → slice_get w.activities b ≡ Some x
+        → (y : Activity) × (slice_get (set w.activities a next) b ≡ Some y) × (y.governed ≡ x.governed)
+    kept act found next same b x there = by (same_or_not b a)
+      where
+        by : (b ≡ a) ⊎ (b ≡ a → ⊥) → (y : Activity) × (slice_get (set w.activities a next) b ≡ Some y) × (y.governed ≡ x.governed)
+        by (inl is) = (
+          next,
+          ap (slice_get (set w.activities a next)) is ∙ get-set_same w.activities a act next found,
+          same ∙ ap (λ (z : Activity). z.governed) (same_Some act x (sym found ∙ sym (ap (slice_get w.activities) is) ∙ there)),
+        )
+        by (inr differs) = (x, get-set_other w.activities a b next differs ∙ there, refl)
+
+pub governed_stays : (m : ModuleValue) (list : List ℕ) (v h : World) (b : ℕ) (x : Activity) → run m list v ≡ Through h
+    → slice_get v.activities b ≡ Some x → IsThere h b x.governed
+governed_stays m [] v h b x legal at = (x, ap (λ (z : World). slice_get z.activities b) (sym (same_through v h legal)) ∙ at, refl)
+governed_stays m (d ∷ list) v h b x legal at =
+    let f = first_step v h (step m v d) (run m list) legal in
+    let one : KeepsGoverned v (Stepped f.0 f.1) = subst (KeepsGoverned v) f.2 (step_governed m v d) in
+    let next = one b x at in
+    let r = governed_stays m list f.0 h b next.0 f.3 next.1 in
+    (r.0, r.1, r.2 ∙ next.2)
+
+-- ---- who is under a finish
+
+-- in a reached world the owner of a finish has a smaller number than those whom it governs
+pub owned_in : (m : ModuleValue) → IsWithinLimits m → IsAccepted m → (w : World) → IsReached m w → AreOwned w.activities
+owned_in m limits ok w reached k act at o own = ((reached_scoped m limits ok w reached).activities k act at).owner o own
+
+-- Who is under a finish here is under one there, by the number there, where each that is in both is governed by the same.
+module _ (acts others : List Activity) (owned : AreOwned acts) (there : AreOwned others) (named : ℕ → ℕ) (over : Finish → Finish)
+    (owner : (f : Finish) (o : ℕ) → f.owner ≡ Some o → (over f).owner ≡ Some (named o))
+    (governed : (n : ℕ) (p q : Activity) → slice_get acts n ≡ Some p → slice_get others (named n) ≡ Some q → q.governed ≡ over p.governed)
+    (f : Finish) where
+  pub under_over : (n c : ℕ) → c < n → named c < length others → (p : Activity) → slice_get acts c ≡ Some p → is_under acts f c ≡ true
+      → is_under others (over f) (named c) ≡ true
+  under_over zero c less inside p at under = absurd (omega (arith, less))
+  under_over (suc n) c less inside p at under = by (get_inside others (named c) inside) (under_cases acts owned f c p at under) (under_over n)
+    where
+      by : (q : Activity) × (slice_get others (named c) ≡ Some q)
+          → (p.governed ≡ f) ⊎ ((o : ℕ) × (p.governed.owner ≡ Some o) × (is_under acts f o ≡ true))
+          → ((o : ℕ) → o < n → named o < length others → (p : Activity) → slice_get acts o ≡ Some p → is_under acts f o ≡ true
+          → is_under others (over f) (named o) ≡ true)
+          → is_under others (over f) (named c) ≡ true
+      by q (inl same) smaller =
+          under_governed others there (over f) (named c) q.0 q.1 (governed c p q.0 at q.1 ∙ ap over same)
+      by q (inr o) smaller =
+          let below : o.0 < c = owned c p at o.0 o.1 in
+          let within : c < length acts = slice_get_within acts c p at in
+          let own : q.0.governed.owner ≡ Some (named o.0) =
+          ap (λ (h : Finish). h.owner) (governed c p q.0 at q.1) ∙ owner p.governed o.0 o.1 in
+          let lower : named o.0 < named c = there (named c) q.0 q.1 (named o.0) own in
+          let r = get_inside acts o.0 (omega (arith, below, within)) in
+          under_owner others there (over f) (named c) (named o.0) q.0 q.1 own
+          (smaller o.0 (omega (arith, below, less)) (omega (arith, lower, inside)) r.0 r.1 o.2)
+
+-- ---- who is started
+
+-- the start of activity c on the way
+pub record IsStartedOn (m : ModuleValue) (list : List ℕ) (w : World) (c : ℕ) : Type 0 where
+  pub front : List ℕ
+  pub back : List ℕ
+  pub who : ℕ
+  pub here : World
+  pub there : World
+  pub whole : list ≡ front ++ who ∷ back
+  pub leads : run m front w ≡ Through here
+  pub starts : step m here who ≡ Stepped there event.Spawned
+  pub wide : c ≡ length here.activities
+
+-- an event that is a start
+start_is : (e : Event) → is_start e ≡ true → e ≡ event.Spawned
+start_is event.Spawned h = refl
+start_is event.Local h = absurd (cc)
+start_is (event.Printed n) h = absurd (cc)
+start_is event.Made h = absurd (cc)
+start_is event.Got h = absurd (cc)
+start_is event.Put h = absurd (cc)
+start_is event.Added h = absurd (cc)
+start_is event.Opened h = absurd (cc)
+start_is event.Closed h = absurd (cc)
+start_is event.Resumed h = absurd (cc)
+start_is event.Dropped h = absurd (cc)
+start_is event.Arrived h = absurd (cc)
+start_is event.Passed h = absurd (cc)
+start_is event.Ended h = absurd (cc)
+
+pub started_on : (m : ModuleValue) (list : List ℕ) (w v : World) (c : ℕ) → run m list w ≡ Through v → length w.activities ≤ c
+    → c < length v.activities → IsStartedOn m list w c
+started_on m [] w v c legal above below =
+    let e = ap (λ (z : World). length z.activities) (same_through w v legal) in absurd (omega (arith, e, above, below))
+started_on m (d ∷ list) w v c legal above below =
+    by (is_start x.1) refl (grown m w x.0 d x.1 x.2) (cases_lt c (length x.0.activities)) (λ wide. started_on m list x.0 v c x.3 wide below)
+  where
+    x : (u : World) × (e : Event) × (step m w d ≡ Stepped u e) × (run m list u ≡ Through v)
+    x = first_step w v (step m w d) (run m list) legal
+
+    by : (q : Bool) → is_start x.1 ≡ q → length x.0.activities ≡ length w.activities + cond q 1 0
+        → (c < length x.0.activities) ⊎ (length x.0.activities ≤ c)
+        → (length x.0.activities ≤ c → IsStartedOn m list x.0 c) → IsStartedOn m (d ∷ list) w c
+    by true g more (inl h) later = record {
+      front = [];
+      back = list;
+      who = d;
+      here = w;
+      there = x.0;
+      whole = refl;
+      leads = refl;
+      starts = x.2 ∙ ap (Stepped x.0) (start_is x.1 g);
+      wide = omega (arith, more, h, above);
+    }
+    by false g more (inl h) later = absurd (omega (arith, more, h, above))
+    by q g more (inr h) later =
+        let r : IsStartedOn m list x.0 c = later h in
+        record {
+          front = d ∷ r.front;
+          back = r.back;
+          who = r.who;
+          here = r.here;
+          there = r.there;
+          whole = ap (λ l. d ∷ l) r.whole;
+          leads = run_first m r.front w x.0 d x.1 x.2 ∙ r.leads;
+          starts = r.starts;
+          wide = r.wide;
+        }
