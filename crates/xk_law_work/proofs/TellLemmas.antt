@@ -1,5 +1,6 @@
 -- Of a step the same deeds that wait or let go are told as for races, those that wait before the step itself, the others behind it.
-use Rattle.std.proofs.Common.{◌≡◌, ◌∙◌, ℕ, zero, suc, ◌+◌, ◌<◌, ◌≤◌, ◌⊎◌, inl, inr, Bool, true, false, true≢false, ◌||◌, cond, List, [], ◌∷◌, ◌++◌}
+use Rattle.std.proofs.Common.{◌≡◌, ◌∙◌, ℕ, zero, suc, ◌+◌, ◌<◌, ◌≤◌, ◌⊎◌, inl, inr, Bool, true, false, true≢false, ◌||◌, cond, List, []}
+use Rattle.std.proofs.Common.{◌∷◌, ◌++◌}
 use Rattle.std.proofs.Common.{length, filter, Some, refl, sym, ap, subst, length-append, arith, if◌then◌else◌}
 use Rattle.std.specs.Prelude.{flat_map, slice_get}
 use Rattle.std.proofs.lemmas.List.{append-nil}
@@ -132,7 +133,7 @@ module _ (m : ModuleValue) (w v : World) (a : ℕ) where
       ∙ all_if waits (deeds_of event.Passed)
       (λ i d at. ap (λ b. b || lets_go d.part) (each i d at).0 ∙ sym (each i d at).0)
 
-  pub step_tied : (e : Event) → step m w a ≡ Stepped v e → filter tied (tell_step m a w v e) ≡ filter tied (deeds_of e)
+  step_tied : (e : Event) → step m w a ≡ Stepped v e → filter tied (tell_step m a w v e) ≡ filter tied (deeds_of e)
   unfolding is_close
   step_tied event.Passed takes = passed
   step_tied event.Closed takes = refl
@@ -175,7 +176,8 @@ module _ (m : ModuleValue) (w v : World) (a : ℕ) where
 
       by : ((i < length (flat_map if_waits (deeds_of e) ++ itself e ∷ []))
           × (slice_get (flat_map if_waits (deeds_of e) ++ itself e ∷ []) i ≡ Some d))
-          ⊎ ((j : ℕ) × (i ≡ length (flat_map if_waits (deeds_of e) ++ itself e ∷ []) + j) × (slice_get (flat_map if_lets_go (deeds_of e)) j ≡ Some d))
+          ⊎ ((j : ℕ) × (i ≡ length (flat_map if_waits (deeds_of e) ++ itself e ∷ []) + j)
+          × (slice_get (flat_map if_lets_go (deeds_of e)) j ≡ Some d))
           → Place e i d
       by (inl p) = front (get_split (flat_map if_waits (deeds_of e)) (itself e ∷ []) i d p.1)
       by (inr p) =
@@ -198,7 +200,8 @@ run_tied m [] w = refl
 run_tied m (a ∷ s) w = by (step m w a) refl (run_tied m s)
   where
     by : (o : Outcome) → step m w a ≡ o → ((v : World) → filter tied (told (tell_step m) m s v) ≡ filter tied (told (tell_deeds m) m s v))
-        → filter tied (told_on (tell_step m) a w o (told (tell_step m) m s)) ≡ filter tied (told_on (tell_deeds m) a w o (told (tell_deeds m) m s))
+        → filter tied (told_on (tell_step m) a w o (told (tell_step m) m s))
+        ≡ filter tied (told_on (tell_deeds m) a w o (told (tell_deeds m) m s))
     by Blocked is rest = refl
     by (Wrong c) is rest = refl
     by (Stepped v e) is rest =

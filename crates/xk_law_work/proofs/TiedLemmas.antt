@@ -1,5 +1,6 @@
 -- The order of deeds rests on those alone that wait for others or let others go on, and on where each stands among these.
-use Rattle.std.proofs.Common.{◌≡◌, ◌∙◌, ℕ, zero, suc, ◌<◌, ◌≤◌, ◌⊎◌, inl, inr, Bool, true, false, true≢false, ◌||◌, cond, List, [], ◌∷◌, length, take}
+use Rattle.std.proofs.Common.{◌≡◌, ◌∙◌, ℕ, zero, suc, ◌<◌, ◌≤◌, ◌⊎◌, inl, inr, Bool, true, false, true≢false, ◌||◌, cond, List, [], ◌∷◌}
+use Rattle.std.proofs.Common.{length, take}
 use Rattle.std.proofs.Common.{filter, Some, refl, sym, ap, subst, arith}
 use Rattle.std.specs.Prelude.{slice_get}
 use Rattle.std.proofs.lemmas.Bool.{cases_lt}
@@ -36,7 +37,8 @@ at_rank (x ∷ ds) zero d at t = by (tied x) (ap tied (same_Some x d at) ∙ t)
 at_rank (x ∷ ds) (suc i) d at t = by (tied x) (at_rank ds i d at t)
   where
     by : (b : Bool) → IsAt (filter tied ds) (rank ds i) d
-        → slice_get (cond b (x ∷ filter tied ds) (filter tied ds)) (length (cond b (x ∷ filter tied (take i ds)) (filter tied (take i ds)))) ≡ Some d
+        → slice_get (cond b (x ∷ filter tied ds) (filter tied ds))
+        (length (cond b (x ∷ filter tied (take i ds)) (filter tied (take i ds)))) ≡ Some d
     by true h = h
     by false h = h
 
@@ -71,7 +73,8 @@ rank_le (x ∷ ds) (suc j) zero le = absurd (omega (arith, le))
 rank_le (x ∷ ds) (suc j) (suc i) le = by (tied x) (rank_le ds j i (omega (arith, le)))
   where
     by : (b : Bool) → rank ds j ≤ rank ds i
-        → length (cond b (x ∷ filter tied (take j ds)) (filter tied (take j ds))) ≤ length (cond b (x ∷ filter tied (take i ds)) (filter tied (take i ds)))
+        → length (cond b (x ∷ filter tied (take j ds)) (filter tied (take j ds)))
+        ≤ length (cond b (x ∷ filter tied (take i ds)) (filter tied (take i ds)))
     by true h = omega (arith, h)
     by false h = h
 
@@ -84,7 +87,8 @@ rank_up (x ∷ ds) zero (suc j) d less at t =
 rank_up (x ∷ ds) (suc i) (suc j) d less at t = by (tied x) (rank_up ds i j d (omega (arith, less)) at t)
   where
     by : (b : Bool) → rank ds i < rank ds j
-        → length (cond b (x ∷ filter tied (take i ds)) (filter tied (take i ds))) < length (cond b (x ∷ filter tied (take j ds)) (filter tied (take j ds)))
+        → length (cond b (x ∷ filter tied (take i ds)) (filter tied (take i ds)))
+        < length (cond b (x ∷ filter tied (take j ds)) (filter tied (take j ds)))
     by true h = omega (arith, h)
     by false h = h
 
@@ -150,7 +154,7 @@ module _ (ds es : List Deed) (same : filter tied ds ≡ filter tied es) where
   in_order i k j l d less at t p q = rank_down es j l (let n = rank_up ds i k d less at t in omega (arith, n, p, q))
 
   -- in the same finish
-  pub in_finish : (i j a : ℕ) → rank es j ≡ rank ds i → finish_at es j a ≡ finish_at ds i a
+  in_finish : (i j a : ℕ) → rank es j ≡ rank ds i → finish_at es j a ≡ finish_at ds i a
   in_finish i j a p =
       finish_tied es j a ∙ ap (λ r. finish_at (filter tied es) r a) p ∙ ap (λ l. finish_at l (rank ds i) a) (sym same)
       ∙ sym (finish_tied ds i a)

@@ -1,5 +1,6 @@
 -- A chain of what is told of the steps of a run has no more steps than some chain of steps by their causes.
-use Rattle.std.proofs.Common.{◌≡◌, ◌∙◌, ℕ, ℤ, zero, suc, ◌+◌, ◌<◌, ◌≤◌, ◌⊎◌, inl, inr, Bool, true, false, true≢false, cond, List, [], ◌∷◌, ◌++◌}
+use Rattle.std.proofs.Common.{◌≡◌, ◌∙◌, ℕ, ℤ, zero, suc, ◌+◌, ◌<◌, ◌≤◌, ◌⊎◌, inl, inr, Bool, true, false, true≢false, cond, List, []}
+use Rattle.std.proofs.Common.{◌∷◌, ◌++◌}
 use Rattle.std.proofs.Common.{length, filter, Some, refl, sym, ap, subst, arith}
 use Rattle.std.specs.Prelude.{flat_map, slice_get}
 use Rattle.std.proofs.lemmas.Bool.{cases_eq}
@@ -37,7 +38,7 @@ use Rattle.xk_law_work.proofs.ToldLemmas.{IsToldBy, as_many, told_of, told_offse
 -- ---- parts
 
 -- 1 for one that waits
-abbrev pub held_back : Part → ℕ
+abbrev held_back : Part → ℕ
 held_back p = cond (waits p) 1 0
 
 light : (p : Part) → weight_in p + held_back p ≤ 1
@@ -71,20 +72,15 @@ waits_one p h = ap (λ b. cond b 1 0) h
 not_print : (p : Part) → is_tied p ≡ true → part.Print ≡ p → ⊥
 not_print p t h = true≢false (sym t ∙ ap is_tied (sym h))
 
-pub awaited_before : (ds : List Deed) (n c k : ℕ) → IsAwaited ds n c k → k < n
-awaited_before ds n c k (inl h) = h.0
-awaited_before ds n c k (inr h) = let a = h.1 in let b = h.5.0 in omega (arith, a, b)
-
-reason_less : (ds : List Deed) (k j : ℕ) (e : Deed) → Reason ds k j e → k < j
-reason_less ds k j e (Own h) = h.0
-reason_less ds k j e (Passed c is h) = let a = awaited_before ds h.0 c k h.5 in let b = h.1 in omega (arith, a, b)
-reason_less ds k j e (Closed is h) = h.0
-
-pub awaited_tied : (ds : List Deed) (n c k : ℕ) (d : Deed) → IsAt ds k d → IsAwaited ds n c k → tied d ≡ true
-awaited_tied ds n c k d at (inl h) =
-    ap (λ (x : Deed). is_tied x.part) (same_Some d h.1 (sym at ∙ h.2)) ∙ ap is_tied h.3
-awaited_tied ds n c k d at (inr h) =
-    let g = h.5 in ap (λ (x : Deed). is_tied x.part) (same_Some d g.1 (sym at ∙ g.2)) ∙ ap is_tied g.3
+-- a deed that is awaited stands before, and is tied
+pub awaited_so : (ds : List Deed) (n c k : ℕ) (d : Deed) → IsAt ds k d → IsAwaited ds n c k → (k < n) × (tied d ≡ true)
+awaited_so ds n c k d at (inl h) =
+    (h.0, ap (λ (x : Deed). is_tied x.part) (same_Some d h.1 (sym at ∙ h.2)) ∙ ap is_tied h.3)
+awaited_so ds n c k d at (inr h) =
+    let g = h.5 in
+    let a = h.1 in
+    let b = g.0 in
+    (omega (arith, a, b), ap (λ (x : Deed). is_tied x.part) (same_Some d g.1 (sym at ∙ g.2)) ∙ ap is_tied g.3)
 
 module _ (m : ModuleValue) (args : List ℤ) (limits : IsWithinLimits m) (ok : IsAccepted m) (taken : AreArguments m args)
     (log : List Entry) (z : World) (legal : run m (schedule_of log) (opening m args) ≡ Through z) where
@@ -107,7 +103,7 @@ module _ (m : ModuleValue) (args : List ℤ) (limits : IsWithinLimits m) (ok : I
   At = Turn m w s
 
   -- deed number k, which is d, is told of this step
-  abbrev pub Told : At → ℕ → Deed → Type 0
+  abbrev Told : At → ℕ → Deed → Type 0
   Told t k d = IsToldBy (tell_step m) m w s t k d
 
   pub turn_at : (k : ℕ) (d : Deed) → IsAt es k d → (t : At) × Told t k d
@@ -120,7 +116,7 @@ module _ (m : ModuleValue) (args : List ℤ) (limits : IsWithinLimits m) (ok : I
   pub place : (t : At) (k : ℕ) (d : Deed) (r : Told t k d) → Place m t.here t.there t.act t.e r.offset d
   place t k d r = place_of m t.here t.there t.act t.e r.offset d r.among
 
-  pub step_is : (t : At) (k : ℕ) (d : Deed) → Told t k d → d.step ≡ run_step t.act t.here t.there t.e
+  step_is : (t : At) (k : ℕ) (d : Deed) → Told t k d → d.step ≡ run_step t.act t.here t.there t.e
   step_is t k d r = by (place t k d r)
     where
       by : Place m t.here t.there t.act t.e r.offset d → d.step ≡ run_step t.act t.here t.there t.e
@@ -143,7 +139,7 @@ module _ (m : ModuleValue) (args : List ℤ) (limits : IsWithinLimits m) (ok : I
   one_turn t u k j d p q =
       as_many m w s u t (let a = number_of t k d p in let b = number_is m args log u j d q in omega (arith, a, b))
 
-  pub deed_of_tied : (t : At) (k : ℕ) (d : Deed) (r : Told t k d) → tied d ≡ true
+  deed_of_tied : (t : At) (k : ℕ) (d : Deed) (r : Told t k d) → tied d ≡ true
       → (j : ℕ) × IsToldOf m w s t (length (deeds m t.before w) + j) d
   deed_of_tied t k d r is = by (place t k d r)
     where
@@ -249,8 +245,8 @@ module _ (m : ModuleValue) (args : List ℤ) (limits : IsWithinLimits m) (ok : I
           (subst (λ x. IsLed m w s x (name_of u)) (one_name m w s f.0 t first)
           (subst (λ y. IsLed m w s (name_of f.0) y) (one_name m w s g.0 u second) led)))
 
-  by_reason : (t u : At) (k j : ℕ) (d e : Deed) → Told t k d → Told u j e → Reason es k j e → Goes t u
-  by_reason t u k j d e p q (Own h) = by h.3
+  by_reason : (t u : At) (k j : ℕ) (d e : Deed) → Told t k d → Told u j e → Reason es k j e → (k < j) × Goes t u
+  by_reason t u k j d e p q (Own h) = (h.0, by h.3)
     where
       is : h.1 ≡ d
       is = same_Some h.1 d (sym h.2 ∙ stands t k d p)
@@ -267,20 +263,26 @@ module _ (m : ModuleValue) (args : List ℤ) (limits : IsWithinLimits m) (ok : I
   by_reason t u k j d e p q (Passed c is h) =
       let a = stands t k d p in
       let b = stands u j e q in
-      let f = placed es ds same k d a (awaited_tied es h.0 c k d a h.5) in
+      let so = awaited_so es h.0 c k d a h.5 in
+      let f = placed es ds same k d a so.1 in
       let g = placed es ds same j e b (ap is_tied is) in
       let less = h.1 in
-      let more = awaited_before es h.0 c k h.5 in
-      by_races t u k j d e p q (omega (arith, less, more)) f.0 g.0 f.1 g.1
-      (e, g.1, Passed c is (counted_too es ds same j c k g.0 f.0 d a f.1 (awaited_tied es h.0 c k d a h.5) g.2 f.2 h))
+      let more = so.0 in
+      let before : k < j = omega (arith, less, more) in (
+        before,
+        by_races t u k j d e p q before f.0 g.0 f.1 g.1
+            (e, g.1, Passed c is (counted_too es ds same j c k g.0 f.0 d a f.1 so.1 g.2 f.2 h)),
+      )
   by_reason t u k j d e p q (Closed is h) =
       let a = stands t k d p in
       let b = stands u j e q in
       let t_is : tied d ≡ true = ap (λ (x : Deed). is_tied x.part) (same_Some d h.1 (sym a ∙ h.2)) ∙ ap is_tied h.3 in
       let f = placed es ds same k d a t_is in
-      let g = placed es ds same j e b (ap is_tied is) in
-      by_races t u k j d e p q h.0 f.0 g.0 f.1 g.1
-      (e, g.1, Closed is (ended_too es ds same j k g.0 f.0 e.step.act d a f.1 t_is g.2 f.2 h))
+      let g = placed es ds same j e b (ap is_tied is) in (
+        h.0,
+        by_races t u k j d e p q h.0 f.0 g.0 f.1 g.1
+            (e, g.1, Closed is (ended_too es ds same j k g.0 f.0 e.step.act d a f.1 t_is g.2 f.2 h)),
+      )
 
   -- of two deeds of one step the later one is the step itself, or waits, only where the first one waits
   in_step : (t u : At) (k j : ℕ) (d e : Deed) → Told t k d → Told u j e → AreOne m w s t u → k < j
@@ -327,19 +329,16 @@ module _ (m : ModuleValue) (args : List ℤ) (limits : IsWithinLimits m) (ok : I
       n : steps_weigh es j ≡ weight_in e.part
       n = weight_is u j e q
 
-      less : k < j
-      less = reason_less es k j h.0.0 h.0.2
-
       by : (d : Deed) (t : At) → Told t k d → (xs : List StepName) × IsChainBy (IsCause m w s) (name_of t) xs
           × (weight_of (steps_weigh es) (k ∷ ks) + held_back d.part ≤ suc (length xs))
-          → Goes t u
+          → (k < j) × Goes t u
           → (xs : List StepName) × IsChainBy (IsCause m w s) (name_of u) xs
           × (weight_of (steps_weigh es) (j ∷ (k ∷ ks)) + held_back e.part ≤ suc (length xs))
-      by d t p r (inl one) =
+      by d t p r (less, inl one) =
           let l = in_step t u k j d e p q one less in
           let i = r.2 in
           (r.0, subst (λ x. IsChainBy (IsCause m w s) x r.0) (one_name m w s t u one) r.1, omega (arith, n, l, i))
-      by d t p r (inr extends) =
+      by d t p r (less, inr extends) =
           let x = extends r.0 r.1 in
           let l = light e.part in
           let i = r.2 in

@@ -1,6 +1,6 @@
 -- What is told of the steps of a run, whoever tells it, and of which step each deed is told.
 use Rattle.std.proofs.Common.{◌≡◌, ℕ, ◌+◌, ◌<◌, ◌⊎◌, inl, inr, List, [], ◌∷◌, ◌++◌, length, Some, refl, sym, ap, ◌∙◌, subst, append_assoc}
-use Rattle.std.proofs.Common.{length-append, arith}
+use Rattle.std.proofs.Common.{drop, get_or, length-append, arith}
 use Rattle.std.specs.Prelude.{slice_get}
 use Rattle.std.proofs.lemmas.Option.{none-some, slice_get_within}
 use Rattle.xk_types.specs.declared.world.Event.{Event}
@@ -17,39 +17,25 @@ use Rattle.xk_law_races.proofs.TurnLemmas.{AreOne, IsEarlier, Turn, get_right, g
 
 -- ---- turns
 
--- one list, cut at an element in two ways
-data Cut (xs us : List ℕ) (a b : ℕ) : Type 0 where
-  First : (zs : List ℕ) → us ≡ xs ++ a ∷ zs → Cut xs us a b
-  Here : xs ≡ us → a ≡ b → Cut xs us a b
-  Second : (zs : List ℕ) → xs ≡ us ++ b ∷ zs → Cut xs us a b
-
-head_same : (a b : ℕ) (xs ys : List ℕ) → a ∷ xs ≡ b ∷ ys → a ≡ b
-head_same a b xs ys h = cc
-
-tail_same : (a b : ℕ) (xs ys : List ℕ) → a ∷ xs ≡ b ∷ ys → xs ≡ ys
-tail_same a b xs ys h = cc
-
-cut_of : (xs ys us vs : List ℕ) (a b : ℕ) → xs ++ a ∷ ys ≡ us ++ b ∷ vs → Cut xs us a b
-cut_of [] ys [] vs a b h = Here refl (head_same a b ys vs h)
-cut_of [] ys (u ∷ us) vs a b h = First us (ap (λ c. c ∷ us) (sym (head_same a u ys (us ++ b ∷ vs) h)))
-cut_of (x ∷ xs) ys [] vs a b h = Second xs (ap (λ c. c ∷ xs) (head_same x b (xs ++ a ∷ ys) vs h))
-cut_of (x ∷ xs) ys (u ∷ us) vs a b h =
-    by (head_same x u (xs ++ a ∷ ys) (us ++ b ∷ vs) h) (cut_of xs ys us vs a b (tail_same x u (xs ++ a ∷ ys) (us ++ b ∷ vs) h))
+-- one list, cut at an element in two ways: the first cut comes first, or they are one, or the second comes first
+cuts : (xs ys us vs : List ℕ) (a b : ℕ) → xs ++ a ∷ ys ≡ us ++ b ∷ vs
+    → ((zs : List ℕ) × (us ≡ xs ++ a ∷ zs)) ⊎ (((xs ≡ us) × (a ≡ b)) ⊎ ((zs : List ℕ) × (xs ≡ us ++ b ∷ zs)))
+cuts [] ys [] vs a b h = inr (inl (refl, ap (λ l. get_or l 0 0) h))
+cuts [] ys (u ∷ us) vs a b h = inl (us, ap (λ c. c ∷ us) (sym (ap (λ l. get_or l 0 0) h)))
+cuts (x ∷ xs) ys [] vs a b h = inr (inr (xs, ap (λ c. c ∷ xs) (ap (λ l. get_or l 0 0) h)))
+cuts (x ∷ xs) ys (u ∷ us) vs a b h = by (ap (λ l. get_or l 0 0) h) (cuts xs ys us vs a b (ap (drop 1) h))
   where
-    by : x ≡ u → Cut xs us a b → Cut (x ∷ xs) (u ∷ us) a b
-    by e (First zs is) = First zs (ap (λ c. c ∷ us) (sym e) ∙ ap (λ l. x ∷ l) is)
-    by e (Here is same) = Here (ap (λ c. c ∷ xs) e ∙ ap (λ l. u ∷ l) is) same
-    by e (Second zs is) = Second zs (ap (λ c. c ∷ xs) e ∙ ap (λ l. u ∷ l) is)
+    by : x ≡ u → ((zs : List ℕ) × (us ≡ xs ++ a ∷ zs)) ⊎ (((xs ≡ us) × (a ≡ b)) ⊎ ((zs : List ℕ) × (xs ≡ us ++ b ∷ zs)))
+        → ((zs : List ℕ) × (u ∷ us ≡ x ∷ (xs ++ a ∷ zs)))
+        ⊎ (((x ∷ xs ≡ u ∷ us) × (a ≡ b)) ⊎ ((zs : List ℕ) × (x ∷ xs ≡ u ∷ (us ++ b ∷ zs))))
+    by e (inl p) = inl (p.0, ap (λ c. c ∷ us) (sym e) ∙ ap (λ l. x ∷ l) p.1)
+    by e (inr (inl p)) = inr (inl (ap (λ c. c ∷ xs) e ∙ ap (λ l. u ∷ l) p.0, p.1))
+    by e (inr (inr p)) = inr (inr (p.0, ap (λ c. c ∷ xs) e ∙ ap (λ l. u ∷ l) p.1))
 
 -- of two turns one is earlier, or they are one
 pub compared : (m : ModuleValue) (w : World) (s : List ℕ) (t u : Turn m w s)
     → IsEarlier m w s t u ⊎ (AreOne m w s t u ⊎ IsEarlier m w s u t)
-compared m w s t u = by (cut_of t.before t.after u.before u.after t.act u.act (sym t.whole ∙ u.whole))
-  where
-    by : Cut t.before u.before t.act u.act → IsEarlier m w s t u ⊎ (AreOne m w s t u ⊎ IsEarlier m w s u t)
-    by (First zs is) = inl (zs, is)
-    by (Here is same) = inr (inl (is, same))
-    by (Second zs is) = inr (inr (zs, is))
+compared m w s t u = cuts t.before t.after u.before u.after t.act u.act (sym t.whole ∙ u.whole)
 
 -- the earlier one comes behind fewer steps
 pub fewer : (m : ModuleValue) (w : World) (s : List ℕ) (t u : Turn m w s) → IsEarlier m w s t u → length t.before < length u.before
@@ -119,20 +105,23 @@ module _ (tell : Teller Deed) (m : ModuleValue) where
         record {
           offset = r.offset;
           number =
-              (let n = r.number in let l = ap length (told_first t.before w x.0 a x.1 x.2) ∙ length-append front (told tell m t.before x.0) in
+              (let n = r.number in
+              let l = ap length (told_first t.before w x.0 a x.1 x.2) ∙ length-append front (told tell m t.before x.0) in
               omega (arith, is, n, l));
           among = r.among;
         },
       )
 
-      by : ((k < length front) × (slice_get front k ≡ Some d)) ⊎ ((j : ℕ) × (k ≡ length front + j) × (slice_get (told tell m s x.0) j ≡ Some d))
+      by : ((k < length front) × (slice_get front k ≡ Some d))
+          ⊎ ((j : ℕ) × (k ≡ length front + j) × (slice_get (told tell m s x.0) j ≡ Some d))
           → ((j : ℕ) (c : Deed) → slice_get (told tell m s x.0) j ≡ Some c → (t : Turn m x.0 s) × IsToldBy x.0 s t j c)
           → (t : Turn m w (a ∷ s)) × IsToldBy w (a ∷ s) t k d
       by (inl p) rest = (turn, record { offset = k; number = omega arith; among = p.1 })
       by (inr p) rest = behind p.0 p.1 (rest p.0 d p.2)
 
   module _ (w : World) (s : List ℕ) where
-    told_around : (t : Turn m w s) → told tell m s w ≡ told tell m t.before w ++ (tell t.act t.here t.there t.e ++ told tell m t.after t.there)
+    told_around : (t : Turn m w s)
+        → told tell m s w ≡ told tell m t.before w ++ (tell t.act t.here t.there t.e ++ told tell m t.after t.there)
     told_around t =
         ap (λ l. told tell m l w) t.whole ∙ told_run t.before (t.act ∷ t.after) w t.here t.leads
         ∙ ap (λ l. told tell m t.before w ++ l) (told_first t.after t.here t.there t.act t.e t.takes)
@@ -168,7 +157,8 @@ module _ (tell : Teller Deed) (m : ModuleValue) where
         by (inr (inr later)) = absurd (let back = told_rises u t j k e d q p later in omega (arith, less, back))
 
     -- two deeds of one turn stand as they are told of it
-    pub told_offsets : (t u : Turn m w s) (k j : ℕ) (d e : Deed) (p : IsToldBy w s t k d) (q : IsToldBy w s u j e) → AreOne m w s t u → k < j
+    pub told_offsets : (t u : Turn m w s) (k j : ℕ) (d e : Deed) (p : IsToldBy w s t k d) (q : IsToldBy w s u j e)
+        → AreOne m w s t u → k < j
         → p.offset < q.offset
     told_offsets t u k j d e p q one less =
         let l = ap (λ b. length (told tell m b w)) one.0 in

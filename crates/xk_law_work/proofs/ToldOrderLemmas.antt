@@ -23,11 +23,12 @@ use Rattle.xk_races.specs.Order.{Closed, Edge, IsAt, IsAwaited, IsEnd, Leads, Ow
 use Rattle.xk_races.proofs.OrderLemmas.{IsUpTo, up_to_through}
 use Rattle.xk_law_races.proofs.DeedPartLemmas.{at_clock, clock_parts}
 use Rattle.xk_law_races.proofs.LinkLemmas.{says_so, whose}
-use Rattle.xk_law_races.proofs.TurnLemmas.{AreOne, IsEarlier, IsToldOf, Turn, deed_at, deeds, in_order, offsets_rise, one_event, one_told, run_between, told_at}
+use Rattle.xk_law_races.proofs.TurnLemmas.{AreOne, IsEarlier, IsToldOf, Turn, deed_at, deeds, in_order, offsets_rise, one_event}
+use Rattle.xk_law_races.proofs.TurnLemmas.{one_told, run_between, told_at}
 use Rattle.xk_span.specs.Steps.{if_waits, lets_go, tell_step, waits}
 use Rattle.xk_law_work.proofs.TellLemmas.{Back, Front, Mid, Place, stands_mid, waiting}
 use Rattle.xk_law_work.proofs.TiedLemmas.{counted_too, ended_too, in_order as tied_order, is_tied, placed, rank, tied}
-use Rattle.xk_law_work.proofs.ToldChainLemmas.{Told, awaited_tied, free, held_back, number_of, one_turn, place, same, stands, turn_at, waits_one, whose_is}
+use Rattle.xk_law_work.proofs.ToldChainLemmas.{awaited_so, free, number_of, one_turn, place, same, stands, turn_at, waits_one, whose_is}
 use Rattle.xk_law_work.proofs.ToldLemmas.{IsToldBy, as_many, compared, fewer, told_rises}
 
 -- ---- deeds that are no part of the order but by their activity
@@ -167,7 +168,8 @@ module _ (m : ModuleValue) (args : List ℤ) (limits : IsWithinLimits m) (ok : I
 
       by : IsEarlier m w s t u ⊎ (AreOne m w s t u ⊎ IsEarlier m w s u t) → IsEarlier m w s t u
       by (inl earlier) = earlier
-      by (inr (inl one)) = absurd (let inside = slice_get_within t.here.activities t.act x.0 x.1 in let a = one.1 in omega (arith, inside, a, child))
+      by (inr (inl one)) = absurd
+          (let inside = slice_get_within t.here.activities t.act x.0 x.1 in let a = one.1 in omega (arith, inside, a, child))
       by (inr (inr later)) = absurd
           (let inside = slice_get_within u.here.activities u.act y.0 y.1 in
           let more = run_wider m (u.act ∷ later.0) u.here t.here
@@ -333,7 +335,7 @@ module _ (m : ModuleValue) (args : List ℤ) (limits : IsWithinLimits m) (ok : I
               )
       of (Passed c is h) =
           let here = deed_at m w s p.t i p.d p.there in
-          let g = awaited_tied ds h.0 c i p.d here h.5 in
+          let g = (awaited_so ds h.0 c i p.d here h.5).1 in
           let is_second : q.d.part ≡ part.Pass c = ap (λ (x : Deed). x.part) (sym second) ∙ is in
           let x = tied_image i k p g in
           let y = tied_image j l q (ap is_tied is_second) in
@@ -349,13 +351,13 @@ module _ (m : ModuleValue) (args : List ℤ) (limits : IsWithinLimits m) (ok : I
               (subst (λ (c : Deed). IsEnd ds j (finish_at ds j c.step.act) i) second h)))
 
   -- which deed an edge leads from
-  awaited_at : (n c i : ℕ) → IsAwaited ds n c i → (d : Deed) × IsAt ds i d
-  awaited_at n c i (inl h) = (h.1, h.2)
-  awaited_at n c i (inr h) = let g = h.5 in (g.1, g.2)
-
   edge_from : (i j : ℕ) (e : Deed) → Reason ds i j e → (d : Deed) × IsAt ds i d
   edge_from i j e (Own h) = (h.1, h.2)
-  edge_from i j e (Passed c is h) = awaited_at h.0 c i h.5
+  edge_from i j e (Passed c is h) = by h.5
+    where
+      by : IsAwaited ds h.0 c i → (d : Deed) × IsAt ds i d
+      by (inl g) = (g.1, g.2)
+      by (inr g) = let f = g.5 in (f.1, f.2)
   edge_from i j e (Closed is h) = (h.1, h.2)
 
   pub before_image : (js : List ℕ) (i j k l : ℕ) → Image i k → Image j l → Leads ds i js j → IsUpTo es k l

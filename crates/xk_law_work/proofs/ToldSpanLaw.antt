@@ -18,7 +18,8 @@ use Rattle.xk_types.proofs.ListLemmas.{get-set_same}
 use Rattle.xk_law_schedules.proofs.ReachabilityLemmas.{first_step, opening_reached, reached_run}
 use Rattle.xk_law_commute.proofs.ChangeSquareLemmas.{found_of}
 use Rattle.xk_law_commute.proofs.StartSquareLemmas.{alive_of}
-use Rattle.xk_law_traces.specs.Edges.{StepName, IsCause, IsPass, IsStart, IsTaken, IsTurn, IsUnderFinish, held_in, phase_of, standing_on, turns_of}
+use Rattle.xk_law_traces.specs.Edges.{StepName, IsCause, IsPass, IsStart, IsTaken, IsTurn, IsUnderFinish, held_in, phase_of}
+use Rattle.xk_law_traces.specs.Edges.{standing_on, turns_of}
 use Rattle.xk_law_traces.proofs.EdgeLaw.{was_taken, run_behind}
 use Rattle.xk_law_traces.proofs.InstructionEventLemmas.{shows}
 use Rattle.xk_law_traces.proofs.SwapLemmas.{next_of}
@@ -29,6 +30,7 @@ use Rattle.xk_races.specs.declared.deeds.Deed.{Deed}
 use Rattle.xk_races.specs.declared.deeds.Part.TheVariants as part
 use Rattle.xk_races.specs.Deeds.{deed}
 use Rattle.xk_races.specs.Knowledge.{nothing_known}
+use Rattle.xk_races.specs.Lists.{number_at}
 use Rattle.xk_races.specs.Order.{Before, Edge, IsAt, Leads, Own, Passed}
 use Rattle.xk_races.proofs.OrderLemmas.{IsUpTo, up_to_through}
 use Rattle.xk_law_races.specs.Finishes.{ClosesAreExact, IsCloseOf, IsWorldOf}
@@ -41,14 +43,16 @@ use Rattle.xk_law_races.proofs.SpeaksForAllLaw.{no_race}
 use Rattle.xk_law_races.proofs.ScopeLemmas.{ended_stays}
 use Rattle.xk_law_races.proofs.StepDeedLemmas.{event_at}
 use Rattle.xk_law_races.proofs.StepNestingLemmas.{DoesGo, DoesStart, Effect, Nests, effect_of}
-use Rattle.xk_law_races.proofs.TurnLemmas.{AreOne, IsEarlier, IsToldOf, Turn, deed_at, deeds, earlier_turns, get_right, name_of, one_name, run_between, turn_taken}
-use Rattle.xk_span.specs.Chains.{IsChain, IsLong, weight_of}
-use Rattle.xk_span.specs.Steps.{lets_go, steps_of_run, steps_span, steps_weigh, tell_step, waits, weight_at}
-use Rattle.xk_span.proofs.SpanLaw.{span_is_exact}
-use Rattle.xk_law_rounds.specs.Rounds.{AreGreedy, HasChainBy, IsChainBy, IsSpan, steps_in}
+use Rattle.xk_law_races.proofs.TurnLemmas.{AreOne, IsEarlier, IsToldOf, Turn, deed_at, deeds, earlier_turns, get_right, name_of}
+use Rattle.xk_law_races.proofs.TurnLemmas.{one_name, run_between, turn_taken}
+use Rattle.xk_span.specs.Chains.{IsChain, IsLong, IsTime, weight_of}
+use Rattle.xk_span.specs.Steps.{lets_go, steps_of_run, steps_span, steps_times, steps_weigh, tell_step, waits, weight_at}
+use Rattle.xk_span.proofs.SpanLaw.{span_is_exact, times_are_exact}
+use Rattle.xk_law_rounds.specs.Rounds.{AreGreedy, HasChainBy, IsChainBy, IsInRound, IsSpan, steps_in}
 use Rattle.xk_law_rounds.proofs.ClassSpanLaw.{every_span, greedy}
+use Rattle.xk_law_work.proofs.TellLemmas.{Back, Front, Mid, Place}
 use Rattle.xk_law_work.proofs.TiedLemmas.{counted_too, is_tied, placed, rank, tied}
-use Rattle.xk_law_work.proofs.ToldChainLemmas.{Told, chain_within, number_of, same, stands, turn_at, whose_is}
+use Rattle.xk_law_work.proofs.ToldChainLemmas.{chain_within, number_of, place, same, stands, turn_at, whose_is}
 use Rattle.xk_law_work.proofs.ToldLemmas.{IsToldBy, as_many, compared, fewer, told_rises}
 use Rattle.xk_law_work.proofs.ToldOrderLemmas.{Image, before_image, before_mid, behind_mid, end_image, image, image_is}
 use Rattle.xk_law_work.proofs.ToldOrderLemmas.{itself, mid, mid_one, own_edge, started_later, told_mid}
@@ -405,7 +409,8 @@ module _ (m : ModuleValue) (args : List ℤ) (limits : IsWithinLimits m) (ok : I
   module _ (x y : StepName) (u : At) (is : name_of u ≡ y) (f : IsUnderFinish m w s x y) where
     closed : f.closed ≡ event.Closed
     closed = close_is f.closed f.first
-        (event_at m limits ok f.here f.there y.0 f.closed (reached_run m f.before w f.here reached f.leads) f.takes (instr.EndFinish f.first)
+        (event_at m limits ok f.here f.there y.0 f.closed (reached_run m f.before w f.here reached f.leads) f.takes
+        (instr.EndFinish f.first)
         (next_of m f.here y.0 f.closer f.found ∙ f.closes) (no_advance f.first))
 
     abbrev c : At
@@ -498,12 +503,14 @@ module _ (m : ModuleValue) (args : List ℤ) (limits : IsWithinLimits m) (ok : I
         by (inr (inr e)) = absurd (ended_last a t' a_ends e t_act)
 
     to_end : Edge es (place_of t') first_image.0
-    to_end = edge t' a (place_of t') first_image.0 (itself m args limits ok taken log z legal t') first_image.1.e (told_itself t') first_image.1.here
+    to_end = edge t' a (place_of t') first_image.0 (itself m args limits ok taken log z legal t') first_image.1.e (told_itself t')
+        first_image.1.here
         (behind_mid m args limits ok taken log z legal t' a first_image.0 first_image.1.e first_image.1.here
         (ap (λ (d : Deed). lets_go d.part) end_is ∙ ap lets_go ends.1.2) not_later) t_act
 
     from_close : Edge es last_image.0 (place_of c)
-    from_close = edge b c last_image.0 (place_of c) last_image.1.e (itself m args limits ok taken log z legal c) last_image.1.here (told_itself c)
+    from_close = edge b c last_image.0 (place_of c) last_image.1.e (itself m args limits ok taken log z legal c) last_image.1.here
+        (told_itself c)
         (before_mid m args limits ok taken log z legal c b last_image.0 last_image.1.e last_image.1.here
         (ap (λ (d : Deed). waits d.part) close_is_it) b_close) b_close.1
 
@@ -536,7 +543,8 @@ module _ (m : ModuleValue) (args : List ℤ) (limits : IsWithinLimits m) (ok : I
       own_before x u (omega (arith, less, all, some)) act less
 
   own_weight : (u : At) → steps_weigh es (place_of u) ≡ 1
-  own_weight u = ap weight_at (stands m args limits ok taken log z legal u (place_of u) (itself m args limits ok taken log z legal u) (told_itself u))
+  own_weight u = ap weight_at
+      (stands m args limits ok taken log z legal u (place_of u) (itself m args limits ok taken log z legal u) (told_itself u))
 
   -- a chain of steps by their causes is one of what is told
   told_chain : (xs : List StepName) (u : At) (y : StepName) → name_of u ≡ y → IsChainBy (IsCause m w s) y xs
@@ -585,6 +593,59 @@ module _ (m : ModuleValue) (args : List ℤ) (limits : IsWithinLimits m) (ok : I
           chain_deed j [] g = g
           chain_deed j (k ∷ ks) g = (g.0.0, g.0.1)
 
+  -- ---- rounds
+
+  -- how long the longest chain up to a step is told to be is its round
+  in_round : (u : At) (n : ℕ) → IsTime es (steps_weigh es) (place_of u) n → IsInRound m w s (name_of u) n
+  in_round u n exact = record { taken = turn_taken m w s u; chain = r.0; caused = r.1; long = long; most = most }
+    where
+      r : (xs : List StepName) × IsChainBy (IsCause m w s) (name_of u) xs
+          × (weight_of (steps_weigh es) (place_of u ∷ exact.long.0) + 0 ≤ suc (length xs))
+      r = chain_within m args limits ok taken log z legal exact.long.0 u (place_of u) (itself m args limits ok taken log z legal u)
+          (told_itself u) exact.long.1
+
+      most : (xs : List StepName) → IsChainBy (IsCause m w s) (name_of u) xs → suc (length xs) ≤ n
+      most xs chain =
+          let c = told_chain xs u (name_of u) refl chain in
+          let a = exact.most (weight_of (steps_weigh es) (place_of u ∷ c.0)) (c.0, c.1, refl) in
+          let b = c.2 in
+          omega (arith, a, b)
+
+      long : suc (length r.0) ≡ n
+      long = let a = most r.0 r.1 in let b = r.2 in let c = exact.long.2 in omega (arith, a, b, c)
+
+  pub round_told : (k : ℕ) (d : Deed) → IsAt es k d → d.part ≡ part.Print
+      → IsInRound m w s (d.step.act, turns_of d.step.act (take (pred d.step.number) s)) (number_at (steps_times es) k)
+  round_told k d at is = by (place m args limits ok taken log z legal u.0 k d u.1)
+    where
+      u : (t : At) × Is t k d
+      u = turn_at m args limits ok taken log z legal k d at
+
+      front : take (pred d.step.number) s ≡ u.0.before
+      front =
+          ap (λ n. take (pred n) s) (number_of m args limits ok taken log z legal u.0 k d u.1)
+          ∙ ap (take (length u.0.before)) u.0.whole ∙ take-append_seam u.0.before (u.0.act ∷ u.0.after)
+
+      act : d.step.act ≡ u.0.act
+      act = whose_is m args limits ok taken log z legal u.0 k d u.1
+
+      name : name_of u.0 ≡ (d.step.act, turns_of d.step.act (take (pred d.step.number) s))
+      name = sym (ap (λ a. (a, turns_of a (take (pred d.step.number) s))) act ∙ ap (λ l. (u.0.act, turns_of u.0.act l)) front)
+
+      time : IsTime es (steps_weigh es) k (number_at (steps_times es) k)
+      time = times_are_exact (steps_weigh es) es k d at
+
+      mid_round : k ≡ place_of u.0
+          → IsInRound m w s (d.step.act, turns_of d.step.act (take (pred d.step.number) s)) (number_at (steps_times es) k)
+      mid_round e = subst (λ x. IsInRound m w s x (number_at (steps_times es) k)) name
+          (in_round u.0 (number_at (steps_times es) k) (subst (λ i. IsTime es (steps_weigh es) i (number_at (steps_times es) k)) e time))
+
+      by : Place m u.0.here u.0.there u.0.act u.0.e u.1.offset d
+          → IsInRound m w s (d.step.act, turns_of d.step.act (take (pred d.step.number) s)) (number_at (steps_times es) k)
+      by (Front less h j g) = absurd (true≢false (sym h ∙ ap waits is))
+      by (Mid h g) = mid_round (let n = u.1.number in omega (arith, n, h))
+      by (Back less h j g) = absurd (true≢false (sym h ∙ ap lets_go is))
+
 -- ---- one span
 
 -- a schedule has one span
@@ -605,6 +666,13 @@ pub span_told : (m : ModuleValue) (args : List ℤ) (log : List Entry) (z : Worl
     → run m (schedule_of log) (opening m args) ≡ Through z
     → IsSpan m (opening m args) (schedule_of log) (steps_span (steps_of_run m args log))
 span_told m args log z limits ok taken legal = told_span m args limits ok taken log z legal
+
+pub round_for_all : (m : ModuleValue) (args : List ℤ) (log : List Entry) (z : World) (k : ℕ) (d : Deed) → IsWithinLimits m
+    → IsAccepted m → AreArguments m args → run m (schedule_of log) (opening m args) ≡ Through z
+    → IsAt (steps_of_run m args log) k d → d.part ≡ part.Print
+    → IsInRound m (opening m args) (schedule_of log)
+    (d.step.act, turns_of d.step.act (take (pred d.step.number) (schedule_of log))) (number_at (steps_times (steps_of_run m args log)) k)
+round_for_all m args log z k d limits ok taken legal at is = round_told m args limits ok taken log z legal k d at is
 
 pub span_for_all : (m : ModuleValue) (args : List ℤ) (log other : List Entry) (z y : World) → IsWithinLimits m → IsAccepted m
     → AreArguments m args → IsWholeRun m args (schedule_of log) z → is_race_free m args log ≡ true
