@@ -3,3 +3,4 @@ pub mod StepLemmas
 pub mod RoundLemmas
 pub mod GreedyLemmas
 pub mod OneRunLemmas
+pub mod SpanLemmas

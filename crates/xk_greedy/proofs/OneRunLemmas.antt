@@ -49,7 +49,7 @@ runs_once p m args log other y z count tally g h over end =
 
 -- ---- logs with an entry for each step
 
-steps_of_entries : (list : List ℕ) → schedule_of (map one_step_of list) ≡ list
+pub steps_of_entries : (list : List ℕ) → schedule_of (map one_step_of list) ≡ list
 steps_of_entries [] = refl
 steps_of_entries (a ∷ list) = ap (λ l. a ∷ l) (steps_of_entries list)
 

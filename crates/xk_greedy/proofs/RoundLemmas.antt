@@ -3,15 +3,11 @@ use Rattle.std.proofs.Common.{◌≡◌, ◌∙◌, ℕ, ◌+◌, ◌-◌, ◌<�
 use Rattle.std.proofs.Common.{Option, refl, sym, ap, subst, arith}
 use Rattle.std.proofs.lemmas.List.{map-append}
 use Rattle.xk_types.specs.declared.world.Entry.{Entry}
-use Rattle.xk_types.specs.declared.world.Event.{Event}
 use Rattle.xk_types.specs.Code.{ModuleValue}
 use Rattle.xk_types.specs.World.{World, opening}
 use Rattle.xk_types.specs.Bound.{steps_bound}
-use Rattle.xk_types.specs.Step.{Stepped, step}
-use Rattle.xk_types.specs.Schedule.{Through, run, is_enabled}
 use Rattle.xk_types.specs.Logs.{one_step_of}
 use Rattle.xk_law_rounds.specs.Rounds.{steps_in}
-use Rattle.xk_scheduler.specs.Choosers.{enabled_in}
 use Rattle.xk_law_schedules.proofs.ReachabilityLemmas.{run_arguments}
 use Rattle.xk_core.specs.Core.{CoreValue}
 use Rattle.xk_greedy.specs.Rounds.{AreRoundsBy, IsByRounds, IsRoundBy}

@@ -1,5 +1,5 @@
 -- Steps of some activities, one after another.
-use Rattle.std.proofs.Common.{◌≡◌, ◌∙◌, ℕ, zero, suc, ◌+◌, ◌<◌, ◌≤◌, true, false, true≢false, List, [], ◌∷◌, ◌++◌}
+use Rattle.std.proofs.Common.{◌≡◌, ◌∙◌, ℕ, zero, suc, ◌+◌, ◌<◌, ◌≤◌, false, true≢false, List, [], ◌∷◌, ◌++◌}
 use Rattle.std.proofs.Common.{append-nil, append_assoc, add-one, length, map, take, get_or, Option, Some, None, Result, Ok, Err}
 use Rattle.std.proofs.Common.{slice_get, refl, sym, ap, subst, arith}
 use Rattle.std.specs.Prelude.{OnOk}
@@ -11,7 +11,7 @@ use Rattle.xk_types.specs.Code.{ModuleValue}
 use Rattle.xk_types.specs.World.{World}
 use Rattle.xk_types.specs.Bound.{steps_bound}
 use Rattle.xk_types.specs.Step.{Stepped, step}
-use Rattle.xk_types.specs.Schedule.{Through, all_ended, run, is_enabled}
+use Rattle.xk_types.specs.Schedule.{all_ended}
 use Rattle.xk_types.specs.Logs.{one_step_of}
 use Rattle.xk_collections.specs.NumberSets.{IsRising}
 use Rattle.xk_collections.proofs.RisingListLemmas.{rising_far}
@@ -19,7 +19,7 @@ use Rattle.xk_core.specs.Core.{CoreValue, IsCore}
 use Rattle.xk_scheduler.specs.Choosers.{enabled_in}
 use Rattle.xk_scheduler.proofs.EnabledSetLemmas.{listed_enabled, listed_over, listed_rises}
 use Rattle.xk_scheduler.proofs.ScheduleLemmas.{leads_more}
-use Rattle.xk_greedy.specs.Rounds.{AreSome, IsRoundBy, chosen}
+use Rattle.xk_greedy.specs.Rounds.{AreSome, chosen}
 use Rattle.xk_greedy.specs.Steps.{AreEnabled, IsOn, IsRoundOn}
 use Rattle.xk_greedy.proofs.StillLemmas.{still}
 

@@ -9,7 +9,7 @@ use Rattle.xk_types.specs.World.{Activity, World}
 use Rattle.xk_types.specs.Step.{Stepped, step, step_by, step_of, waits}
 use Rattle.xk_types.specs.Schedule.{is_step, is_enabled}
 use Rattle.xk_types.proofs.MembershipLemmas.{same_test}
-use Rattle.xk_core.specs.Core.{IsCore, governor, is_arrived, is_waiting}
+use Rattle.xk_core.specs.Core.{IsCore, is_arrived, is_waiting}
 use Rattle.xk_scheduler.proofs.BlockingClockLemmas.{free_on}
 use Rattle.xk_scheduler.proofs.IndependenceLemmas.{governor_within, steps_within, untouched_by}
 use Rattle.xk_scheduler.proofs.LocalRunLemmas.{enabled_within}

@@ -28,7 +28,7 @@ use Rattle.xk_law_traces.proofs.InstructionEventLemmas.{arrived_free, passes_arr
 use Rattle.xk_law_traces.proofs.StageLemmas.{registered_stage, stage_at, unsignalled_stage}
 use Rattle.xk_law_traces.proofs.SwapLemmas.{Deed, State, deed_named, deed_of, get_map, stand_named, stand_of}
 use Rattle.xk_law_rounds.proofs.CompleteLaw.{inside_before}
-use Rattle.xk_law_rounds.proofs.HoldLemmas.{awaited_stage, held_stage, low_awaited, registered_some, stage_is}
+use Rattle.xk_law_rounds.proofs.HoldLemmas.{stage_tells}
 use Rattle.xk_law_rounds.proofs.IdleLemmas.{governed_stays, owned_in, under_over}
 use Rattle.xk_law_rounds.proofs.RoundLaw.{same_turns}
 
@@ -77,7 +77,7 @@ module _ (m : ModuleValue) (args : List ℤ) (limits : IsWithinLimits m) (ok : I
   named a = all_named xs a
 
   -- a step by its name there
-  abbrev pub step_named : StepName → StepName
+  abbrev step_named : StepName → StepName
   step_named x = (all_named xs x.0, x.1)
 
   reached : IsReached m w
@@ -212,8 +212,7 @@ module _ (m : ModuleValue) (args : List ℤ) (limits : IsWithinLimits m) (ok : I
         × (stage_at u.here k (named y.0) ≤ suc (suc (phase_of f.second.here f.clock + phase_of f.second.here f.clock)))
     waiting = subst (λ n. (suc (phase_of f.second.here f.clock + phase_of f.second.here f.clock) ≤ n)
         × (n ≤ suc (suc (phase_of f.second.here f.clock + phase_of f.second.here f.clock))))
-        (sym (stage_is f.second.here f.clock y.0) ∙ sym (same_stage y r u f.clock))
-        (awaited_stage (phase_of f.second.here f.clock) (standing_on f.second.here y.0 f.clock) f.awaited)
+        (sym (same_stage y r u f.clock)) ((stage_tells f.second.here f.clock y.0).awaited f.awaited)
 
     most : stage_at u.here k (named y.0) ≤ suc (suc (phase_of u.here k + phase_of u.here k))
     most = unsignalled_stage u.here.clocks k (named y.0) free
@@ -225,22 +224,20 @@ module _ (m : ModuleValue) (args : List ℤ) (limits : IsWithinLimits m) (ok : I
     same_phase = let a = waiting in let b = most in let c = least in omega (arith, a, b, c)
 
     -- who is waited for holds it in the same phase
-    holds : (0 < stage_at q.here k (named x.0)) × (suc (held f.first.here x.0 f.clock + held f.first.here x.0 f.clock) ≤ stage_at q.here k (named x.0))
+    holds : (0 < stage_at q.here k (named x.0))
+        × (suc (held f.first.here x.0 f.clock + held f.first.here x.0 f.clock) ≤ stage_at q.here k (named x.0))
         × (stage_at q.here k (named x.0) ≤ suc (suc (held f.first.here x.0 f.clock + held f.first.here x.0 f.clock)))
     holds =
-        let some = registered_some (phase_of f.first.here f.clock) (standing_on f.first.here x.0 f.clock) f.registered in
-        let h = held_stage (phase_of f.first.here f.clock) (standing_on f.first.here x.0 f.clock) some in
+        let tells = stage_tells f.first.here f.clock x.0 in
+        let some = tells.some f.registered in
+        let h = tells.holds some in
         subst (λ n. (0 < n) × (suc (held f.first.here x.0 f.clock + held f.first.here x.0 f.clock) ≤ n)
         × (n ≤ suc (suc (held f.first.here x.0 f.clock + held f.first.here x.0 f.clock))))
-        (sym (stage_is f.first.here f.clock x.0) ∙ sym (same_stage x p q f.clock)) (some, h.1, h.2)
+        (sym (same_stage x p q f.clock)) (some, h.1, h.2)
 
     holds_there : (is_registered (standing_on q.here (named x.0) k) ≡ true)
         × (suc (held q.here (named x.0) k + held q.here (named x.0) k) ≤ stage_at q.here k (named x.0))
-    holds_there =
-        let is = stage_is q.here k (named x.0) in
-        let some = holds.0 in
-        let h = held_stage (phase_of q.here k) (standing_on q.here (named x.0) k) (omega (arith, is, some)) in
-        (h.0, subst (λ n. suc (held q.here (named x.0) k + held q.here (named x.0) k) ≤ n) (sym is) h.1)
+    holds_there = let h = (stage_tells q.here k (named x.0)).holds holds.0 in (h.0, h.1)
 
     pass_there : IsPass m w t (step_named x) (step_named y)
     pass_there = record {
@@ -250,8 +247,7 @@ module _ (m : ModuleValue) (args : List ℤ) (limits : IsWithinLimits m) (ok : I
       registered = holds_there.0;
       there = u.there;
       passes = passes;
-      awaited = (let is = stage_is u.here k (named y.0) in let a = least in let b = most in
-          low_awaited (phase_of u.here k) (standing_on u.here (named y.0) k) (omega (arith, is, a)) (omega (arith, is, b)));
+      awaited = (stage_tells u.here k (named y.0)).awaits least most;
       advanced = (let a = holds in let b = holds_there.1 in let c = f.advanced in let d = same_phase in omega (arith, a, b, c, d));
     }
 
@@ -310,8 +306,8 @@ module _ (m : ModuleValue) (args : List ℤ) (limits : IsWithinLimits m) (ok : I
     same_governed : (n : ℕ) (i j : Activity) → slice_get f.here.activities n ≡ Some i → slice_get v.here.activities (named n) ≡ Some j
         → j.governed ≡ finish_named xs i.governed
     same_governed n i j hi hj =
-        let a = governed_stays m (y.0 ∷ f.after) f.here z n i end hi in
-        let b = governed_stays m (named y.0 ∷ v.back) v.here g.last (named n) j rest hj in
+        let a = governed_stays m (y.0 ∷ f.after) f.here z end n i hi in
+        let b = governed_stays m (named y.0 ∷ v.back) v.here g.last rest (named n) j hj in
         let both : b.0.governed ≡ finish_named xs a.0.governed =
         same_Some b.0.governed (finish_named xs a.0.governed)
         (sym (ap (option_map (λ (act : Activity). act.governed)) b.1) ∙ governed_same xs z g.last n g.alike

@@ -41,7 +41,8 @@ module _ (m : ModuleValue) (args : List ℤ) (limits : IsWithinLimits m) (ok : I
   chain_there y [] h = refl
   chain_there y (x ∷ xs) h = (by h.0, chain_there x xs h.1)
     where
-      by : IsCause m w s x y ⊎ ((x.0 ≡ y.0) × (x.1 < y.1)) → IsCause m w t (there x) (there y) ⊎ ((name_in member x.0 ≡ name_in member y.0) × (x.1 < y.1))
+      by : IsCause m w s x y ⊎ ((x.0 ≡ y.0) × (x.1 < y.1))
+          → IsCause m w t (there x) (there y) ⊎ ((name_in member x.0 ≡ name_in member y.0) × (x.1 < y.1))
       by (inl cause) = inl (cause_there m args limits ok taken s z one t member x y cause)
       by (inr own) = inr (ap (name_in member) own.0, own.1)
 
@@ -192,5 +193,6 @@ pub greedy : (m : ModuleValue) (args : List ℤ) (s : List ℕ) (z y : World) (r
     → IsSpan m (opening m args) s (length rounds)
 greedy m args s z y rounds limits ok taken one free all other =
     span_there m args limits ok taken (steps_in rounds) s y z other one
-    (back m args limits ok taken s (steps_in rounds) z y one free other) (member m args limits ok taken s (steps_in rounds) z y one free other)
+    (back m args limits ok taken s (steps_in rounds) z y one free other)
+    (member m args limits ok taken s (steps_in rounds) z y one free other)
     (length rounds) (greedy_itself m args y rounds limits ok taken all other)

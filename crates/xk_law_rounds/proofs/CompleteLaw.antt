@@ -1,6 +1,6 @@
 -- The causes of a run are complete: where an activity can't take its next step yet, a step causes it that wasn't taken yet.
 use Rattle.std.proofs.Common.{◌≡◌, ◌∙◌, ℕ, ℤ, zero, suc, ◌+◌, ◌<◌, ◌≤◌, inl, inr, Bool, true, false, true≢false, cond, List, ◌∷◌, ◌++◌}
-use Rattle.std.proofs.Common.{length, Some, refl, sym, ap, subst, append_assoc, arith, eq-eqb}
+use Rattle.std.proofs.Common.{length, Some, refl, sym, ap, append_assoc, arith, eq-eqb}
 use Rattle.std.specs.Prelude.{slice_get}
 use Rattle.std.specs.Option.{option_map_or}
 use Rattle.std.proofs.lemmas.Option.{same_Some, slice_get_cases, slice_get_within}
@@ -13,10 +13,11 @@ use Rattle.xk_types.specs.declared.world.Event.TheVariants as event
 use Rattle.xk_types.specs.Acceptance.{IsAccepted}
 use Rattle.xk_types.specs.Code.{ModuleValue, IsWithinLimits}
 use Rattle.xk_types.specs.World.{Activity, Clock, Finish, World, AreArguments, opening, is_ended, instruction_at, standing_of}
-use Rattle.xk_types.specs.Step.{Blocked, Stepped, all, awaits, closing, done, innermost, is_pending, is_signalled, is_under, left, none, passed}
+use Rattle.xk_types.specs.Step.{Blocked, Stepped, all, awaits, closing, done, innermost, is_pending, is_signalled, is_under, left}
+use Rattle.xk_types.specs.Step.{none, passed}
 use Rattle.xk_types.specs.Step.{past, run_at, step, step_by, step_of, waits}
 use Rattle.xk_types.specs.Schedule.{Through, run, IsReached, is_enabled, is_step}
-use Rattle.xk_types.proofs.ListLemmas.{any_found}
+use Rattle.xk_types.proofs.ListLemmas.{any_found, get_inside}
 use Rattle.xk_law_schedules.proofs.Invariant.{IsSound}
 use Rattle.xk_law_schedules.proofs.ClockLemmas.AdvanceLemmas.{held_back}
 use Rattle.xk_law_schedules.proofs.ProgressLemmas.WaitLemmas.{stuck_waits}
@@ -33,8 +34,8 @@ use Rattle.xk_law_traces.proofs.EdgeLaw.{WasTaken, run_behind, turns_on, turns_s
 use Rattle.xk_law_traces.proofs.InstructionEventLemmas.{arrived_free, stepped_by}
 use Rattle.xk_law_traces.proofs.StageLemmas.{registered_stage, stage_at, unsignalled_stage}
 use Rattle.xk_law_traces.proofs.StepEventLemmas.{run_wider}
-use Rattle.xk_law_rounds.proofs.HoldLemmas.{awaited_stage, low_awaited, held_stage, signalled_stage, stage_is}
-use Rattle.xk_law_rounds.proofs.IdleLemmas.{IsStartedOn, governed_stays, idle_stage, idle_stays, owned_in, started_on, under_over}
+use Rattle.xk_law_rounds.proofs.HoldLemmas.{stage_tells}
+use Rattle.xk_law_rounds.proofs.IdleLemmas.{IsStartedOn, IsStill, governed_stays, idle, owned_in, started_on, under_over}
 
 -- who takes a step is there before and behind it
 pub inside_before : (m : ModuleValue) (list : List ℕ) (w v : World) (a : ℕ) → run m list w ≡ Through v → length v.activities ≤ a
@@ -79,7 +80,7 @@ module _ (m : ModuleValue) (args : List ℤ) (limits : IsWithinLimits m) (ok : I
   taker = found_of m next.here y.0 next.there next.e next.takes
 
   -- a step causes this one, and wasn't taken yet
-  abbrev pub IsWaited : Type 0
+  abbrev IsWaited : Type 0
   IsWaited = (x : StepName) × IsCause m w s x y × IsTaken s x × (IsTaken before x → ⊥)
 
   -- the step on the way
@@ -101,7 +102,8 @@ module _ (m : ModuleValue) (args : List ℤ) (limits : IsWithinLimits m) (ok : I
       before = before ++ front;
       after = back ++ y.0 ∷ next.back;
       here = here;
-      whole = whole ∙ ap (λ l. before ++ l) (next.whole ∙ ap (λ l. l ++ y.0 ∷ next.back) is ∙ append_assoc front (a ∷ back) (y.0 ∷ next.back))
+      whole = whole
+          ∙ ap (λ l. before ++ l) (next.whole ∙ ap (λ l. l ++ y.0 ∷ next.back) is ∙ append_assoc front (a ∷ back) (y.0 ∷ next.back))
           ∙ sym (append_assoc before front (a ∷ (back ++ y.0 ∷ next.back)));
       leads = run_behind m before front w v leads ∙ goes;
       turn = refl;
@@ -151,8 +153,11 @@ module _ (m : ModuleValue) (args : List ℤ) (limits : IsWithinLimits m) (ok : I
   scoped = reached_scoped m limits ok v reached
 
   module _ (act : Activity) (at : slice_get v.activities y.0 ≡ Some act) where
+    here_still : IsStill v next.here y.0 act
+    here_still = idle m limits ok next.front v next.here y.0 act reached at next.turn next.leads
+
     still : slice_get next.here.activities y.0 ≡ Some act
-    still = idle_stays m next.front v next.here y.0 act next.turn next.leads at
+    still = here_still.there
 
     alive : is_ended act.status ≡ false
     alive = alive_of m next.here y.0 act next.there next.e still next.takes
@@ -187,8 +192,8 @@ module _ (m : ModuleValue) (args : List ℤ) (limits : IsWithinLimits m) (ok : I
       abbrev b : ℕ
       b = back.0
 
-      inside : b < length v.activities
-      inside = let wide = (sound.clocks c.0 c.1 c.2).width in let l = back.1 in omega (arith, wide, l)
+      holder : (x : Activity) × (slice_get v.activities b ≡ Some x)
+      holder = get_inside v.activities b (let wide = (sound.clocks c.0 c.1 c.2).width in let l = back.1 in omega (arith, wide, l))
 
       stands : (a : ℕ) → standing_on v a k ≡ standing_of c.1 a
       stands a = ap (λ o. option_map_or (λ (x : Clock). standing_of x a) o standing.Apart) c.2
@@ -200,16 +205,13 @@ module _ (m : ModuleValue) (args : List ℤ) (limits : IsWithinLimits m) (ok : I
       q = phase_of next.here k
 
       mine : stage_at v k y.0 ≡ suc (suc (suc (p + p)))
-      mine = stage_is v k y.0 ∙ signalled_stage p (standing_on v y.0 k) (ap is_signalled (stands y.0) ∙ c.3)
+      mine = (stage_tells v k y.0).signalled (ap is_signalled (stands y.0) ∙ c.3)
 
       other : (suc (p + p) ≤ stage_at v k b) × (stage_at v k b ≤ suc (suc (p + p)))
-      other =
-          let a = awaited_stage p (standing_on v b k) (ap is_pending (stands b) ∙ back.2) in
-          subst (λ n. (suc (p + p) ≤ n) × (n ≤ suc (suc (p + p)))) (sym (stage_is v k b)) a
+      other = (stage_tells v k b).awaited (ap is_pending (stands b) ∙ back.2)
 
       behind : stage_at next.here k y.0 ≡ suc (suc (suc (p + p)))
-      behind = idle_stage m limits ok next.front v next.here k y.0 reached (slice_get_within v.activities y.0 act at) next.turn next.leads
-          ∙ mine
+      behind = here_still.stages k ∙ mine
 
       most : stage_at next.here k y.0 ≤ suc (suc (q + q))
       most = unsignalled_stage next.here.clocks k y.0 free
@@ -223,15 +225,14 @@ module _ (m : ModuleValue) (args : List ℤ) (limits : IsWithinLimits m) (ok : I
 
       awaits_it : is_pending (standing_on next.here y.0 k) ≡ true
       awaits_it =
-          let is = stage_is next.here k y.0 in
           let e = behind in
           let f = further in
-          low_awaited q (standing_on next.here y.0 k) (omega (arith, is, e, f)) (omega (arith, is, e, f))
+          (stage_tells next.here k y.0).awaits (omega (arith, e, f)) (omega (arith, e, f))
 
       -- so who held it back took a step
       took : turns_of b next.front ≡ 0 → ⊥
-      took idle =
-          let e = idle_stage m limits ok next.front v next.here k b reached inside idle next.leads in
+      took none =
+          let e = (idle m limits ok next.front v next.here b holder.0 reached holder.1 none next.leads).stages k in
           let o = other in
           let some : 0 < stage_at next.here k b = omega (arith, e, o) in
           let low : suc (q + q) ≤ stage_at next.here k b = registered_stage next.here.clocks k b some in
@@ -241,10 +242,9 @@ module _ (m : ModuleValue) (args : List ℤ) (limits : IsWithinLimits m) (ok : I
       by_pass : WasTaken m v next.front b 0 → IsWaited
       by_pass r =
           let t = first b r.front r.back r.here r.there r.e r.whole r.leads r.takes in
-          let e : stage_at r.here k b ≡ stage_at v k b = idle_stage m limits ok r.front v r.here k b reached inside r.turn r.leads in
+          let e = (idle m limits ok r.front v r.here b holder.0 reached holder.1 r.turn r.leads).stages k in
           let o = other in
-          let is = stage_is r.here k b in
-          let h = held_stage (phase_of r.here k) (standing_on r.here b k) (omega (arith, e, o, is)) in
+          let h = (stage_tells r.here k b).holds (omega (arith, e, o)) in
           let low = h.1 in
           let f = further in (
             (b, turns_of b (before ++ r.front)),
@@ -256,7 +256,7 @@ module _ (m : ModuleValue) (args : List ℤ) (limits : IsWithinLimits m) (ok : I
               there = next.there;
               passes = next.takes ∙ ap (Stepped next.there) passes;
               awaited = awaits_it;
-              advanced = omega (arith, e, o, is, low, f);
+              advanced = omega (arith, e, o, low, f);
             }),
             is_taken b r.front r.back r.here r.there r.e r.whole r.leads r.takes,
             not_yet b r.front r.back r.here r.there r.e r.whole r.leads r.takes,
@@ -314,22 +314,22 @@ module _ (m : ModuleValue) (args : List ℤ) (limits : IsWithinLimits m) (ok : I
 
       -- but who was waited for is still under the finish
       child : (x : Activity) × (slice_get next.here.activities a ≡ Some x) × (x.governed ≡ waited_for.act.governed)
-      child = governed_stays m next.front v next.here a waited_for.act next.leads waited_for.found
+      child = governed_stays m next.front v next.here next.leads a waited_for.act waited_for.found
 
       under_then : is_under next.here.activities f a ≡ true
       under_then = under_over v.activities next.here.activities (owned_in m limits ok v reached) (owned_in m limits ok next.here there)
           (λ n. n) (λ g. g) (λ g o h. h)
-          (λ n x z hx hz. (let r = governed_stays m next.front v next.here n x next.leads hx in
+          (λ n x z hx hz. (let r = governed_stays m next.front v next.here next.leads n x hx in
           ap (λ (u : Activity). u.governed) (same_Some z r.0 (sym hz ∙ r.1)) ∙ r.2))
           f (suc a) a (omega arith) (slice_get_within next.here.activities a child.0 child.1) waited_for.act waited_for.found
           waited_for.under
 
       -- so that one took a step
       took_one : turns_of a next.front ≡ 0 → ⊥
-      took_one idle = true≢false (sym (awaits_given next.here.activities f (record {
+      took_one none = true≢false (sym (awaits_given next.here.activities f (record {
         b = a;
         act = waited_for.act;
-        found = idle_stays m next.front v next.here a waited_for.act idle next.leads waited_for.found;
+        found = (idle m limits ok next.front v next.here a waited_for.act reached waited_for.found none next.leads).there;
         under = under_then;
         alive = waited_for.alive;
       })) ∙ free_then)

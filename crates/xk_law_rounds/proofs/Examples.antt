@@ -68,7 +68,10 @@ pair_pass = record {
 pair_chain : IsChainBy (IsCause pair_row start pair) (0, 4) ((1, 2) ∷ (1, 1) ∷ (1, 0) ∷ (0, 2) ∷ (0, 1) ∷ (0, 0) ∷ [])
 pair_chain = (
   inl (inr pair_pass),
-  (inr (refl, omega arith), (inr (refl, omega arith), (inl (inl (inl pair_start)), (inr (refl, omega arith), (inr (refl, omega arith), refl))))),
+  (
+    inr (refl, omega arith),
+    (inr (refl, omega arith), (inl (inl (inl pair_start)), (inr (refl, omega arith), (inr (refl, omega arith), refl)))),
+  ),
 )
 
 -- and in the greedy run main passes in the seventh round, behind six others

@@ -36,7 +36,7 @@ module _ (m : ModuleValue) (args : List ℤ) (limits : IsWithinLimits m) (ok : I
   w = opening m args
 
   -- by a round behind some steps: a chain of n steps leads up to each that is taken in it
-  abbrev pub NewHere : List ℕ → List ℕ → ℕ → Type 0
+  abbrev NewHere : List ℕ → List ℕ → ℕ → Type 0
   NewHere before r n = (k : StepName) → turns_of (name_in whole k.0) before ≤ k.1
       → IsTaken (before ++ r) (name_in whole k.0, k.1)
       → (xs : List StepName) × IsChainBy Leads k xs × (suc (length xs) ≡ n)

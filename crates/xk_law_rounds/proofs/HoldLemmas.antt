@@ -6,52 +6,54 @@ use Rattle.xk_types.specs.declared.world.Standing.{Standing}
 use Rattle.xk_types.specs.declared.world.Standing.TheVariants as standing
 use Rattle.xk_types.specs.World.{Clock, World, standing_of}
 use Rattle.xk_types.specs.Step.{is_pending, is_registered, is_signalled}
-use Rattle.xk_law_traces.specs.Edges.{standing_on, phase_of, held_in}
+use Rattle.xk_law_traces.specs.Edges.{held_in, phase_of, standing_on}
 use Rattle.xk_law_traces.proofs.StageLemmas.{stage_at, stage_by, stage_of}
 
--- the stage is that of how one stands, in the phase
-pub stage_is : (w : World) (k a : ℕ) → stage_at w k a ≡ stage_by (phase_of w k) (standing_on w a k)
-stage_is w k a = of (slice_get w.clocks k)
+-- Who stands so on a clock in phase p is at this stage: one that is registered has one, and holds the clock in the phase that it tells;
+-- one that is awaited is at one of the two of this phase, and nobody else is; one that has signalled is at the next.
+pub record Tells (p : ℕ) (st : Standing) (stage : ℕ) : Type 0 where
+  pub some : is_registered st ≡ true → 0 < stage
+  pub holds : 0 < stage
+      → (is_registered st ≡ true) × (suc (held_in p st + held_in p st) ≤ stage) × (stage ≤ suc (suc (held_in p st + held_in p st)))
+  pub awaited : is_pending st ≡ true → (suc (p + p) ≤ stage) × (stage ≤ suc (suc (p + p)))
+  pub awaits : suc (p + p) ≤ stage → stage ≤ suc (suc (p + p)) → is_pending st ≡ true
+  pub signalled : is_signalled st ≡ true → stage ≡ suc (suc (suc (p + p)))
+
+tells : (p : ℕ) (st : Standing) → Tells p st (stage_by p st)
+tells p standing.Apart = record {
+  some = λ h. absurd (true≢false (sym h));
+  holds = λ h. absurd (omega (arith, h));
+  awaited = λ h. absurd (true≢false (sym h));
+  awaits = λ h g. absurd (omega (arith, h));
+  signalled = λ h. absurd (true≢false (sym h));
+}
+tells p standing.Open = record {
+  some = λ h. omega arith;
+  holds = λ h. (refl, omega arith, omega arith);
+  awaited = λ h. (omega arith, omega arith);
+  awaits = λ h g. refl;
+  signalled = λ h. absurd (true≢false (sym h));
+}
+tells p standing.Signalled = record {
+  some = λ h. omega arith;
+  holds = λ h. (refl, omega arith, omega arith);
+  awaited = λ h. absurd (true≢false (sym h));
+  awaits = λ h g. absurd (omega (arith, g));
+  signalled = λ h. refl;
+}
+tells p standing.Ahead = record {
+  some = λ h. omega arith;
+  holds = λ h. (refl, omega arith, omega arith);
+  awaited = λ h. (omega arith, omega arith);
+  awaits = λ h g. refl;
+  signalled = λ h. absurd (true≢false (sym h));
+}
+
+pub stage_tells : (w : World) (k a : ℕ) → Tells (phase_of w k) (standing_on w a k) (stage_at w k a)
+stage_tells w k a = of (slice_get w.clocks k)
   where
-    of : (o : Option Clock) → option_map_or (λ (c : Clock). stage_of c a) o 0
-        ≡ stage_by (option_map_or (λ (c : Clock). c.phase) o 0) (option_map_or (λ (c : Clock). standing_of c a) o standing.Apart)
-    of None = refl
-    of (Some c) = refl
-
--- who has resumed the clock
-pub signalled_stage : (p : ℕ) (st : Standing) → is_signalled st ≡ true → stage_by p st ≡ suc (suc (suc (p + p)))
-signalled_stage p standing.Apart h = absurd (true≢false (sym h))
-signalled_stage p standing.Open h = absurd (true≢false (sym h))
-signalled_stage p standing.Signalled h = refl
-signalled_stage p standing.Ahead h = absurd (true≢false (sym h))
-
--- who is awaited stands before that
-pub awaited_stage : (p : ℕ) (st : Standing) → is_pending st ≡ true
-    → (suc (p + p) ≤ stage_by p st) × (stage_by p st ≤ suc (suc (p + p)))
-awaited_stage p standing.Apart h = absurd (true≢false (sym h))
-awaited_stage p standing.Open h = (omega arith, omega arith)
-awaited_stage p standing.Signalled h = absurd (true≢false (sym h))
-awaited_stage p standing.Ahead h = (omega arith, omega arith)
-
--- and who stands there is awaited
-pub low_awaited : (p : ℕ) (st : Standing) → suc (p + p) ≤ stage_by p st → stage_by p st ≤ suc (suc (p + p)) → is_pending st ≡ true
-low_awaited p standing.Apart h g = absurd (omega (arith, h))
-low_awaited p standing.Open h g = refl
-low_awaited p standing.Signalled h g = absurd (omega (arith, g))
-low_awaited p standing.Ahead h g = refl
-
--- who is registered has a stage
-pub registered_some : (p : ℕ) (st : Standing) → is_registered st ≡ true → 0 < stage_by p st
-registered_some p standing.Apart h = absurd (true≢false (sym h))
-registered_some p standing.Open h = omega arith
-registered_some p standing.Signalled h = omega arith
-registered_some p standing.Ahead h = omega arith
-
--- and who has one is registered, and holds the clock in a phase that the stage tells
-pub held_stage : (p : ℕ) (st : Standing) → 0 < stage_by p st
-    → (is_registered st ≡ true) × (suc (held_in p st + held_in p st) ≤ stage_by p st)
-    × (stage_by p st ≤ suc (suc (held_in p st + held_in p st)))
-held_stage p standing.Apart h = absurd (omega (arith, h))
-held_stage p standing.Open h = (refl, omega arith, omega arith)
-held_stage p standing.Signalled h = (refl, omega arith, omega arith)
-held_stage p standing.Ahead h = (refl, omega arith, omega arith)
+    of : (o : Option Clock)
+        → Tells (option_map_or (λ (c : Clock). c.phase) o 0) (option_map_or (λ (c : Clock). standing_of c a) o standing.Apart)
+        (option_map_or (λ (c : Clock). stage_of c a) o 0)
+    of None = tells 0 standing.Apart
+    of (Some c) = tells c.phase (standing_of c a)

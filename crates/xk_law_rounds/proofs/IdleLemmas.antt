@@ -1,6 +1,7 @@
 -- Along a run: who takes no step stays as it is, and stands so on each clock; what governs an activity stays, and so does who is under a
 -- finish; and who comes to be there was started.
-use Rattle.std.proofs.Common.{◌≡◌, ℕ, zero, suc, ◌+◌, ◌<◌, ◌≤◌, ◌==◌, ◌⊎◌, inl, inr, Bool, true, false, cond, List, [], ◌∷◌, ◌++◌, length, set}
+use Rattle.std.proofs.Common.{◌≡◌, ℕ, zero, suc, ◌+◌, ◌<◌, ◌≤◌, ◌==◌, ◌⊎◌, inl, inr, Bool, true, false, cond, List, [], ◌∷◌, ◌++◌}
+use Rattle.std.proofs.Common.{length, set}
 use Rattle.std.proofs.Common.{Some, refl, sym, ap, ◌∙◌, subst, arith}
 use Rattle.std.specs.Prelude.{slice_get}
 use Rattle.std.proofs.lemmas.Bool.{eqb-false, cases_lt}
@@ -21,7 +22,7 @@ use Rattle.xk_law_names.proofs.ActivityNameOrderLaw.{run_first}
 use Rattle.xk_law_traces.specs.Moments.{is_start}
 use Rattle.xk_law_traces.specs.Edges.{turns_of}
 use Rattle.xk_law_traces.proofs.StageLemmas.{stage_at, moves_on}
-use Rattle.xk_law_traces.proofs.StepEventLemmas.{grown, others_stay, wider}
+use Rattle.xk_law_traces.proofs.StepEventLemmas.{grown, others_stay, start_is}
 use Rattle.xk_law_traces.proofs.EdgeLaw.{turns_same, turns_other}
 
 -- ---- who takes no step
@@ -34,25 +35,28 @@ idle_first a d list idle = by (d == a) refl
     by true g = let n = turns_same a d list g in absurd (omega (arith, n, idle))
     by false g = (λ same. eqb-false d a g (sym same), sym (turns_other a d list g) ∙ idle)
 
--- stays as it is
-pub idle_stays : (m : ModuleValue) (list : List ℕ) (v h : World) (a : ℕ) (act : Activity) → turns_of a list ≡ 0 → run m list v ≡ Through h
-    → slice_get v.activities a ≡ Some act → slice_get h.activities a ≡ Some act
-idle_stays m [] v h a act idle legal at = ap (λ (z : World). slice_get z.activities a) (sym (same_through v h legal)) ∙ at
-idle_stays m (d ∷ list) v h a act idle legal at =
-    let x = first_step v h (step m v d) (run m list) legal in
-    let i = idle_first a d list idle in
-    idle_stays m list x.0 h a act i.1 x.3 (others_stay m v x.0 d a x.1 act x.2 i.0 at)
+-- an activity is in the second world as in the first, and at the same stage on each clock
+pub record IsStill (v h : World) (a : ℕ) (act : Activity) : Type 0 where
+  pub there : slice_get h.activities a ≡ Some act
+  pub stages : (k : ℕ) → stage_at h k a ≡ stage_at v k a
 
--- and at its stage on each clock
-pub idle_stage : (m : ModuleValue) → IsWithinLimits m → IsAccepted m → (list : List ℕ) (v h : World) (k a : ℕ) → IsReached m v
-    → a < length v.activities → turns_of a list ≡ 0 → run m list v ≡ Through h → stage_at h k a ≡ stage_at v k a
-idle_stage m limits ok [] v h k a reached inside idle legal = ap (λ (z : World). stage_at z k a) (sym (same_through v h legal))
-idle_stage m limits ok (d ∷ list) v h k a reached inside idle legal =
+pub idle : (m : ModuleValue) → IsWithinLimits m → IsAccepted m → (list : List ℕ) (v h : World) (a : ℕ) (act : Activity) → IsReached m v
+    → slice_get v.activities a ≡ Some act → turns_of a list ≡ 0 → run m list v ≡ Through h → IsStill v h a act
+idle m limits ok [] v h a act reached at none legal =
+    let same = same_through v h legal in
+    record {
+      there = ap (λ (z : World). slice_get z.activities a) (sym same) ∙ at;
+      stages = λ k. ap (λ (z : World). stage_at z k a) (sym same);
+    }
+idle m limits ok (d ∷ list) v h a act reached at none legal =
     let x = first_step v h (step m v d) (run m list) legal in
-    let i = idle_first a d list idle in
-    let more = wider m v x.0 d x.1 x.2 in
-    idle_stage m limits ok list x.0 h k a (reached_step m v x.0 d x.1 reached x.2) (omega (arith, inside, more)) i.1 x.3
-    ∙ (moves_on m limits ok v x.0 d x.1 reached x.2).others k a inside i.0
+    let i = idle_first a d list none in
+    let r = idle m limits ok list x.0 h a act (reached_step m v x.0 d x.1 reached x.2)
+    (others_stay m v x.0 d a x.1 act x.2 i.0 at) i.1 x.3 in
+    record {
+      there = r.there;
+      stages = λ k. r.stages k ∙ (moves_on m limits ok v x.0 d x.1 reached x.2).others k a (slice_get_within v.activities a act at) i.0;
+    }
 
 -- ---- what governs an activity
 
@@ -92,14 +96,14 @@ step_governed m w a = step_kind (KeepsGoverned w) m w a tt (λ c. tt) (λ act fo
         )
         by (inr differs) = (x, get-set_other w.activities a b next differs ∙ there, refl)
 
-pub governed_stays : (m : ModuleValue) (list : List ℕ) (v h : World) (b : ℕ) (x : Activity) → run m list v ≡ Through h
+pub governed_stays : (m : ModuleValue) (list : List ℕ) (v h : World) → run m list v ≡ Through h → (b : ℕ) (x : Activity)
     → slice_get v.activities b ≡ Some x → IsThere h b x.governed
-governed_stays m [] v h b x legal at = (x, ap (λ (z : World). slice_get z.activities b) (sym (same_through v h legal)) ∙ at, refl)
-governed_stays m (d ∷ list) v h b x legal at =
+governed_stays m [] v h legal b x at = (x, ap (λ (z : World). slice_get z.activities b) (sym (same_through v h legal)) ∙ at, refl)
+governed_stays m (d ∷ list) v h legal b x at =
     let f = first_step v h (step m v d) (run m list) legal in
     let one : KeepsGoverned v (Stepped f.0 f.1) = subst (KeepsGoverned v) f.2 (step_governed m v d) in
     let next = one b x at in
-    let r = governed_stays m list f.0 h b next.0 f.3 next.1 in
+    let r = governed_stays m list f.0 h f.3 b next.0 next.1 in
     (r.0, r.1, r.2 ∙ next.2)
 
 -- ---- who is under a finish
@@ -116,7 +120,8 @@ module _ (acts others : List Activity) (owned : AreOwned acts) (there : AreOwned
   pub under_over : (n c : ℕ) → c < n → named c < length others → (p : Activity) → slice_get acts c ≡ Some p → is_under acts f c ≡ true
       → is_under others (over f) (named c) ≡ true
   under_over zero c less inside p at under = absurd (omega (arith, less))
-  under_over (suc n) c less inside p at under = by (get_inside others (named c) inside) (under_cases acts owned f c p at under) (under_over n)
+  under_over (suc n) c less inside p at under =
+      by (get_inside others (named c) inside) (under_cases acts owned f c p at under) (under_over n)
     where
       by : (q : Activity) × (slice_get others (named c) ≡ Some q)
           → (p.governed ≡ f) ⊎ ((o : ℕ) × (p.governed.owner ≡ Some o) × (is_under acts f o ≡ true))
@@ -148,23 +153,6 @@ pub record IsStartedOn (m : ModuleValue) (list : List ℕ) (w : World) (c : ℕ)
   pub leads : run m front w ≡ Through here
   pub starts : step m here who ≡ Stepped there event.Spawned
   pub wide : c ≡ length here.activities
-
--- an event that is a start
-start_is : (e : Event) → is_start e ≡ true → e ≡ event.Spawned
-start_is event.Spawned h = refl
-start_is event.Local h = absurd (cc)
-start_is (event.Printed n) h = absurd (cc)
-start_is event.Made h = absurd (cc)
-start_is event.Got h = absurd (cc)
-start_is event.Put h = absurd (cc)
-start_is event.Added h = absurd (cc)
-start_is event.Opened h = absurd (cc)
-start_is event.Closed h = absurd (cc)
-start_is event.Resumed h = absurd (cc)
-start_is event.Dropped h = absurd (cc)
-start_is event.Arrived h = absurd (cc)
-start_is event.Passed h = absurd (cc)
-start_is event.Ended h = absurd (cc)
 
 pub started_on : (m : ModuleValue) (list : List ℕ) (w v : World) (c : ℕ) → run m list w ≡ Through v → length w.activities ≤ c
     → c < length v.activities → IsStartedOn m list w c

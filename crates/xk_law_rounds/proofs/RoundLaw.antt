@@ -98,7 +98,7 @@ module _ (m : ModuleValue) (args : List ℤ) (limits : IsWithinLimits m) (ok : I
       subst (λ a. x.1 < turns_of (name_in whole a) before) (sym own.0) less
 
   -- no chain up to a step that is taken by then has more steps
-  abbrev pub NoLonger : List ℕ → ℕ → Type 0
+  abbrev NoLonger : List ℕ → ℕ → Type 0
   NoLonger before n = (k : StepName) (xs : List StepName) → IsChainBy Leads k xs → IsTaken before (name_in whole k.0, k.1)
       → suc (length xs) ≤ n
 

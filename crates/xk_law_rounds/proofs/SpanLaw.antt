@@ -1,5 +1,6 @@
 -- A greedy run has as many rounds as its span.
-use Rattle.std.proofs.Common.{◌≡◌, ℕ, ℤ, zero, suc, true, false, List, [], ◌∷◌, ◌++◌, length, Some, refl, ap, ◌∙◌, subst, sym, append_assoc, arith}
+use Rattle.std.proofs.Common.{◌≡◌, ℕ, ℤ, zero, suc, true, false, List, [], ◌∷◌, ◌++◌, length, Some, refl, ap, ◌∙◌, subst}
+use Rattle.std.proofs.Common.{sym, append_assoc, arith}
 use Rattle.std.specs.Prelude.{slice_get}
 use Rattle.std.proofs.lemmas.Option.{none-some, same_Some}
 use Rattle.xk_types.specs.Acceptance.{IsAccepted}
@@ -17,7 +18,7 @@ use Rattle.xk_law_rounds.proofs.GreedyLaw.{has_chain, in_round}
 use Rattle.xk_law_rounds.proofs.RoundLaw.{by_round, first, no_longer, sound_there}
 
 -- each cause is taken before, in each schedule of the class
-pub cause_sound : (m : ModuleValue) (args : List ℤ) → IsWithinLimits m → IsAccepted m → AreArguments m args
+cause_sound : (m : ModuleValue) (args : List ℤ) → IsWithinLimits m → IsAccepted m → AreArguments m args
     → (s t : List ℕ) (z : World) → IsWholeRun m args s z → (whole : AreOneClass m (opening m args) s t)
     → (x k : StepName) → IsCause m (opening m args) s x k → (before after : List ℕ) (v : World) → t ≡ before ++ after
     → run m before (opening m args) ≡ Through v
@@ -85,7 +86,8 @@ pub greedy_itself : (m : ModuleValue) (args : List ℤ) (y : World) (rounds : Li
 greedy_itself m args y rounds limits ok taken all other = greedy_span m args limits ok taken y rounds all other
 
 -- the round in which a greedy run takes a step is the one in which it comes
-pub greedy_rounds : (m : ModuleValue) (args : List ℤ) (z : World) (before : List (List ℕ)) (r : List ℕ) (after : List (List ℕ)) (y : StepName)
+pub greedy_rounds : (m : ModuleValue) (args : List ℤ) (z : World) (before : List (List ℕ)) (r : List ℕ) (after : List (List ℕ))
+    (y : StepName)
     → IsWithinLimits m → IsAccepted m → AreArguments m args
     → AreGreedy m (opening m args) (before ++ r ∷ after) z → IsWholeRun m args (steps_in (before ++ r ∷ after)) z
     → IsTakenIn before r y → IsInRound m (opening m args) (steps_in (before ++ r ∷ after)) y (suc (length before))
@@ -105,7 +107,8 @@ greedy_rounds m args z before r after y limits ok taken all other here =
       chain = c.0;
       caused = c.1;
       long = c.2;
-      most = λ xs chain. (let n = by_round m args limits ok taken t z z (IsCause m w t) t other (whole m args limits ok taken z rounds all other)
+      most = λ xs chain. (let n = by_round m args limits ok taken t z z (IsCause m w t) t other
+          (whole m args limits ok taken z rounds all other)
           (sound m args limits ok taken z rounds all other) before r after [] w 0 refl refl (rounds_of m w z rounds all)
           (first m args limits ok taken t z z (IsCause m w t) t other (whole m args limits ok taken z rounds all other)
           (sound m args limits ok taken z rounds all other)) y xs chain here.1 in omega (arith, n));

@@ -1,4 +1,4 @@
-use Rattle.std.proofs.Common.{◌≡◌, ◌+◌, sym, subst}
+use Rattle.std.proofs.Common.{◌+◌, sym, subst}
 use Rattle.xk_core.specs.Core.{CoreValue, IsCore}
 use Rattle.xk_greedy.proofs.StepLemmas.{on_more, on_start, still_enabled}
 use Rattle.xk_greedy.specs.Steps.{AreEnabled}
