@@ -144,9 +144,10 @@ waits_text p waits = flat_map (wait_line_at p waits) (greatest_few 6 (rounds_wai
 
 -- ---- the text
 
--- Of which runs it holds: where there is no race, each run takes as many steps (`same_work` of `xk_law_rounds`).
+-- Of which runs it holds: where there is no race, each run takes as many steps, and has this span (`work_for_all` and `span_for_all` of
+-- `xk_law_work`).
 abbrev pub scope_line : Bool → List ℕ
-scope_line true = codes "every schedule has this work\n"
+scope_line true = codes "every schedule has this work and span\n"
 scope_line false = codes "of this run alone\n"
 
 -- the first lines, by how many steps each round has
