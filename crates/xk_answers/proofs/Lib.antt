@@ -1,4 +1,3 @@
-pub mod BeginningLemmas
 pub mod ExplanationLemmas
 pub mod LogLemmas
 pub mod OrderedRunLemmas

@@ -40,7 +40,7 @@ use Rattle.xk_show_span.specs.Text.{span_text}
 use Rattle.xk_show_where.specs.Where.{are_steps_legal, named_where_text, where_text}
 use Rattle.xk_why.specs.Lines.{why_text}
 use Rattle.xk_why.specs.ModuleLines.{is_told, module_why_text}
-use Rattle.xk_answers.specs.Beginnings.{first_steps, steps_in}
+use Rattle.xk_beginnings.specs.Beginnings.{first_steps, steps_in}
 use Rattle.xk_types.specs.declared.world.Entry.{Entry}
 use Rattle.xk_cli.specs.declared.job.Form.{Form}
 use Rattle.xk_cli.specs.declared.job.Form.TheVariants as form

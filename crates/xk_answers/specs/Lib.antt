@@ -1,5 +1,4 @@
 pub mod OrderedRun
-pub mod Beginnings
 pub mod Explanation
 pub mod Results
 pub mod Refusals

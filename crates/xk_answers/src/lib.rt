@@ -1,7 +1,6 @@
 //! What a job on a program comes to: its runs, what it can print, and what is shown of it.
 #![tactic(auto)]
 
-mod beginning;
 mod event_values;
 mod explanation;
 mod first_races;
@@ -16,7 +15,6 @@ mod so_far;
 mod verdict;
 mod whereabouts;
 
-pub use beginning::beginnings;
 pub use explanation::{Refused, listing, unsaid};
 pub use first_races::raced;
 pub use job_result::Done;

@@ -3,9 +3,9 @@
 ghost use Rattle.std.specs.Prelude.{◌≡◌, map, Some, IfOk, string_bytes};
 ghost use Rattle.xk_answers.specs.Explanation.{all_told, untold, untold_line, why_of, why_told};
 
-use crate::beginning::lacking;
 use crate::picture::Tale;
 use std::alloc::{AllocError, Global};
+use xk_beginnings::lacking;
 use xk_messages::{local_line, log_end_line};
 use xk_program::Provenance;
 use xk_scheduler::Ended;

@@ -12,10 +12,10 @@ ghost use Rattle.xk_program.specs.Origins.{IsFrom};
 ghost use Rattle.xk_answers.specs.Explanation.{stand_told, told_to, where_told};
 ghost use Rattle.xk_program.specs.Lines.{status_of};
 
-use crate::beginning::{first_steps, lacking};
 use crate::job_result::Done;
 use crate::picture::Tale;
 use std::alloc::{AllocError, Global};
+use xk_beginnings::{first_steps, lacking};
 use xk_bounds::Verified;
 use xk_log::read_log;
 use xk_messages::log_end_line;

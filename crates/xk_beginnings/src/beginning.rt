@@ -1,15 +1,15 @@
-//! The beginning of a log, up to a step.
+//! The entries of the first steps of a log.
 
 ghost use Rattle.std.specs.Prelude.{◌≡◌, ◌-◌, ◌<◌, ℕ, List, take, IfOk, option_to_list};
 ghost use Rattle.xk_types.specs.declared.world.Entry.{Entry as EntryValue};
 ghost use Rattle.xk_types.specs.Logs.{schedule_of};
-ghost use Rattle.xk_answers.specs.Beginnings.{cut_entry, first_steps, steps_in};
+ghost use Rattle.xk_beginnings.specs.Beginnings.{cut_entry, first_steps, steps_in};
 
 use std::alloc::{AllocError, Global};
 use xk_types::Entry;
 
 /// The entries of the first steps of a log, so many, or all where it has fewer. Err where memory was refused.
-pub(crate) fn first_steps(
+pub fn first_steps(
     alloc: Global,
     log: &[Entry],
     count: u64,
@@ -47,7 +47,7 @@ fn cut_entry(entry: Entry, steps: u64) -> Option<Entry>
 }
 
 /// How many steps a log lacks to have so many: 0 where it has them.
-pub(crate) fn lacking(log: &[Entry], count: u64) -> u64
+pub fn lacking(log: &[Entry], count: u64) -> u64
     ensures { result ≡ count - steps_in log.now }
 {
     let mut left = count;

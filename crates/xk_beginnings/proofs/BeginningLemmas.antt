@@ -7,7 +7,7 @@ use Rattle.xk_types.specs.declared.world.Entry.{Entry}
 use Rattle.xk_types.specs.Logs.{schedule_of}
 use Rattle.xk_types.proofs.LogEntryLemmas.{entry_of}
 use Rattle.std.specs.Coded.{le_prop}
-use Rattle.xk_answers.specs.Beginnings.{cut_entry, first_steps, steps_in}
+use Rattle.xk_beginnings.specs.Beginnings.{cut_entry, first_steps, steps_in}
 
 -- of one that is cut
 cut_schedule : (n : ℕ) (e : Entry) → schedule_of (cut_entry n e) ≡ replicate n e.act

@@ -1,6 +1,6 @@
 use Rattle.std.proofs.Common.{◌≡◌, ◌-◌, drop}
-use Rattle.xk_answers.specs.Beginnings.{steps_in}
-use Rattle.xk_answers.proofs.beginning.lacking.Given as goal
+use Rattle.xk_beginnings.specs.Beginnings.{steps_in}
+use Rattle.xk_beginnings.proofs.beginning.lacking.Given as goal
 
 -- what the rest of the log lacks is what the log does
 abbrev pub invariant-loop-entry : goal.invariant-loop-entry

@@ -1,6 +1,6 @@
 use Rattle.std.proofs.Common.{◌≡◌, ◌++◌, drop}
-use Rattle.xk_answers.specs.Beginnings.{first_steps}
-use Rattle.xk_answers.proofs.beginning.first_steps.Given as goal
+use Rattle.xk_beginnings.specs.Beginnings.{first_steps}
+use Rattle.xk_beginnings.proofs.beginning.first_steps.Given as goal
 
 -- the entries so far, and then the first steps of the rest, are those of the log
 abbrev pub invariant-loop-entry : goal.invariant-loop-entry

@@ -1,5 +1,0 @@
-use Rattle.xk_answers.proofs.BeginningLemmas.{cut_is}
-use Rattle.xk_answers.proofs.beginning.cut_entry.Goals as goal
-
-pub returns : goal.returns
-returns c = cut_is c.args.steps c.args.entry _

@@ -1,0 +1,6 @@
+//! The beginning of a log, up to a step.
+#![tactic(auto)]
+
+mod beginning;
+
+pub use beginning::{beginnings, first_steps, lacking};
