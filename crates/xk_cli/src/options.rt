@@ -2,7 +2,8 @@
 
 ghost use Rattle.std.specs.Prelude.{◌≡◌, false};
 ghost use Rattle.clap.specs.Words.{rule_of};
-ghost use Rattle.xk_cli.specs.CommandLine.{WithOrders, arg_option, at_option, count_option, flag, from_option, json_flag, limit_option, log_choice};
+ghost use Rattle.xk_cli.specs.CommandLine.{WithOrders, arg_option, at_option, count_option};
+ghost use Rattle.xk_cli.specs.CommandLine.{flag, from_option, json_flag, limit_option, log_choice};
 ghost use Rattle.xk_cli.specs.CommandLine.{log_option, log_place, module_flag, option, order_option, outcome_option, place};
 ghost use Rattle.xk_cli.specs.CommandLine.{seed_option, step_place, to_option, workers_option};
 

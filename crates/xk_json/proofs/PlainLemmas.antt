@@ -9,7 +9,7 @@ use Rattle.xk_json.proofs.ObjectLemmas.{array_plain, object_plain, plain_deeper,
 pub number_plain : {d : ℕ} (n : ℕ) → IsPlain d (number_value n)
 number_plain n = record { no_float = refl; nests = omega arith }
 
-pub integer_plain : {d : ℕ} (z : ℤ) → IsPlain d (integer_value z)
+integer_plain : {d : ℕ} (z : ℤ) → IsPlain d (integer_value z)
 integer_plain (pos n) = record { no_float = refl; nests = omega arith }
 integer_plain (negsuc n) = record { no_float = refl; nests = omega arith }
 

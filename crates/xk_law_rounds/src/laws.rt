@@ -4,7 +4,8 @@ ghost use Rattle.std.specs.Prelude.{◌≡◌, ℕ, suc, ℤ, List, ◌∷◌, �
 ghost use Rattle.xk_law_traces.specs.RaceFreedom.{HasNoRace};
 ghost use Rattle.xk_law_traces.specs.Edges.{AreSound, StepName};
 ghost use Rattle.xk_law_traces.specs.OneRun.{IsWholeRun};
-ghost use Rattle.xk_law_rounds.specs.Rounds.{AreComplete, AreGreedy, AreRounds, HasNoLonger, HaveSameRounds, IsInRound, IsSpan, IsTakenIn, steps_in};
+ghost use Rattle.xk_law_rounds.specs.Rounds.{AreComplete, AreGreedy, AreRounds, HasNoLonger};
+ghost use Rattle.xk_law_rounds.specs.Rounds.{HaveSameRounds, IsInRound, IsSpan, IsTakenIn, steps_in};
 ghost use Rattle.xk_types.specs.Acceptance.{IsAccepted};
 ghost use Rattle.xk_types.specs.Code.{IsWithinLimits, ModuleValue};
 ghost use Rattle.xk_types.specs.Schedule.{Through, run};

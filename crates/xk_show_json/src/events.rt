@@ -4,7 +4,8 @@ ghost use Rattle.std.specs.Prelude.{◌≡◌, ◌++◌, IfOk, None, OnOk, Some,
 ghost use Rattle.xk_json.specs.Objects.{Gains, json_line};
 ghost use Rattle.xk_show_events.specs.Events.{event_name, no_text, origin_of, places_of};
 ghost use Rattle.xk_show_names.specs.ClockNames.{names_in_run};
-ghost use Rattle.xk_show_json.specs.Events.{event_value, event_values, module_event_values, operand_member, origin_members, source_event_values, step_members, value_if_seen};
+ghost use Rattle.xk_show_json.specs.Events.{event_value, event_values, module_event_values, operand_member};
+ghost use Rattle.xk_show_json.specs.Events.{origin_members, source_event_values, step_members, value_if_seen};
 
 use crate::endings::push_ending;
 use crate::subjects::{put_subject, put_value};
