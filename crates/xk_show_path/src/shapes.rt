@@ -22,7 +22,7 @@ pub(crate) fn first_piece(alloc: Global, x: u64, y: u64) -> Result<String, Alloc
     ensures { IfOk result (λ t. string_bytes t ≡ first_piece x y) }
 {
     let down = y + 2;
-    format!(in alloc; "M{x} {down}v20")
+    format!(in alloc; "<path class='critical' d='M{x} {down}v20")
 }
 
 /// The line goes on to another box.
