@@ -107,10 +107,14 @@ described_first activities rows rounds =
     ++ (codes " rows, from the top: one for each step that others see, and one for each advance of a clock. Along a critical path of "
     ++ (decimal rounds ++ codes " steps goes a line, by these of them:")))))
 
+-- behind the last of them
+unfoldable pub no_others : List ℕ
+no_others = codes " no others.</desc>\n"
+
 -- of a path with these boxes
 abbrev pub described : Rounds → List RunStep → ℕ → ℕ → List ℕ
 described r boxes activities rows =
-    (described_first activities rows (length r.path) ++ flat_map (step_words r) boxes) ++ codes " no others.</desc>\n"
+    (described_first activities rows (length r.path) ++ flat_map (step_words r) boxes) ++ no_others
 
 -- ---- the picture
 

@@ -7,7 +7,7 @@ ghost use Rattle.xk_show_path.specs.PathPicture.{path_picture_with, round_label,
 
 use crate::line::{boxes_of, push_line_of};
 use crate::rounds::Rounds;
-use crate::shapes::{described_first, legend, number, step_words};
+use crate::shapes::{described_first, legend, no_others, number, step_words};
 use std::alloc::{AllocError, Global};
 use xk_core::Core;
 use xk_scheduler::Ended;
@@ -135,7 +135,7 @@ fn push_described(
     let first = described_to(alloc, rounds, plan)?;
     push_text(out, first.as_str())?;
     push_step_words(alloc, out, rounds, boxes)?;
-    push_text(out, " no others.</desc>\n")
+    push_text(out, no_others())
 }
 
 /// Adds what stands above the first row.
