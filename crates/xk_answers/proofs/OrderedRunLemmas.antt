@@ -27,7 +27,8 @@ use Rattle.xk_program.specs.declared.program_loader.Provenance.{Provenance}
 use Rattle.xk_program.specs.Origins.{IsFrom}
 use Rattle.xk_answers.specs.Results.{ComesTo, Draw, IsLogText, IsPageOf, IsPicture, IsTelling, Run, is_of_whole, picture_told}
 use Rattle.xk_answers.specs.Results.{shows_origins, way_given}
-use Rattle.xk_answers.specs.Explanation.{Tale, events_so_far, image_so_far, lanes_so_far, page_so_far, path_told, races_told, span_told, why_told}
+use Rattle.xk_answers.specs.Explanation.{Tale, events_so_far, image_so_far, lanes_so_far, page_so_far, path_told, races_told}
+use Rattle.xk_answers.specs.Explanation.{span_told, why_told}
 use Rattle.xk_answers.specs.OrderedRun.{IsFinished, IsLoggedGreedyRun, IsReplay, IsUncountedBy}
 use Rattle.xk_replay.specs.Replay.{IsLegal}
 use Rattle.xk_show_lanes.specs.declared.window.Window.{Window}

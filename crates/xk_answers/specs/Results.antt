@@ -1,5 +1,6 @@
 -- What a job on a module comes to, or tells of it: the numbers and the log of a run, what a module can print, pictures of a run. This project's own.
-use Rattle.std.specs.Prelude.{◌≡◌, ℕ, ⊤, ℤ, ◌-◌, ◌&&◌, not, Bool, true, false, List, ◌++◌, length, take, slice_get, Option, Some, None, is_some}
+use Rattle.std.specs.Prelude.{◌≡◌, ℕ, ⊤, ℤ, ◌-◌, ◌&&◌, not, Bool, true, false, List, ◌++◌, length, take, slice_get, Option, Some, None}
+use Rattle.std.specs.Prelude.{is_some}
 use Rattle.std.specs.Prelude.{option_map, unwrap_or, string_bytes, codes, decimal, if◌then◌else◌}
 use Rattle.serde_json.specs.Written.{compact_text}
 use Rattle.xk_types.specs.Code.{ModuleValue}

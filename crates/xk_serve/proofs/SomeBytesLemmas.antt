@@ -15,7 +15,8 @@ use Rattle.xk_program.specs.declared.fault.Fault.TheVariants as fault
 use Rattle.xk_serve.specs.declared.refusal.Refusal.{Refusal}
 use Rattle.xk_serve.specs.Notes.{note_of}
 use Rattle.xk_serve.specs.Answer.{FailsBy, IsSaidBy, IsSaidOf, Succeeds, Task}
-use Rattle.xk_serve.specs.Devices.{AgainstLog, Answered, AnsweredBySome, AreKeptOf, Explained, IsOutcomeOfSome, IsRead, IsWritten, Reads, StandsOn, read_of}
+use Rattle.xk_serve.specs.Devices.{AgainstLog, Answered, AnsweredBySome, AreKeptOf, Explained, IsOutcomeOfSome, IsRead, IsWritten}
+use Rattle.xk_serve.specs.Devices.{Reads, StandsOn, read_of}
 use Rattle.xk_serve.proofs.LongTextLemmas.{device_unsaid}
 use Rattle.xk_serve.proofs.ReplyLemmas.{some_answers, written_answer}
 

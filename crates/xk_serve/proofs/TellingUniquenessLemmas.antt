@@ -19,7 +19,8 @@ use Rattle.xk_answers.specs.declared.picture.Picture.TheVariants as picture
 use Rattle.xk_answers.specs.Results.{Check, Compile, Doing, Draw, Expected, Explain, IsPicture, IsTelling}
 use Rattle.xk_answers.specs.Results.{Listing, OutcomePage, Outcomes, Races, Replay, Run, Tally, Where}
 use Rattle.xk_program.specs.Origins.{HaveOrigins, HaveSharedNames, IsByNames, IsByOrigins}
-use Rattle.xk_answers.specs.Explanation.{HaveHints, IsListed, Tale, acceptance_told, events_so_far, image_so_far, lanes_so_far, page_so_far, path_told, races_told, span_told, where_told}
+use Rattle.xk_answers.specs.Explanation.{HaveHints, IsListed, Tale, acceptance_told, events_so_far, image_so_far, lanes_so_far}
+use Rattle.xk_answers.specs.Explanation.{page_so_far, path_told, races_told, span_told, where_told}
 use Rattle.xk_answers.specs.Explanation.{why_told}
 use Rattle.xk_cli.specs.declared.job.Order.TheVariants as order
 use Rattle.xk_program.specs.Programs.{Gives}

@@ -20,7 +20,9 @@ use Rattle.xk_program.specs.Lines.{status_of}
 use Rattle.xk_serve.specs.Notes.{told_of}
 use Rattle.xk_program.specs.Programs.{Gives, IsNoModule, IsNoSource}
 use Rattle.xk_answers.specs.Explanation.{IsExplanation}
-use Rattle.xk_answers.specs.Results.{Doing, way_given, window_given, lanes_given, list_in, ComesTo, IsTelling, IsText, IsNoRun, is_of_whole, Check, Explain, Compile, Listing, Run, Replay, Draw, Where, Races, Tally, Outcomes, Expected}
+use Rattle.xk_answers.specs.Results.{Doing, way_given, window_given, lanes_given, list_in, ComesTo, IsTelling, IsText, IsNoRun}
+use Rattle.xk_answers.specs.Results.{is_of_whole, Check, Explain, Compile, Listing, Run, Replay, Draw, Where, Races, Tally, Outcomes}
+use Rattle.xk_answers.specs.Results.{Expected}
 use Rattle.xk_answers.specs.Results.{OutcomePage}
 use Rattle.xk_program.specs.Refusals.{IsMisfit}
 
