@@ -395,22 +395,23 @@ fn path_of(
         ≡ path_told form from.now.text.now window ended.now.module.now ended.now.log.items
         ended.now.core.world (map (λ x. x.now) from.now.shared.items) from.now.origins) }
 {
-    let drawing = match &from.origins {
-        Some(origins) => source_path(
-            alloc,
-            form,
-            from.text,
-            origins.units(),
-            &from.shared,
-            ended,
-            window,
-        )?,
-        None => module_path(alloc, form, ended, window)?,
-    };
-    Ok(Tale {
-        text: drawing.text,
-        whole: drawing.whole,
-    })
+    match &from.origins {
+        Some(origins) => {
+            let units = origins.units();
+            let drawing = source_path(alloc, form, from.text, units, &from.shared, ended, window)?;
+            Ok(Tale {
+                text: drawing.text,
+                whole: drawing.whole,
+            })
+        }
+        None => {
+            let drawing = module_path(alloc, form, ended, window)?;
+            Ok(Tale {
+                text: drawing.text,
+                whole: drawing.whole,
+            })
+        }
+    }
 }
 
 /// The same as a page.

@@ -30,7 +30,9 @@ use Rattle.xk_serve.specs.Notes.{may_note}
 use Rattle.xk_serve.proofs.NoteLemmas.{unnoted}
 use Rattle.xk_serve.specs.Answer.{Answers, FailsBy, IsSaidBy, IsSaidOf, Reply, Task, done_reply, fault_reply, reads_list, reads_log, runs}
 use Rattle.xk_serve.specs.OneAnswer.{AreWalks, ExplainFaults, HasOneStatus, IsLeftOpen, IsReplyOf, MayCheck, checking}
-use Rattle.xk_serve.proofs.AnswerUniquenessLemmas.{Case, Does, Misfit, NoRun, Astray, Prints, Read, Refusing, Said, Telling, Unfit, Unread, case_of, given_once, given_source, given_text, no_source, said_of, text_told, unread_none, unread_once}
+use Rattle.xk_serve.proofs.AnswerUniquenessLemmas.{Case, Does, Misfit, NoRun, Astray, Prints, Read, Refusing, Said, Telling, Unfit}
+use Rattle.xk_serve.proofs.AnswerUniquenessLemmas.{Unread, case_of, given_once, given_source, given_text, no_source, said_of}
+use Rattle.xk_serve.proofs.AnswerUniquenessLemmas.{text_told, unread_none, unread_once}
 use Rattle.xk_serve.proofs.RefusalUniquenessLemmas.{not_accepted, refusals_once}
 use Rattle.xk_serve.proofs.TellingUniquenessLemmas.{origins_once, telling_once}
 use Rattle.xk_serve.proofs.TextUniquenessLemmas.{text_or_none, unfit_none, unfit_once}

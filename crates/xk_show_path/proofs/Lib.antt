@@ -1,3 +1,4 @@
 pub mod MarkLemmas
 pub mod RoundLemmas
 mod PathExamples
+pub mod PathLemmas

@@ -71,7 +71,7 @@ edge s step = lane_left s step.act + 4
 
 -- it begins at a box, and goes down along it
 unfoldable pub first_piece : ℕ → ℕ → List ℕ
-first_piece x y = codes "M" ++ (decimal x ++ (codes " " ++ (decimal (y + 2) ++ codes "v20")))
+first_piece x y = codes "<path class='critical' d='M" ++ (decimal x ++ (codes " " ++ (decimal (y + 2) ++ codes "v20")))
 
 -- on to another one: down to above it, across to its edge, and down along it
 unfoldable pub next_piece : ℕ → ℕ → List ℕ
@@ -80,10 +80,11 @@ next_piece x y = codes "V" ++ (decimal y ++ (codes "H" ++ (decimal x ++ codes "v
 abbrev pub piece_to : Sheet → List ℕ → RunStep → List ℕ
 piece_to s rows step = next_piece (edge s step) (top (row_of rows step.number))
 
+abbrev pub piece_at : Sheet → List ℕ → RunStep → List ℕ
+piece_at s rows step = first_piece (edge s step) (top (row_of rows step.number))
+
 abbrev pub line_along : Sheet → List ℕ → RunStep → List RunStep → List ℕ
-line_along s rows step more =
-    codes "<path class='critical' d='"
-    ++ ((first_piece (edge s step) (top (row_of rows step.number)) ++ flat_map (piece_to s rows) more) ++ codes "'/>\n")
+line_along s rows step more = (piece_at s rows step ++ flat_map (piece_to s rows) more) ++ codes "'/>\n"
 
 -- one line along all of them, if there are any
 abbrev pub line_of : Sheet → List ℕ → List RunStep → List ℕ
@@ -106,9 +107,14 @@ described_first activities rows rounds =
     ++ (codes " rows, from the top: one for each step that others see, and one for each advance of a clock. Along a critical path of "
     ++ (decimal rounds ++ codes " steps goes a line, by these of them:")))))
 
-abbrev pub described : Rounds → Window → ℕ → ℕ → List ℕ
-described r w activities rows =
-    (described_first activities rows (length r.path) ++ flat_map (step_words r) (boxes_of w r.path)) ++ codes " no others.</desc>\n"
+-- behind the last of them
+unfoldable pub no_others : List ℕ
+no_others = codes " no others.</desc>\n"
+
+-- of a path with these boxes
+abbrev pub described : Rounds → List RunStep → ℕ → ℕ → List ℕ
+described r boxes activities rows =
+    (described_first activities rows (length r.path) ++ flat_map (step_words r) boxes) ++ no_others
 
 -- ---- the picture
 
@@ -121,16 +127,21 @@ legend =
     ++ (codes "</style>\n"
     ++ codes "<path class='critical' d='M16 79h32'/><text x='60' y='83'>a critical path</text>\n")))
 
-unfoldable pub head : Rounds → Sheet → ℕ → List ℕ → List ℕ
-head r s activities rows =
-    ((((svg_head (wide s) (high (length rows)) ++ described r s.window activities (length rows)) ++ furniture) ++ legend)
+unfoldable pub head : Rounds → Sheet → List RunStep → ℕ → List ℕ → List ℕ
+head r s boxes activities rows =
+    ((((svg_head (wide s) (high (length rows)) ++ described r boxes activities (length rows)) ++ furniture) ++ legend)
     ++ number (column s) 104 (codes "round")) ++ each_below (lane_head s) s.lanes
+
+-- with these boxes of the path
+abbrev pub path_picture_with : List RunStep → Rounds → Sheet → List ℕ → PlacesValue → Option NamesValue → ModuleValue → List Entry → World
+    → List ℕ
+path_picture_with boxes r s rows p n m log last =
+    ((head r s boxes (length last.activities) rows ++ told_of_run (recounted_by m (drawn_with_round r s rows p n m)) m last.arguments log)
+    ++ line_of s rows boxes) ++ picture_end (length rows) last
 
 -- on this sheet
 abbrev pub path_picture_on : Rounds → Sheet → List ℕ → PlacesValue → Option NamesValue → ModuleValue → List Entry → World → List ℕ
-path_picture_on r s rows p n m log last =
-    ((head r s (length last.activities) rows ++ told_of_run (recounted_by m (drawn_with_round r s rows p n m)) m last.arguments log)
-    ++ line_of s rows (boxes_of s.window r.path)) ++ picture_end (length rows) last
+path_picture_on r s rows p n m log last = path_picture_with (boxes_of s.window r.path) r s rows p n m log last
 
 -- the picture of these rows, if it is drawn, or else a line that says how large it would be
 abbrev pub path_picture_by : Bool → Rounds → PlacesValue → Option NamesValue → Window → List ℕ → ModuleValue → List Entry → World → List ℕ

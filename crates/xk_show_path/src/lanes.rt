@@ -227,6 +227,7 @@ fn path_lanes_in(
 }
 
 /// The lanes of these steps of a run, with their rounds and a critical path. They are whole where each activity has one.
+#[tactic(auto, using(crate::proofs::PathLemmas::lanes_are))]
 pub(crate) fn path_lanes(
     alloc: Global,
     places: &Places<'_>,

@@ -1,7 +1,7 @@
 //! The path as one line, from box to box.
 
 ghost use Rattle.std.specs.Prelude.{◌≡◌, ◌+◌, ◌<◌, ◌^◌, ◌++◌, flat_map, IfOk, OnOk, string_bytes};
-ghost use Rattle.xk_show_path.specs.PathPicture.{boxes_of, edge, has_box, if_box, line_along, line_of, piece_to};
+ghost use Rattle.xk_show_path.specs.PathPicture.{boxes_of, edge, has_box, if_box, line_along, line_of, piece_at, piece_to};
 
 use crate::shapes::{first_piece, next_piece};
 use std::alloc::{AllocError, Global};
@@ -48,6 +48,13 @@ fn edge(sheet: Sheet, step: &RunStep) -> u64
     lane_left(sheet, step.act) + 4
 }
 
+/// The beginning of the line, at a box.
+fn piece_at(alloc: Global, sheet: Sheet, rows: &[u64], step: &RunStep) -> Result<String, AllocError>
+    ensures { IfOk result (λ t. string_bytes t ≡ piece_at sheet rows.now step.now) }
+{
+    first_piece(alloc, edge(sheet, step), top(row_of(rows, step.number)))
+}
+
 /// The line on to a box.
 fn piece_to(alloc: Global, sheet: Sheet, rows: &[u64], step: &RunStep) -> Result<String, AllocError>
     ensures { IfOk result (λ t. string_bytes t ≡ piece_to sheet rows.now step.now) }
@@ -85,8 +92,7 @@ fn push_line_along(
     ensures { OnOk result (out.new.items
         ≡ out.old.items ++ line_along sheet rows.now step.now more.now) }
 {
-    let first = first_piece(alloc, edge(sheet, step), top(row_of(rows, step.number)))?;
-    push_text(out, "<path class='critical' d='")?;
+    let first = piece_at(alloc, sheet, rows, step)?;
     push_text(out, first.as_str())?;
     push_pieces(alloc, out, sheet, rows, more)?;
     push_text(out, "'/>\n")

@@ -1,13 +1,13 @@
 //! The picture of a run, with its rounds and its critical path.
 
-ghost use Rattle.std.specs.Prelude.{◌≡◌, ◌≤◌, ◌+◌, ◌++◌, length, map, option_map, flat_map, IfOk, OnOk, codes};
+ghost use Rattle.std.specs.Prelude.{◌≡◌, ◌≤◌, ◌+◌, ◌++◌, length, map, option_map, flat_map, IfOk, OnOk, codes, string_bytes};
 ghost use Rattle.xk_show_picture.specs.Picture.{is_drawn, sheet_for};
-ghost use Rattle.xk_show_path.specs.PathPicture.{boxes_of, column, described, drawn_with_round, head, path_picture_on, path_picture_text};
-ghost use Rattle.xk_show_path.specs.PathPicture.{round_label, step_words, with_column};
+ghost use Rattle.xk_show_path.specs.PathPicture.{column, described, described_first, drawn_with_round, head, path_picture_on, path_picture_text};
+ghost use Rattle.xk_show_path.specs.PathPicture.{path_picture_with, round_label, step_words, with_column};
 
 use crate::line::{boxes_of, push_line_of};
 use crate::rounds::Rounds;
-use crate::shapes::{described_first, legend, number, step_words};
+use crate::shapes::{described_first, legend, no_others, number, step_words};
 use std::alloc::{AllocError, Global};
 use xk_core::Core;
 use xk_scheduler::Ended;
@@ -112,6 +112,15 @@ fn push_step_words(
     Ok(())
 }
 
+/// What is told to who doesn't see the picture, up to the steps of the path.
+fn described_to(alloc: Global, rounds: &Rounds, plan: &Plan<'_>) -> Result<String, AllocError>
+    ensures { IfOk result (λ t. string_bytes t ≡ described_first plan.now.activities
+        (length plan.now.rows.items) (length rounds.now.path)) }
+{
+    let long = rounds.path().len();
+    described_first(alloc, plan.activities, plan.rows.len(), long)
+}
+
 /// Adds what is told to who doesn't see the picture.
 fn push_described(
     alloc: Global,
@@ -120,14 +129,13 @@ fn push_described(
     plan: &Plan<'_>,
     boxes: &[RunStep],
 ) -> Result<(), AllocError>
-    requires { boxes.now ≡ boxes_of plan.now.sheet.window rounds.now.path }
     ensures { OnOk result (out.new.items ≡ out.old.items ++ described rounds.now
-        plan.now.sheet.window plan.now.activities (length plan.now.rows.items)) }
+        boxes.now plan.now.activities (length plan.now.rows.items)) }
 {
-    let first = described_first(alloc, plan.activities, plan.rows.len(), rounds.path.len())?;
+    let first = described_to(alloc, rounds, plan)?;
     push_text(out, first.as_str())?;
     push_step_words(alloc, out, rounds, boxes)?;
-    push_text(out, " no others.</desc>\n")
+    push_text(out, no_others())
 }
 
 /// Adds what stands above the first row.
@@ -139,9 +147,8 @@ fn push_head(
     plan: &Plan<'_>,
     boxes: &[RunStep],
 ) -> Result<(), AllocError>
-    requires { boxes.now ≡ boxes_of plan.now.sheet.window rounds.now.path }
     ensures { OnOk result (out.new.items ≡ out.old.items ++ head rounds.now
-        plan.now.sheet plan.now.activities plan.now.rows.items) }
+        plan.now.sheet boxes.now plan.now.activities plan.now.rows.items) }
 {
     let sheet = plan.sheet;
     let first = svg_head(alloc, wide(sheet), high(plan.rows.len()))?;
@@ -152,6 +159,29 @@ fn push_head(
     push_text(out, legend())?;
     push_text(out, title.as_str())?;
     push_titles(alloc, out, sheet)
+}
+
+/// The picture of a run by this plan, with these boxes of the path.
+fn path_picture_with(
+    alloc: Global,
+    boxes: &[RunStep],
+    teller: &RoundTeller<'_, '_>,
+    legal: &LegalRun<'_, '_>,
+) -> Result<Vec<u8>, AllocError>
+    requires activities { teller.now.picture.plan.now.activities
+        ≡ length legal.now.core.now.world.activities }
+    ensures { IfOk result (λ v. v.items ≡ path_picture_with boxes.now teller.now.rounds.now
+        teller.now.picture.plan.now.sheet teller.now.picture.plan.now.rows.items
+        teller.now.picture.places.now teller.now.picture.names.now
+        legal.now.module.now legal.now.log.now legal.now.core.now.world) }
+{
+    let mut out = Vec::new(alloc);
+    let plan = teller.picture.plan;
+    push_head(alloc, &mut out, teller.rounds, plan, boxes)?;
+    recount_run(teller, alloc, &mut out, legal)?;
+    push_line_of(alloc, &mut out, plan.sheet, &plan.rows, boxes)?;
+    plan.push_end(alloc, &mut out, legal)?;
+    Ok(out)
 }
 
 /// The picture of a run by this plan.
@@ -167,8 +197,7 @@ fn path_picture_on(
         plan.now.rows.items places.now plan.now.names
         legal.now.module.now legal.now.log.now legal.now.core.now.world) }
 {
-    let mut out = Vec::new(alloc);
-    let boxes = boxes_of(alloc, plan.sheet.window, &rounds.path)?;
+    let boxes = boxes_of(alloc, plan.sheet.window, rounds.path())?;
     let teller = RoundTeller {
         rounds,
         picture: PictureTeller {
@@ -177,20 +206,16 @@ fn path_picture_on(
             names: &plan.names,
         },
     };
-    push_head(alloc, &mut out, rounds, plan, &boxes)?;
-    recount_run(&teller, alloc, &mut out, legal)?;
-    push_line_of(alloc, &mut out, plan.sheet, &plan.rows, &boxes)?;
-    plan.push_end(alloc, &mut out, legal)?;
-    Ok(out)
+    path_picture_with(alloc, &boxes, &teller, legal)
 }
 
 /// The plan, with a column of rounds.
 fn plan_with_column(plan: Plan<'_>) -> Plan<'_>
     requires { plan.sheet.left ≤ 416 }
-    ensures sheet { result.sheet ≡ with_column plan.sheet }
-    ensures names { result.names ≡ plan.names }
-    ensures rows { result.rows.items ≡ plan.rows.items }
-    ensures activities { result.activities ≡ plan.activities }
+    ensures sheet { result.sheet ≡ with_column plan.entry.sheet }
+    ensures names { result.names ≡ plan.entry.names }
+    ensures rows { result.rows.items ≡ plan.entry.rows.items }
+    ensures activities { result.activities ≡ plan.entry.activities }
 {
     Plan {
         sheet: with_column(plan.sheet),
@@ -202,6 +227,7 @@ fn plan_with_column(plan: Plan<'_>) -> Plan<'_>
 
 /// The picture of these steps of a run, with a column of rounds, and a line along a critical path. One that is too large isn't
 /// drawn: a line says so, and it isn't whole.
+#[tactic(auto, using(crate::proofs::PathLemmas::picture_is, crate::proofs::RoundLemmas::left_small))]
 pub(crate) fn path_picture(
     alloc: Global,
     places: &Places<'_>,

@@ -18,7 +18,7 @@ pub(crate) struct Rounds {
     /// The round of each step, in their order.
     rounds: Vec<usize>,
     /// The steps of the path, in their order.
-    pub(crate) path: Vec<RunStep>,
+    path: Vec<RunStep>,
     /// How many of these have each number.
     marks: Vec<usize>,
 }
@@ -69,6 +69,13 @@ impl Rounds {
             path,
             marks,
         })
+    }
+
+    /// The steps of the path, in their order.
+    pub(crate) fn path(&self) -> &[RunStep]
+        ensures { result.now ≡ self.now.path }
+    {
+        &self.path
     }
 
     /// The round of the step of this number.

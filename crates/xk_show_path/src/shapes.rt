@@ -1,7 +1,7 @@
 //! The pieces of a picture that are drawn for rounds and path.
 
 ghost use Rattle.std.specs.Prelude.{◌≡◌, ◌+◌, ◌<◌, ◌^◌, IfOk, string_bytes};
-ghost use Rattle.xk_show_path.specs.PathPicture.{described_first, first_piece, legend, next_piece, number, step_words};
+ghost use Rattle.xk_show_path.specs.PathPicture.{described_first, first_piece, legend, next_piece, no_others, number, step_words};
 
 use crate::rounds::Rounds;
 use std::alloc::{AllocError, Global};
@@ -22,7 +22,7 @@ pub(crate) fn first_piece(alloc: Global, x: u64, y: u64) -> Result<String, Alloc
     ensures { IfOk result (λ t. string_bytes t ≡ first_piece x y) }
 {
     let down = y + 2;
-    format!(in alloc; "M{x} {down}v20")
+    format!(in alloc; "<path class='critical' d='M{x} {down}v20")
 }
 
 /// The line goes on to another box.
@@ -64,6 +64,14 @@ pub(crate) fn step_words(
     let act = step.act;
     let round = rounds.round_of(number);
     format!(in alloc; " step {number} act {act} round {round};")
+}
+
+/// What stands behind the last of the steps of the path.
+#[tactic(auto, unfolding(crate::specs::PathPicture::no_others))]
+pub(crate) fn no_others() -> &'static str
+    ensures { result.now ≡ no_others }
+{
+    " no others.</desc>\n"
 }
 
 /// How the line looks, in light and in dark, and what it means.
