@@ -69,9 +69,6 @@ IsChain edges y xs = IsChainBy (IsEdge edges) y xs
 abbrev pub HasNoLonger : List (StepName × StepName) → List ℕ → ℕ → Type 0
 HasNoLonger edges s n = HasNoLongerBy (IsEdge edges) s n
 
-abbrev pub HasChain : List (StepName × StepName) → List ℕ → ℕ → Type 0
-HasChain edges s n = HasChainBy (IsEdge edges) s n
-
 -- ---- greedy
 
 -- whoever can take a step in w is one of these

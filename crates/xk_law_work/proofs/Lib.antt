@@ -5,3 +5,4 @@ pub mod TellLemmas
 pub mod ToldChainLemmas
 pub mod ToldOrderLemmas
 pub mod ToldSpanLaw
+pub mod Examples

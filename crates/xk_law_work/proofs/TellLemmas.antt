@@ -1,11 +1,11 @@
 -- Of a step the same deeds that wait or let go are told as for races, those that wait before the step itself, the others behind it.
-use Rattle.std.proofs.Common.{◌≡◌, ◌∙◌, ℕ, zero, suc, ◌+◌, ◌<◌, ◌≤◌, ◌⊎◌, inl, inr, Bool, true, false, true≢false, ◌||◌, cond, List, []}
+use Rattle.std.proofs.Common.{◌≡◌, ◌∙◌, ℕ, zero, suc, ◌+◌, ◌<◌, ◌⊎◌, inl, inr, Bool, true, false, true≢false, ◌||◌, cond, List, []}
 use Rattle.std.proofs.Common.{◌∷◌, ◌++◌}
 use Rattle.std.proofs.Common.{length, filter, Some, refl, sym, ap, subst, length-append, arith, if◌then◌else◌}
 use Rattle.std.specs.Prelude.{flat_map, slice_get}
 use Rattle.std.proofs.lemmas.List.{append-nil}
 use Rattle.std.proofs.lemmas.List.Elements.{filter-append}
-use Rattle.std.proofs.lemmas.Option.{none-some, same_Some, slice_get_within}
+use Rattle.std.proofs.lemmas.Option.{none-some, same_Some}
 use Rattle.xk_types.specs.declared.world.Event.{Event}
 use Rattle.xk_types.specs.declared.world.Event.TheVariants as event
 use Rattle.xk_types.specs.Code.{ModuleValue}
@@ -19,7 +19,7 @@ use Rattle.xk_races.specs.declared.deeds.Part.{Part}
 use Rattle.xk_races.specs.declared.deeds.Part.TheVariants as part
 use Rattle.xk_races.specs.Deeds.{awaiting, deed, pass, tell_deeds}
 use Rattle.xk_law_races.proofs.DeedPartLemmas.{Says, is_pass, part_is}
-use Rattle.xk_law_races.proofs.TurnLemmas.{IsToldOf, Turn, get_right, get_split}
+use Rattle.xk_law_races.proofs.TurnLemmas.{Turn, get_right, get_split}
 use Rattle.xk_span.specs.Steps.{if_lets_go, if_waits, lets_go, tell_step, waits}
 use Rattle.xk_law_work.proofs.TiedLemmas.{is_tied, tied}
 

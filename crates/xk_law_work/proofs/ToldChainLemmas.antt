@@ -1,8 +1,8 @@
 -- A chain of what is told of the steps of a run has no more steps than some chain of steps by their causes.
-use Rattle.std.proofs.Common.{◌≡◌, ◌∙◌, ℕ, ℤ, zero, suc, ◌+◌, ◌<◌, ◌≤◌, ◌⊎◌, inl, inr, Bool, true, false, true≢false, cond, List, []}
-use Rattle.std.proofs.Common.{◌∷◌, ◌++◌}
-use Rattle.std.proofs.Common.{length, filter, Some, refl, sym, ap, subst, arith}
-use Rattle.std.specs.Prelude.{flat_map, slice_get}
+use Rattle.std.proofs.Common.{◌≡◌, ◌∙◌, ℕ, ℤ, zero, suc, ◌+◌, ◌<◌, ◌≤◌, ◌⊎◌, inl, inr, true, true≢false, cond, List, []}
+use Rattle.std.proofs.Common.{◌∷◌}
+use Rattle.std.proofs.Common.{length, filter, refl, sym, ap, subst, arith}
+use Rattle.std.specs.Prelude.{flat_map}
 use Rattle.std.proofs.lemmas.Bool.{cases_eq}
 use Rattle.std.proofs.lemmas.Option.{same_Some}
 use Rattle.xk_types.specs.declared.world.Entry.{Entry}
@@ -10,7 +10,7 @@ use Rattle.xk_types.specs.declared.world.Event.TheVariants as event
 use Rattle.xk_types.specs.Acceptance.{IsAccepted}
 use Rattle.xk_types.specs.Code.{ModuleValue, IsWithinLimits}
 use Rattle.xk_types.specs.World.{World, AreArguments, opening}
-use Rattle.xk_types.specs.Step.{Stepped, step}
+use Rattle.xk_types.specs.Step.{Stepped}
 use Rattle.xk_types.specs.Schedule.{Through, run}
 use Rattle.xk_types.specs.Logs.{schedule_of}
 use Rattle.xk_law_schedules.proofs.ReachabilityLemmas.{run_counts}
@@ -21,8 +21,7 @@ use Rattle.xk_show_events.specs.Steps.{run_step, told}
 use Rattle.xk_races.specs.declared.deeds.Deed.{Deed}
 use Rattle.xk_races.specs.declared.deeds.Part.{Part}
 use Rattle.xk_races.specs.declared.deeds.Part.TheVariants as part
-use Rattle.xk_races.specs.Deeds.{deed}
-use Rattle.xk_races.specs.Order.{Closed, Edge, IsAt, IsAwaited, IsCounted, Own, Passed, Reason}
+use Rattle.xk_races.specs.Order.{Closed, Edge, IsAt, IsAwaited, Own, Passed, Reason}
 use Rattle.xk_law_races.proofs.DeedPartLemmas.{part_is}
 use Rattle.xk_law_races.proofs.EdgeListLemmas.{IsLed}
 use Rattle.xk_law_races.proofs.LinkLemmas.{says_so, up_led}
@@ -32,7 +31,7 @@ use Rattle.xk_span.specs.Chains.{IsChain, weight_of}
 use Rattle.xk_span.specs.Steps.{if_waits, lets_go, steps_weigh, tell_step, waits, weight_at, weight_in}
 use Rattle.xk_law_rounds.specs.Rounds.{IsChainBy}
 use Rattle.xk_law_work.proofs.TellLemmas.{Back, Front, Mid, Place, place_of, run_tied, waiting}
-use Rattle.xk_law_work.proofs.TiedLemmas.{counted_too, ended_too, is_tied, placed, rank, tied}
+use Rattle.xk_law_work.proofs.TiedLemmas.{counted_too, ended_too, is_tied, placed, tied}
 use Rattle.xk_law_work.proofs.ToldLemmas.{IsToldBy, as_many, told_of, told_offsets, told_order, told_stands}
 
 -- ---- parts

@@ -13,7 +13,7 @@ use Rattle.xk_types.proofs.RunLemmas.{first_step, same_through}
 use Rattle.xk_law_names.proofs.ActivityNameOrderLaw.{run_first}
 use Rattle.xk_show_events.specs.Steps.{Teller, told, told_on}
 use Rattle.xk_races.specs.declared.deeds.Deed.{Deed}
-use Rattle.xk_law_races.proofs.TurnLemmas.{AreOne, IsEarlier, Turn, get_right, get_split, one_told}
+use Rattle.xk_law_races.proofs.TurnLemmas.{AreOne, IsEarlier, Turn, get_right, get_split}
 
 -- ---- turns
 

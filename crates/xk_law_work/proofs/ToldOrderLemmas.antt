@@ -1,8 +1,8 @@
 -- What comes before in the order of races comes before among what is told of the steps of a run, too.
-use Rattle.std.proofs.Common.{◌≡◌, ◌∙◌, ℕ, ℤ, zero, suc, ◌+◌, ◌<◌, ◌≤◌, ◌⊎◌, inl, inr, Bool, true, false, true≢false, List, [], ◌∷◌, ◌++◌}
+use Rattle.std.proofs.Common.{◌≡◌, ◌∙◌, ℕ, ℤ, zero, suc, ◌+◌, ◌<◌, ◌≤◌, ◌⊎◌, inl, inr, Bool, true, false, true≢false, List, [], ◌∷◌}
 use Rattle.std.proofs.Common.{length, filter, Some, refl, sym, ap, subst, arith}
 use Rattle.std.specs.Prelude.{flat_map, slice_get}
-use Rattle.std.proofs.lemmas.Option.{none-some, same_Some, slice_get_within}
+use Rattle.std.proofs.lemmas.Option.{same_Some, slice_get_within}
 use Rattle.xk_types.specs.declared.world.Entry.{Entry}
 use Rattle.xk_types.specs.declared.world.Event.{Event}
 use Rattle.xk_types.specs.declared.world.Event.TheVariants as event
@@ -28,8 +28,8 @@ use Rattle.xk_law_races.proofs.TurnLemmas.{one_told, run_between, told_at}
 use Rattle.xk_span.specs.Steps.{if_waits, lets_go, tell_step, waits}
 use Rattle.xk_law_work.proofs.TellLemmas.{Back, Front, Mid, Place, stands_mid, waiting}
 use Rattle.xk_law_work.proofs.TiedLemmas.{counted_too, ended_too, in_order as tied_order, is_tied, placed, rank, tied}
-use Rattle.xk_law_work.proofs.ToldChainLemmas.{awaited_so, free, number_of, one_turn, place, same, stands, turn_at, waits_one, whose_is}
-use Rattle.xk_law_work.proofs.ToldLemmas.{IsToldBy, as_many, compared, fewer, told_rises}
+use Rattle.xk_law_work.proofs.ToldChainLemmas.{awaited_so, free, one_turn, place, same, stands, turn_at, waits_one, whose_is}
+use Rattle.xk_law_work.proofs.ToldLemmas.{IsToldBy, compared, fewer, told_rises}
 
 -- ---- deeds that are no part of the order but by their activity
 
@@ -97,7 +97,7 @@ module _ (m : ModuleValue) (args : List ℤ) (limits : IsWithinLimits m) (ok : I
   whose_here : (t : At) (k : ℕ) (d : Deed) → Is t k d → d.step.act ≡ t.act
   whose_here t k d r = whose_is m args limits ok taken log z legal t k d r
 
-  ds_es : filter tied ds ≡ filter tied es
+  pub ds_es : filter tied ds ≡ filter tied es
   ds_es = sym (same m args limits ok taken log z legal)
 
   -- ---- the step itself
@@ -198,27 +198,32 @@ module _ (m : ModuleValue) (args : List ℤ) (limits : IsWithinLimits m) (ok : I
       by : (b : Bool) → tied d ≡ b → (k : ℕ) × Image i k
       by true g =
           let p = placed ds es ds_es i d h g in
-          let u = turn_at m args limits ok taken log z legal p.0 d p.1 in
-          (p.0, record {
-            d = d;
-            t = t.0;
-            there = t.1;
-            e = d;
-            u = u.0;
-            here = u.1;
-            one = one_turn m args limits ok taken log z legal u.0 t.0 p.0 i d u.1 t.1;
-            is = inl (g, refl, p.2);
-          })
-      by false g = (mid t.0, record {
-        d = d;
-        t = t.0;
-        there = t.1;
-        e = itself t.0;
-        u = t.0;
-        here = told_mid t.0;
-        one = (refl, refl);
-        is = inr g;
-      })
+          let u = turn_at m args limits ok taken log z legal p.0 d p.1 in (
+            p.0,
+            record {
+              d = d;
+              t = t.0;
+              there = t.1;
+              e = d;
+              u = u.0;
+              here = u.1;
+              one = one_turn m args limits ok taken log z legal u.0 t.0 p.0 i d u.1 t.1;
+              is = inl (g, refl, p.2);
+            },
+          )
+      by false g = (
+        mid t.0,
+        record {
+          d = d;
+          t = t.0;
+          there = t.1;
+          e = itself t.0;
+          u = t.0;
+          here = told_mid t.0;
+          one = (refl, refl);
+          is = inr g;
+        },
+      )
 
   -- the same deed, where it is tied
   tied_image : (i k : ℕ) (p : Image i k) → tied p.d ≡ true → IsAt es k p.d × (rank es k ≡ rank ds i)
@@ -322,8 +327,7 @@ module _ (m : ModuleValue) (args : List ℤ) (limits : IsWithinLimits m) (ok : I
               let says = says_so m args limits ok taken s z legal p.t i p.d p.there (part.Start edge.0.step.act) part_is in
               let t = tied_image i k p (ap is_tied part_is) in
               let later = started_later p.t q.t (sym whose_second ∙ says.1) in
-              let same_act : edge.0.step.act ≡ q.e.step.act = whose_second ∙ q.one.1 ∙ sym (whose_here q.u l q.e q.here) in
-              (
+              let same_act : edge.0.step.act ≡ q.e.step.act = whose_second ∙ q.one.1 ∙ sym (whose_here q.u l q.e q.here) in (
                 q.e,
                 at q.u l q.e q.here,
                 Own (
@@ -345,10 +349,13 @@ module _ (m : ModuleValue) (args : List ℤ) (limits : IsWithinLimits m) (ok : I
           let g : tied p.d ≡ true = ap (λ (x : Deed). is_tied x.part) (sym (deed_is i k p h.1 h.2)) ∙ ap is_tied h.3 in
           let is_second : q.d.part ≡ part.Close = ap (λ (x : Deed). x.part) (sym second) ∙ is in
           let x = tied_image i k p g in
-          let y = tied_image j l q (ap is_tied is_second) in
-          (q.d, y.0, Closed is_second
-              (ended_too ds es ds_es j i l k q.d.step.act p.d here x.0 g y.1 x.1
-              (subst (λ (c : Deed). IsEnd ds j (finish_at ds j c.step.act) i) second h)))
+          let y = tied_image j l q (ap is_tied is_second) in (
+            q.d,
+            y.0,
+            Closed is_second
+                (ended_too ds es ds_es j i l k q.d.step.act p.d here x.0 g y.1 x.1
+                (subst (λ (c : Deed). IsEnd ds j (finish_at ds j c.step.act) i) second h)),
+          )
 
   -- which deed an edge leads from
   edge_from : (i j : ℕ) (e : Deed) → Reason ds i j e → (d : Deed) × IsAt ds i d

@@ -1,16 +1,16 @@
 -- What is told to be the span of a run is its span: a longest chain of its steps by their causes has as many steps.
 use Rattle.std.proofs.Common.{◌≡◌, ◌∙◌, ℕ, ℤ, suc, ◌+◌, ◌<◌, ◌≤◌, ◌⊎◌, inl, inr, true, true≢false, List, [], ◌∷◌, ◌++◌, length, take}
-use Rattle.std.proofs.Common.{filter, Some, refl, sym, ap, subst, arith}
+use Rattle.std.proofs.Common.{Some, refl, sym, ap, subst, arith}
 use Rattle.std.specs.Prelude.{pred, slice_get}
 use Rattle.std.proofs.Math.Seq.{take-append_seam}
-use Rattle.std.proofs.lemmas.Option.{same_Some, slice_get_within}
+use Rattle.std.proofs.lemmas.Option.{slice_get_within}
 use Rattle.xk_types.specs.declared.instr.Instr.TheVariants as instr
 use Rattle.xk_types.specs.declared.world.Entry.{Entry}
 use Rattle.xk_types.specs.declared.world.Event.{Event}
 use Rattle.xk_types.specs.declared.world.Event.TheVariants as event
 use Rattle.xk_types.specs.Acceptance.{IsAccepted}
 use Rattle.xk_types.specs.Code.{ModuleValue, IsWithinLimits}
-use Rattle.xk_types.specs.World.{Activity, Finish, World, AreArguments, opening, is_ended}
+use Rattle.xk_types.specs.World.{Activity, World, AreArguments, opening}
 use Rattle.xk_types.specs.Step.{Stepped, innermost, step}
 use Rattle.xk_types.specs.Schedule.{Through, run, IsReached}
 use Rattle.xk_types.specs.Logs.{schedule_of}
@@ -52,10 +52,10 @@ use Rattle.xk_law_rounds.specs.Rounds.{AreGreedy, HasChainBy, IsChainBy, IsInRou
 use Rattle.xk_law_rounds.proofs.ClassSpanLaw.{every_span, greedy}
 use Rattle.xk_law_work.proofs.TellLemmas.{Back, Front, Mid, Place}
 use Rattle.xk_law_work.proofs.TiedLemmas.{counted_too, is_tied, placed, rank, tied}
-use Rattle.xk_law_work.proofs.ToldChainLemmas.{chain_within, number_of, place, same, stands, turn_at, whose_is}
+use Rattle.xk_law_work.proofs.ToldChainLemmas.{chain_within, number_of, place, stands, turn_at, whose_is}
 use Rattle.xk_law_work.proofs.ToldLemmas.{IsToldBy, as_many, compared, fewer, told_rises}
 use Rattle.xk_law_work.proofs.ToldOrderLemmas.{Image, before_image, before_mid, behind_mid, end_image, image, image_is}
-use Rattle.xk_law_work.proofs.ToldOrderLemmas.{itself, mid, mid_one, own_edge, started_later, told_mid}
+use Rattle.xk_law_work.proofs.ToldOrderLemmas.{ds_es, itself, mid, mid_one, own_edge, started_later, told_mid}
 
 -- ---- lists
 
@@ -123,12 +123,6 @@ module _ (m : ModuleValue) (args : List ℤ) (limits : IsWithinLimits m) (ok : I
 
   told_itself : (t : At) → Is t (place_of t) (itself m args limits ok taken log z legal t)
   told_itself t = told_mid m args limits ok taken log z legal t
-
-  edge : (t u : At) (k j : ℕ) (d e : Deed) → Is t k d → Is u j e → k < j → t.act ≡ u.act → Edge es k j
-  edge t u k j d e p q less one = own_edge m args limits ok taken log z legal t u k j d e p q less one
-
-  ds_es : filter tied ds ≡ filter tied es
-  ds_es = sym (same m args limits ok taken log z legal)
 
   -- a step of a name is one
   one_of : (t u : At) → name_of t ≡ name_of u → AreOne m w s t u
@@ -199,8 +193,16 @@ module _ (m : ModuleValue) (args : List ℤ) (limits : IsWithinLimits m) (ok : I
       turn = ap (λ (y : StepName). y.1) t.1
 
       by : IsEarlier m w s t.0 u ⊎ (AreOne m w s t.0 u ⊎ IsEarlier m w s u t.0) → ComesBefore x u
-      by (inl e) = (t.0, t.1, ([], edge t.0 u (place_of t.0) (place_of u) _ _ (told_itself t.0) (told_itself u)
-          (told_rises (tell_step m) m w s t.0 u (place_of t.0) (place_of u) _ _ (told_itself t.0) (told_itself u) e) act))
+      by (inl e) = (
+        t.0,
+        t.1,
+        (
+          [],
+          own_edge m args limits ok taken log z legal t.0 u (place_of t.0) (place_of u) _ _
+              (told_itself t.0) (told_itself u)
+              (told_rises (tell_step m) m w s t.0 u (place_of t.0) (place_of u) _ _ (told_itself t.0) (told_itself u) e) act,
+        ),
+      )
       by (inr (inl o)) = absurd
           (let n = ap (λ (y : StepName). y.1) (one_name m w s t.0 u o) in let k = turn in omega (arith, n, k, less))
       by (inr (inr e)) = absurd
@@ -234,7 +236,7 @@ module _ (m : ModuleValue) (args : List ℤ) (limits : IsWithinLimits m) (ok : I
       p = record { offset = 1; number = refl; among = refl }
 
       first : Edge es (place_of t) k
-      first = edge t t (place_of t) k _ d (told_itself t) p
+      first = own_edge m args limits ok taken log z legal t t (place_of t) k _ d (told_itself t) p
           (behind_mid m args limits ok taken log z legal t t k d p refl (omega arith)) refl
 
       child : u.act ≡ length f.here.activities
@@ -338,10 +340,10 @@ module _ (m : ModuleValue) (args : List ℤ) (limits : IsWithinLimits m) (ok : I
     e_waits = ap waits a_pass.1.passes
 
     k : (k : ℕ) × IsAt es k d × (rank es k ≡ rank ds let_go.0)
-    k = placed ds es ds_es let_go.0 d let_go.1.at d_tied
+    k = placed ds es (ds_es m args limits ok taken log z legal) let_go.0 d let_go.1.at d_tied
 
     j : (j : ℕ) × IsAt es j e × (rank es j ≡ rank ds a_pass.0)
-    j = placed ds es ds_es a_pass.0 e a_pass.1.at (ap is_tied a_pass.1.passes)
+    j = placed ds es (ds_es m args limits ok taken log z legal) a_pass.0 e a_pass.1.at (ap is_tied a_pass.1.passes)
 
     lets : (t : At) × Is t k.0 d
     lets = turn_at m args limits ok taken log z legal k.0 d k.1
@@ -350,7 +352,8 @@ module _ (m : ModuleValue) (args : List ℤ) (limits : IsWithinLimits m) (ok : I
     passing = turn_at m args limits ok taken log z legal j.0 e j.1
 
     first : Edge es (place_of t) k.0
-    first = edge t lets.0 (place_of t) k.0 (itself m args limits ok taken log z legal t) d (told_itself t) lets.1
+    first = own_edge m args limits ok taken log z legal t lets.0 (place_of t) k.0
+        (itself m args limits ok taken log z legal t) d (told_itself t) lets.1
         (behind_mid m args limits ok taken log z legal t lets.0 k.0 d lets.1 d_lets
         (let n = number_of m args limits ok taken log z legal lets.0 k.0 d lets.1 in let l = let_go.2 in omega (arith, n, l)))
         (sym let_go.1.mine ∙ whose_is m args limits ok taken log z legal lets.0 k.0 d lets.1)
@@ -360,7 +363,7 @@ module _ (m : ModuleValue) (args : List ℤ) (limits : IsWithinLimits m) (ok : I
       e,
       j.1,
       Passed f.clock a_pass.1.passes
-          (counted_too ds es ds_es a_pass.0 f.clock let_go.0 j.0 k.0 d let_go.1.at k.1 d_tied j.2 k.2
+          (counted_too ds es (ds_es m args limits ok taken log z legal) a_pass.0 f.clock let_go.0 j.0 k.0 d let_go.1.at k.1 d_tied j.2 k.2
           (passes_exact.complete let_go.0 a_pass.0 x.0 f.clock p q let_go.1 a_pass.1 f.advanced)),
     )
 
@@ -369,7 +372,8 @@ module _ (m : ModuleValue) (args : List ℤ) (limits : IsWithinLimits m) (ok : I
         (let n = number_of m args limits ok taken log z legal passing.0 j.0 e passing.1 in let l = a_pass.3 in omega (arith, n, l))
 
     third : Edge es j.0 (place_of v)
-    third = edge passing.0 v j.0 (place_of v) e (itself m args limits ok taken log z legal v) passing.1 (told_itself v)
+    third = own_edge m args limits ok taken log z legal passing.0 v j.0 (place_of v) e
+        (itself m args limits ok taken log z legal v) passing.1 (told_itself v)
         (before_mid m args limits ok taken log z legal v passing.0 j.0 e passing.1 e_waits same_turn) same_turn.1
 
     pass_before : ComesBefore x u
@@ -503,13 +507,15 @@ module _ (m : ModuleValue) (args : List ℤ) (limits : IsWithinLimits m) (ok : I
         by (inr (inr e)) = absurd (ended_last a t' a_ends e t_act)
 
     to_end : Edge es (place_of t') first_image.0
-    to_end = edge t' a (place_of t') first_image.0 (itself m args limits ok taken log z legal t') first_image.1.e (told_itself t')
+    to_end = own_edge m args limits ok taken log z legal t' a (place_of t') first_image.0
+        (itself m args limits ok taken log z legal t') first_image.1.e (told_itself t')
         first_image.1.here
         (behind_mid m args limits ok taken log z legal t' a first_image.0 first_image.1.e first_image.1.here
         (ap (λ (d : Deed). lets_go d.part) end_is ∙ ap lets_go ends.1.2) not_later) t_act
 
     from_close : Edge es last_image.0 (place_of c)
-    from_close = edge b c last_image.0 (place_of c) last_image.1.e (itself m args limits ok taken log z legal c) last_image.1.here
+    from_close = own_edge m args limits ok taken log z legal b c last_image.0 (place_of c) last_image.1.e
+        (itself m args limits ok taken log z legal c) last_image.1.here
         (told_itself c)
         (before_mid m args limits ok taken log z legal c b last_image.0 last_image.1.e last_image.1.here
         (ap (λ (d : Deed). waits d.part) close_is_it) b_close) b_close.1
@@ -574,7 +580,7 @@ module _ (m : ModuleValue) (args : List ℤ) (limits : IsWithinLimits m) (ok : I
       let b = r.2 in
       omega (arith, a, b)
 
-  pub told_span : IsSpan m w s (steps_span es)
+  told_span : IsSpan m w s (steps_span es)
   told_span = record { reached = by (span_is_exact (steps_weigh es) es).reached; most = no_longer }
     where
       by : (steps_span es ≡ 0) ⊎ ((j : ℕ) × IsLong es (steps_weigh es) j (steps_span es)) → HasChainBy (IsCause m w s) s (steps_span es)
@@ -614,7 +620,7 @@ module _ (m : ModuleValue) (args : List ℤ) (limits : IsWithinLimits m) (ok : I
       long : suc (length r.0) ≡ n
       long = let a = most r.0 r.1 in let b = r.2 in let c = exact.long.2 in omega (arith, a, b, c)
 
-  pub round_told : (k : ℕ) (d : Deed) → IsAt es k d → d.part ≡ part.Print
+  round_told : (k : ℕ) (d : Deed) → IsAt es k d → d.part ≡ part.Print
       → IsInRound m w s (d.step.act, turns_of d.step.act (take (pred d.step.number) s)) (number_at (steps_times es) k)
   round_told k d at is = by (place m args limits ok taken log z legal u.0 k d u.1)
     where
@@ -649,7 +655,7 @@ module _ (m : ModuleValue) (args : List ℤ) (limits : IsWithinLimits m) (ok : I
 -- ---- one span
 
 -- a schedule has one span
-pub one_span : (m : ModuleValue) (w : World) (s : List ℕ) (n k : ℕ) → IsSpan m w s n → IsSpan m w s k → n ≡ k
+one_span : (m : ModuleValue) (w : World) (s : List ℕ) (n k : ℕ) → IsSpan m w s n → IsSpan m w s k → n ≡ k
 one_span m w s n k p q =
     let a = within n k p q in
     let b = within k n q p in
