@@ -44,9 +44,9 @@ pub(crate) fn answer_values<
     log_in: &mut L,
 ) -> Result<Done, Fault>
     requires crew { IsCrew (F.pre crew) (F.post crew) }
-    requires doing { (task_of job.now).doing ≡ values_doing values.entry }
-    requires module { Gives job.now.form bytes.now program.entry.module }
-    requires from { IsFrom (have_places values.entry) job.now.form bytes.now program.entry.from }
+    requires doing { (task_of job.now).doing ≡ values_doing values }
+    requires module { Gives job.now.form bytes.now program.module }
+    requires from { IsFrom (have_places values) job.now.form bytes.now program.from }
     ensures done { IfOk result (λ d. OfSome (read_of (task_of job.now) (L.remaining log_in.old))
         (λ logged. Succeeds (task_of job.now) bytes.now logged d)) }
     ensures no_fault { OnOk result (L.fault_count log_in.new ≡ L.fault_count log_in.old) }
@@ -112,8 +112,8 @@ fn run_shown<F: FnOnce(Drive, bool, &Verified, &[i64]) -> Result<Finished, Alloc
 /// A run that came to its end, told as one value.
 fn run_told(alloc: Global, run: Finished) -> Result<Done, AllocError>
     ensures { (way : Way) (keeps : Bool) (m : ModuleValue) (args : List ℤ)
-        → IsFinished way keeps m args run.entry.printed.items run.entry.steps run.entry.rounds
-        (option_map (λ es. es.items) run.entry.log)
+        → IsFinished way keeps m args run.printed.items run.steps run.rounds
+        (option_map (λ es. es.items) run.log)
         → IfOk result (IsRunTold way keeps m args) }
 {
     let text = run_json(alloc, &run.printed, run.steps, run.rounds)?;

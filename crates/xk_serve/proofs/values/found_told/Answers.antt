@@ -1,4 +1,4 @@
-use Rattle.std.proofs.Common.{◌∙◌, ◌&&◌, not, refl, ap}
+use Rattle.std.proofs.Common.{◌∙◌, ◌&&◌, map, not, refl, ap}
 use Rattle.std.specs.Prelude.{is_some}
 use Rattle.xk_outcomes.specs.Text.{outcomes_text}
 use Rattle.xk_json.specs.Objects.{json_line}
@@ -12,7 +12,7 @@ returns c =
     let found = c.in_ok-found.found in
     let is = c.in_ok-found.ensures in
     let list = found.list.items in
-    let log = c.in_ok-log.ensures ∙ ap (kept_log c.args.keeps_log c.args.pick) c.deref-2.ensures.value in
+    let log = c.in_ok-log.ensures ∙ ap (kept_log c.args.keeps_log c.args.pick) c.deref-3.ensures.value in
     record {
       lines = outcomes_text list found.complete;
       found = record {
@@ -32,5 +32,6 @@ returns c =
         log_is = log;
       };
       text_is = c.in_ok-text.ensures.text
+          ∙ ap (λ xs. json_line (outcomes_value (map (λ x. x.now) xs) found.complete)) c.deref-2.ensures.value
           ∙ ap (λ l. json_line (outcomes_value l found.complete)) (c.in_ok-lists.ensures ∙ ap lists_of c.deref.ensures.value);
     }
