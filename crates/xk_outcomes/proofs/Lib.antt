@@ -11,6 +11,7 @@ mod RisingLemmas
 mod ListingLemmas
 mod ListedLemmas
 mod PathLemmas
+mod NumberingLemmas
 mod PlainRunLemmas
 mod LoneOutcomeLemmas
 mod ExpectedLemmas

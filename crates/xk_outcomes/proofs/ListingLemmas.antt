@@ -24,6 +24,7 @@ use Rattle.xk_outcomes.specs.Listing.{IsOf, AreApartIn, AreMet, AreOf, AreNoted}
 use Rattle.xk_outcomes.specs.Listing.{AreShownIn, AreAllIn, AreEndsListedIn, HasKeptIn, KeepsListed}
 use Rattle.xk_outcomes.specs.Outcomes.{IsAtRest, IsListed, IsOutcome, AreDistinct, AreShown}
 use Rattle.xk_outcomes.specs.Limits.{HasKept}
+use Rattle.xk_outcomes.specs.Numbering.{IsAddedAs}
 use Rattle.xk_outcomes.specs.Sets.{IsRising, AreSetsShown, AreSetsDistinct, AreSetsAll}
 use Rattle.xk_outcomes.proofs.RisingLemmas.{is_rising, same_rising, one_rising}
 use Rattle.xk_types.proofs.ListLemmas.{get-append_left as stays, get_push as at_end}
@@ -71,6 +72,12 @@ pub of_either : (order : Order) (start : CoreValue) (first : List Outcome) (x : 
     → IsFound start x → IsOf order x o → AreOf order start first old → AreOf order start first new
 of_either order start first x old new o (inl e) found is before = subst (AreOf order start first) (sym e) before
 of_either order start first x old new o (inr e) found is before = of_push order start first x old new o e found is before
+
+-- one was listed, or nothing was
+pub added_as : (old new : List Outcome) (o : Outcome) {numbers : List ℤ} → o.numbers.items ≡ numbers → (new ≡ old) ⊎ (new ≡ old ++ o ∷ [])
+    → IsAddedAs numbers old new
+added_as old new o is (inl same) = inl same
+added_as old new o is (inr one) = inr (o, one, is)
 
 pub noted_more : (order : Order) (all : List FoundValue) (place : ℕ) (here : FoundValue) (old new : List Outcome)
     → slice_get all place ≡ Some here → KeepsListed old new

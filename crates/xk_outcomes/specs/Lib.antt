@@ -11,6 +11,7 @@ pub mod Listing
 pub mod Listed
 pub mod PlainRuns
 pub mod LoneOutcomes
+pub mod Numbering
 pub mod Text
 pub mod Expected
 pub mod Texts

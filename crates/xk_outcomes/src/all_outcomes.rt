@@ -5,6 +5,7 @@ ghost use Rattle.xk_types.specs.World.{AreArguments};
 ghost use Rattle.xk_outcomes.specs.Limits.{HasKept, limit_of};
 ghost use Rattle.xk_outcomes.specs.Listing.{AreAllIn, AreShownIn, HasKeptIn};
 ghost use Rattle.xk_outcomes.specs.LoneOutcomes.{IsOneOfMany, IsOneOfManyAs};
+ghost use Rattle.xk_outcomes.specs.Numbering.{AreNumbered, AreNumberedAs, AreNumberedIn};
 ghost use Rattle.xk_outcomes.specs.PlainRuns.{ArePlainListedAs, ArePlainListedIn, plain_runs};
 ghost use Rattle.xk_outcomes.specs.Outcomes.{AreAll, AreDistinct, AreShown};
 ghost use Rattle.xk_outcomes.specs.Sets.{AreAllAs, AreDistinctAs, AreSetsAll, AreSetsDistinct, AreSetsShown, AreShownAs};
@@ -93,6 +94,9 @@ pub fn outcomes(
     // unless as many are as the limit says.
     ensures kept { IfOk result
         (λ r. HasKept verified.now arguments.now false limit.outcomes r.list.items r.entries) }
+    // Behind what the plain runs print they come in rising order, and what isn't told comes behind them.
+    ensures order { IfOk result
+        (λ r. AreNumbered verified.now arguments.now limit.entries r.list.items r.entries) }
 {
     let found = told_in(alloc, Order::Printed, verified, arguments, limit)?;
     Ok(found)
@@ -150,6 +154,8 @@ pub fn outcomes_as(
     ensures most { IfOk result (λ r. length r.list.items ≤ max limit.outcomes plain_runs) }
     ensures kept { IfOk result
         (λ r. HasKept verified.now arguments.now sets limit.outcomes r.list.items r.entries) }
+    ensures order { IfOk result
+        (λ r. AreNumberedAs sets verified.now arguments.now limit.entries r.list.items r.entries) }
 {
     if sets {
         return outcome_sets(alloc, verified, arguments, limit);
@@ -180,6 +186,8 @@ fn told_in(
     ensures most { IfOk result (λ r. length r.list.items ≤ max limit.outcomes plain_runs) }
     ensures kept { IfOk result (λ r.
         HasKeptIn order verified.now arguments.now limit.outcomes r.list.items r.entries) }
+    ensures order { IfOk result (λ r.
+        AreNumberedIn order verified.now arguments.now limit.entries r.list.items r.entries) }
 {
     match lone_outcome(alloc, order, verified, arguments)? {
         Some(lone) => {
@@ -228,6 +236,8 @@ fn searched_in(
     ensures most { IfOk result (λ r. length r.list.items ≤ max limit.outcomes plain_runs) }
     ensures kept { IfOk result (λ r.
         HasKeptIn order verified.now arguments.now limit.outcomes r.list.items r.entries) }
+    ensures order { IfOk result (λ r.
+        AreNumberedIn order verified.now arguments.now limit.entries r.list.items r.entries) }
 {
     let mut listed = Listed::new(alloc);
     note_plain(alloc, order, &mut listed, verified, arguments)?;

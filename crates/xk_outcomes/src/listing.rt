@@ -7,6 +7,7 @@ ghost use Rattle.xk_core.specs.Core.{CoreValue};
 ghost use Rattle.xk_outcomes.specs.declared.listing.Outcome.{Outcome as AnOutcome};
 ghost use Rattle.xk_outcomes.specs.Outcomes.{AreDistinct, IsListed};
 ghost use Rattle.xk_outcomes.specs.Listing.{AreNoted, AreOf, IsOf, KeepsListed};
+ghost use Rattle.xk_outcomes.specs.Numbering.{IsAddedAs};
 ghost use Rattle.xk_outcomes.specs.Rising.{ordered};
 ghost use Rattle.xk_outcomes.specs.Search.{IsFound};
 
@@ -79,6 +80,7 @@ pub(crate) fn note(
     ensures of { (start : CoreValue) (old : List AnOutcome) → IsFound start x.now
         → AreOf order start old list.old → AreOf order start old list.new }
     ensures most { length list.new ≤ max limit (length list.old) }
+    ensures each { IsAddedAs (ordered order x.now.printed) list.old list.new }
 {
     if x.core.ended() {
         let new = outcome_of(alloc, order, x)?;

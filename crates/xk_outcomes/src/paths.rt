@@ -1,10 +1,13 @@
 //! What stands along links to where all have ended is listed.
 
-ghost use Rattle.std.specs.Prelude.{◌≡◌, ◌<◌, ◌≤◌, ◌⊎◌, true, false, length, max, IfOk, List};
+ghost use Rattle.std.specs.Prelude.{◌≡◌, ◌≤◌, true, false, length, max, IfOk, OnOk, List};
+ghost use Rattle.xk_readings.specs.Rising.{AreRising};
 ghost use Rattle.xk_outcomes.specs.declared.listing.Outcome.{Outcome as AnOutcome};
 ghost use Rattle.xk_outcomes.specs.declared.order.Order.TheVariants as told;
 ghost use Rattle.xk_outcomes.specs.Links.{AreLinked};
 ghost use Rattle.xk_outcomes.specs.Listing.{AreMet, AreOf, AreRead, AreReadingsPut, IsPlayed, KeepsListed};
+ghost use Rattle.xk_outcomes.specs.Numbering.{AreAddedFrom, AreInOrder, AreInOrderIn, ArePlayedAll, AreReadingsFirst};
+ghost use Rattle.xk_outcomes.specs.Numbering.{AreRisingFrom, IsAddedAs};
 ghost use Rattle.xk_outcomes.specs.Outcomes.{AreDistinct, IsListed};
 
 use crate::entries::Entries;
@@ -32,6 +35,8 @@ fn note_reading(
     ensures of { (old : List AnOutcome) → AreOf told.Printed all.now.start old list.old
         → AreOf told.Printed all.now.start old list.new }
     ensures most { length list.new ≤ max limit (length list.old) }
+    ensures each { IsPlayed all.now.start reading.now.acts.items reading.now.numbers.items
+        → IsAddedAs reading.now.numbers.items list.old list.new }
 {
     let x = all.led(alloc, &reading.acts)?;
     note(alloc, Order::Printed, list, &x, limit)
@@ -52,6 +57,12 @@ fn note_readings(
     ensures full { IfOk result (λ noted. noted ≡ false → limit ≤ length list.new) }
     ensures of { AreOf told.Printed all.now.start list.old list.new }
     ensures most { length list.new ≤ max limit (length list.old) }
+    ensures rising { ArePlayedAll all.now.start found.now → AreRising found.now
+        → AreRisingFrom (length list.old) list.new }
+    ensures added { ArePlayedAll all.now.start found.now
+        → AreAddedFrom found.now (length found.now) (length list.old) list.new }
+    ensures first { OnOk result (ArePlayedAll all.now.start found.now → AreRising found.now
+        → AreReadingsFirst found.now (length list.old) list.new) }
 {
     for reading in found {
         let noted = note_reading(alloc, list, all, reading, limit)?;
@@ -62,36 +73,8 @@ fn note_readings(
     Ok(true)
 }
 
-/// Lists what can be read along the links, each list of numbers once, behind what is listed, up to the limit; so many are read at most.
-/// Whether that is all.
-fn list_some(
-    alloc: Global,
-    list: &mut Listed,
-    all: &Entries<'_>,
-    links: &[Edge],
-    most: usize,
-    limit: usize,
-) -> Result<bool, AllocError>
-    requires { AreLinked all.now.start.module_run all.now.all links.now }
-    ensures of { AreOf told.Printed all.now.start list.old list.new }
-    ensures kept { KeepsListed list.old list.new }
-    ensures distinct { AreDistinct list.old → AreDistinct list.new }
-    ensures read { IfOk result (λ complete. complete ≡ true
-        → AreRead all.now.all links.now list.new) }
-    // No more can be read at once than memory can hold.
-    ensures limit { IfOk result (λ complete. complete ≡ false
-        → (limit ≤ length list.new) ⊎ (most < 18446744073709551615)) }
-    ensures most { length list.new ≤ max limit (length list.old) }
-{
-    let longest = all.longest();
-    let found = readings(alloc, links, all.ends(), longest, most)?;
-    // For `limit`: as many as memory holds, and one more, can be counted.
-    let _behind = found.list.len() + 1;
-    let noted = note_readings(alloc, list, all, &found.list, limit)?;
-    Ok(noted && found.complete)
-}
-
-/// Lists whatever can be read along the links, each list of numbers once, behind what is listed, up to the limit. Whether that is all.
+/// Lists what can be read along the links, each list of numbers once and rising, behind what is listed, up to the limit. Whether that is
+/// all.
 fn list_readings(
     alloc: Global,
     list: &mut Listed,
@@ -107,13 +90,13 @@ fn list_readings(
         → AreRead all.now.all links.now list.new) }
     ensures limit { IfOk result (λ complete. complete ≡ false → limit ≤ length list.new) }
     ensures most { length list.new ≤ max limit (length list.old) }
+    ensures order { OnOk result
+        (AreInOrder all.now.all links.now (length list.old) list.new) }
 {
-    let complete = list_some(alloc, list, all, links, limit, limit)?;
-    if complete || list.is_full(limit) {
-        return Ok(complete);
-    }
-    // As many were read as are to be listed, and each once: so this isn't come to, though no contract says that none is read twice.
-    list_some(alloc, list, all, links, usize::MAX, limit)
+    let longest = all.longest();
+    let found = readings(alloc, links, all.ends(), longest, limit)?;
+    let noted = note_readings(alloc, list, all, &found.list, limit)?;
+    Ok(noted && found.complete)
 }
 
 /// Lists what was found, each list of numbers once, as it is told in this order, behind what is listed, up to the limit. Whether
@@ -134,6 +117,8 @@ pub fn list_found(
         → AreMet order explored.now.found.all explored.now.links.items list.new) }
     ensures limit { IfOk result (λ complete. complete ≡ false → limit ≤ length list.new) }
     ensures most { length list.new ≤ max limit (length list.old) }
+    ensures order { OnOk result (AreInOrderIn order explored.now.found.all
+        explored.now.links.items (length list.old) list.new) }
 {
     match order {
         Order::Printed => { list_readings(alloc, list, &explored.found, &explored.links, limit) }

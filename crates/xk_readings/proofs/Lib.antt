@@ -1,10 +1,17 @@
 pub mod ListLemmas
+pub mod SetLemmas
 mod UsefulLemmas
 mod GraphLemmas
 mod NodeSetLemmas
 mod StandLemmas
 mod ReadingLemmas
 pub mod RisingLemmas
+mod CountLemmas
+mod MoveLemmas
+mod StateLemmas
+mod AutomatonLemmas
+mod PathLemmas
+mod HowManyLemmas
 mod GrowthLemmas
 mod BranchLemmas
 mod WalkLemmas

@@ -43,7 +43,7 @@ at_most_one None = omega arith
 at_most_one (Some x) = omega arith
 
 -- a reading has no more numbers than edges
-reads_length : (g : GraphValue) (n k : ℕ) (acts : List ℕ) (numbers : List ℤ) → Reads g n k acts numbers → length numbers ≤ n
+pub reads_length : (g : GraphValue) (n k : ℕ) (acts : List ℕ) (numbers : List ℤ) → Reads g n k acts numbers → length numbers ≤ n
 reads_length g zero k acts numbers r = (let none = ap length r.2 in omega (arith, none))
 reads_length g (suc n) k acts numbers r =
     let rest = reads_length g n r.0.to r.3 r.4 r.5 in

@@ -1,6 +1,6 @@
 -- Lists of numbers in rising order.
-use Rattle.std.proofs.Common.{◌≡◌, ◌∙◌, ℕ, ℤ, zero, suc, ◌+◌, ◌-◌, ◌<◌, ◌≤◌, ◌⊎◌, inl, inr, false, List, [], ◌∷◌, ◌++◌}
-use Rattle.std.proofs.Common.{length, get_or, Some, refl, sym, ap, subst, arith, slice_get}
+use Rattle.std.proofs.Common.{◌≡◌, ◌∙◌, ℕ, ℤ, zero, suc, ◌+◌, ◌-◌, ◌<◌, ◌≤◌, ◌⊎◌, inl, inr, List, [], ◌∷◌, ◌++◌}
+use Rattle.std.proofs.Common.{length, get_or, map, Some, refl, sym, ap, subst, arith, slice_get}
 use Rattle.std.specs.Prelude.{◌<ℤ◌, ◌≤ℤ◌}
 use Rattle.std.specs.Int.Signed.{<ℤ_irrefl}
 use Rattle.std.proofs.lemmas.Bool.{cases_lt}
@@ -16,7 +16,10 @@ use Rattle.xk_readings.specs.declared.branches.Branch.{Branch}
 use Rattle.xk_readings.specs.declared.listing.Reading.{Reading}
 use Rattle.xk_readings.specs.Branches.{AreRisingBranches}
 use Rattle.xk_readings.specs.Rising.{AreBefore, AreRising, ComesBefore, PartsBelow}
+use Rattle.std.proofs.lemmas.List.{length-map}
+use Rattle.xk_readings.specs.Sets.{AreDifferent, Has}
 use Rattle.xk_readings.proofs.ListLemmas.{place, read}
+use Rattle.xk_readings.proofs.SetLemmas.{no_more_than}
 
 -- ---- lists of numbers
 
@@ -71,6 +74,34 @@ rising_distinct list rising i j r s at_i at_j same = by (cases_lt i j) (cases_lt
     by (inr most) (inl less) = absurd (not_before_itself s.numbers.items
         (subst (λ (l : List ℤ). ComesBefore s.numbers.items l) same (rising j i s r less at_j at_i)))
     by (inr most) (inr least) = omega (arith, most, least)
+
+-- the lists of numbers
+abbrev pub numbers_in : List Reading → List (List ℤ)
+numbers_in list = map (λ (r : Reading). r.numbers.items) list
+
+reading_of : (list : List Reading) (numbers : List ℤ) → Has (numbers_in list) numbers
+    → (i : ℕ) × (r : Reading) × (slice_get list i ≡ Some r) × (r.numbers.items ≡ numbers)
+reading_of [] numbers h = absurd h
+reading_of (r ∷ list) numbers (inl same) = (0, r, refl, sym same)
+reading_of (r ∷ list) numbers (inr later) = (let rest = reading_of list numbers later in (suc rest.0, rest.1, rest.2, rest.3))
+
+pub rising_different : (list : List Reading) → AreRising list → AreDifferent (numbers_in list)
+rising_different [] rising = tt
+rising_different (r ∷ list) rising = (
+  λ h. (let is = reading_of list r.numbers.items h in not_before_itself r.numbers.items
+      (subst (ComesBefore r.numbers.items) is.3 (rising 0 (suc is.0) r is.1 (omega arith) refl is.2))),
+  rising_different list (λ i j a b less x y. rising (suc i) (suc j) a b (omega (arith, less)) x y),
+)
+
+-- they are no more than lists among which each of them is
+pub rising_most : (list : List Reading) (lists : List (List ℤ)) → AreRising list
+    → ((i : ℕ) (r : Reading) → slice_get list i ≡ Some r → Has lists r.numbers.items)
+    → length list ≤ length lists
+rising_most list lists rising there =
+    let most = no_more_than (numbers_in list) lists (rising_different list rising)
+    (λ numbers h. (let is = reading_of list numbers h in subst (Has lists) is.3 (there is.0 is.1 is.2))) in
+    let count = length-map list (λ (r : Reading). r.numbers.items) in
+    omega (arith, most, count)
 
 -- one more behind all of them
 pub rising_more : (list more : List Reading) (r : Reading) → more ≡ list ++ r ∷ [] → AreRising list → AreBefore list r.numbers.items

@@ -4,6 +4,7 @@ use Rattle.xk_readings.specs.declared.edge.Edge.{Edge}
 use Rattle.xk_readings.specs.declared.listing.Reading.{Reading}
 use Rattle.xk_readings.specs.Graphs.{GraphValue, HasEdge, HasSameEdges, IsWithin, graph}
 use Rattle.xk_readings.specs.Readings.{AreAllListed, AreShown, IsLongest, Reads}
+use Rattle.xk_readings.specs.Counts.{AreAsMany, AreAtLeast, AreReadOnce}
 use Rattle.xk_readings.specs.Rising.{AreFirst}
 use Rattle.xk_readings.specs.Useful.{AreKept, AreUseful, IsReadable}
 use Rattle.xk_readings.specs.Closures.{AreTrim}
@@ -59,3 +60,20 @@ module _ (g h : GraphValue) (is : IsTrimmed g h) where
 
   pub first_whole : (list : List Reading) → AreFirst h list → AreFirst g list
   first_whole list first n acts numbers r = first n acts numbers (reads_trimmed g h is n 0 acts numbers r)
+
+  once_whole : (lists : List (List ℤ)) → AreReadOnce h lists → AreReadOnce g lists
+  once_whole lists are = record {
+    read = λ numbers has. (let r = are.read numbers has in (r.0, r.1, reads_whole g h is r.0 0 r.1 numbers r.2));
+    once = are.once;
+  }
+
+  pub least_whole : (count : ℕ) → AreAtLeast h count → AreAtLeast g count
+  least_whole count least = record { lists = least.lists; read = once_whole least.lists least.read; many = least.many }
+
+  pub many_whole : (count : ℕ) → AreAsMany h count → AreAsMany g count
+  many_whole count are = record {
+    lists = are.lists;
+    read = once_whole are.lists are.read;
+    all = λ n acts numbers r. are.all n acts numbers (reads_trimmed g h is n 0 acts numbers r);
+    many = are.many;
+  }

@@ -8,3 +8,7 @@ pub mod Stands
 pub mod Closures
 pub mod Branches
 pub mod Walks
+pub mod Sets
+pub mod Counts
+pub mod Automata
+pub mod Paths

@@ -1,13 +1,15 @@
 use Rattle.std.specs.Prelude.{max}
 use Rattle.std.proofs.Common.{◌∙◌, ◌<◌, ◌≤◌, arith, List, length, inl, inr, true≢false, sym, subst}
-use Rattle.xk_core.specs.Core.{CoreValue}
+use Rattle.xk_core.specs.Core.{CoreValue, opening_core}
 use Rattle.xk_outcomes.specs.declared.listing.Outcome.{Outcome}
 use Rattle.xk_outcomes.specs.Links.{AreLinked}
 use Rattle.xk_outcomes.specs.Listing.{AreAllIn, AreOf, AreShownIn, HasKeptIn}
+use Rattle.xk_outcomes.specs.Numbering.{AreNumberedIn}
 use Rattle.xk_outcomes.specs.Outcomes.{AreDistinct}
 use Rattle.xk_outcomes.specs.PlainRuns.{ArePlainListedIn, plain_runs}
 use Rattle.xk_outcomes.specs.Search.{AreFound, AreAllFound}
 use Rattle.xk_outcomes.proofs.ListingLemmas.{all_shown, all_listed, all_kept}
+use Rattle.xk_outcomes.proofs.NumberingLemmas.{numbered_in, whole_within}
 use Rattle.xk_outcomes.proofs.PlainRunLemmas.{more_of_none, plain_kept}
 use Rattle.xk_outcomes.proofs.all_outcomes.searched_in.Goals.{then-explored, else-explored}
 use Rattle.xk_outcomes.proofs.all_outcomes.searched_in.Goals as goal
@@ -89,3 +91,19 @@ returns-clause-kept c =
     c.in_ok-explored.ensures.rest c.in_ok-explored.ensures.different c.in_ok-all.ensures.met c.in_ok-all.ensures.limit in
     subst (HasKeptIn c.args.order m args most c.in_ok-list.list.items) (sym c.len.ensures.count)
     (subst (λ (list : List Outcome). HasKeptIn c.args.order m args most list (length all)) (sym c.in_ok-list.ensures) kept)
+
+pub returns-clause-order : goal.returns-clause-order
+returns-clause-order c =
+    let m = c.args.verified.now in
+    let args = c.args.arguments.now in
+    let limit = c.args.limit.entries in
+    let all = c.in_ok-explored.explored.found.all in
+    let links = c.in_ok-explored.explored.links.items in
+    let list = c.list_found.new.list in
+    let few =
+    (more_of_none c.args.order m args plain_runs c.new-listed.result c.note_plain.new.list c.new-listed.ensures c.note_plain.ensures.more).2 in
+    let found : length all ≤ limit → AreAllFound c.args.order (opening_core m args) all links = λ within. subst (λ (s : CoreValue). AreAllFound c.args.order s all links) c.in_ok-start.ensures
+    (c.in_ok-explored.ensures.all (whole_within c.in_ok-explored.explored.complete (length all) limit c.in_ok-explored.ensures.limit within)) in
+    subst (AreNumberedIn c.args.order m args limit c.in_ok-list.list.items) (sym c.len.ensures.count)
+    (subst (λ (l : List Outcome). AreNumberedIn c.args.order m args limit l (length all)) (sym c.in_ok-list.ensures)
+    (numbered_in c.args.order m args all links limit (length c.note_plain.new.list) list few c.in_ok-all.ensures.order found))

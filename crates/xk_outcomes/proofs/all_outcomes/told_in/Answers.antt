@@ -4,6 +4,8 @@ use Rattle.xk_outcomes.specs.declared.listing.Outcome.{Outcome}
 use Rattle.xk_outcomes.specs.Listing.{AreAllIn, AreShownIn, HasKeptIn}
 use Rattle.xk_outcomes.specs.LoneOutcomes.{IsLone, IsOneOfMany}
 use Rattle.xk_outcomes.specs.Outcomes.{AreDistinct}
+use Rattle.xk_outcomes.specs.Numbering.{AreNumberedIn}
+use Rattle.xk_outcomes.proofs.NumberingLemmas.{lone_numbered_in}
 use Rattle.xk_outcomes.proofs.LoneOutcomeLemmas.{alone_distinct, none_kept}
 use Rattle.xk_outcomes.proofs.all_outcomes.told_in.Goals as goal
 
@@ -45,3 +47,14 @@ returns-in_ok-found-in-Some-clause-kept c =
 pub returns-in_ok-found-in-None-clause-lone : goal.returns-in_ok-found-in-None-clause-lone
 returns-in_ok-found-in-None-clause-lone c less =
     subst (λ o. IfNone o (IsOneOfMany c.args.order c.args.verified.now c.args.arguments.now)) c.in-None.is c.in_ok-lone.ensures.many
+
+pub returns-in_ok-found-in-Some-clause-order : goal.returns-in_ok-found-in-Some-clause-order
+returns-in_ok-found-in-Some-clause-order c =
+    let m = c.args.verified.now in
+    let args = c.args.arguments.now in
+    let list = c.in_ok-found-in-Some.ensures.list in
+    let all = (subst (λ o. IfSome o (IsLone c.args.order m args)) c.in-Some.is c.in_ok-lone.ensures.lone).all in
+    let found = c.in_ok-found-in-Some.found in
+    subst (AreNumberedIn c.args.order m args c.args.limit.entries found.list.items) (sym c.in_ok-found-in-Some.ensures.entries)
+    (lone_numbered_in c.args.order m args c.args.limit.entries found.list.items c.in-Some.lone list
+    (subst (AreAllIn c.args.order m args) (sym list) all))

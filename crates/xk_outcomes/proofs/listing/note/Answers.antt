@@ -1,9 +1,9 @@
-use Rattle.std.proofs.Common.{◌∙◌, ap, sym, subst, true≢false}
+use Rattle.std.proofs.Common.{◌∙◌, inl, ap, refl, sym, subst, true≢false}
 use Rattle.std.proofs.lemmas.Result.{IfOk-weaker}
 use Rattle.xk_types.specs.Schedule.{all_ended}
 use Rattle.xk_outcomes.specs.Found.{FoundValue}
 use Rattle.xk_outcomes.specs.Outcomes.{IsListed}
-use Rattle.xk_outcomes.proofs.ListingLemmas.{of_either}
+use Rattle.xk_outcomes.proofs.ListingLemmas.{added_as, of_either}
 use Rattle.xk_outcomes.proofs.listing.note.Goals as goal
 
 pub returns-in_err-new-clause-distinct : goal.returns-in_err-new-clause-distinct
@@ -45,3 +45,13 @@ returns-else-ended-clause-listed c noted done =
 
 pub returns-else-ended-clause-of : goal.returns-else-ended-clause-of
 returns-else-ended-clause-of c start old found before = before
+
+pub returns-in_ok-new-clause-each : goal.returns-in_ok-new-clause-each
+returns-in_ok-new-clause-each c = added_as c.args.list.now c.put_within.new.self c.in_ok-new.new c.in_ok-new.ensures.numbers
+    c.put_within.ensures.each
+
+pub returns-in_err-new-clause-each : goal.returns-in_err-new-clause-each
+returns-in_err-new-clause-each c = inl refl
+
+pub returns-else-ended-clause-each : goal.returns-else-ended-clause-each
+returns-else-ended-clause-each c = inl refl
