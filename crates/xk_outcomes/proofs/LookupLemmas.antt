@@ -13,18 +13,18 @@ use Rattle.xk_outcomes.proofs.SearchLemmas.{same_digests}
 none_like : (like : Alikeness) (all : List FoundValue) (new : FoundValue) (n at : ℕ)
     → IsLast (map (found_digest like) all) (found_digest like new) n at
     → (j : ℕ) → at ≤ j → j < n → (y : FoundValue) → slice_get all j ≡ Some y → IsAt like y new.core.world new.printed → ⊥
-none_like like all new n at is j from less y there like =
+none_like like all new n at is j from less y there found =
     is.none j from less (slice_get-map (found_digest like) all j ∙ ap (option_map (found_digest like)) there
-    ∙ ap Some (same_digests like y new like))
+    ∙ ap Some (same_digests like y new found))
 
 -- none behind the last place is
 pub none_behind : (like : Alikeness) (all : List FoundValue) (new : FoundValue) (at : ℕ)
     → IsLast (map (found_digest like) all) (found_digest like new) (length (map (found_digest like) all)) at
     → (j : ℕ) → at ≤ j → (y : FoundValue) → slice_get all j ≡ Some y → IsAt like y new.core.world new.printed → ⊥
-none_behind like all new at is j from y there like =
+none_behind like all new at is j from y there found =
     let inside = slice_get_within all j y there in
     let many : length (map (found_digest like) all) ≡ length all = length-map all (found_digest like) in
-    none_like like all new (length (map (found_digest like) all)) at is j from (omega (arith, inside, many)) y there like
+    none_like like all new (length (map (found_digest like) all)) at is j from (omega (arith, inside, many)) y there found
 
 -- so it is from one place to the one before
 pub none_between : (like : Alikeness) (all : List FoundValue) (new : FoundValue) (at next : ℕ) → 0 < at
@@ -32,15 +32,15 @@ pub none_between : (like : Alikeness) (all : List FoundValue) (new : FoundValue)
     → ((y : FoundValue) → slice_get all (at - 1) ≡ Some y → IsAt like y new.core.world new.printed → ⊥)
     → IsLast (map (found_digest like) all) (found_digest like new) (at - 1) next
     → (j : ℕ) → next ≤ j → (y : FoundValue) → slice_get all j ≡ Some y → IsAt like y new.core.world new.printed → ⊥
-none_between like all new at next some behind here is j from y there like = by (split j at some)
+none_between like all new at next some behind here is j from y there found = by (split j at some)
   where
     split : (i n : ℕ) → 0 < n → (n ≤ i) ⊎ ((i ≡ n - 1) ⊎ (i < n - 1))
     split i n some = grind arith
 
     by : (at ≤ j) ⊎ ((j ≡ at - 1) ⊎ (j < at - 1)) → ⊥
-    by (inl over) = behind j over y there like
-    by (inr (inl same)) = here y (ap (slice_get all) (sym same) ∙ there) like
-    by (inr (inr less)) = none_like like all new (at - 1) next is j from less y there like
+    by (inl over) = behind j over y there found
+    by (inr (inl same)) = here y (ap (slice_get all) (sym same) ∙ there) found
+    by (inr (inr less)) = none_like like all new (at - 1) next is j from less y there found
 
 -- the one before a place that isn't 0
 pub one_before : (at : ℕ) → 0 < at → at ≡ suc (at - 1)

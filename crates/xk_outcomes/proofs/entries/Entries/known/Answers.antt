@@ -13,10 +13,10 @@ loop-at-init c =
     let at = c.last-at.result in
     let are = c.self.invariant.digests_are ∙ ap (λ (e : EntriesValue). map (found_digest e.like) e.all) c.self.view_is in
     let last = subst (λ (l : List ℕ). IsLast l c.args.digest (length l) at) are c.last-at.ensures in
-    let like = subst (λ d. IsLast (map (found_digest like) all) d (length (map (found_digest like) all)) at) c.requires.digest last in
+    let found = subst (λ d. IsLast (map (found_digest like) all) d (length (map (found_digest like) all)) at) c.requires.digest last in
     record {
       there = last.there;
-      none = λ found. none_behind like all c.args.new.now at like;
+      none = λ is_found. none_behind like all c.args.new.now at found;
     }
 
 pub is_same_at-requires : goal.is_same_at-requires
@@ -43,10 +43,10 @@ loop-at-preserved c =
     let there = c.loop-at.invariant.there (at - 1) (one_before at c.loop-at-test.true) in
     let here = subst (λ (l : List ℕ). slice_get l (at - 1) ≡ Some c.args.digest) (sym are) there in
     let last = subst (λ (l : List ℕ). IsLast l c.args.digest (at - 1) next) are (c.before-at.ensures c.args.digest here) in
-    let like = subst (λ d. IsLast (map (found_digest like) all) d (at - 1) next) c.requires.digest last in
+    let found = subst (λ d. IsLast (map (found_digest like) all) d (at - 1) next) c.requires.digest last in
     record {
       there = last.there;
-      none = λ found.
-          let here = c.in_ok-is_same_at.ensures.no found c.if-branch.false in
-          none_between like all new at next c.loop-at-test.true (c.loop-at.invariant.none found) here like;
+      none = λ is_found.
+          let here = c.in_ok-is_same_at.ensures.no is_found c.if-branch.false in
+          none_between like all new at next c.loop-at-test.true (c.loop-at.invariant.none is_found) here found;
     }
