@@ -5,6 +5,7 @@ use Rattle.std.specs.Int.{w64, cast_unsigned}
 use Rattle.xk_types.specs.declared.world.Value.{Value}
 use Rattle.xk_types.specs.declared.world.Value.TheVariants as value
 use Rattle.xk_types.specs.World.{Activity, World}
+use Rattle.xk_liveness.specs.Liveness.{SlotTable, live_part}
 
 -- with a word more
 unfoldable pub mixed : ℕ → ℕ → ℕ
@@ -32,6 +33,10 @@ with_values digest values = fold (λ d v. mixed d (word_of v)) digest values
 abbrev pub with_activity : ℕ → Activity → ℕ
 with_activity digest act = with_values (mixed (mixed digest act.frame.unit) act.frame.place) act.frame.slots
 
--- of a world, these numbers being printed by then: of them, of its shared numbers, and of its activities
-abbrev pub world_digest : World → List ℤ → ℕ
-world_digest w numbers = fold with_activity (with_numbers (with_numbers 0 numbers) w.cells) w.activities
+-- of all there is in a world, these numbers being printed by then: of them, of its shared numbers, and of its activities
+abbrev pub whole_digest : World → List ℤ → ℕ
+whole_digest w numbers = fold with_activity (with_numbers (with_numbers 0 numbers) w.cells) w.activities
+
+-- the same of what of it may still count, by which slots are live
+abbrev pub world_digest : SlotTable → World → List ℤ → ℕ
+world_digest live w numbers = whole_digest (live_part live w) numbers

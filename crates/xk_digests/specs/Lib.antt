@@ -1,2 +1,4 @@
 pub mod Digest
 pub mod Digests
+pub mod Nestings
+pub mod Likeness

@@ -1,8 +1,16 @@
-//! Digests of worlds: numbers of 64 bits which worlds have in common that are alike; and digests, numbered and linked where they are equal.
+//! Digests of worlds: numbers of 64 bits which worlds have in common that are alike where slots are live; whether worlds are; and digests,
+//! numbered and linked where they are equal.
 #![tactic(auto)]
 
 mod digest;
 mod digests;
+mod frames;
+mod likeness;
+mod nestings;
+mod status;
+mod traced_core;
 
 pub use digest::digest_of;
 pub use digests::Digests;
+pub use likeness::are_alike;
+pub use traced_core::TracedCore;

@@ -14,9 +14,8 @@ use Rattle.xk_types.specs.Step.{Stepped, step}
 use Rattle.xk_types.specs.Schedule.{Through, run, all_ended, number_printed, printed}
 use Rattle.xk_law_schedules.proofs.ReachabilityLemmas.{run_more}
 use Rattle.xk_law_commute.specs.Exploration.{IsLedTo, NothingIsMissed}
-use Rattle.xk_law_commute.specs.PlainWorlds.{AreAlike}
 use Rattle.xk_law_commute.proofs.ChangeSquareLemmas.{same_step}
-use Rattle.xk_law_commute.proofs.QuietStepLaw.{alike_worlds_go_alike}
+use Rattle.xk_liveness.specs.Liveness.{AreAlikeWhereLive, IsLiveness, SlotTable}
 use Rattle.xk_law_commute.proofs.ExplorationLaw.{nobody_steps}
 use Rattle.xk_closed.specs.Closed.{HasClosed, HasNextSame, IsCarried}
 use Rattle.xk_closed.specs.Futures.{alone}
@@ -25,11 +24,12 @@ use Rattle.xk_core.specs.Core.{CoreValue}
 use Rattle.xk_readings.specs.declared.edge.Edge.{Edge}
 use Rattle.xk_outcomes.specs.declared.order.Order.{Order}
 use Rattle.xk_outcomes.specs.declared.order.Order.TheVariants as order
+use Rattle.xk_outcomes.specs.Alikeness.{Alikeness, live_by}
 use Rattle.xk_outcomes.specs.Found.{FoundValue, first_found}
 use Rattle.xk_outcomes.specs.Links.{LeadTo, Leads}
 use Rattle.xk_outcomes.specs.Rising.{key, put_in}
 use Rattle.xk_outcomes.specs.Search.{LeadsPrivately, HasAfter, IsThere, IsExpanded, AreExpanded, AreAllFound}
-use Rattle.xk_outcomes.proofs.AlikeLemmas.{closed_alike, enabled_alike, leads_alike}
+use Rattle.xk_outcomes.proofs.AlikeLemmas.{closed_alike, enabled_alike, ends_alike, go_alike, leads_alike}
 use Rattle.xk_outcomes.proofs.FoundLemmas.{first_led, first_silent}
 use Rattle.xk_outcomes.proofs.PrivateStepLemmas.{private_closed, private_enabled, private_silent}
 use Rattle.xk_outcomes.proofs.SearchLemmas.{printed_more}
@@ -50,11 +50,18 @@ key_more order.Printed xs ys more same = refl
 key_more order.Rising xs ys more same = fold-append put_in [] xs more ∙ ap (λ ns. fold put_in ns more) same
     ∙ sym (fold-append put_in [] ys more)
 
-module _ (order : Order) (start : CoreValue) (all : List FoundValue) (links : List Edge) (limits : IsWithinLimits start.module_run) (ok : IsAccepted start.module_run)
+module _ (like : Alikeness) (start : CoreValue) (all : List FoundValue) (links : List Edge) (limits : IsWithinLimits start.module_run) (ok : IsAccepted start.module_run)
     (taken : AreArguments start.module_run start.world.arguments) (begins : start.world ≡ opening start.module_run start.world.arguments)
-    (closed : AreExpanded start.module_run order all links (length all)) (first : slice_get all 0 ≡ Some (first_found start)) where
+    (liveness : IsLiveness start.module_run (live_by like))
+    (closed : AreExpanded start.module_run like all links (length all)) (first : slice_get all 0 ≡ Some (first_found start)) where
   abbrev m : ModuleValue
   m = start.module_run
+
+  abbrev live : SlotTable
+  live = live_by like
+
+  abbrev Alike : World → World → Type 0
+  Alike w v = AreAlikeWhereLive live w v
 
   abbrev args : List ℤ
   args = start.world.arguments
@@ -62,7 +69,7 @@ module _ (order : Order) (start : CoreValue) (all : List FoundValue) (links : Li
   -- the one of a number is in a world like this, and links lead to it along which these numbers stand
   record Meets (w : World) (numbers : List ℤ) : Type 0 where
     number : ℕ
-    there : IsThere order all w numbers number
+    there : IsThere like all w numbers number
     led : LeadTo links number numbers
 
   -- private steps lead from this world to such a one
@@ -75,19 +82,19 @@ module _ (order : Order) (start : CoreValue) (all : List FoundValue) (links : Li
 
   -- a step from one that is like one of them, which has what that leads to
   by_step : (w : World) (numbers : List ℤ) → IsLedTo m args w numbers → (meets : Meets w numbers) → (a : ℕ)
-      → HasAfter m order all links meets.number meets.there.0 a → HasNextSame m AreAlike Finds w numbers a
+      → HasAfter m like all links meets.number meets.there.0 a → HasNextSame m Alike Finds w numbers a
   by_step w numbers led meets a after u e h =
       let k = meets.number in
       let x = meets.there.0 in
       let at = meets.there.2 in
       let more : List ℤ = option_to_list (number_printed e) in
-      let next = (alike_worlds_go_alike m).steps w x.core.world u a e at.0 h in
+      let next = go_alike m live liveness w x.core.world u a e at.0 h in
       let c = after next.0 e next.1 in
-      let on = leads_alike m c.0 u next.0 c.1 next.2 c.2 in
+      let on = leads_alike m live liveness c.0 u next.0 c.1 next.2 c.2 in
       let y = c.4.0 in
       let l = c.5.1 in
-      let is : key order y.printed ≡ key order (numbers ++ more) = c.4.2.1 ∙ key_more order x.printed numbers more at.1 in
-      let there : IsThere order all on.0 (numbers ++ more) c.3 = (y, c.4.1, (on.2 ∙ c.4.2.0, is)) in
+      let is : key like.order y.printed ≡ key like.order (numbers ++ more) = c.4.2.1 ∙ key_more like.order x.printed numbers more at.1 in
+      let there : IsThere like all on.0 (numbers ++ more) c.3 = (y, c.4.1, (on.2 ∙ c.4.2.0, is)) in
       let way : LeadTo links c.3 (numbers ++ more) = (
         suc meets.led.0,
         meets.led.1 ++ l.act ∷ [],
@@ -110,28 +117,28 @@ module _ (order : Order) (start : CoreValue) (all : List FoundValue) (links : Li
       }
 
   by_set : (w : World) (numbers : List ℤ) → IsLedTo m args w numbers → (meets : Meets w numbers)
-      → IsExpanded m order all links meets.number meets.there.0
-      → HasClosed m AreAlike Finds w numbers ⊎ ((a : ℕ) → HasNextSame m AreAlike Finds w numbers a)
+      → IsExpanded m like all links meets.number meets.there.0
+      → HasClosed m Alike Finds w numbers ⊎ ((a : ℕ) → HasNextSame m Alike Finds w numbers a)
   by_set w numbers led meets (inl s) = inl (record {
     set = s.set;
-    closed = closed_alike m w meets.there.0.core.world s.set meets.there.2.0 s.closed;
+    closed = closed_alike m live liveness w meets.there.0.core.world s.set meets.there.2.0 s.closed;
     free = s.free;
     inside = s.inside;
-    enabled = enabled_alike m w meets.there.0.core.world s.free meets.there.2.0 ∙ s.enabled;
+    enabled = enabled_alike m live liveness w meets.there.0.core.world s.free meets.there.2.0 ∙ s.enabled;
     next = λ a inside. by_step w numbers led meets a (s.next a inside);
   })
   by_set w numbers led meets (inr each) = inr (λ a. by_step w numbers led meets a (each a))
 
   -- the steps from one that is like one of them: of a closed set, or each
   by_steps : (w : World) (numbers : List ℤ) → IsLedTo m args w numbers → Meets w numbers
-      → HasClosed m AreAlike Finds w numbers ⊎ ((a : ℕ) → HasNextSame m AreAlike Finds w numbers a)
+      → HasClosed m Alike Finds w numbers ⊎ ((a : ℕ) → HasNextSame m Alike Finds w numbers a)
   by_steps w numbers led meets =
       by_set w numbers led meets (closed meets.number meets.there.0 (slice_get_within all meets.number meets.there.0 meets.there.1) meets.there.1)
 
   -- the first private step on the way to one
   by_private : (b : ℕ) (list : List ℕ) (w v : World) (numbers : List ℤ) → IsLedTo m args w numbers → LeadsPrivately m (b ∷ list) w v
       → Meets v numbers
-      → HasNextSame m AreAlike Finds w numbers b
+      → HasNextSame m Alike Finds w numbers b
   by_private b list w v numbers led private meets u e h =
       let same : (private.1 ≡ u) × (private.2 ≡ e) = same_step private.1 u private.2 e (sym private.3 ∙ h) in
       let silent : numbers ++ option_to_list (number_printed e) ≡ numbers =
@@ -146,7 +153,7 @@ module _ (order : Order) (start : CoreValue) (all : List FoundValue) (links : Li
       }
 
   explored : (list : List ℕ) (w v : World) (numbers : List ℤ) → IsLedTo m args w numbers → LeadsPrivately m list w v → Meets v numbers
-      → HasClosed m AreAlike Finds w numbers ⊎ ((a : ℕ) → HasNextSame m AreAlike Finds w numbers a)
+      → HasClosed m Alike Finds w numbers ⊎ ((a : ℕ) → HasNextSame m Alike Finds w numbers a)
   explored [] w v numbers led private meets = by_steps w numbers led (subst (λ z. Meets z numbers) (sym private) meets)
   explored (b ∷ list) w v numbers led private meets = inl (record {
     set = alone b;
@@ -154,13 +161,13 @@ module _ (order : Order) (start : CoreValue) (all : List FoundValue) (links : Li
     free = b;
     inside = eq-eqb b b refl;
     enabled = private_enabled m w b private.0;
-    next = λ a inside. subst (HasNextSame m AreAlike Finds w numbers) (sym (eqb-true a b inside)) (by_private b list w v numbers led private meets);
+    next = λ a inside. subst (HasNextSame m Alike Finds w numbers) (sym (eqb-true a b inside)) (by_private b list w v numbers led private meets);
   })
 
   -- one of them is where all have ended, and these numbers stand along links to it
   abbrev IsMet : List ℤ → Type 0
   IsMet numbers = (k : ℕ) × (x : FoundValue) × (slice_get all k ≡ Some x) × (all_ended x.core.world ≡ true)
-      × (key order x.printed ≡ key order numbers) × LeadTo links k numbers
+      × (key like.order x.printed ≡ key like.order numbers) × LeadTo links k numbers
 
   -- where all have ended there is no private step more
   met : (list : List ℕ) (w v : World) (numbers : List ℤ) → LeadsPrivately m list w v → all_ended w ≡ true → Meets v numbers → IsMet numbers
@@ -170,17 +177,17 @@ module _ (order : Order) (start : CoreValue) (all : List FoundValue) (links : Li
         meets.number,
         x,
         meets.there.1,
-        sym ((alike_worlds_go_alike m).ends v x.core.world at.0) ∙ ap all_ended (sym private) ∙ ended,
+        sym (ends_alike m live liveness v x.core.world at.0) ∙ ap all_ended (sym private) ∙ ended,
         at.1,
         meets.led,
       )
   met (b ∷ list) w v numbers private ended meets = absurd (nobody_steps m w private.1 b private.2 private.3 ended)
 
   -- worlds that are alike go on alike
-  carried : IsCarried m AreAlike
+  carried : IsCarried m Alike
   carried = record {
-    steps = λ w v u a e here same h. (let next = (alike_worlds_go_alike m).steps w v u a e same h in (a, next.0, next.1, next.2));
-    ends = (alike_worlds_go_alike m).ends;
+    steps = λ w v u a e here same h. (let next = go_alike m live liveness w v u a e same h in (a, next.0, next.1, next.2));
+    ends = ends_alike m live liveness;
   }
 
   -- the start is known
@@ -193,17 +200,17 @@ module _ (order : Order) (start : CoreValue) (all : List FoundValue) (links : Li
         f.1,
         record {
           number = 0;
-          there = (x, first, (refl, ap (key order) (first_silent start limits ok)));
+          there = (x, first, (refl, ap (key like.order) (first_silent start limits ok)));
           led = (0, [], (refl, refl, refl));
         },
       )
 
   missed_none : NothingIsMissed m args Finds
-  missed_none = closed_sets m limits ok AreAlike carried args Finds taken (λ w numbers f. f.0)
+  missed_none = closed_sets m limits ok Alike carried args Finds taken (λ w numbers f. f.0)
       (record { other = opening m args; found = (record { list = []; legal = refl; prints = refl }, subst (λ w. IsKnown w []) begins begun); same = refl })
       (λ w numbers f. explored f.1.0 w f.1.1 numbers f.0 f.1.2 f.1.3)
 
-  pub all_found : AreAllFound order start all links
+  pub all_found : AreAllFound like.order start all links
   all_found list w legal ended =
       let h = missed_none list w (subst (λ z. run m list z ≡ Through w) begins legal) ended in
       let f = h.1.1 in

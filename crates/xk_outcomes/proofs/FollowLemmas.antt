@@ -12,8 +12,8 @@ use Rattle.xk_types.specs.World.{AreArguments, opening}
 use Rattle.xk_types.specs.Step.{Outcome, Blocked, Wrong, Stepped, step}
 use Rattle.xk_types.specs.Schedule.{all_ended, is_enabled}
 use Rattle.xk_law_schedules.proofs.StepCountLemmas.{step_counts}
-use Rattle.xk_law_commute.specs.PlainWorlds.{AreAlike}
-use Rattle.xk_law_commute.proofs.QuietStepLaw.{alike_worlds_go_alike, enabled_step}
+use Rattle.xk_law_commute.proofs.QuietStepLaw.{enabled_step}
+use Rattle.xk_liveness.specs.Liveness.{AreAlikeWhereLive, IsLiveness, SlotTable}
 use Rattle.xk_core.specs.Core.{CoreValue}
 use Rattle.xk_readings.specs.declared.edge.Edge.{Edge}
 use Rattle.xk_readings.specs.Graphs.{IsWithin, graph}
@@ -21,7 +21,7 @@ use Rattle.xk_readings.specs.Readings.{IsLongest, Reads}
 use Rattle.xk_outcomes.specs.Found.{FoundValue, first_found, least_private, next, one_more, settled, through, with_outcome, with_step}
 use Rattle.xk_outcomes.specs.Links.{AreLinked, LeadTo, Leads, ends}
 use Rattle.xk_outcomes.specs.Search.{IsFound}
-use Rattle.xk_outcomes.proofs.AlikeLemmas.{enabled_alike, next_goes_alike}
+use Rattle.xk_outcomes.proofs.AlikeLemmas.{enabled_alike, ends_alike, next_goes_alike}
 use Rattle.xk_outcomes.proofs.FoundLemmas.{first_is_found, found_through}
 use Rattle.xk_outcomes.proofs.RestLemmas.{steps_within}
 
@@ -41,8 +41,8 @@ told_there all k x there ended =
     slice_get-map over all k ∙ ap (option_map over) there ∙ ap Some ended
 
 -- each link leads from one of them to one of them
-pub links_within : (m : ModuleValue) (all : List FoundValue) (links : List Edge) → AreLinked m all links → IsWithin (graph links (ends all))
-links_within m all links linked e there =
+pub links_within : (live : SlotTable) (m : ModuleValue) (all : List FoundValue) (links : List Edge) → AreLinked live m all links → IsWithin (graph links (ends all))
+links_within live m all links linked e there =
     let l = linked.each there.0 e there.1 in
     let many = length-map all (λ (y : FoundValue). all_ended y.core.world) in
     let out = slice_get_within all e.from l.source l.out in
@@ -119,31 +119,31 @@ steps_next m x a same enabled =
     let rest = steps_settled (one_more a x) (steps_bound (one_more a x).core.module_run) in
     omega (arith, one, rest)
 
-followed : (m : ModuleValue) (all : List FoundValue) (links : List Edge) → AreLinked m all links → ((k : ℕ) (x : FoundValue)
+followed : (m : ModuleValue) (live : SlotTable) → IsLiveness m live → (all : List FoundValue) (links : List Edge) → AreLinked live m all links → ((k : ℕ) (x : FoundValue)
     → slice_get all k ≡ Some x → x.core.module_run ≡ m)
     → (n k : ℕ) (acts : List ℕ) (numbers : List ℤ) (x y : FoundValue) → Reads (graph links (ends all)) n k acts numbers
     → slice_get all k ≡ Some x
-    → y.core.module_run ≡ m → AreAlike y.core.world x.core.world → Follows n y (through acts y) numbers
-followed m all links linked modules zero k acts numbers x y reads there is same =
+    → y.core.module_run ≡ m → AreAlikeWhereLive live y.core.world x.core.world → Follows n y (through acts y) numbers
+followed m live liveness all links linked modules zero k acts numbers x y reads there is same =
     subst (λ bs. Follows zero y (through bs y) numbers) (sym reads.1) (record {
-      ended = (alike_worlds_go_alike m).ends y.core.world x.core.world same ∙ ended_there all k x there reads.0;
+      ended = ends_alike m live liveness y.core.world x.core.world same ∙ ended_there all k x there reads.0;
       prints = sym (append-nil y.printed) ∙ ap (λ ns. y.printed ++ ns) (sym reads.2);
       long = omega arith;
     })
-followed m all links linked modules (suc n) k acts numbers x y reads there is same =
+followed m live liveness all links linked modules (suc n) k acts numbers x y reads there is same =
     let e = reads.0 in
     let l = linked.each reads.1.0 e reads.1.1 in
     let source : l.source ≡ x = same_Some l.source x (sym l.out ∙ (ap (slice_get all) reads.2 ∙ there)) in
     let enabled : is_enabled m y.core.world e.act ≡ true =
-    enabled_alike m y.core.world x.core.world e.act same
+    enabled_alike m live liveness y.core.world x.core.world e.act same
     ∙ subst (λ (z : FoundValue). is_enabled m z.core.world e.act ≡ true) source l.enabled in
-    let alike_next : AreAlike (next e.act x).core.world l.target.core.world = subst (λ (z : FoundValue). AreAlike (next e.act z).core.world l.target.core.world) source l.alike in
+    let alike_next : AreAlikeWhereLive live (next e.act x).core.world l.target.core.world = subst (λ (z : FoundValue). AreAlikeWhereLive live (next e.act z).core.world l.target.core.world) source l.alike in
     let prints_next : (next e.act x).printed ≡ x.printed ++ option_to_list e.printed =
     subst (λ (z : FoundValue). (next e.act z).printed ≡ z.printed ++ option_to_list e.printed) source l.prints in
-    let g = next_goes_alike m y x e.act is (modules k x there) same in
+    let g = next_goes_alike m live liveness y x e.act is (modules k x there) same in
     let more : g.more ≡ option_to_list e.printed = append_cancel_left x.printed g.more (option_to_list e.printed) (sym g.second_prints
     ∙ prints_next) in
-    let f = followed m all links linked modules n e.to reads.3 reads.4 l.target (next e.act y) reads.5 l.into g.first_module (g.alike
+    let f = followed m live liveness all links linked modules n e.to reads.3 reads.4 l.target (next e.act y) reads.5 l.into g.first_module (g.alike
     ∙ alike_next) in
     let counted = steps_next m y e.act is enabled in
     let long = f.long in
@@ -156,13 +156,14 @@ followed m all links linked modules (suc n) k acts numbers x y reads there is sa
 
 -- ---- where all that was found was found from a start
 
-module _ (start : CoreValue) (all : List FoundValue) (links : List Edge) (linked : AreLinked start.module_run all links)
+module _ (start : CoreValue) (live : SlotTable) (liveness : IsLiveness start.module_run live) (all : List FoundValue) (links : List Edge)
+    (linked : AreLinked live start.module_run all links)
     (found : (k : ℕ) (x : FoundValue) → slice_get all k ≡ Some x
     → IsFound start x) (first : slice_get all 0 ≡ Some (first_found start)) where
   pub read_follows : (n : ℕ) (acts : List ℕ) (numbers : List ℤ) → Reads (graph links (ends all)) n 0 acts numbers
       → Follows n (first_found start) (through acts (first_found start)) numbers
   read_follows n acts numbers reads =
-      followed start.module_run all links linked (λ k x there. (found k x there).module_is) n 0 acts numbers (first_found start) (first_found start) reads first
+      followed start.module_run live liveness all links linked (λ k x there. (found k x there).module_is) n 0 acts numbers (first_found start) (first_found start) reads first
       (first_is_found start).module_is refl
 
   pub longest_read : IsWithinLimits start.module_run → IsAccepted start.module_run → AreArguments start.module_run start.world.arguments

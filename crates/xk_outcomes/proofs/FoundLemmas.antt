@@ -18,7 +18,7 @@ use Rattle.xk_core.specs.Core.{CoreValue}
 use Rattle.xk_outcomes.specs.Found.{FoundValue, along, at_rest, first_found, least, least_private}
 use Rattle.xk_outcomes.specs.Found.{next, one_more, or_this, settled, through, with_outcome, with_step}
 use Rattle.xk_readings.specs.declared.edge.Edge.{Edge}
-use Rattle.xk_outcomes.specs.declared.order.Order.{Order}
+use Rattle.xk_outcomes.specs.Alikeness.{Alikeness}
 use Rattle.xk_outcomes.specs.Links.{HasLink}
 use Rattle.xk_outcomes.specs.Search.{HasAfter, IsFound, IsSettled, IsThere, LeadsPrivately}
 use Rattle.xk_outcomes.proofs.PrivateStepLemmas.{private_enabled, private_silent}
@@ -172,10 +172,10 @@ next_prints m limits ok here a same enabled =
 
 -- they have one where its step and private steps lead, and a link to it
 pub after_next : (m : ModuleValue) → IsWithinLimits m → IsAccepted m
-    → (order : Order) (all : List FoundValue) (links : List Edge) (number to : ℕ) (here y : FoundValue) (a : ℕ)
-    → here.core.module_run ≡ m → y ≡ next a here → IsThere order all y.core.world y.printed to
-    → HasLink links number (slice_get y.printed (length here.printed)) to → HasAfter m order all links number here a
-after_next m limits ok order all links number to here y a same is there link u e t =
+    → (like : Alikeness) (all : List FoundValue) (links : List Edge) (number to : ℕ) (here y : FoundValue) (a : ℕ)
+    → here.core.module_run ≡ m → y ≡ next a here → IsThere like all y.core.world y.printed to
+    → HasLink links number (slice_get y.printed (length here.printed)) to → HasAfter m like all links number here a
+after_next m limits ok like all links number to here y a same is there link u e t =
     let l = leading m limits ok here y a same is u e t in
     let printed : slice_get y.printed (length here.printed) ≡ number_printed e =
     ap (λ ns. slice_get ns (length here.printed)) l.prints ∙ one_behind here.printed (number_printed e) in (
@@ -183,7 +183,7 @@ after_next m limits ok order all links number to here y a same is there link u e
       y.core.world,
       l.private,
       to,
-      subst (λ ns. IsThere order all y.core.world ns to) l.prints there,
+      subst (λ ns. IsThere like all y.core.world ns to) l.prints there,
       subst (λ o. HasLink links number o to) printed link,
     )
 

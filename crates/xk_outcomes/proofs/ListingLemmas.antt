@@ -10,7 +10,7 @@ use Rattle.xk_types.specs.World.{opening}
 use Rattle.xk_types.specs.Schedule.{run, all_ended, printed}
 use Rattle.xk_types.specs.Logs.{schedule_of}
 use Rattle.xk_law_schedules.proofs.ReachabilityLemmas.{same_through}
-use Rattle.xk_law_commute.specs.PlainWorlds.{AreAlike, plain}
+use Rattle.xk_liveness.specs.Liveness.{AreAlikeWhereLive, IsLiveness, SlotTable, live_part}
 use Rattle.xk_core.specs.Core.{CoreValue, opening_core}
 use Rattle.xk_readings.specs.declared.edge.Edge.{Edge}
 use Rattle.xk_outcomes.specs.Found.{FoundValue}
@@ -18,6 +18,7 @@ use Rattle.xk_outcomes.specs.declared.listing.Outcome.{Outcome}
 use Rattle.xk_outcomes.specs.declared.order.Order.{Order}
 use Rattle.xk_outcomes.specs.declared.order.Order.TheVariants as order
 use Rattle.xk_outcomes.specs.Links.{AreLinked}
+use Rattle.xk_outcomes.specs.Alikeness.{Alikeness, live_by}
 use Rattle.xk_outcomes.specs.Search.{AreFound, AreAllFound, AreAtRest, AreDifferent, IsFound}
 use Rattle.xk_outcomes.specs.Rising.{key, ordered, rising}
 use Rattle.xk_outcomes.specs.Listing.{IsOf, AreApartIn, AreMet, AreOf, AreNoted}
@@ -137,10 +138,10 @@ scheduled (x ∷ all) zero p h = (x, refl, same_Some x.schedule p h)
 scheduled (x ∷ all) (suc k) p h = scheduled all k p h
 
 -- each that was found has a schedule and is at rest, and no two have the same world and numbers
-all_apart : (order : Order) (m : ModuleValue) (args : List ℤ) (all : List FoundValue) → AreFound (opening_core m args) all → AreAtRest all
-    → AreDifferent order all
-    → AreApartIn order m args (schedules all)
-all_apart order m args all found rest different = record {
+all_apart : (order : Order) (like : Alikeness) → like.order ≡ order → (m : ModuleValue) (args : List ℤ) (all : List FoundValue) → AreFound (opening_core m args) all → AreAtRest all
+    → AreDifferent like all
+    → AreApartIn (live_by like) order m args (schedules all)
+all_apart order like told m args all found rest different = record {
   legal = λ k p there.
       let x = scheduled all k p there in
       let f = found k x.0 x.1 in (
@@ -157,18 +158,19 @@ all_apart order m args all found rest different = record {
       ∙ (ap (λ (l : List ℕ). run m l (opening m args)) (sym x.2) ∙ f.legal)) in
       let to_v : v ≡ y.0.core.world = same_through v y.0.core.world (sym lead_v
       ∙ (ap (λ (l : List ℕ). run m l (opening m args)) (sym y.2) ∙ g.legal)) in
-      let worlds : AreAlike y.0.core.world x.0.core.world = ap plain (sym to_v) ∙ sym alike ∙ ap plain to_w in
+      let worlds : AreAlikeWhereLive (live_by like) y.0.core.world x.0.core.world =
+      ap (live_part (live_by like)) (sym to_v) ∙ sym alike ∙ ap (live_part (live_by like)) to_w in
       let numbers : key order x.0.printed ≡ key order y.0.printed =
       ap (key order) (sym f.prints ∙ ap (λ (l : List ℕ). printed m l (opening m args)) x.2) ∙ same
       ∙ ap (key order) (ap (λ (l : List ℕ). printed m l (opening m args)) (sym y.2) ∙ g.prints) in
-      different i j x.0 y.0 x.1 y.1 (worlds, numbers);
+      different i j x.0 y.0 x.1 y.1 (worlds, subst (λ o. key o x.0.printed ≡ key o y.0.printed) (sym told) numbers);
 }
 
 -- where whatever stands along links is listed, what the ones print is in which all have ended
-ends_listed : (order : Order) (m : ModuleValue) (args : List ℤ) (all : List FoundValue) (links : List Edge) (list : List Outcome)
-    → AreFound (opening_core m args) all → AreLinked m all links
+ends_listed : (order : Order) (live : SlotTable) (m : ModuleValue) (args : List ℤ) (all : List FoundValue) (links : List Edge) (list : List Outcome)
+    → AreFound (opening_core m args) all → AreLinked live m all links
     → AreMet order all links list → AreEndsListedIn order m args (schedules all) list
-ends_listed order m args all links list found linked met k p numbers there o =
+ends_listed order live m args all links list found linked met k p numbers there o =
     let x = scheduled all k p there in
     let f = found k x.0 x.1 in
     let same : o.last ≡ x.0.core.world = same_through o.last x.0.core.world (sym o.legal
@@ -182,15 +184,17 @@ met_unless : (all : Bool) (P : Type 0) (limit n : ℕ) → (all ≡ true → P) 
 met_unless true P limit n is full less = is refl
 met_unless false P limit n is full less = absurd (omega (arith, full refl, less))
 
-pub all_kept : (order : Order) (m : ModuleValue) (args : List ℤ) (limit : ℕ) (all : List FoundValue) (links : List Edge) (list : List Outcome) (whole : Bool)
-    → AreFound (opening_core m args) all → AreLinked m all links
-    → AreAtRest all → AreDifferent order all → (whole ≡ true → AreMet order all links list) → (whole ≡ false → limit ≤ length list)
+pub all_kept : (order : Order) (like : Alikeness) → like.order ≡ order → (m : ModuleValue) (args : List ℤ) (limit : ℕ) (all : List FoundValue) (links : List Edge) (list : List Outcome) (whole : Bool)
+    → AreFound (opening_core m args) all → AreLinked (live_by like) m all links → IsLiveness m (live_by like)
+    → AreAtRest all → AreDifferent like all → (whole ≡ true → AreMet order all links list) → (whole ≡ false → limit ≤ length list)
     → HasKeptIn order m args limit list (length all)
-all_kept order m args limit all links list whole found linked rest different met full = record {
+all_kept order like told m args limit all links list whole found linked liveness rest different met full = record {
   schedules = schedules all;
   many = length-map all (λ (x : FoundValue). x.schedule);
-  apart = all_apart order m args all found rest different;
-  ends = λ less. ends_listed order m args all links list found linked (met_unless whole (AreMet order all links list) limit (length list) met full less);
+  live = live_by like;
+  liveness = liveness;
+  apart = all_apart order like told m args all found rest different;
+  ends = λ less. ends_listed order (live_by like) m args all links list found linked (met_unless whole (AreMet order all links list) limit (length list) met full less);
 }
 
 -- ---- as they are printed, and rising
@@ -222,6 +226,8 @@ pub printed_kept : (m : ModuleValue) (args : List ℤ) (limit : ℕ) (list : Lis
 printed_kept m args limit list entries kept = record {
   schedules = kept.schedules;
   many = kept.many;
+  live = kept.live;
+  liveness = kept.liveness;
   apart = record {
     legal = kept.apart.legal;
     apart = λ i j p q w v hi hj lead_w lead_v alike. kept.apart.apart i j p q w v hi hj lead_w lead_v alike refl;
@@ -235,6 +241,8 @@ pub sets_kept : (m : ModuleValue) (args : List ℤ) (limit : ℕ) (list : List O
 sets_kept m args limit list entries kept = record {
   schedules = kept.schedules;
   many = kept.many;
+  live = kept.live;
+  liveness = kept.liveness;
   apart = record {
     legal = kept.apart.legal;
     apart = λ i j p q w v hi hj lead_w lead_v alike same.

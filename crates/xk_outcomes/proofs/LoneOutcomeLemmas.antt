@@ -107,6 +107,8 @@ pub none_kept : (order : Order) (m : ModuleValue) (args : List ℤ) (limit : ℕ
 none_kept order m args limit list = record {
   schedules = [];
   many = refl;
+  live = λ u p s. true;
+  liveness = λ f i s here h. refl;
   apart = record {
     legal = λ k p there. absurd (none-some p there);
     apart = λ i j p q w v here there to_w to_v alike same. absurd (none-some p here);

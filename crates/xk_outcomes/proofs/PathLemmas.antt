@@ -6,6 +6,7 @@ use Rattle.xk_readings.specs.declared.edge.Edge.{Edge}
 use Rattle.xk_readings.specs.declared.listing.Reading.{Reading}
 use Rattle.xk_readings.specs.Graphs.{graph}
 use Rattle.xk_readings.specs.Readings.{AreAllListed, AreShown}
+use Rattle.xk_liveness.specs.Liveness.{IsLiveness, SlotTable}
 use Rattle.xk_outcomes.specs.declared.listing.Outcome.{Outcome}
 use Rattle.xk_outcomes.specs.declared.order.Order.TheVariants as order
 use Rattle.xk_outcomes.specs.Found.{FoundValue, first_found}
@@ -50,10 +51,11 @@ all_read all links found list whole listed n acts numbers reads =
     subst (IsListed list) h.3 (listed h.0 h.1 h.2)
 
 -- whatever can be read is played by its steps
-pub played : (start : CoreValue) (all : List FoundValue) (links : List Edge) → AreLinked start.module_run all links → AreFound start all
+pub played : (start : CoreValue) (live : SlotTable) → IsLiveness start.module_run live → (all : List FoundValue) (links : List Edge)
+    → AreLinked live start.module_run all links → AreFound start all
     → slice_get all 0 ≡ Some (first_found start) → (first_found start).printed ≡ [] → ArePlayed start all links
-played start all links linked found first silent n acts numbers reads =
-    let f = read_follows start all links linked found first n acts numbers reads in
+played start live liveness all links linked found first silent n acts numbers reads =
+    let f = read_follows start live liveness all links linked found first n acts numbers reads in
     record {
       ended = f.ended;
       prints = f.prints ∙ ap (λ ns. ns ++ numbers) silent;

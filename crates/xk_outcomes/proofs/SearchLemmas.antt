@@ -12,7 +12,7 @@ use Rattle.xk_types.specs.Step.{Stepped, step}
 use Rattle.xk_types.specs.Schedule.{Through, run, all_ended, is_enabled, number_printed, printed}
 use Rattle.xk_law_schedules.proofs.ReachabilityLemmas.{same_through, first_step}
 use Rattle.xk_law_commute.proofs.ChangeSquareLemmas.{found_of}
-use Rattle.xk_law_commute.specs.PlainWorlds.{plain}
+use Rattle.xk_liveness.specs.Liveness.{SlotTable, live_part}
 use Rattle.xk_closed_sets.specs.ClosedSets.{is_in}
 use Rattle.xk_readings.specs.declared.edge.Edge.{Edge}
 use Rattle.xk_digests.specs.Digest.{world_digest}
@@ -20,7 +20,7 @@ use Rattle.xk_digests.proofs.DigestLemmas.{alike_digests}
 use Rattle.xk_types.proofs.ListLemmas.{get-append_left as stays, get_inside as there_is, get_push as at_end}
 use Rattle.xk_readings.proofs.ListLemmas.{place}
 use Rattle.xk_closed.proofs.ClosedLaw.{printed_first}
-use Rattle.xk_outcomes.specs.declared.order.Order.{Order}
+use Rattle.xk_outcomes.specs.Alikeness.{Alikeness, live_by}
 use Rattle.xk_core.specs.Core.{CoreValue}
 use Rattle.xk_outcomes.specs.Found.{FoundValue, first_found, next}
 use Rattle.xk_outcomes.specs.Links.{AreLinked, HasLink, IsLink, LeadTo, Leads, ends}
@@ -51,9 +51,9 @@ grown_push old new x e k y h = subst (λ l. slice_get l k ≡ Some y) (sym e) (s
 grown_same : {X : Type 0} (old new : List X) → new ≡ old → IsGrown old new
 grown_same old new e k y h = subst (λ l. slice_get l k ≡ Some y) (sym e) h
 
-there_grown : (order : Order) (old new : List FoundValue) (w : World) (p : List ℤ) (k : ℕ) → IsGrown old new → IsThere order old w p k
-    → IsThere order new w p k
-there_grown order old new w p k grown h = (h.0, grown k h.0 h.1, h.2)
+there_grown : (like : Alikeness) (old new : List FoundValue) (w : World) (p : List ℤ) (k : ℕ) → IsGrown old new → IsThere like old w p k
+    → IsThere like new w p k
+there_grown like old new w p k grown h = (h.0, grown k h.0 h.1, h.2)
 
 link_grown : (old new : List Edge) (from : ℕ) (o : Option ℤ) (to : ℕ) → IsGrown old new → HasLink old from o to → HasLink new from o to
 link_grown old new from o to grown h = (h.0, h.1, grown h.0 h.1 h.2, h.3, h.4, h.5)
@@ -64,15 +64,15 @@ leads_grown old new grown zero k acts numbers h = h
 leads_grown old new grown (suc n) k acts numbers h =
     (h.0, h.1, grown h.1 h.0 h.2, h.3, h.4, h.5, leads_grown old new grown n h.0.from h.4 h.5 h.6, h.7, h.8)
 
-pub after_grown : (m : ModuleValue) (order : Order) (old new : List FoundValue) (links more : List Edge) (number : ℕ) (x : FoundValue) (a : ℕ) → IsGrown old new
-    → IsGrown links more → HasAfter m order old links number x a → HasAfter m order new more number x a
-after_grown m order old new links more number x a grown longer h u e t =
+pub after_grown : (m : ModuleValue) (like : Alikeness) (old new : List FoundValue) (links more : List Edge) (number : ℕ) (x : FoundValue) (a : ℕ) → IsGrown old new
+    → IsGrown links more → HasAfter m like old links number x a → HasAfter m like new more number x a
+after_grown m like old new links more number x a grown longer h u e t =
     let r = h u e t in (
       r.0,
       r.1,
       r.2,
       r.3,
-      there_grown order old new r.1 (x.printed ++ option_to_list (number_printed e)) r.3 grown r.4,
+      there_grown like old new r.1 (x.printed ++ option_to_list (number_printed e)) r.3 grown r.4,
       link_grown links more number (number_printed e) r.3 longer r.5,
     )
 
@@ -82,48 +82,48 @@ longer old new n grown h = let y = there_is old n h in slice_get_within new n y.
 -- ---- one is added
 
 -- so it is there
-pub added_there : (order : Order) (old new : List FoundValue) (x : FoundValue) (k : ℕ) → IsAdded order old new x k
-    → IsThere order new x.core.world x.printed k
-added_there order old new x k (inl h) = subst (λ l. IsThere order l x.core.world x.printed k) (sym h.0) h.1
-added_there order old new x k (inr h) =
+pub added_there : (like : Alikeness) (old new : List FoundValue) (x : FoundValue) (k : ℕ) → IsAdded like old new x k
+    → IsThere like new x.core.world x.printed k
+added_there like old new x k (inl h) = subst (λ l. IsThere like l x.core.world x.printed k) (sym h.0) h.1
+added_there like old new x k (inr h) =
     (x, subst (λ l. slice_get l k ≡ Some x) (sym h.0) (subst (λ j. slice_get (old ++ x ∷ []) j ≡ Some x) (sym h.1) (at_end old x)), (refl, refl))
 
-added_grown : (order : Order) (old new : List FoundValue) (x : FoundValue) (k : ℕ) → IsAdded order old new x k → IsGrown old new
-added_grown order old new x k (inl h) = grown_same old new h.0
-added_grown order old new x k (inr h) = grown_push old new x h.0
+added_grown : (like : Alikeness) (old new : List FoundValue) (x : FoundValue) (k : ℕ) → IsAdded like old new x k → IsGrown old new
+added_grown like old new x k (inl h) = grown_same old new h.0
+added_grown like old new x k (inr h) = grown_push old new x h.0
 
 -- Where those that were found were linked, they are with one more, and the link to it.
-pub linked_push : (m : ModuleValue) (order : Order) (old new : List FoundValue) (links more : List Edge) (l : Edge) (x y : FoundValue)
-    → AreLinked m old links
+pub linked_push : (m : ModuleValue) (like : Alikeness) (old new : List FoundValue) (links more : List Edge) (l : Edge) (x y : FoundValue)
+    → AreLinked (live_by like) m old links
     → slice_get old l.from ≡ Some x → y ≡ next l.act x → is_enabled m x.core.world l.act ≡ true
     → y.printed ≡ x.printed ++ option_to_list l.printed
-    → IsAdded order old new y l.to → more ≡ links ++ l ∷ [] → AreLinked m new more
-linked_push m order old new links more l x y linked out is enabled prints added one = record {
+    → IsAdded like old new y l.to → more ≡ links ++ l ∷ [] → AreLinked (live_by like) m new more
+linked_push m like old new links more l x y linked out is enabled prints added one = record {
   each = λ j z there. by_link j z (place links l j z (subst (λ (e : List Edge). slice_get e j ≡ Some z) one there));
   led = λ k z there. by_one added k z there;
 }
   where
     grown : IsGrown old new
-    grown = added_grown order old new y l.to added
+    grown = added_grown like old new y l.to added
 
     longer_links : IsGrown links more
     longer_links = grown_push links more l one
 
     -- the new link
-    this : IsLink m new l
+    this : IsLink (live_by like) m new l
     this =
-        let t = added_there order old new y l.to added in
+        let t = added_there like old new y l.to added in
         record {
           source = x;
           target = t.0;
           out = grown l.from x out;
           into = t.1;
           enabled = enabled;
-          alike = ap (λ (z : FoundValue). plain z.core.world) (sym is) ∙ t.2.0;
+          alike = ap (λ (z : FoundValue). live_part (live_by like) z.core.world) (sym is) ∙ t.2.0;
           prints = ap (λ (z : FoundValue). z.printed) (sym is) ∙ prints;
         }
 
-    by_link : (j : ℕ) (z : Edge) → (slice_get links j ≡ Some z) ⊎ ((j ≡ length links) × (l ≡ z)) → IsLink m new z
+    by_link : (j : ℕ) (z : Edge) → (slice_get links j ≡ Some z) ⊎ ((j ≡ length links) × (l ≡ z)) → IsLink (live_by like) m new z
     by_link j z (inl a) =
         let h = linked.each j z a in
         record {
@@ -135,7 +135,7 @@ linked_push m order old new links more l x y linked out is enabled prints added 
           alike = h.alike;
           prints = h.prints;
         }
-    by_link j z (inr b) = subst (IsLink m new) b.1 this
+    by_link j z (inr b) = subst (IsLink (live_by like) m new) b.1 this
 
     was_led : (k : ℕ) (z : FoundValue) → slice_get old k ≡ Some z → LeadTo more k z.printed
     was_led k z there = let h = linked.led k z there in (h.0, h.1, leads_grown links more longer_links h.0 k h.1 z.printed h.2)
@@ -158,7 +158,7 @@ linked_push m order old new links more l x y linked out is enabled prints added 
           ),
         )
 
-    by_one : IsAdded order old new y l.to → (k : ℕ) (z : FoundValue) → slice_get new k ≡ Some z → LeadTo more k z.printed
+    by_one : IsAdded like old new y l.to → (k : ℕ) (z : FoundValue) → slice_get new k ≡ Some z → LeadTo more k z.printed
     by_one (inl h) k z there = was_led k z (subst (λ (e : List FoundValue). slice_get e k ≡ Some z) h.0 there)
     by_one (inr h) k z there = of (place old y k z (subst (λ (e : List FoundValue). slice_get e k ≡ Some z) h.0 there))
       where
@@ -171,10 +171,10 @@ pub added_link : (links more : List Edge) (l : Edge) → more ≡ links ++ l ∷
 added_link links more l one = (length links, l, subst (λ (e : List Edge). slice_get e (length links) ≡ Some l) (sym one) (at_end links l), refl, refl, refl)
 
 -- the first one alone is linked, by no link
-pub linked_first : (m : ModuleValue) (start : CoreValue) (all : List FoundValue) (links : List Edge) → all ≡ first_found start ∷ []
+pub linked_first : (live : SlotTable) (m : ModuleValue) (start : CoreValue) (all : List FoundValue) (links : List Edge) → all ≡ first_found start ∷ []
     → links ≡ []
-    → (first_found start).printed ≡ [] → AreLinked m all links
-linked_first m start all links one none silent = record {
+    → (first_found start).printed ≡ [] → AreLinked live m all links
+linked_first live m start all links one none silent = record {
   each = λ j l there. absurd (none-some l (subst (λ (e : List Edge). slice_get e j ≡ Some l) none there));
   led = λ k x there. by k x (subst (λ (e : List FoundValue). slice_get e k ≡ Some x) one there);
 }
@@ -194,77 +194,77 @@ tried members a inside = by (length members == 0)
     by false = inside
 
 -- who isn't there takes no step
-pub after_all : (m : ModuleValue) (order : Order) (all : List FoundValue) (links : List Edge) (number : ℕ) (here : FoundValue) (test : ℕ → Bool) (last : ℕ)
-    → ((a : ℕ) → a < last → test a ≡ true → HasAfter m order all links number here a)
-    → length here.core.world.activities ≤ last → (a : ℕ) → test a ≡ true → HasAfter m order all links number here a
-after_all m order all links number here test last before enough a passes = by (side a last)
+pub after_all : (m : ModuleValue) (like : Alikeness) (all : List FoundValue) (links : List Edge) (number : ℕ) (here : FoundValue) (test : ℕ → Bool) (last : ℕ)
+    → ((a : ℕ) → a < last → test a ≡ true → HasAfter m like all links number here a)
+    → length here.core.world.activities ≤ last → (a : ℕ) → test a ≡ true → HasAfter m like all links number here a
+after_all m like all links number here test last before enough a passes = by (side a last)
   where
     side : (i n : ℕ) → (i < n) ⊎ (n ≤ i)
     side i n = grind arith
 
-    by : (a < last) ⊎ (last ≤ a) → HasAfter m order all links number here a
+    by : (a < last) ⊎ (last ≤ a) → HasAfter m like all links number here a
     by (inl l) = before a l passes
     by (inr g) = λ u e t.
         let act = found_of m here.core.world a u e t in
         let inside = slice_get_within here.core.world.activities a act.0 act.1 in
         absurd (omega (arith, inside, g, enough))
 
-expanded_grown : (m : ModuleValue) (order : Order) (old new : List FoundValue) (links more : List Edge) (number : ℕ) (x : FoundValue)
+expanded_grown : (m : ModuleValue) (like : Alikeness) (old new : List FoundValue) (links more : List Edge) (number : ℕ) (x : FoundValue)
     → IsGrown old new
-    → IsGrown links more → IsExpanded m order old links number x → IsExpanded m order new more number x
-expanded_grown m order old new links more number x grown longer_links (inl s) = inl (record {
+    → IsGrown links more → IsExpanded m like old links number x → IsExpanded m like new more number x
+expanded_grown m like old new links more number x grown longer_links (inl s) = inl (record {
   set = s.set;
   closed = s.closed;
   free = s.free;
   inside = s.inside;
   enabled = s.enabled;
-  next = λ a inside. after_grown m order old new links more number x a grown longer_links (s.next a inside);
+  next = λ a inside. after_grown m like old new links more number x a grown longer_links (s.next a inside);
 })
-expanded_grown m order old new links more number x grown longer_links (inr each) =
-    inr (λ a. after_grown m order old new links more number x a grown longer_links (each a))
+expanded_grown m like old new links more number x grown longer_links (inr each) =
+    inr (λ a. after_grown m like old new links more number x a grown longer_links (each a))
 
-pub expanded_more : (m : ModuleValue) (order : Order) (old new : List FoundValue) (links more : List Edge) (n : ℕ) → n < length old
+pub expanded_more : (m : ModuleValue) (like : Alikeness) (old new : List FoundValue) (links more : List Edge) (n : ℕ) → n < length old
     → IsGrown old new → IsGrown links more
-    → AreExpanded m order old links n
-    → ((x : FoundValue) → slice_get old n ≡ Some x → IsExpanded m order new more n x) → AreExpanded m order new more (n + 1)
-expanded_more m order old new links more n within grown longer_links before here k x less there =
+    → AreExpanded m like old links n
+    → ((x : FoundValue) → slice_get old n ≡ Some x → IsExpanded m like new more n x) → AreExpanded m like new more (n + 1)
+expanded_more m like old new links more n within grown longer_links before here k x less there =
     let y = there_is old k (omega (arith, less, within)) in
-    subst (λ (z : FoundValue). IsExpanded m order new more k z) (same_Some y.0 x (sym (grown k y.0 y.1)
+    subst (λ (z : FoundValue). IsExpanded m like new more k z) (same_Some y.0 x (sym (grown k y.0 y.1)
     ∙ there)) (by y.0 y.1 (split k n less))
   where
     split : (i j : ℕ) → i < j + 1 → (i < j) ⊎ (i ≡ j)
     split i j h = grind arith
 
-    by : (y : FoundValue) → slice_get old k ≡ Some y → (k < n) ⊎ (k ≡ n) → IsExpanded m order new more k y
-    by y at (inl l) = expanded_grown m order old new links more k y grown longer_links (before k y l at)
-    by y at (inr e) = subst (λ j. IsExpanded m order new more j y) (sym e) (here y (subst (λ j. slice_get old j ≡ Some y) e at))
+    by : (y : FoundValue) → slice_get old k ≡ Some y → (k < n) ⊎ (k ≡ n) → IsExpanded m like new more k y
+    by y at (inl l) = expanded_grown m like old new links more k y grown longer_links (before k y l at)
+    by y at (inr e) = subst (λ j. IsExpanded m like new more j y) (sym e) (here y (subst (λ j. slice_get old j ≡ Some y) e at))
 
 -- ---- no two are the same
 
 -- those that are at the same have one digest
-pub same_digests : (order : Order) (x new : FoundValue) → IsAt order x new.core.world new.printed
-    → found_digest order x ≡ found_digest order new
-same_digests order x new at = ap (world_digest x.core.world) at.1
-    ∙ sym (alike_digests new.core.world x.core.world (key order new.printed) at.0)
+pub same_digests : (like : Alikeness) (x new : FoundValue) → IsAt like x new.core.world new.printed
+    → found_digest like x ≡ found_digest like new
+same_digests like x new at = ap (world_digest (live_by like) x.core.world) at.1
+    ∙ sym (alike_digests (live_by like) new.core.world x.core.world (key like.order new.printed) at.0)
 
-pub different_push : (order : Order) (old new : List FoundValue) (o : FoundValue) → new ≡ old ++ o ∷ []
-    → (Has order old o.core.world o.printed → ⊥)
-    → AreDifferent order old → AreDifferent order new
-different_push order old new o e fresh before i j x y hi hj same =
+pub different_push : (like : Alikeness) (old new : List FoundValue) (o : FoundValue) → new ≡ old ++ o ∷ []
+    → (Has like old o.core.world o.printed → ⊥)
+    → AreDifferent like old → AreDifferent like new
+different_push like old new o e fresh before i j x y hi hj same =
     by (place old o i x (subst (λ (l : List FoundValue). slice_get l i ≡ Some x) e hi)) (place old o j y (subst (λ (l : List FoundValue). slice_get l j ≡ Some y) e hj))
   where
     by : (slice_get old i ≡ Some x) ⊎ ((i ≡ length old) × (o ≡ x)) → (slice_get old j ≡ Some y) ⊎ ((j ≡ length old) × (o ≡ y)) → i ≡ j
     by (inl a) (inl b) = before i j x y a b same
-    by (inl a) (inr b) = absurd (fresh (i, (x, a, subst (λ (z : FoundValue). IsAt order x z.core.world z.printed) (sym b.1) same)))
+    by (inl a) (inr b) = absurd (fresh (i, (x, a, subst (λ (z : FoundValue). IsAt like x z.core.world z.printed) (sym b.1) same)))
     by (inr a) (inl b) =
-        absurd (fresh (j, (y, b, subst (λ (z : FoundValue). IsAt order y z.core.world z.printed) (sym a.1) (sym same.0, sym same.1))))
+        absurd (fresh (j, (y, b, subst (λ (z : FoundValue). IsAt like y z.core.world z.printed) (sym a.1) (sym same.0, sym same.1))))
     by (inr a) (inr b) = a.0 ∙ sym b.0
 
-pub digests_push : (order : Order) (old new : List FoundValue) (digests more : List ℕ) (x : FoundValue) → new ≡ old ++ x ∷ []
-    → more ≡ digests ++ found_digest order x ∷ [] → AreDigests order old digests → AreDigests order new more
-digests_push order old new digests more x e f h =
-    f ∙ ap (λ (l : List ℕ). l ++ found_digest order x ∷ []) h ∙ sym (map-append (found_digest order) old (x ∷ []))
-    ∙ ap (map (found_digest order)) (sym e)
+pub digests_push : (like : Alikeness) (old new : List FoundValue) (digests more : List ℕ) (x : FoundValue) → new ≡ old ++ x ∷ []
+    → more ≡ digests ++ found_digest like x ∷ [] → AreDigests like old digests → AreDigests like new more
+digests_push like old new digests more x e f h =
+    f ∙ ap (λ (l : List ℕ). l ++ found_digest like x ∷ []) h ∙ sym (map-append (found_digest like) old (x ∷ []))
+    ∙ ap (map (found_digest like)) (sym e)
 
 pub ends_push : (old new : List FoundValue) (over more : List Bool) (x : FoundValue) → new ≡ old ++ x ∷ []
     → more ≡ over ++ all_ended x.core.world ∷ []

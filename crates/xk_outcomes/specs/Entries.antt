@@ -2,7 +2,8 @@
 use Rattle.std.specs.Prelude.{◌≡◌, ℕ, ◌≤◌, Bool, List, [], ◌∷◌, ◌++◌, Some, slice_get, get_or, fold}
 use Rattle.xk_core.specs.Core.{CoreValue}
 use Rattle.xk_outcomes.specs.declared.entries.Edge.{Edge}
-use Rattle.xk_outcomes.specs.declared.order.Order.{Order}
+use Rattle.xk_liveness.specs.Liveness.{IsLiveness}
+use Rattle.xk_outcomes.specs.Alikeness.{Alikeness, live_by}
 use Rattle.xk_outcomes.specs.Found.{FoundValue, first_found, next}
 use Rattle.xk_outcomes.specs.Links.{ends}
 use Rattle.xk_outcomes.specs.Search.{AreDifferent, AreDigests}
@@ -10,7 +11,7 @@ use Rattle.xk_outcomes.specs.Search.{AreDifferent, AreDigests}
 -- where the search starts, by what those are told apart that are alike, and all that were found
 pub record EntriesValue : Type 0 where
   pub start : CoreValue
-  pub order : Order
+  pub like : Alikeness
   pub all : List FoundValue
 
 -- with one more: by a step from one of these, and private steps
@@ -22,18 +23,19 @@ abbrev pub led_by : CoreValue → List Edge → List FoundValue
 led_by start edges = fold (with_edge (first_found start)) (first_found start ∷ []) edges
 
 -- the first one alone
-abbrev pub first_entry : Order → CoreValue → EntriesValue
-first_entry order start = record { start = start; order = order; all = first_found start ∷ [] }
+abbrev pub first_entry : Alikeness → CoreValue → EntriesValue
+first_entry like start = record { start = start; like = like; all = first_found start ∷ [] }
 
 -- each edge goes out from one that was found before it: edge number k leads to number k + 1
 abbrev pub AreBehind : List Edge → Type 0
 AreBehind edges = (k : ℕ) (e : Edge) → slice_get edges k ≡ Some e → e.from ≤ k
 
--- The search starts with a core that has taken no step; these are the digests of those that the edges lead to, of which no two are the same; and in these
+-- The search starts with a core that has taken no step, in whose module no more slots are live than are told; these are the digests of those that the edges lead to, of which no two are the same; and in these
 -- all have ended.
-pub record AreEntries (start : CoreValue) (order : Order) (edges : List Edge) (digests : List ℕ) (over : List Bool) : Type 0 where
+pub record AreEntries (start : CoreValue) (like : Alikeness) (edges : List Edge) (digests : List ℕ) (over : List Bool) : Type 0 where
   pub root : start.world.steps ≡ 0
+  pub liveness : IsLiveness start.module_run (live_by like)
   pub behind : AreBehind edges
-  pub digests_are : AreDigests order (led_by start edges) digests
+  pub digests_are : AreDigests like (led_by start edges) digests
   pub over_are : over ≡ ends (led_by start edges)
-  pub different : AreDifferent order (led_by start edges)
+  pub different : AreDifferent like (led_by start edges)

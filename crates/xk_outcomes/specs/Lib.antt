@@ -3,6 +3,7 @@ pub mod Limits
 pub mod Sets
 pub mod PrivateSteps
 pub mod Found
+pub mod Alikeness
 pub mod Links
 pub mod Search
 pub mod Entries

@@ -3,18 +3,19 @@ use Rattle.std.specs.Prelude.{◌≡◌, ℕ, zero, suc, ℤ, Bool, true, List, 
 use Rattle.std.specs.Option.{option_to_list}
 use Rattle.xk_types.specs.Code.{ModuleValue}
 use Rattle.xk_types.specs.Schedule.{all_ended, is_enabled}
-use Rattle.xk_law_commute.specs.PlainWorlds.{AreAlike}
+use Rattle.xk_liveness.specs.Liveness.{AreAlikeWhereLive, SlotTable}
 use Rattle.xk_readings.specs.declared.edge.Edge.{Edge}
 use Rattle.xk_outcomes.specs.Found.{FoundValue, next}
 
--- Its activity can take a step from the one, which prints that; the step, and private steps behind it, lead to a world that is like the other's.
-pub record IsLink (m : ModuleValue) (all : List FoundValue) (l : Edge) : Type 0 where
+-- Its activity can take a step from the one, which prints that; the step, and private steps behind it, lead to a world that is like the other's
+-- where slots are live.
+pub record IsLink (live : SlotTable) (m : ModuleValue) (all : List FoundValue) (l : Edge) : Type 0 where
   pub source : FoundValue
   pub target : FoundValue
   pub out : slice_get all l.from ≡ Some source
   pub into : slice_get all l.to ≡ Some target
   pub enabled : is_enabled m source.core.world l.act ≡ true
-  pub alike : AreAlike (next l.act source).core.world target.core.world
+  pub alike : AreAlikeWhereLive live (next l.act source).core.world target.core.world
   pub prints : (next l.act source).printed ≡ source.printed ++ option_to_list l.printed
 
 -- one of them is a link from this one to that one, and prints that
@@ -32,8 +33,8 @@ abbrev pub LeadTo : List Edge → ℕ → List ℤ → Type 0
 LeadTo links k numbers = (n : ℕ) × (acts : List ℕ) × Leads links n k acts numbers
 
 -- Each is a link; and to each that was found some lead, which print what was printed by then.
-pub record AreLinked (m : ModuleValue) (all : List FoundValue) (links : List Edge) : Type 0 where
-  pub each : (j : ℕ) (l : Edge) → slice_get links j ≡ Some l → IsLink m all l
+pub record AreLinked (live : SlotTable) (m : ModuleValue) (all : List FoundValue) (links : List Edge) : Type 0 where
+  pub each : (j : ℕ) (l : Edge) → slice_get links j ≡ Some l → IsLink live m all l
   pub led : (k : ℕ) (x : FoundValue) → slice_get all k ≡ Some x → LeadTo links k x.printed
 
 -- whether all have ended in it

@@ -6,11 +6,12 @@ use Rattle.xk_types.specs.Code.{ModuleValue}
 use Rattle.xk_types.specs.World.{World}
 use Rattle.xk_types.specs.Step.{Stepped, step}
 use Rattle.xk_types.specs.Schedule.{Through, run, all_ended, is_enabled, number_printed, printed}
-use Rattle.xk_law_commute.specs.PlainWorlds.{AreAlike}
+use Rattle.xk_liveness.specs.Liveness.{AreAlikeWhereLive}
 use Rattle.xk_closed.specs.Closed.{IsClosed}
 use Rattle.xk_closed_sets.specs.ClosedSets.{is_in}
 use Rattle.xk_outcomes.specs.PrivateSteps.{has_private_step}
 use Rattle.xk_core.specs.Core.{CoreValue}
+use Rattle.xk_outcomes.specs.Alikeness.{Alikeness, live_by}
 use Rattle.xk_outcomes.specs.Found.{FoundValue, at_rest}
 use Rattle.xk_readings.specs.declared.edge.Edge.{Edge}
 use Rattle.xk_outcomes.specs.declared.order.Order.{Order}
@@ -52,62 +53,62 @@ AreAtRest all = (k : ℕ) (x : FoundValue) → slice_get all k ≡ Some x → Is
 abbrev pub IsGrown : {X : Type 0} → List X → List X → Type 0
 IsGrown {X} old new = (k : ℕ) (x : X) → slice_get old k ≡ Some x → slice_get new k ≡ Some x
 
--- it is in a world that is like this one, and these numbers being printed by then doesn't tell it apart
-abbrev pub IsAt : Order → FoundValue → World → List ℤ → Type 0
-IsAt order x w numbers = AreAlike w x.core.world × (key order x.printed ≡ key order numbers)
+-- it is in a world that is like this one where slots are live, and these numbers being printed by then doesn't tell it apart
+abbrev pub IsAt : Alikeness → FoundValue → World → List ℤ → Type 0
+IsAt like x w numbers = AreAlikeWhereLive (live_by like) w x.core.world × (key like.order x.printed ≡ key like.order numbers)
 
 -- the one of a number is
-abbrev pub IsThere : Order → List FoundValue → World → List ℤ → ℕ → Type 0
-IsThere order all w numbers k = (x : FoundValue) × (slice_get all k ≡ Some x) × IsAt order x w numbers
+abbrev pub IsThere : Alikeness → List FoundValue → World → List ℤ → ℕ → Type 0
+IsThere like all w numbers k = (x : FoundValue) × (slice_get all k ≡ Some x) × IsAt like x w numbers
 
 -- one of them is
-abbrev pub Has : Order → List FoundValue → World → List ℤ → Type 0
-Has order all w numbers = (k : ℕ) × IsThere order all w numbers k
+abbrev pub Has : Alikeness → List FoundValue → World → List ℤ → Type 0
+Has like all w numbers = (k : ℕ) × IsThere like all w numbers k
 
 -- It was there already, at this number; or it was put behind the others.
-abbrev pub IsAdded : Order → List FoundValue → List FoundValue → FoundValue → ℕ → Type 0
-IsAdded order old new x k = ((new ≡ old) × IsThere order old x.core.world x.printed k) ⊎ ((new ≡ old ++ x ∷ []) × (k ≡ length old))
+abbrev pub IsAdded : Alikeness → List FoundValue → List FoundValue → FoundValue → ℕ → Type 0
+IsAdded like old new x k = ((new ≡ old) × IsThere like old x.core.world x.printed k) ⊎ ((new ≡ old ++ x ∷ []) × (k ≡ length old))
 
 -- no two of them are the same
-abbrev pub AreDifferent : Order → List FoundValue → Type 0
-AreDifferent order all = (i j : ℕ) (x y : FoundValue) → slice_get all i ≡ Some x → slice_get all j ≡ Some y
-    → IsAt order x y.core.world y.printed → i ≡ j
+abbrev pub AreDifferent : Alikeness → List FoundValue → Type 0
+AreDifferent like all = (i j : ℕ) (x y : FoundValue) → slice_get all i ≡ Some x → slice_get all j ≡ Some y
+    → IsAt like x y.core.world y.printed → i ≡ j
 
 -- the digest of one that was found
-abbrev pub found_digest : Order → FoundValue → ℕ
-found_digest order x = world_digest x.core.world (key order x.printed)
+abbrev pub found_digest : Alikeness → FoundValue → ℕ
+found_digest like x = world_digest (live_by like) x.core.world (key like.order x.printed)
 
 -- their digests
-abbrev pub AreDigests : Order → List FoundValue → List ℕ → Type 0
-AreDigests order all digests = digests ≡ map (found_digest order) all
+abbrev pub AreDigests : Alikeness → List FoundValue → List ℕ → Type 0
+AreDigests like all digests = digests ≡ map (found_digest like) all
 
 -- Where activity a can take a step from the one of a number, a link with what that prints leads to one of them; and so do private
 -- steps behind the step.
-abbrev pub HasAfter : ModuleValue → Order → List FoundValue → List Edge → ℕ → FoundValue → ℕ → Type 0
-HasAfter m order all links number x a = (u : World) (e : Event) → step m x.core.world a ≡ Stepped u e
+abbrev pub HasAfter : ModuleValue → Alikeness → List FoundValue → List Edge → ℕ → FoundValue → ℕ → Type 0
+HasAfter m like all links number x a = (u : World) (e : Event) → step m x.core.world a ≡ Stepped u e
     → (list : List ℕ) × (v : World) × LeadsPrivately m list u v
-    × (k : ℕ) × IsThere order all v (x.printed ++ option_to_list (number_printed e)) k × HasLink links number (number_printed e) k
+    × (k : ℕ) × IsThere like all v (x.printed ++ option_to_list (number_printed e)) k × HasLink links number (number_printed e) k
 
 -- an activity is tried that is one of these; and each is where none is told
 abbrev pub is_tried : List Bool → ℕ → Bool
 is_tried members a = (length members == 0) || is_in members a
 
 -- so it is of each activity of a closed set in which somebody can take a step
-pub record HasSetAfter (m : ModuleValue) (order : Order) (all : List FoundValue) (links : List Edge) (number : ℕ) (x : FoundValue) : Type 0 where
+pub record HasSetAfter (m : ModuleValue) (like : Alikeness) (all : List FoundValue) (links : List Edge) (number : ℕ) (x : FoundValue) : Type 0 where
   pub set : ℕ → Bool
   pub closed : IsClosed m x.core.world set
   pub free : ℕ
   pub inside : set free ≡ true
   pub enabled : is_enabled m x.core.world free ≡ true
-  pub next : (a : ℕ) → set a ≡ true → HasAfter m order all links number x a
+  pub next : (a : ℕ) → set a ≡ true → HasAfter m like all links number x a
 
 -- or of each activity
-abbrev pub IsExpanded : ModuleValue → Order → List FoundValue → List Edge → ℕ → FoundValue → Type 0
-IsExpanded m order all links number x = HasSetAfter m order all links number x ⊎ ((a : ℕ) → HasAfter m order all links number x a)
+abbrev pub IsExpanded : ModuleValue → Alikeness → List FoundValue → List Edge → ℕ → FoundValue → Type 0
+IsExpanded m like all links number x = HasSetAfter m like all links number x ⊎ ((a : ℕ) → HasAfter m like all links number x a)
 
 -- so it is of each of them before this place
-abbrev pub AreExpanded : ModuleValue → Order → List FoundValue → List Edge → ℕ → Type 0
-AreExpanded m order all links place = (k : ℕ) (x : FoundValue) → k < place → slice_get all k ≡ Some x → IsExpanded m order all links k x
+abbrev pub AreExpanded : ModuleValue → Alikeness → List FoundValue → List Edge → ℕ → Type 0
+AreExpanded m like all links place = (k : ℕ) (x : FoundValue) → k < place → slice_get all k ≡ Some x → IsExpanded m like all links k x
 
 -- Whatever a legal schedule prints by which all have ended stands along links to one of them, in which all have ended.
 abbrev pub AreAllFound : Order → CoreValue → List FoundValue → List Edge → Type 0

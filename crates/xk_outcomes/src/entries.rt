@@ -6,6 +6,8 @@ ghost use Rattle.xk_types.specs.Bound.{steps_bound};
 ghost use Rattle.xk_readings.specs.declared.edge.Edge.{Edge as Link};
 ghost use Rattle.xk_readings.specs.Graphs.{graph};
 ghost use Rattle.xk_readings.specs.Readings.{IsLongest};
+ghost use Rattle.xk_liveness.specs.Liveness.{IsLiveness};
+ghost use Rattle.xk_outcomes.specs.Alikeness.{live_by};
 ghost use Rattle.xk_outcomes.specs.Entries.{first_entry};
 ghost use Rattle.xk_outcomes.specs.Found.{FoundValue, along, first_found, next, through};
 ghost use Rattle.xk_outcomes.specs.Links.{AreLinked, ends};
@@ -17,7 +19,8 @@ use crate::order::{Order, key_of};
 use std::alloc::{AllocError, Global};
 use std::marker::Model;
 use xk_core::Core;
-use xk_digests::{Digests, digest_of};
+use xk_digests::{Digests, are_alike, digest_of};
+use xk_live_slots::LiveSlots;
 use xk_types::Act;
 
 /// How one was found: by a step from one before it, and by private steps.
@@ -30,11 +33,13 @@ pub struct Edge {
 }
 
 /// Those that were found, numbered from 0. The first is found by private steps alone. No core is kept with one: whoever wants to look
-/// at it is led there again. No two are in worlds that are alike, unless the order tells them apart by what was printed by then.
+/// at it is led there again. No two are in worlds that are alike where slots are live, unless the order tells them apart by what was
+/// printed by then.
 #[derive(Drop)]
 pub struct Entries<'m> {
     start: Core<'m>,
     order: Order,
+    live: LiveSlots<'m>,
     edges: Vec<Edge>,
     digests: Digests,
     // of each whether all have ended in it
@@ -48,19 +53,26 @@ impl<'m> Model for Entries<'m> {
 
     ghost view = { λ e. record {
       start = e.start;
-      order = e.order;
+      like = record { order = e.order; slots = e.live };
       all = led_by e.start e.edges.items;
     } };
 
-    ghost invariant = { λ e. AreEntries e.start e.order e.edges.items e.digests e.over.items };
+    ghost invariant = { λ e. AreEntries e.start
+        (record { order = e.order; slots = e.live }) e.edges.items e.digests e.over.items };
 }
 
 /// The digest of one.
-fn found_digest(alloc: Global, order: Order, x: &Found<'_>) -> Result<u64, AllocError>
-    ensures { IfOk result (λ digest. digest ≡ found_digest order x.now) }
+fn found_digest(
+    alloc: Global,
+    order: Order,
+    live: &LiveSlots<'_>,
+    x: &Found<'_>,
+) -> Result<u64, AllocError>
+    ensures { IfOk result (λ digest. digest
+        ≡ found_digest (record { order = order; slots = live.now }) x.now) }
 {
     let key = key_of(alloc, order, &x.printed)?;
-    Ok(digest_of(&x.core, &key))
+    Ok(digest_of(live, x.core.core(), &key))
 }
 
 /// Whether two lists of numbers are the same.
@@ -70,30 +82,42 @@ pub fn are_same(a: &[i64], b: &[i64]) -> bool
     a == b
 }
 
-/// Whether the two are in worlds that are alike, and nothing that was printed by then tells them apart.
-fn is_same(alloc: Global, order: Order, x: &Found<'_>, new: &Found<'_>) -> Result<bool, AllocError>
+/// Whether the two are in worlds that are alike where slots are live, and nothing that was printed by then tells them apart.
+fn is_same(
+    alloc: Global,
+    order: Order,
+    live: &LiveSlots<'_>,
+    x: &Found<'_>,
+    new: &Found<'_>,
+) -> Result<bool, AllocError>
     ensures yes { IfOk result (λ same. same ≡ true
-        → IsAt order x.now new.now.core.world new.now.printed) }
-    ensures no { new.now.core.module_run ≡ x.now.core.module_run → IfOk result (λ same.
-        same ≡ false → IsAt order x.now new.now.core.world new.now.printed → ⊥) }
+        → IsAt (record { order = order; slots = live.now }) x.now
+        new.now.core.world new.now.printed) }
+    ensures no { IfOk result (λ same. same ≡ false
+        → IsAt (record { order = order; slots = live.now }) x.now
+        new.now.core.world new.now.printed → ⊥) }
 {
     let key = key_of(alloc, order, &x.printed)?;
     let new_key = key_of(alloc, order, &new.printed)?;
     if !are_same(&key, &new_key) {
         return Ok(false);
     }
-    Ok(new.core.is_alike(&x.core))
+    are_alike(live, &new.core, &x.core)
 }
 
 impl<'m> Entries<'m> {
     /// The first one alone. Err where memory was refused.
     pub fn open(alloc: Global, order: Order, start: Core<'m>) -> Result<Entries<'m>, AllocError>
         requires { start.world.steps ≡ 0 }
-        ensures { IfOk result (λ e. e ≡ first_entry order start.entry) }
+        ensures first { IfOk result (λ e. e ≡ first_entry e.like start.entry) }
+        ensures told { IfOk result (λ e. e.like.order ≡ order) }
     {
+        let live = LiveSlots::of(alloc, start.module())?;
+        // For the invariant: that it has all live slots.
+        let _verified = live.module();
         let first = beginning(alloc, &start)?;
         let over = first.core.ended();
-        let digest = found_digest(alloc, order, &first)?;
+        let digest = found_digest(alloc, order, &live, &first)?;
         drop(first);
         let mut digests = Digests::new(alloc);
         digests.push(digest)?;
@@ -101,6 +125,7 @@ impl<'m> Entries<'m> {
         Ok(Entries {
             start,
             order,
+            live,
             edges: Vec::new(alloc),
             digests,
             over,
@@ -112,7 +137,9 @@ impl<'m> Entries<'m> {
         ensures count { result ≡ length self.now.all }
         ensures found { AreFound self.now.start self.now.all }
         ensures settled { AreSettled self.now.start self.now.all }
-        ensures different { AreDifferent self.now.order self.now.all }
+        ensures different { AreDifferent self.now.like self.now.all }
+        // By a table that has all live slots.
+        ensures liveness { IsLiveness self.now.start.module_run (live_by self.now.like) }
     {
         // The first one, and one for each edge.
         self.edges.len() + 1
@@ -129,11 +156,11 @@ impl<'m> Entries<'m> {
     pub fn longest(&self) -> u64
         ensures bound { result ≡ steps_bound self.now.start.module_run }
         ensures longest { (links : List Link)
-            → AreLinked self.now.start.module_run self.now.all links
+            → AreLinked (live_by self.now.like) self.now.start.module_run self.now.all links
             → IsLongest (graph links (ends self.now.all)) result }
         // What is printed along links to where all have ended is printed by their steps.
         ensures played { (links : List Link)
-            → AreLinked self.now.start.module_run self.now.all links
+            → AreLinked (live_by self.now.like) self.now.start.module_run self.now.all links
             → ArePlayed self.now.start self.now.all links }
     {
         let verified = self.start.module();
@@ -199,15 +226,15 @@ impl<'m> Entries<'m> {
     fn is_same_at(&self, alloc: Global, number: usize, new: &Found<'_>) -> Result<bool, AllocError>
         requires { number < length self.now.all }
         ensures yes { IfOk result (λ same. same ≡ true
-            → IsThere self.now.order self.now.all new.now.core.world new.now.printed number) }
+            → IsThere self.now.like self.now.all new.now.core.world new.now.printed number) }
         ensures no { IsFound self.now.start new.now → IfOk result (λ same. same ≡ false
             → (x : FoundValue) → slice_get self.now.all number ≡ Some x
-            → IsAt self.now.order x new.now.core.world new.now.printed → ⊥) }
+            → IsAt self.now.like x new.now.core.world new.now.printed → ⊥) }
     {
         // For `no`: they are found.
         let _count = self.len();
         let x = self.get(alloc, number)?;
-        let same = is_same(alloc, self.order, &x, new)?;
+        let same = is_same(alloc, self.order, &self.live, &x, new)?;
         Ok(same)
     }
 
@@ -218,11 +245,11 @@ impl<'m> Entries<'m> {
         new: &Found<'_>,
         digest: u64,
     ) -> Result<Option<usize>, AllocError>
-        requires digest { digest ≡ found_digest self.now.order new.now }
+        requires digest { digest ≡ found_digest self.now.like new.now }
         ensures yes { IfOk result (λ known. IfSome known
-            (IsThere self.now.order self.now.all new.now.core.world new.now.printed)) }
+            (IsThere self.now.like self.now.all new.now.core.world new.now.printed)) }
         ensures no { IsFound self.now.start new.now → IfOk result (λ known. IfNone known
-            (Has self.now.order self.now.all new.now.core.world new.now.printed → ⊥)) }
+            (Has self.now.like self.now.all new.now.core.world new.now.printed → ⊥)) }
     {
         let mut at = self.digests.last(digest);
         while at > 0 {
@@ -247,12 +274,12 @@ impl<'m> Entries<'m> {
         requires { (x : FoundValue) × (slice_get self.old.all from ≡ Some x)
             × (new.now ≡ next act x) }
         ensures start { self.new.start ≡ self.old.start }
-        ensures order { self.new.order ≡ self.old.order }
+        ensures like { self.new.like ≡ self.old.like }
         ensures grown { IsGrown self.old.all self.new.all }
-        ensures added { IfOk result (IsAdded self.old.order self.old.all self.new.all new.now) }
+        ensures added { IfOk result (IsAdded self.old.like self.old.all self.new.all new.now) }
         ensures same { OnErr result (self.new.all ≡ self.old.all) }
     {
-        let digest = found_digest(alloc, self.order, new)?;
+        let digest = found_digest(alloc, self.order, &self.live, new)?;
         let known = self.known(alloc, new, digest)?;
         match known {
             Some(number) => return Ok(number),

@@ -8,6 +8,7 @@ use crate::private_steps::has_private_step;
 use std::alloc::{AllocError, Global};
 use std::marker::Model;
 use xk_core::Core;
+use xk_digests::TracedCore;
 use xk_scheduler::keep_printed;
 use xk_types::Act;
 
@@ -15,7 +16,7 @@ use xk_types::Act;
 #[derive(Drop)]
 pub struct Found<'m> {
     /// Where its schedule leads.
-    pub core: Core<'m>,
+    pub core: TracedCore<'m>,
     /// What was printed by then.
     pub printed: Vec<i64>,
     /// Who took a step after whom.
@@ -66,7 +67,7 @@ impl<'m> Found<'m> {
     {
         let most = self.core.module().steps();
         for turn in 0..most {
-            match private_act(&self.core) {
+            match private_act(self.core.core()) {
                 Some(act) => self.step(act)?,
                 None => return Ok(()),
             }
@@ -109,7 +110,7 @@ pub fn beginning<'m>(alloc: Global, start: &Core<'m>) -> Result<Found<'m>, Alloc
     requires { start.now.world.steps ≡ 0 }
     ensures { IfOk result (λ x. x ≡ first_found start.now) }
 {
-    let core = Core::open(alloc, start.module(), start.arguments())?;
+    let core = TracedCore::open(alloc, start.module(), start.arguments())?;
     let mut first = Found {
         core,
         printed: Vec::new(alloc),

@@ -4,6 +4,7 @@ ghost use Rattle.std.specs.Prelude.{◌≡◌, ◌≤◌, true, false, length, m
 ghost use Rattle.xk_readings.specs.Rising.{AreRising};
 ghost use Rattle.xk_outcomes.specs.declared.listing.Outcome.{Outcome as AnOutcome};
 ghost use Rattle.xk_outcomes.specs.declared.order.Order.TheVariants as told;
+ghost use Rattle.xk_outcomes.specs.Alikeness.{live_by};
 ghost use Rattle.xk_outcomes.specs.Links.{AreLinked};
 ghost use Rattle.xk_outcomes.specs.Listing.{AreMet, AreOf, AreRead, AreReadingsPut, IsPlayed, KeepsListed};
 ghost use Rattle.xk_outcomes.specs.Numbering.{AreAddedFrom, AreInOrder, AreInOrderIn, ArePlayedAll, AreReadingsFirst};
@@ -82,7 +83,8 @@ fn list_readings(
     links: &[Edge],
     limit: usize,
 ) -> Result<bool, AllocError>
-    requires { AreLinked all.now.start.module_run all.now.all links.now }
+    requires { AreLinked (live_by all.now.like) all.now.start.module_run
+        all.now.all links.now }
     ensures of { AreOf told.Printed all.now.start list.old list.new }
     ensures kept { KeepsListed list.old list.new }
     ensures distinct { AreDistinct list.old → AreDistinct list.new }
@@ -108,7 +110,7 @@ pub fn list_found(
     explored: &Explored<'_>,
     limit: usize,
 ) -> Result<bool, AllocError>
-    requires { AreLinked explored.now.found.start.module_run
+    requires { AreLinked (live_by explored.now.found.like) explored.now.found.start.module_run
         explored.now.found.all explored.now.links.items }
     ensures of { AreOf order explored.now.found.start list.old list.new }
     ensures kept { KeepsListed list.old list.new }

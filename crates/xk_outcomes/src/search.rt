@@ -1,6 +1,8 @@
 //! The search, in breadth: what stands before an index has been looked at, and what is new goes to the end.
 
 ghost use Rattle.std.specs.Prelude.{◌≡◌, ◌<◌, ◌≤◌, ℕ, true, false, length, slice_get, IfOk, OnOk, Some};
+ghost use Rattle.xk_liveness.specs.Liveness.{IsLiveness};
+ghost use Rattle.xk_outcomes.specs.Alikeness.{live_by};
 ghost use Rattle.xk_outcomes.specs.Found.{FoundValue, first_found};
 ghost use Rattle.xk_outcomes.specs.Links.{AreLinked};
 ghost use Rattle.xk_outcomes.specs.Search.{AreAllFound, AreAtRest, AreDifferent, AreExpanded, AreFound};
@@ -45,12 +47,13 @@ fn try_act(
 ) -> Result<(), AllocError>
     requires { slice_get all.old.all number ≡ Some here.now }
     ensures start { all.new.start ≡ all.old.start }
-    ensures order { all.new.order ≡ all.old.order }
+    ensures like { all.new.like ≡ all.old.like }
     ensures grown { IsGrown all.old.all all.new.all }
     ensures more { IsGrown links.old.items links.new.items }
-    ensures linked { OnOk result (AreLinked here.now.core.module_run all.old.all links.old.items
-        → AreLinked here.now.core.module_run all.new.all links.new.items) }
-    ensures after { OnOk result (HasAfter here.now.core.module_run all.new.order
+    ensures linked { OnOk result (AreLinked (live_by all.old.like) here.now.core.module_run
+        all.old.all links.old.items → AreLinked (live_by all.new.like) here.now.core.module_run
+        all.new.all links.new.items) }
+    ensures after { OnOk result (HasAfter here.now.core.module_run all.new.like
         all.new.all links.new.items number here.now act) }
 {
     // For the law that private steps print nothing: the module is accepted.
@@ -90,13 +93,14 @@ fn try_one(
 ) -> Result<(), AllocError>
     requires { slice_get all.old.all number ≡ Some here.now }
     ensures start { all.new.start ≡ all.old.start }
-    ensures order { all.new.order ≡ all.old.order }
+    ensures like { all.new.like ≡ all.old.like }
     ensures grown { IsGrown all.old.all all.new.all }
     ensures more { IsGrown links.old.items links.new.items }
-    ensures linked { OnOk result (AreLinked here.now.core.module_run all.old.all links.old.items
-        → AreLinked here.now.core.module_run all.new.all links.new.items) }
+    ensures linked { OnOk result (AreLinked (live_by all.old.like) here.now.core.module_run
+        all.old.all links.old.items → AreLinked (live_by all.new.like) here.now.core.module_run
+        all.new.all links.new.items) }
     ensures after { OnOk result (is_tried members.now act ≡ true
-        → HasAfter here.now.core.module_run all.new.order
+        → HasAfter here.now.core.module_run all.new.like
         all.new.all links.new.items number here.now act) }
 {
     if !is_tried(members, act) {
@@ -116,13 +120,14 @@ fn look_by(
 ) -> Result<(), AllocError>
     requires { slice_get all.old.all number ≡ Some here.now }
     ensures start { all.new.start ≡ all.old.start }
-    ensures order { all.new.order ≡ all.old.order }
+    ensures like { all.new.like ≡ all.old.like }
     ensures grown { IsGrown all.old.all all.new.all }
     ensures more { IsGrown links.old.items links.new.items }
-    ensures linked { OnOk result (AreLinked here.now.core.module_run all.old.all links.old.items
-        → AreLinked here.now.core.module_run all.new.all links.new.items) }
+    ensures linked { OnOk result (AreLinked (live_by all.old.like) here.now.core.module_run
+        all.old.all links.old.items → AreLinked (live_by all.new.like) here.now.core.module_run
+        all.new.all links.new.items) }
     ensures after { OnOk result ((a : ℕ) → is_tried members.now a ≡ true
-        → HasAfter here.now.core.module_run all.new.order
+        → HasAfter here.now.core.module_run all.new.like
         all.new.all links.new.items number here.now a) }
 {
     for a in 0..here.core.activities() {
@@ -143,15 +148,16 @@ fn look(
     requires there { slice_get all.old.all number ≡ Some here.now }
     requires footprints { footprints.now.module_run ≡ here.now.core.module_run }
     ensures start { all.new.start ≡ all.old.start }
-    ensures order { all.new.order ≡ all.old.order }
+    ensures like { all.new.like ≡ all.old.like }
     ensures grown { IsGrown all.old.all all.new.all }
     ensures more { IsGrown links.old.items links.new.items }
-    ensures linked { OnOk result (AreLinked here.now.core.module_run all.old.all links.old.items
-        → AreLinked here.now.core.module_run all.new.all links.new.items) }
-    ensures expanded { OnOk result (IsExpanded here.now.core.module_run all.new.order
+    ensures linked { OnOk result (AreLinked (live_by all.old.like) here.now.core.module_run
+        all.old.all links.old.items → AreLinked (live_by all.new.like) here.now.core.module_run
+        all.new.all links.new.items) }
+    ensures expanded { OnOk result (IsExpanded here.now.core.module_run all.new.like
         all.new.all links.new.items number here.now) }
 {
-    match closed_set(alloc, footprints, &here.core)? {
+    match closed_set(alloc, footprints, here.core.core())? {
         Some(set) => look_by(alloc, all, links, number, here, set.members()),
         None => look_by(alloc, all, links, number, here, &[]),
     }
@@ -168,13 +174,14 @@ fn expand(
     requires there { number < length all.old.all }
     requires footprints { footprints.now.module_run ≡ all.old.start.module_run }
     ensures start { all.new.start ≡ all.old.start }
-    ensures order { all.new.order ≡ all.old.order }
+    ensures like { all.new.like ≡ all.old.like }
     ensures grown { IsGrown all.old.all all.new.all }
     ensures more { IsGrown links.old.items links.new.items }
-    ensures linked { OnOk result (AreLinked all.old.start.module_run all.old.all links.old.items
-        → AreLinked all.old.start.module_run all.new.all links.new.items) }
+    ensures linked { OnOk result (AreLinked (live_by all.old.like) all.old.start.module_run
+        all.old.all links.old.items → AreLinked (live_by all.new.like) all.old.start.module_run
+        all.new.all links.new.items) }
     ensures expanded { OnOk result ((x : FoundValue) → slice_get all.old.all number ≡ Some x
-        → IsExpanded all.old.start.module_run all.new.order
+        → IsExpanded all.old.start.module_run all.new.like
         all.new.all links.new.items number x) }
 {
     // For the module of those that were found.
@@ -193,12 +200,13 @@ fn search(
 ) -> Result<bool, AllocError>
     requires { footprints.now.module_run ≡ all.old.start.module_run }
     ensures start { all.new.start ≡ all.old.start }
-    ensures order { all.new.order ≡ all.old.order }
+    ensures like { all.new.like ≡ all.old.like }
     ensures grown { IsGrown all.old.all all.new.all }
-    ensures linked { OnOk result (AreLinked all.old.start.module_run all.old.all links.old.items
-        → AreLinked all.old.start.module_run all.new.all links.new.items) }
+    ensures linked { OnOk result (AreLinked (live_by all.old.like) all.old.start.module_run
+        all.old.all links.old.items → AreLinked (live_by all.new.like) all.old.start.module_run
+        all.new.all links.new.items) }
     ensures expanded { IfOk result (λ complete. complete ≡ true
-        → AreExpanded all.old.start.module_run all.new.order
+        → AreExpanded all.old.start.module_run all.new.like
         all.new.all links.new.items (length all.new.all)) }
     ensures limit { IfOk result (λ complete. complete ≡ false → limit < length all.new.all) }
 {
@@ -222,12 +230,16 @@ pub fn explore<'m>(
     ensures start { IfOk result (λ r. r.found.start ≡ start.entry) }
     ensures found { IfOk result (λ r. AreFound start.entry r.found.all) }
     ensures linked { IfOk result
-        (λ r. AreLinked start.entry.module_run r.found.all r.links.items) }
+        (λ r. AreLinked (live_by r.found.like) start.entry.module_run
+        r.found.all r.links.items) }
+    ensures told { IfOk result (λ r. r.found.like.order ≡ order) }
+    ensures liveness { IfOk result
+        (λ r. IsLiveness start.entry.module_run (live_by r.found.like)) }
     ensures all { IfOk result (λ r. r.complete ≡ true
         → AreAllFound order start.entry r.found.all r.links.items) }
     ensures limit { IfOk result (λ r. r.complete ≡ false → limit < length r.found.all) }
     ensures rest { IfOk result (λ r. AreAtRest r.found.all) }
-    ensures different { IfOk result (λ r. AreDifferent order r.found.all) }
+    ensures different { IfOk result (λ r. AreDifferent r.found.like r.found.all) }
     ensures begins { IfOk result (λ r. slice_get r.found.all 0 ≡ Some (first_found start.entry)) }
 {
     let verified = start.module();
@@ -237,7 +249,7 @@ pub fn explore<'m>(
     let mut links = Vec::new(alloc);
     let footprints = Footprints::of(alloc, verified)?;
     let complete = search(alloc, &footprints, &mut found, &mut links, limit)?;
-    // For `found`, `rest` and `different`.
+    // For `found`, `rest`, `different` and `liveness`.
     let _count = found.len();
     Ok(Explored {
         found,

@@ -2,6 +2,8 @@ use Rattle.std.specs.Prelude.{max}
 use Rattle.std.proofs.Common.{◌∙◌, ◌<◌, ◌≤◌, arith, List, length, inl, inr, true≢false, sym, subst}
 use Rattle.xk_core.specs.Core.{CoreValue, opening_core}
 use Rattle.xk_outcomes.specs.declared.listing.Outcome.{Outcome}
+use Rattle.xk_liveness.specs.Liveness.{IsLiveness}
+use Rattle.xk_outcomes.specs.Alikeness.{live_by}
 use Rattle.xk_outcomes.specs.Links.{AreLinked}
 use Rattle.xk_outcomes.specs.Listing.{AreAllIn, AreOf, AreShownIn, HasKeptIn}
 use Rattle.xk_outcomes.specs.Numbering.{AreNumberedIn}
@@ -18,7 +20,8 @@ pub list_found-requires : goal.list_found-requires
 list_found-requires c =
     let all = c.in_ok-explored.explored.found.all in
     let links = c.in_ok-explored.explored.links.items in
-    subst (λ (s : CoreValue). AreLinked s.module_run all links) (sym c.in_ok-explored.ensures.start) c.in_ok-explored.ensures.linked
+    let live = live_by c.in_ok-explored.explored.found.like in
+    subst (λ (s : CoreValue). AreLinked live s.module_run all links) (sym c.in_ok-explored.ensures.start) c.in_ok-explored.ensures.linked
 
 pub returns-clause-shown : goal.returns-clause-shown
 returns-clause-shown c =
@@ -86,8 +89,10 @@ returns-clause-kept c =
     let all = c.in_ok-explored.explored.found.all in
     let links = c.in_ok-explored.explored.links.items in
     let found = subst (λ (s : CoreValue). AreFound s all) c.in_ok-start.ensures c.in_ok-explored.ensures.found in
-    let linked = subst (λ (s : CoreValue). AreLinked s.module_run all links) c.in_ok-start.ensures c.in_ok-explored.ensures.linked in
-    let kept = all_kept c.args.order m args most all links c.list_found.new.list c.in_ok-all.all found linked
+    let like = c.in_ok-explored.explored.found.like in
+    let linked = subst (λ (s : CoreValue). AreLinked (live_by like) s.module_run all links) c.in_ok-start.ensures c.in_ok-explored.ensures.linked in
+    let liveness = subst (λ (s : CoreValue). IsLiveness s.module_run (live_by like)) c.in_ok-start.ensures c.in_ok-explored.ensures.liveness in
+    let kept = all_kept c.args.order like c.in_ok-explored.ensures.told m args most all links c.list_found.new.list c.in_ok-all.all found linked liveness
     c.in_ok-explored.ensures.rest c.in_ok-explored.ensures.different c.in_ok-all.ensures.met c.in_ok-all.ensures.limit in
     subst (HasKeptIn c.args.order m args most c.in_ok-list.list.items) (sym c.len.ensures.count)
     (subst (λ (list : List Outcome). HasKeptIn c.args.order m args most list (length all)) (sym c.in_ok-list.ensures) kept)

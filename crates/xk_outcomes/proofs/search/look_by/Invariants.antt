@@ -1,4 +1,5 @@
 use Rattle.std.proofs.Common.{◌≡◌, ◌<◌, ℕ, true}
+use Rattle.xk_outcomes.specs.Alikeness.{live_by}
 use Rattle.xk_outcomes.specs.Links.{AreLinked}
 use Rattle.xk_outcomes.specs.Search.{HasAfter, IsGrown, is_tried}
 use Rattle.xk_outcomes.proofs.search.look_by.Given as goal
@@ -7,10 +8,11 @@ use Rattle.xk_outcomes.proofs.search.look_by.Given as goal
 abbrev pub invariant-loop-a : goal.invariant-loop-a
 invariant-loop-a l = record {
   start : l.all.start ≡ l.fn.all.start;
-  order : l.all.order ≡ l.fn.all.order;
+  like : l.all.like ≡ l.fn.all.like;
   grown : IsGrown l.fn.all.all l.all.all;
   more : IsGrown l.fn.links.items l.links.items;
-  linked : AreLinked l.here.core.module_run l.fn.all.all l.fn.links.items → AreLinked l.here.core.module_run l.all.all l.links.items;
+  linked : AreLinked (live_by l.fn.all.like) l.here.core.module_run l.fn.all.all l.fn.links.items
+      → AreLinked (live_by l.all.like) l.here.core.module_run l.all.all l.links.items;
   after : (a : ℕ) → a < l.a → is_tried l.members a ≡ true
-      → HasAfter l.here.core.module_run l.all.order l.all.all l.links.items l.number l.here a;
+      → HasAfter l.here.core.module_run l.all.like l.all.all l.links.items l.number l.here a;
 }

@@ -1,4 +1,5 @@
 use Rattle.std.proofs.Common.{◌≡◌, ◌≤◌, ◌-◌, length}
+use Rattle.xk_outcomes.specs.Alikeness.{live_by}
 use Rattle.xk_outcomes.specs.Links.{AreLinked}
 use Rattle.xk_outcomes.specs.Search.{AreExpanded, IsGrown}
 use Rattle.xk_outcomes.proofs.search.search.Given as goal
@@ -7,10 +8,11 @@ use Rattle.xk_outcomes.proofs.search.search.Given as goal
 abbrev pub invariant-loop-next : goal.invariant-loop-next
 invariant-loop-next l = record {
   start : l.all.start ≡ l.fn.all.start;
-  order : l.all.order ≡ l.fn.all.order;
+  like : l.all.like ≡ l.fn.all.like;
   grown : IsGrown l.fn.all.all l.all.all;
-  linked : AreLinked l.fn.all.start.module_run l.fn.all.all l.fn.links.items → AreLinked l.fn.all.start.module_run l.all.all l.links.items;
-  expanded : AreExpanded l.fn.all.start.module_run l.all.order l.all.all l.links.items l.next;
+  linked : AreLinked (live_by l.fn.all.like) l.fn.all.start.module_run l.fn.all.all l.fn.links.items
+      → AreLinked (live_by l.all.like) l.fn.all.start.module_run l.all.all l.links.items;
+  expanded : AreExpanded l.fn.all.start.module_run l.all.like l.all.all l.links.items l.next;
   within : l.next ≤ length l.all.all;
 }
 

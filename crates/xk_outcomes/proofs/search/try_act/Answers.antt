@@ -5,9 +5,9 @@ use Rattle.xk_types.specs.Code.{IsWithinLimits}
 use Rattle.xk_types.specs.Schedule.{is_enabled}
 use Rattle.xk_readings.specs.declared.edge.Edge.{Edge}
 use Rattle.xk_outcomes.specs.Found.{FoundValue, next}
-use Rattle.xk_outcomes.specs.Links.{HasLink}
+use Rattle.xk_outcomes.specs.Links.{AreLinked, HasLink}
 use Rattle.xk_outcomes.specs.Search.{HasAfter}
-use Rattle.xk_outcomes.specs.declared.order.Order.{Order}
+use Rattle.xk_outcomes.specs.Alikeness.{Alikeness, live_by}
 use Rattle.xk_outcomes.proofs.FoundLemmas.{after_next, next_prints, one_behind}
 use Rattle.xk_outcomes.proofs.SearchLemmas.{added_link, added_there, grown_push, linked_push}
 use Rattle.xk_outcomes.proofs.search.try_act.Goals as goal
@@ -40,11 +40,12 @@ returns-clause-linked c linked =
     let said : c.behind-printed.result ≡ p.0 =
     c.behind-printed.ensures ∙ ap (λ ns. slice_get c.deref-2.result.now (length ns)) before
     ∙ ap (λ ns. slice_get ns (length here.printed)) (after ∙ all_printed) ∙ one_behind here.printed p.0 in
-    linked_push m c.args.all.now.order c.args.all.now.all c.add.new.self.all old c.push_reserved.new.self.items l here c.in_ok-next.next linked c.requires is enabled
+    subst (λ (o : Alikeness). AreLinked (live_by o) m c.add.new.self.all c.push_reserved.new.self.items) (sym c.in_ok-to.ensures.like)
+    (linked_push m c.args.all.now.like c.args.all.now.all c.add.new.self.all old c.push_reserved.new.self.items l here c.in_ok-next.next linked c.requires is enabled
     (all_printed ∙ ap (λ o. here.printed ++ option_to_list o) (sym said)) c.in_ok-to.ensures.added
     (c.push_reserved.ensures.items
     ∙ ap (λ (e : List Edge). e ++ record { from = c.args.number; act = c.act.inside.0; printed = c.behind-printed.result; to = c.in_ok-to.to } ∷ []) c.reserve.ensures.items
-    ∙ ap (λ (a : ℕ). old ++ record { from = c.args.number; act = a; printed = c.behind-printed.result; to = c.in_ok-to.to } ∷ []) c.act.view_is)
+    ∙ ap (λ (a : ℕ). old ++ record { from = c.args.number; act = a; printed = c.behind-printed.result; to = c.in_ok-to.to } ∷ []) c.act.view_is))
 
 pub returns-clause-after : goal.returns-clause-after
 returns-clause-after c =
@@ -56,15 +57,15 @@ returns-clause-after c =
     let after : c.deref-2.result.now ≡ c.in_ok-next.next.printed = c.deref-2.ensures.value
     ∙ ap (λ (x : FoundValue). x.printed) c.next.view_is in
     let old = c.args.links.now.items in
-    let order = c.args.all.now.order in
+    let like = c.args.all.now.like in
     let l : Edge = record { from = c.args.number; act = c.args.act; printed = c.behind-printed.result; to = c.in_ok-to.to } in
     let one = c.push_reserved.ensures.items
     ∙ ap (λ (e : List Edge). e ++ record { from = c.args.number; act = c.act.inside.0; printed = c.behind-printed.result; to = c.in_ok-to.to } ∷ []) c.reserve.ensures.items
     ∙ ap (λ (a : ℕ). old ++ record { from = c.args.number; act = a; printed = c.behind-printed.result; to = c.in_ok-to.to } ∷ []) c.act.view_is in
-    let there = added_there order c.args.all.now.all c.add.new.self.all c.in_ok-next.next c.in_ok-to.to c.in_ok-to.ensures.added in
+    let there = added_there like c.args.all.now.all c.add.new.self.all c.in_ok-next.next c.in_ok-to.to c.in_ok-to.ensures.added in
     let said = c.behind-printed.ensures ∙ ap (λ ns. slice_get c.deref-2.result.now (length ns)) before
     ∙ ap (λ ns. slice_get ns (length here.printed)) after in
     let link = subst (λ o. HasLink c.push_reserved.new.self.items c.args.number o c.in_ok-to.to) said (added_link old c.push_reserved.new.self.items l one) in
-    subst (λ (o : Order). HasAfter m o c.add.new.self.all c.push_reserved.new.self.items c.args.number here c.args.act) (sym c.in_ok-to.ensures.order)
-    (after_next m (subst IsWithinLimits same core.limits) (subst IsAccepted same core.accepted) order c.add.new.self.all c.push_reserved.new.self.items c.args.number
+    subst (λ (o : Alikeness). HasAfter m o c.add.new.self.all c.push_reserved.new.self.items c.args.number here c.args.act) (sym c.in_ok-to.ensures.like)
+    (after_next m (subst IsWithinLimits same core.limits) (subst IsAccepted same core.accepted) like c.add.new.self.all c.push_reserved.new.self.items c.args.number
     c.in_ok-to.to here c.in_ok-next.next c.args.act refl (c.in_ok-next.ensures here c.requires) there link)

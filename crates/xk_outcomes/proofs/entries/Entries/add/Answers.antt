@@ -3,6 +3,7 @@ use Rattle.std.specs.Prelude.{IfNone}
 use Rattle.xk_types.specs.Schedule.{all_ended}
 use Rattle.xk_outcomes.specs.declared.entries.Edge.{Edge}
 use Rattle.xk_outcomes.specs.Entries.{EntriesValue, led_by}
+use Rattle.xk_outcomes.specs.Alikeness.{Alikeness}
 use Rattle.xk_outcomes.specs.Found.{FoundValue}
 use Rattle.xk_outcomes.specs.Search.{Has, IsFound}
 use Rattle.xk_outcomes.proofs.EntriesLemmas.{entries_push, led_push, new_found}
@@ -12,7 +13,7 @@ use Rattle.xk_outcomes.proofs.entries.Entries.add.Goals as goal
 pub invariant_of-self-2 : goal.invariant_of-self-2
 invariant_of-self-2 c =
     let start = c.self.inside.start in
-    let order = c.self.inside.order in
+    let like : Alikeness = record { order = c.self.inside.order; slots = c.self.inside.live } in
     let edges = c.self.inside.edges.items in
     let digests = c.self.inside.digests in
     let over = c.self.inside.over.items in
@@ -29,10 +30,10 @@ invariant_of-self-2 c =
     let found : IsFound c.args.self.now.start new =
     subst (λ (e : EntriesValue). IsFound e.start new) c.self.view_is (new_found start edges c.args.from c.args.act x new there c.requires.2) in
     let digest = c.in_ok-push.ensures.more ∙ ap (λ (d : ℕ). digests ++ d ∷ []) c.in_ok-digest.ensures in
-    entries_push start order edges c.push_reserved.new.self.items digests c.push.new.self over c.push_reserved-2.new.self.items edge x new c.self.invariant more
+    entries_push start like edges c.push_reserved.new.self.items digests c.push.new.self over c.push_reserved-2.new.self.items edge x new c.self.invariant more
     digest still there c.requires.2
-    (λ has. subst (λ o. IfNone o (Has c.args.self.now.order c.args.self.now.all new.core.world new.printed → ⊥)) c.in-None.is
-    (c.in_ok-known.ensures.no found) (subst (λ (e : EntriesValue). Has e.order e.all new.core.world new.printed) c.self.view_is has))
+    (λ has. subst (λ o. IfNone o (Has c.args.self.now.like c.args.self.now.all new.core.world new.printed → ⊥)) c.in-None.is
+    (c.in_ok-known.ensures.no found) (subst (λ (e : EntriesValue). Has e.like e.all new.core.world new.printed) c.self.view_is has))
 
 pub returns-clause-grown : goal.returns-clause-grown
 returns-clause-grown c k y h =

@@ -9,6 +9,6 @@ pub returns-clause-no : goal.returns-clause-no
 returns-clause-no c found said x there at =
     let new = c.args.new.now in
     let is : c.in_ok-x.x ≡ x = same_Some c.in_ok-x.x x (sym c.in_ok-x.ensures ∙ there) in
-    c.in_ok-same.ensures.no (found.module_is ∙ sym (c.len-count.ensures.found c.args.number c.in_ok-x.x c.in_ok-x.ensures).module_is) said
-    (subst (λ (e : EntriesValue). IsAt e.order c.in_ok-x.x new.core.world new.printed) (sym c.self.view_is)
-    (subst (λ (y : FoundValue). IsAt c.args.self.now.order y new.core.world new.printed) (sym is) at))
+    c.in_ok-same.ensures.no said
+    (subst (λ (e : EntriesValue). IsAt e.like c.in_ok-x.x new.core.world new.printed) (sym c.self.view_is)
+    (subst (λ (y : FoundValue). IsAt c.args.self.now.like y new.core.world new.printed) (sym is) at))

@@ -4,6 +4,7 @@ use Rattle.xk_types.specs.Bound.{steps_bound}
 use Rattle.xk_types.specs.Code.{IsWithinLimits}
 use Rattle.xk_readings.specs.Graphs.{graph}
 use Rattle.xk_readings.specs.Readings.{IsLongest}
+use Rattle.xk_outcomes.specs.Alikeness.{live_by}
 use Rattle.xk_outcomes.specs.Entries.{EntriesValue, led_by}
 use Rattle.xk_outcomes.specs.Links.{AreLinked, ends}
 use Rattle.xk_outcomes.specs.Listing.{ArePlayed}
@@ -19,8 +20,10 @@ returns-clause-longest c links linked =
     let all = led_by start c.self.inside.edges.items in
     let limits = subst IsWithinLimits c.module-verified.ensures.same c.module-accepted.ensures.limits in
     let accepted = subst IsAccepted c.module-verified.ensures.same c.module-accepted.ensures.accepted in
-    let here : AreLinked start.module_run all links = subst (λ (e : EntriesValue). AreLinked e.start.module_run e.all links) (sym c.self.view_is) linked in
-    let longest = longest_read start all links here (all_led start c.self.inside.edges.items) (first_there start c.self.inside.edges.items) limits accepted
+    let live = live_by (record { order = c.self.inside.order; slots = c.self.inside.live }) in
+    let here : AreLinked live start.module_run all links =
+    subst (λ (e : EntriesValue). AreLinked (live_by e.like) e.start.module_run e.all links) (sym c.self.view_is) linked in
+    let longest = longest_read start live c.self.invariant.liveness all links here (all_led start c.self.inside.edges.items) (first_there start c.self.inside.edges.items) limits accepted
     c.module-verified.ensures.taken (c.module-verified.ensures.opening c.self.invariant.root) in
     let bound = c.steps.ensures ∙ ap steps_bound c.module-verified.ensures.same in
     subst (IsLongest (graph links (ends c.args.self.now.all))) (sym bound) (subst (λ (e : EntriesValue). IsLongest (graph links (ends e.all)) (steps_bound start.module_run)) c.self.view_is longest)
@@ -32,6 +35,8 @@ returns-clause-played c links linked =
     let all = led_by start edges in
     let limits = subst IsWithinLimits c.module-verified.ensures.same c.module-accepted.ensures.limits in
     let accepted = subst IsAccepted c.module-verified.ensures.same c.module-accepted.ensures.accepted in
-    let here : AreLinked start.module_run all links = subst (λ (e : EntriesValue). AreLinked e.start.module_run e.all links) (sym c.self.view_is) linked in
+    let live = live_by (record { order = c.self.inside.order; slots = c.self.inside.live }) in
+    let here : AreLinked live start.module_run all links =
+    subst (λ (e : EntriesValue). AreLinked (live_by e.like) e.start.module_run e.all links) (sym c.self.view_is) linked in
     subst (λ (e : EntriesValue). ArePlayed e.start e.all links) c.self.view_is
-    (played start all links here (all_led start edges) (first_there start edges) (first_silent start limits accepted))
+    (played start live c.self.invariant.liveness all links here (all_led start edges) (first_there start edges) (first_silent start limits accepted))
