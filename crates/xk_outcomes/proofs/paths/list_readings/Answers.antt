@@ -2,6 +2,7 @@ use Rattle.std.proofs.Common.{◌∙◌, arith, length, subst, sym, true≢false
 use Rattle.xk_readings.specs.Graphs.{IsWithin, graph}
 use Rattle.xk_readings.specs.Readings.{AreAllListed, AreShown}
 use Rattle.xk_readings.specs.Rising.{AreFirst, AreRising}
+use Rattle.xk_outcomes.specs.Alikeness.{live_by}
 use Rattle.xk_outcomes.specs.Listing.{AreReadingsPut}
 use Rattle.xk_outcomes.specs.Numbering.{AreAddedFrom, ArePlayedAll, AreReadingsFirst}
 use Rattle.xk_outcomes.proofs.NumberingLemmas.{in_order, played_all, readings_most}
@@ -14,7 +15,8 @@ pub readings-requires-clause-within : goal.readings-requires-clause-within
 readings-requires-clause-within c =
     let all = c.args.all.now.all in
     let links = c.args.links.now in
-    subst (λ over. IsWithin (graph links over)) (sym c.ends.ensures) (links_within c.args.all.now.start.module_run all links c.requires)
+    subst (λ over. IsWithin (graph links over)) (sym c.ends.ensures)
+    (links_within (live_by c.args.all.now.like) c.args.all.now.start.module_run all links c.requires)
 
 pub returns-clause-read : goal.returns-clause-read
 returns-clause-read c done =
