@@ -28,4 +28,5 @@ pub activities_more : (live : SlotTable) (digest a : ℕ) (xs : List Activity) �
 activities_more live digest a xs there =
     let many = length-map xs (live_activity live) in
     fold_more with_activity digest (map (live_activity live) xs) a nobody (omega (arith, many, there))
-    ∙ ap (with_activity (fold with_activity digest (take a (map (live_activity live) xs)))) (get_or-map (live_activity live) xs a nobody nobody there)
+    ∙ ap (with_activity (fold with_activity digest (take a (map (live_activity live) xs))))
+    (get_or-map (live_activity live) xs a nobody nobody there)

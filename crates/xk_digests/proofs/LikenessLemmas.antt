@@ -1,8 +1,9 @@
 -- Worlds are alike where slots are live if their parts are, one by one.
-use Rattle.std.proofs.Common.{◌≡◌, ◌∙◌, ℕ, zero, suc, ◌+◌, ◌<◌, Bool, true, false, true≢false, cond, List, [], ◌∷◌, length, map, Option, Some, None}
-use Rattle.std.proofs.Common.{refl, sym, ap, subst, arith, slice_get, option_map, get_or, take, ext_get_or, ◌≤◌, Decides}
+use Rattle.std.proofs.Common.{◌≡◌, ◌∙◌, ℕ, zero, suc, ◌+◌, ◌<◌, Bool, true, false, true≢false, cond, List}
+use Rattle.std.proofs.Common.{[], ◌∷◌, length, map, Some}
+use Rattle.std.proofs.Common.{refl, sym, ap, subst, arith, slice_get, get_or, take, ext_get_or, ◌≤◌, Decides}
 use Rattle.std.proofs.lemmas.List.{get_or-map, length-map, take_all}
-use Rattle.std.proofs.lemmas.Option.{none-some, same_Some, slice_get-map, slice_get-get_or}
+use Rattle.std.proofs.lemmas.Option.{none-some, same_Some, slice_get-get_or}
 use Rattle.xk_types.specs.declared.world.Value.{Value}
 use Rattle.xk_types.specs.declared.world.Value.TheVariants as value
 use Rattle.xk_types.specs.declared.world.Status.{Status}
@@ -18,15 +19,15 @@ use Rattle.xk_digests.specs.Nestings.{nesting_of}
 
 -- ---- slots under masks
 
-pub masked_length : (L : ℕ → Bool) (xs : List Value) → length (masked L xs) ≡ length xs
+masked_length : (L : ℕ → Bool) (xs : List Value) → length (masked L xs) ≡ length xs
 masked_length L [] = refl
 masked_length L (x ∷ xs) = ap suc (masked_length (λ s. L (suc s)) xs)
 
-pub masked_get : (L : ℕ → Bool) (xs : List Value) (s : ℕ)
-    → slice_get (masked L xs) s ≡ option_map (λ (x : Value). cond (L s) x value.Unset) (slice_get xs s)
-masked_get L [] s = refl
-masked_get L (x ∷ xs) zero = refl
-masked_get L (x ∷ xs) (suc s) = masked_get (λ k. L (suc k)) xs s
+masked_get : (L : ℕ → Bool) (xs : List Value) (s : ℕ) (x : Value) → slice_get xs s ≡ Some x
+    → slice_get (masked L xs) s ≡ Some (cond (L s) x value.Unset)
+masked_get L [] s x h = absurd (none-some x h)
+masked_get L (y ∷ xs) zero x h = ap (λ (z : Value). Some (cond (L 0) z value.Unset)) (same_Some y x h)
+masked_get L (y ∷ xs) (suc s) x h = masked_get (λ k. L (suc k)) xs s x h
 
 -- slots are the same under a mask if each that is live is
 pub masked_same : (L : ℕ → Bool) (xs ys : List Value) → length ys ≡ length xs
@@ -35,7 +36,8 @@ masked_same L [] [] long each = refl
 masked_same L [] (y ∷ ys) long each = absurd (omega (arith, long))
 masked_same L (x ∷ xs) [] long each = absurd (omega (arith, long))
 masked_same L (x ∷ xs) (y ∷ ys) long each =
-    λ i. first (L 0) refl i ∷ masked_same (λ s. L (suc s)) xs ys (omega (arith, long)) (λ s less live. each (suc s) (omega (arith, less)) live) i
+    λ i. first (L 0) refl i ∷ masked_same (λ s. L (suc s)) xs ys (omega (arith, long))
+    (λ s less live. each (suc s) (omega (arith, less)) live) i
   where
     first : (b : Bool) → L 0 ≡ b → cond b x value.Unset ≡ cond b y value.Unset
     first true h = same_Some x y (each 0 (omega arith) h)
@@ -44,10 +46,14 @@ masked_same L (x ∷ xs) (y ∷ ys) long each =
 pub same_length : (L : ℕ → Bool) (xs ys : List Value) → masked L xs ≡ masked L ys → length xs ≡ length ys
 same_length L xs ys h = sym (masked_length L xs) ∙ ap length h ∙ masked_length L ys
 
--- one that is dead holds nothing
+-- one that is dead holds nothing, and one that is live what it held
 pub masked_dead : (L : ℕ → Bool) (xs : List Value) (s : ℕ) → s < length xs → L s ≡ false → slice_get (masked L xs) s ≡ Some value.Unset
-masked_dead L xs s there dead = masked_get L xs s ∙ ap (option_map (λ (x : Value). cond (L s) x value.Unset)) (slice_get-get_or xs s value.Unset there)
+masked_dead L xs s there dead = masked_get L xs s (get_or xs s value.Unset) (slice_get-get_or xs s value.Unset there)
     ∙ ap (λ b. Some (cond b (get_or xs s value.Unset) value.Unset)) dead
+
+pub masked_live : (L : ℕ → Bool) (xs : List Value) (s : ℕ) (x : Value) → slice_get xs s ≡ Some x → L s ≡ true
+    → slice_get (masked L xs) s ≡ Some x
+masked_live L xs s x there live = masked_get L xs s x there ∙ ap (λ b. Some (cond b x value.Unset)) live
 
 -- all of them
 pub all_masked : (L : ℕ → Bool) (xs : List Value) (n : ℕ) → length xs ≤ n → take n (masked L xs) ≡ masked L xs
@@ -88,20 +94,6 @@ waiting_decided live f g b d = decided b (frames_same live (λ p. p + 1) f g) (f
 
 -- ---- activities
 
-pub activities_same : (live : SlotTable) (x y : Activity) → x.status ≡ y.status → x.opened ≡ y.opened → x.governed ≡ y.governed → HasSameLeft live x y
-    → live_activity live x ≡ live_activity live y
-activities_same live x y st o g h =
-    let f : frame_left live x.status x.frame ≡ frame_left live y.status y.frame = h.0 ∙ ap (λ s. frame_left live s y.frame) st in
-    let c : callers_left live x.status x.callers ≡ callers_left live y.status y.callers = h.1 ∙ ap (λ s. callers_left live s y.callers) st in
-    λ i. record { frame = f i; callers = c i; status = st i; since = 0; opened = o i; governed = g i }
-
-pub activities_parts : (live : SlotTable) (x y : Activity) → live_activity live x ≡ live_activity live y → HasSameLeft live x y
-activities_parts live x y h =
-    let st : x.status ≡ y.status = ap (λ (z : Activity). z.status) h in (
-      ap (λ (z : Activity). z.frame) h ∙ sym (ap (λ s. frame_left live s y.frame) st),
-      ap (λ (z : Activity). z.callers) h ∙ sym (ap (λ s. callers_left live s y.callers) st),
-    )
-
 -- each of them, by what is read at its number
 pub acts_same : (live : SlotTable) (xs ys : List Activity) → length ys ≡ length xs
     → ((b : ℕ) → b < length xs → live_activity live (act_at xs b) ≡ live_activity live (act_at ys b))
@@ -113,15 +105,8 @@ acts_same live xs ys many each =
     (λ b lt. get_or-map (live_activity live) xs b nobody nobody (omega (arith, lt, first)) ∙ each b (omega (arith, lt, first))
     ∙ sym (get_or-map (live_activity live) ys b nobody nobody (omega (arith, lt, first, many))))
 
-pub same_acts : (live : SlotTable) (xs ys : List Activity) (b : ℕ) → map (live_activity live) xs ≡ map (live_activity live) ys → b < length xs
-    → b < length ys → live_activity live (act_at xs b) ≡ live_activity live (act_at ys b)
+pub same_acts : (live : SlotTable) (xs ys : List Activity) (b : ℕ) → map (live_activity live) xs ≡ map (live_activity live) ys
+    → b < length xs → b < length ys → live_activity live (act_at xs b) ≡ live_activity live (act_at ys b)
 same_acts live xs ys b h here there = sym (get_or-map (live_activity live) xs b nobody nobody here)
     ∙ ap (λ (l : List Activity). get_or l b nobody) h
     ∙ get_or-map (live_activity live) ys b nobody nobody there
-
--- ---- worlds
-
-pub worlds_same : (live : SlotTable) (w v : World) → map (live_activity live) w.activities ≡ map (live_activity live) v.activities
-    → map plain_clock w.clocks ≡ map plain_clock v.clocks → w.cells ≡ v.cells → w.arguments ≡ v.arguments → AreAlikeWhereLive live w v
-worlds_same live w v acts clocks cells args =
-    λ i. record { activities = acts i; clocks = clocks i; cells = cells i; steps = 0; arguments = args i }

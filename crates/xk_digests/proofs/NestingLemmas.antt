@@ -1,5 +1,6 @@
 -- What a step makes of finishes goes by its event.
-use Rattle.std.proofs.Common.{◌≡◌, ◌∙◌, ℕ, ℤ, zero, suc, ◌+◌, ◌-◌, ◌<◌, ◌≤◌, ◌⊎◌, inl, inr, Bool, true, false, true≢false, cond, List, [], ◌∷◌}
+use Rattle.std.proofs.Common.{◌≡◌, ◌∙◌, ℕ, ℤ, zero, suc, ◌+◌, ◌-◌, ◌<◌, ◌≤◌, ◌⊎◌, inl, inr, Bool, true, false, true≢false}
+use Rattle.std.proofs.Common.{cond, List, [], ◌∷◌}
 use Rattle.std.proofs.Common.{◌++◌, length, Option, Some, None, get_or, set, refl, sym, ap, subst, arith, slice_get, option_map}
 use Rattle.std.specs.Prelude.{map, slice_index_or}
 use Rattle.std.proofs.lemmas.List.{map-set, map-append}
@@ -39,8 +40,8 @@ closed_border (instr.EndFinish b) h = refl
 closed_border _ h = absurd (true≢false (sym h))
 
 -- a step of an instruction that opens and closes no finish, and starts nobody, changes nothing
-plain_noted : (e : Event) (i : Instr) (a : ℕ) (ns : List NestingValue) → shows e i ≡ true → is_border i ≡ false → starts_or_arrives e ≡ false
-    → noted a e ns ≡ ns
+plain_noted : (e : Event) (i : Instr) (a : ℕ) (ns : List NestingValue) → shows e i ≡ true → is_border i ≡ false
+    → starts_or_arrives e ≡ false → noted a e ns ≡ ns
 plain_noted event.Opened i a ns h plain quiet = absurd (true≢false (sym (opened_border i h) ∙ plain))
 plain_noted event.Closed i a ns h plain quiet = absurd (true≢false (sym (closed_border i h) ∙ plain))
 plain_noted event.Spawned i a ns h plain quiet = absurd (true≢false quiet)
@@ -99,7 +100,7 @@ module _ (m : ModuleValue) (w : World) (a : ℕ) where
           ∙ sym (ap (λ (n : NestingValue). nestings w ++ started a n ∷ []) at);
     }
 
-pub step_noted : (m : ModuleValue) (w u : World) (a : ℕ) (e : Event) → step m w a ≡ Stepped u e → nestings u ≡ noted a e (nestings w)
+step_noted : (m : ModuleValue) (w u : World) (a : ℕ) (e : Event) → step m w a ≡ Stepped u e → nestings u ≡ noted a e (nestings w)
 step_noted m w u a e h = subst (Notes m w a) h (step_form (Notes m w a) m w a tt (λ c. tt) (λ act found. forms m w a act found))
     (λ act found runs i here. shown_at m w u a act e found h runs i here)
 
@@ -135,34 +136,3 @@ nestings_noted m w u a e ns new kept h is = record {
   few = subst (λ k. Each (IsUpTo k) new) (sym (step_counts m w u a e h))
       (subst (Each (IsUpTo (w.steps + 1))) (sym is) (few_noted a e ns w.steps kept.few));
 }
-
--- who takes a step is there
-stepper : (m : ModuleValue) (w u : World) (a : ℕ) (e : Event) (ns : List NestingValue) → AreNestings w ns → step m w a ≡ Stepped u e
-    → (n : NestingValue) × (slice_get ns a ≡ Some n)
-stepper m w u a e ns kept h =
-    let x = found_of m w a u e h in
-    (nesting_of x.0, ap (λ (l : List NestingValue). slice_get l a) kept.are ∙ there m w a x.0 x.1)
-
-pub stepper_there : (m : ModuleValue) (w u : World) (a : ℕ) (e : Event) (ns : List NestingValue) → AreNestings w ns → step m w a ≡ Stepped u e
-    → a < length ns
-stepper_there m w u a e ns kept h = let x = stepper m w u a e ns kept h in slice_get_within ns a x.0 x.1
-
--- a step is counted as soon as a finish is
-pub room_noted : (m : ModuleValue) (w u : World) (a : ℕ) (e : Event) (ns : List NestingValue) (n : ℕ) → AreNestings w ns
-    → step m w a ≡ Stepped u e → u.steps < n → (nesting_at ns a).opened + 1 < n
-room_noted m w u a e ns n kept h less =
-    let x = stepper m w u a e ns kept h in
-    let few = kept.few a x.0 x.1 in
-    let counted = step_counts m w u a e h in
-    subst (λ (y : NestingValue). y.opened + 1 < n) (sym (get_or_from_slice_get ns a x.0 outermost x.1)) (omega (arith, counted, less, few))
-
--- the opening world
-pub nestings_opening : (m : ModuleValue) (args : List ℤ) (ns : List NestingValue) → ns ≡ outermost ∷ [] → AreNestings (opening m args) ns
-nestings_opening m args ns is = record {
-  are = is;
-  few = subst (Each (IsUpTo 0)) (sym is) one;
-}
-  where
-    one : Each (IsUpTo 0) (outermost ∷ [])
-    one zero n h = subst (λ (y : NestingValue). y.opened ≤ 0) (same_Some outermost n h) (omega arith)
-    one (suc i) n h = absurd (none-some n h)

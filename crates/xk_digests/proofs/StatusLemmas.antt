@@ -9,30 +9,31 @@ use Rattle.xk_activity.specs.Activities.{act_at, nobody}
 use Rattle.xk_core.specs.Core.{is_arrived, is_living, is_waiting}
 
 living : (w : World) (a : ℕ) → a < length w.activities → is_living w a ≡ not (is_ended (act_at w.activities a).status)
-living w a there = ap (λ o. option_map_or (λ (x : Activity). not (is_ended x.status)) o false) (slice_get-get_or w.activities a nobody there)
+living w a there = ap (λ o. option_map_or (λ (x : Activity). not (is_ended x.status)) o false)
+    (slice_get-get_or w.activities a nobody there)
 
 waits : (w : World) (a : ℕ) → a < length w.activities → is_waiting w a ≡ is_arrived (act_at w.activities a).status
 waits w a there = ap (λ o. option_map_or (λ (x : Activity). is_arrived x.status) o false) (slice_get-get_or w.activities a nobody there)
 
-pub ended_status : (w : World) (a : ℕ) → a < length w.activities → is_living w a ≡ false → status.Ended ≡ (act_at w.activities a).status
-ended_status w a there dead = by (act_at w.activities a).status (sym (living w a there) ∙ dead)
+pub ended : (w : World) (a : ℕ) → a < length w.activities → is_living w a ≡ false → status.Ended ≡ (act_at w.activities a).status
+ended w a there dead = by (act_at w.activities a).status (sym (living w a there) ∙ dead)
   where
     by : (st : Status) → not (is_ended st) ≡ false → status.Ended ≡ st
     by status.Running h = absurd (true≢false h)
     by status.Arrived h = absurd (true≢false h)
     by status.Ended h = refl
 
-pub arrived_status : (w : World) (a : ℕ) → a < length w.activities → is_waiting w a ≡ true → status.Arrived ≡ (act_at w.activities a).status
-arrived_status w a there waiting = by (act_at w.activities a).status (sym (waits w a there) ∙ waiting)
+pub arrived : (w : World) (a : ℕ) → a < length w.activities → is_waiting w a ≡ true → status.Arrived ≡ (act_at w.activities a).status
+arrived w a there waiting = by (act_at w.activities a).status (sym (waits w a there) ∙ waiting)
   where
     by : (st : Status) → is_arrived st ≡ true → status.Arrived ≡ st
     by status.Running h = absurd (true≢false (sym h))
     by status.Arrived h = refl
     by status.Ended h = absurd (true≢false (sym h))
 
-pub running_status : (w : World) (a : ℕ) → a < length w.activities → is_living w a ≡ true → is_waiting w a ≡ false
+pub running : (w : World) (a : ℕ) → a < length w.activities → is_living w a ≡ true → is_waiting w a ≡ false
     → status.Running ≡ (act_at w.activities a).status
-running_status w a there alive quiet = by (act_at w.activities a).status (sym (living w a there) ∙ alive) (sym (waits w a there) ∙ quiet)
+running w a there alive quiet = by (act_at w.activities a).status (sym (living w a there) ∙ alive) (sym (waits w a there) ∙ quiet)
   where
     by : (st : Status) → not (is_ended st) ≡ true → is_arrived st ≡ false → status.Running ≡ st
     by status.Running h g = refl

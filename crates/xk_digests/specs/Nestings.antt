@@ -1,5 +1,6 @@
 -- How many finishes each activity has open, and which one governs it: kept beside a core, step by step. This project's own.
-use Rattle.std.specs.Prelude.{◌≡◌, ℕ, ◌+◌, ◌-◌, ◌==◌, ◌≤◌, List, [], ◌∷◌, ◌++◌, map, Some, slice_get, slice_index_or, slice_set, if◌then◌else◌}
+use Rattle.std.specs.Prelude.{◌≡◌, ℕ, ◌+◌, ◌-◌, ◌==◌, ◌≤◌, List, [], ◌∷◌, ◌++◌, map, Some, slice_get, slice_index_or, slice_set}
+use Rattle.std.specs.Prelude.{if◌then◌else◌}
 use Rattle.xk_types.specs.declared.world.Event.{Event}
 use Rattle.xk_types.specs.declared.world.Event.TheVariants as event
 use Rattle.xk_types.specs.World.{Activity, Finish, World, root}

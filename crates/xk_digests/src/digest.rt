@@ -1,5 +1,5 @@
-//! A number of 64 bits that worlds have in common which are alike where slots are live, beside the same numbers: where it differs, no more is
-//! compared.
+//! A number of 64 bits that worlds have in common which are alike where slots are live, beside the same numbers: where it
+//! differs, no more is compared.
 
 ghost use Rattle.std.specs.Prelude.{◌≡◌, ◌<◌, ◌^◌, Some, length, slice_get};
 ghost use Rattle.xk_activity.specs.Activities.{act_at};
@@ -55,7 +55,7 @@ fn word_of(value: Value) -> u64
 }
 
 /// What a slot of the present frame holds, if it is live at this place of the frame's unit; else nothing.
-#[tactic(auto, using(crate::proofs::LikenessLemmas::masked_get, crate::proofs::LikenessLemmas::masked_dead))]
+#[tactic(auto, using(crate::proofs::LikenessLemmas::masked_live, crate::proofs::LikenessLemmas::masked_dead))]
 fn live_value(live: &LiveSlots<'_>, place: usize, frames: &Frames<'_>, slot: u16) -> Value
     requires { slot < length frames.now.frame.slots }
     ensures { slice_get (masked (live_of live.now frames.now.frame.unit place)
@@ -94,7 +94,7 @@ fn with_frame(live: &LiveSlots<'_>, place: usize, frames: &Frames<'_>, digest: u
 }
 
 /// The digest with what of an activity may still count more.
-#[tactic(auto, using(crate::proofs::FrameLemmas::few_frames))]
+#[tactic(auto, using(crate::proofs::FrameLemmas::all_few))]
 fn with_activity(live: &LiveSlots<'_>, core: &Core<'_>, act: Act, digest: u64) -> u64
     requires { act < length core.now.world.activities }
     ensures { result ≡ with_activity digest

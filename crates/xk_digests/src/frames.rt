@@ -102,11 +102,7 @@ fn is_same_behind(live: &LiveSlots<'_>, frames: &Frames<'_>, others: &Frames<'_>
 }
 
 /// Whether the frames that wait are the same behind their calls.
-fn are_same_waiting(
-    live: &LiveSlots<'_>,
-    frames: &mut Frames<'_>,
-    others: &mut Frames<'_>,
-) -> bool
+fn are_same_waiting(live: &LiveSlots<'_>, frames: &mut Frames<'_>, others: &mut Frames<'_>) -> bool
     requires { AreFew frames.old.callers }
     ensures { Decides result (map (waiting (live_of live.now)) frames.old.callers
         ≡ map (waiting (live_of live.now)) others.old.callers) }
@@ -137,9 +133,9 @@ fn have_same_waiting(
     Ok(are_same_waiting(live, &mut outer, &mut others_outer))
 }
 
-/// Whether what may still count of the activity's frames is the same in both cores, by the status that it has in the first. Err where memory
-/// was refused.
-#[tactic(auto, using(crate::proofs::FrameLemmas::few_frames))]
+/// Whether what may still count of the activity's frames is the same in both cores, by the status that it has in the
+/// first. Err where memory was refused.
+#[tactic(auto, using(crate::proofs::FrameLemmas::all_few))]
 pub(crate) fn has_same_left(
     live: &LiveSlots<'_>,
     core: &Core<'_>,

@@ -1,5 +1,5 @@
-//! Whether worlds are alike where slots are live: whether they differ in dead slots, in what activities that have ended left behind, in numbers
-//! of steps and in phases at most.
+//! Whether worlds are alike where slots are live: whether they differ in dead slots, in what activities that have ended
+//! left behind, in numbers of steps and in phases at most.
 
 ghost use Rattle.std.specs.Prelude.{◌≡◌, ◌<◌, length, map, IfOk};
 ghost use Rattle.std.specs.Bool.{Decides};

@@ -8,7 +8,7 @@ use xk_core::Core;
 use xk_types::{Act, Standing, Status};
 
 /// Whether the activity runs, waits at an `advance`, or is over.
-#[tactic(auto, using(crate::proofs::StatusLemmas::ended_status, crate::proofs::StatusLemmas::arrived_status, crate::proofs::StatusLemmas::running_status))]
+#[tactic(auto, using(crate::proofs::StatusLemmas::ended, crate::proofs::StatusLemmas::arrived, crate::proofs::StatusLemmas::running))]
 pub(crate) fn status_of(core: &Core<'_>, act: Act) -> Status
     requires { act < length core.now.world.activities }
     ensures { result ≡ (act_at core.now.world.activities act).status }

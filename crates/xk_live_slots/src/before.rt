@@ -43,8 +43,8 @@ fn turn_reads(program: &Module, unit: usize, head: usize, slot: u16) -> bool
     }
 }
 
-/// Whether the slot is live before the instruction at a place of a unit: it reads the slot, or doesn't write it where it leads and leaves it
-/// live there.
+/// Whether the slot is live before the instruction at a place of a unit: it reads the slot, or doesn't write it where it
+/// leads and leaves it live there.
 pub(crate) fn is_live_before(
     program: &Module,
     rows: &[Row],
