@@ -1,6 +1,7 @@
 -- An answer on open devices, told where less is known of them.
 use Rattle.std.proofs.lemmas.List.{append_assoc}
-use Rattle.std.proofs.Common.{◌≡◌, ◌∙◌, ◌≢◌, ◌++◌, ap, ℕ, ℤ, Bool, true, false, if◌then◌else◌, List, [], Option, None, Some, codes, inl, inr, subst, sym}
+use Rattle.std.proofs.Common.{◌≡◌, ◌∙◌, ◌≢◌, ◌++◌, ap, ℕ, ℤ, Bool, true, false, if◌then◌else◌, List, [], Option, None}
+use Rattle.std.proofs.Common.{Some, codes, inl, inr, subst, sym}
 use Rattle.std.specs.Prelude.{◌⊎◌, IfSome, is_some, unwrap_or}
 use Rattle.std.specs.Io.KnownBytes.{Appends}
 use Rattle.xk_types.specs.Device.{Rose}
@@ -21,7 +22,9 @@ use Rattle.xk_answers.proofs.LogLemmas.{of_each, some_each}
 use Rattle.xk_log.specs.SomeBytes.{OfSome}
 use Rattle.xk_serve_ask.specs.AskedRun.{IsAskedFirst, IsHandReply}
 use Rattle.xk_serve_ask.proofs.AskedRunLemmas.{unread_ends}
-use Rattle.x10clock.specs.Requests.{AnswersHand, AnswersTask, EndsIn, IsAnswered, IsAnsweredBySome, IsByHand, IsDeviceTold, IsGiven, IsPageWritten, IsServed, IsToldOver, IsToldUnopened, TellsUnopened, input_line, rule_page, told_path}
+use Rattle.x10clock.specs.Requests.{AnswersHand, AnswersTask, EndsIn, IsAnswered, IsAnsweredBySome, IsByHand}
+use Rattle.x10clock.specs.Requests.{IsDeviceTold, IsGiven, IsPageWritten, IsServed, IsToldOver, IsToldUnopened}
+use Rattle.x10clock.specs.Requests.{TellsUnopened, input_line, rule_page, told_path}
 
 -- ---- a run by hand
 

@@ -1,5 +1,6 @@
 -- What the program does with what its words ask for, on open devices: a job is served, and a run by hand is played. This project's own.
-use Rattle.std.specs.Prelude.{◌≡◌, ◌≢◌, ℕ, ◌⊎◌, Bool, List, [], ◌++◌, codes, true, false, Option, None, Some, Result, Ok, Err, IfSome, is_some, option_map, if◌then◌else◌}
+use Rattle.std.specs.Prelude.{◌≡◌, ◌≢◌, ℕ, ◌⊎◌, Bool, List, [], ◌++◌, codes, true, false, Option, None, Some, Result}
+use Rattle.std.specs.Prelude.{Ok, Err, IfSome, is_some, option_map, if◌then◌else◌}
 use Rattle.std.specs.Io.KnownBytes.{Appends}
 use Rattle.std.specs.declared.io.ErrorKind.{ErrorKind}
 use Rattle.std.specs.declared.io.ErrorKind.TheVariants as kind

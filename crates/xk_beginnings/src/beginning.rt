@@ -9,11 +9,7 @@ use std::alloc::{AllocError, Global};
 use xk_types::Entry;
 
 /// The entries of the first steps of a log, so many, or all where it has fewer. Err where memory was refused.
-pub fn first_steps(
-    alloc: Global,
-    log: &[Entry],
-    count: u64,
-) -> Result<Vec<Entry>, AllocError>
+pub fn first_steps(alloc: Global, log: &[Entry], count: u64) -> Result<Vec<Entry>, AllocError>
     ensures { IfOk result (λ v. v.items ≡ first_steps count log.now) }
 {
     let mut beginning = Vec::new(alloc);

@@ -11,7 +11,8 @@ use Rattle.xk_readings.specs.Graphs.{GraphValue, HasEdge}
 use Rattle.xk_readings.specs.NodeSets.{HasNode}
 use Rattle.xk_readings.specs.Readings.{Reads}
 use Rattle.xk_readings.specs.Sets.{AreDifferent, Has}
-use Rattle.xk_readings.specs.Automata.{AreForked, AreMoves, AreNodes, AreStates, HasEndNode, HasMove, HasMoved, IsMoveOf, IsReadFrom, IsShut}
+use Rattle.xk_readings.specs.Automata.{AreForked, AreMoves, AreNodes, AreStates, HasEndNode, HasMove, HasMoved}
+use Rattle.xk_readings.specs.Automata.{IsMoveOf, IsReadFrom, IsShut}
 use Rattle.xk_readings.specs.Automata.{KeepsStates, ReadsNoMore}
 use Rattle.xk_types.proofs.ListLemmas.{get-append_left, get_inside as there_is, get_once as same_at, get_push}
 use Rattle.xk_readings.proofs.SetLemmas.{has_append, has_left, has_place, has_right}
@@ -55,17 +56,6 @@ first_state g old new nodes k none there each are shut reads has = record {
         by (inr is) = is
 
 -- ---- moves
-
-pub no_moves : (g : GraphValue) (states : List (List ℕ)) (moves : List Edge) → moves ≡ [] → AreMoves g states moves 0
-no_moves g states moves none = record {
-  each = λ e h. absurd (nothing e h);
-  before = λ e h. absurd (nothing e h);
-  forked = subst AreForked (sym none) tt;
-  there = λ i s x numbers less. absurd (omega (arith, less));
-}
-  where
-    nothing : (e : Edge) → Has moves e → ⊥
-    nothing e h = subst (λ (l : List Edge). Has l e) none h
 
 move_kept : (g : GraphValue) (old new : List (List ℕ)) (e : Edge) → KeepsStates old new → IsMoveOf g old e → IsMoveOf g new e
 move_kept g old new e keeps is = record {

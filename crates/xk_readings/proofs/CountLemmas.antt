@@ -19,7 +19,7 @@ counted_sum a b = omega arith
 
 -- ---- more paths
 
-pub ways_append : (k : ℕ) (ps qs : List Path) → ways_to k (ps ++ qs) ≡ ways_to k ps + ways_to k qs
+ways_append : (k : ℕ) (ps qs : List Path) → ways_to k (ps ++ qs) ≡ ways_to k ps + ways_to k qs
 ways_append k [] qs = omega arith
 ways_append k (p ∷ ps) qs = (let rest = ways_append k ps qs in omega (arith, rest))
 
@@ -193,7 +193,7 @@ within_all many (e ∷ moves) ps are q h = by (within_all many moves ps (λ j f 
     by rest (inl a) = within_extended many e ps (are 0 e refl).1 q a
     by rest (inr b) = rest b
 
-pub within_paths : (many : ℕ) (moves : List Edge) (n : ℕ) → 0 < many → AreBetween moves many → (q : Path) → Has (paths_of moves n) q → q.node < many
+within_paths : (many : ℕ) (moves : List Edge) (n : ℕ) → 0 < many → AreBetween moves many → (q : Path) → Has (paths_of moves n) q → q.node < many
 within_paths many moves zero some are q (inl same) = subst (λ (z : Path). z.node < many) (sym same) some
 within_paths many moves zero some are q (inr later) = absurd later
 within_paths many moves (suc n) some are q h = within_all many moves (paths_of moves n) are q h
@@ -222,7 +222,7 @@ stays_none moves n (suc d) none =
     next n d = omega arith
 
 -- no more is read along more moves then
-pub read_below : (moves : List Edge) (ends : List Bool) (n d : ℕ) → paths_of moves n ≡ []
+read_below : (moves : List Edge) (ends : List Bool) (n d : ℕ) → paths_of moves n ≡ []
     → lists_below moves ends (suc (d + n)) ≡ lists_below moves ends (suc n)
 read_below moves ends n zero none = ap (λ m. lists_below moves ends (suc m)) (plus_zero n)
   where
@@ -253,7 +253,7 @@ nothing_counted moves many n ways some between count are none =
         uncounted (ways_to k (paths_of moves n)) (sym there ∙ none k inside)
 
 -- one move more
-pub lists_more : (moves : List Edge) (ends : List Bool) (n : ℕ)
+lists_more : (moves : List Edge) (ends : List Bool) (n : ℕ)
     → length (lists_below moves ends (suc n)) ≡ length (lists_below moves ends n) + length (over_of ends (paths_of moves n))
 lists_more moves ends n = length-append (lists_below moves ends n) (over_of ends (paths_of moves n))
 

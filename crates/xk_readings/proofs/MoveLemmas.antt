@@ -161,7 +161,7 @@ sorted_same old new moved = record {
 -- ---- numbers
 
 -- whether a number is among them
-pub any_is : (xs : List ℤ) (x : ℤ) → Decides (list_any (λ y. int_eq y x) xs) (Has xs x)
+any_is : (xs : List ℤ) (x : ℤ) → Decides (list_any (λ y. int_eq y x) xs) (Has xs x)
 any_is [] x = (λ h. absurd (false≢true h), λ none. absurd none)
 any_is (y ∷ xs) x = by (any_is xs x) (int_eq y x) (signed_Decides y x)
   where

@@ -17,7 +17,7 @@ use Rattle.xk_readings.proofs.SetLemmas.{different_append, has_append, has_left,
 abbrev pub IsLonger : Edge → List Path → Path → Type 0
 IsLonger e ps q = (p : Path) × Has ps p × (p.node ≡ e.from) × (q ≡ longer e p)
 
-pub longer_of : (e : Edge) (ps : List Path) (q : Path) → Has (extended e ps) q → IsLonger e ps q
+longer_of : (e : Edge) (ps : List Path) (q : Path) → Has (extended e ps) q → IsLonger e ps q
 longer_of e [] q h = absurd h
 longer_of e (p ∷ ps) q h = by (longer_of e ps q) (eqb_tells p.node e.from)
   where
@@ -36,7 +36,7 @@ longer_of e (p ∷ ps) q h = by (longer_of e ps q) (eqb_tells p.node e.from)
     by rest (inl same) = at rest (eqb p.node e.from) (λ _. same.1) h
     by rest (inr other) = at rest (eqb p.node e.from) (λ yes'. absurd (true≢false (sym yes' ∙ other.0))) h
 
-pub has_longer : (e : Edge) (ps : List Path) (p : Path) → Has ps p → p.node ≡ e.from → Has (extended e ps) (longer e p)
+has_longer : (e : Edge) (ps : List Path) (p : Path) → Has ps p → p.node ≡ e.from → Has (extended e ps) (longer e p)
 has_longer e [] p h same = absurd h
 has_longer e (q ∷ ps) p (inl is) same =
     let test : eqb q.node e.from ≡ true = eq-eqb q.node e.from (ap (λ (z : Path). z.node) (sym is) ∙ same) in
@@ -164,7 +164,7 @@ never_empty : (xs : List ℤ) (x : ℤ) → [] ≡ xs ++ x ∷ [] → ⊥
 never_empty xs x h = (let count = ap length h in let more = length_push xs x in omega (arith, count, more))
 
 -- lists with a number behind them are the same where these are
-pub push_same : (xs ys : List ℤ) (x y : ℤ) → xs ++ x ∷ [] ≡ ys ++ y ∷ [] → (xs ≡ ys) × (x ≡ y)
+push_same : (xs ys : List ℤ) (x y : ℤ) → xs ++ x ∷ [] ≡ ys ++ y ∷ [] → (xs ≡ ys) × (x ≡ y)
 push_same [] [] x y same = (refl, head_same x y [] [] same)
 push_same [] (z ∷ ys) x y same = absurd (never_empty ys y (tail_same x z [] (ys ++ y ∷ []) same))
 push_same (z ∷ xs) [] x y same = absurd (never_empty xs x (sym (tail_same z y (xs ++ x ∷ []) [] same)))
@@ -224,7 +224,7 @@ different_all (e ∷ moves) ps loud forked are =
         let one = one_path ps m.0 l.0 are m.1 l.1 same.0 in
         forked.0 f a.1 (sym m.2 ∙ ap (λ (z : Path). z.node) one ∙ l.2) same.1
 
-pub different_paths : (moves : List Edge) (n : ℕ) → AreLoud moves → AreForked moves → AreDifferent (numbers_all (paths_of moves n))
+different_paths : (moves : List Edge) (n : ℕ) → AreLoud moves → AreForked moves → AreDifferent (numbers_all (paths_of moves n))
 different_paths moves zero loud forked = (λ h. h, tt)
 different_paths moves (suc n) loud forked = different_all moves (paths_of moves n) loud forked (different_paths moves n loud forked)
 

@@ -55,25 +55,12 @@ before_more [] x b = tt
 before_more (z ∷ p) x b = inr (refl, before_more p x b)
 
 -- none comes before itself
-pub not_before_itself : (p : List ℤ) → ComesBefore p p → ⊥
+not_before_itself : (p : List ℤ) → ComesBefore p p → ⊥
 not_before_itself [] h = h
 not_before_itself (x ∷ p) (inl less) = <ℤ_irrefl less
 not_before_itself (x ∷ p) (inr (same, rest)) = not_before_itself p rest
 
 -- ---- what is listed
-
--- none is listed twice
-pub rising_distinct : (list : List Reading) → AreRising list → (i j : ℕ) (r s : Reading) → slice_get list i ≡ Some r
-    → slice_get list j ≡ Some s
-    → r.numbers.items ≡ s.numbers.items → i ≡ j
-rising_distinct list rising i j r s at_i at_j same = by (cases_lt i j) (cases_lt j i)
-  where
-    by : (i < j) ⊎ (j ≤ i) → (j < i) ⊎ (i ≤ j) → i ≡ j
-    by (inl less) other = absurd (not_before_itself s.numbers.items
-        (subst (λ (l : List ℤ). ComesBefore l s.numbers.items) same (rising i j r s less at_i at_j)))
-    by (inr most) (inl less) = absurd (not_before_itself s.numbers.items
-        (subst (λ (l : List ℤ). ComesBefore s.numbers.items l) same (rising j i s r less at_j at_i)))
-    by (inr most) (inr least) = omega (arith, most, least)
 
 -- the lists of numbers
 abbrev pub numbers_in : List Reading → List (List ℤ)
@@ -85,7 +72,7 @@ reading_of [] numbers h = absurd h
 reading_of (r ∷ list) numbers (inl same) = (0, r, refl, sym same)
 reading_of (r ∷ list) numbers (inr later) = (let rest = reading_of list numbers later in (suc rest.0, rest.1, rest.2, rest.3))
 
-pub rising_different : (list : List Reading) → AreRising list → AreDifferent (numbers_in list)
+rising_different : (list : List Reading) → AreRising list → AreDifferent (numbers_in list)
 rising_different [] rising = tt
 rising_different (r ∷ list) rising = (
   λ h. (let is = reading_of list r.numbers.items h in not_before_itself r.numbers.items
@@ -134,10 +121,10 @@ before_one_more list more r numbers one before last i a there = by
 
 -- ---- branches
 
-pub most_itself : (x : ℤ) → x ≤ℤ x
+most_itself : (x : ℤ) → x ≤ℤ x
 most_itself x = omega (arith, ints)
 
-pub most_chain : (x y z : ℤ) → x ≤ℤ y → y ≤ℤ z → x ≤ℤ z
+most_chain : (x y z : ℤ) → x ≤ℤ y → y ≤ℤ z → x ≤ℤ z
 most_chain x y z a b = omega (arith, ints, a, b)
 
 pub most_less : (x y z : ℤ) → x ≤ℤ y → y <ℤ z → x <ℤ z

@@ -28,11 +28,6 @@ has_place [] k x h = absurd (none-some x h)
 has_place (z ∷ xs) zero x h = inl (sym (same_Some z x h))
 has_place (z ∷ xs) (suc k) x h = inr (has_place xs k x h)
 
-pub place_of : {X : Type 0} (xs : List X) (x : X) → Has xs x → (k : ℕ) × (slice_get xs k ≡ Some x)
-place_of [] x h = absurd h
-place_of (z ∷ xs) x (inl same) = (0, ap Some (sym same))
-place_of (z ∷ xs) x (inr later) = (let rest = place_of xs x later in (suc rest.0, rest.1))
-
 -- with one that isn't among them they still differ
 pub different_push : {X : Type 0} (xs : List X) (x : X) → AreDifferent xs → (Has xs x → ⊥) → AreDifferent (xs ++ x ∷ [])
 different_push [] x are new = (λ h. h, tt)

@@ -78,7 +78,8 @@ fn add_moves(
     Ok(())
 }
 
-/// Adds the moves from each set, until none is left or more are met than the limit says. Whether none is left. Err where memory was refused.
+/// Adds the moves from each set, until none is left or more are met than the limit says. Whether none is left. Err where memory was
+    /// refused.
 fn grow(
     alloc: Global,
     graph: &Graph,

@@ -1,5 +1,5 @@
-//! Which lists of numbers can be read along the edges of a graph, from its first node to nodes at which a reading may end; and how many they
-//! are.
+//! Which lists of numbers can be read along the edges of a graph, from its first node to nodes at which a reading may end; and how many
+//! they are.
 #![tactic(auto)]
 
 mod all_readings;

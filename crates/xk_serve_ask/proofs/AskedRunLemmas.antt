@@ -1,5 +1,6 @@
 -- What comes of a run whose order is asked for, and what stands against one.
-use Rattle.std.proofs.Common.{◌≡◌, ◌≢◌, ◌∙◌, ℕ, ℤ, ◌⊎◌, inl, inr, Bool, true, false, List, [], ◌++◌, refl, sym, ap, subst, arith, Option, Some, None, Result, Err}
+use Rattle.std.proofs.Common.{◌≡◌, ◌≢◌, ◌∙◌, ℕ, ℤ, ◌⊎◌, inl, inr, Bool, true, false, List, [], ◌++◌, refl, sym, ap}
+use Rattle.std.proofs.Common.{subst, arith, Option, Some, None, Result, Err}
 use Rattle.std.specs.Prelude.{IfErr, IfSome, take, if◌then◌else◌}
 use Rattle.std.specs.Io.KnownBytes.{Appends}
 use Rattle.xk_types.specs.declared.world.Entry.{Entry}
@@ -29,7 +30,9 @@ use Rattle.xk_program.specs.Origins.{HaveOrigins, HaveSharedNames}
 use Rattle.xk_program.specs.Lines.{device_line, fault_line, status_of}
 use Rattle.xk_program.specs.Programs.{Gives}
 use Rattle.xk_serve.proofs.ReplyLemmas.{appends_none, tells_begins}
-use Rattle.xk_serve_ask.specs.AskedRun.{AreBegun, BeginsAsking, BeginsToAsk, EndsAsking, FailsWhile, IsAskedBy, IsAskedFirst, IsFaultReply, IsHandReply, IsHandRun, IsPlayedByHand, IsUnfitFor, IsWrittenBy, OutBeginsRun, StandsAgainstAsked, known_of, last_line}
+use Rattle.xk_serve_ask.specs.AskedRun.{AreBegun, BeginsAsking, BeginsToAsk, EndsAsking, FailsWhile, IsAskedBy}
+use Rattle.xk_serve_ask.specs.AskedRun.{IsAskedFirst, IsFaultReply, IsHandReply, IsHandRun, IsPlayedByHand, IsUnfitFor}
+use Rattle.xk_serve_ask.specs.AskedRun.{IsWrittenBy, OutBeginsRun, StandsAgainstAsked, known_of, last_line}
 
 -- what holds of the bytes kept holds of those kept of the bytes that are known
 of_known : (form : Form) (program : Option (List ℕ)) (bytes : List ℕ) (P : List ℕ → Type 0) → IfSome program (λ k. bytes ≡ kept form k) → P bytes

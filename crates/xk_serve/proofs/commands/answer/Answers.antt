@@ -6,7 +6,9 @@ use Rattle.std.proofs.lemmas.Result.{err_from_is_err_and}
 use Rattle.xk_answers.specs.Results.{Check, Compile, Draw, Expected, OutcomePage, Outcomes, Races, Replay, Run, Where, way_given}
 use Rattle.xk_cli.specs.CommandAnswers.{explanation, shows_origins}
 use Rattle.xk_serve.specs.Answer.{doing_of, races_by, task_of}
-use Rattle.xk_serve.proofs.TaskLemmas.{against_any, against_list, against_log, against_memory, against_picture, against_refused, against_run_of, against_text, done_of_any, done_of_list, done_of_log, done_of_none, done_of_run, done_of_text, done_of_told}
+use Rattle.xk_serve.proofs.TaskLemmas.{against_any, against_list, against_log, against_memory, against_picture}
+use Rattle.xk_serve.proofs.TaskLemmas.{against_refused, against_run_of, against_text, done_of_any, done_of_list}
+use Rattle.xk_serve.proofs.TaskLemmas.{done_of_log, done_of_none, done_of_run, done_of_text, done_of_told}
 use Rattle.xk_serve.proofs.TaskLemmas.{no_module_fails}
 use Rattle.xk_serve.proofs.commands.answer.Goals as goal
 

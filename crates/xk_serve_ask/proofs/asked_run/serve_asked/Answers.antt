@@ -1,6 +1,11 @@
 use Rattle.std.proofs.Common.{inl, inr}
 use Rattle.std.specs.Prelude.{string_bytes}
-use Rattle.xk_serve_ask.proofs.AskedRunLemmas.{ends_asking, ends_asking_device, fault_begins_line, fault_replies, fault_reply_of, nothing_begins, out_status, reports_begun, reports_device, reports_memory, reports_refusal, run_begins, run_begins_line, run_replies, run_reply, stands_counts, stands_told, unread_alone, unread_begins_line, unread_ends, unread_ends_device, unread_replies}
+use Rattle.xk_serve_ask.proofs.AskedRunLemmas.{ends_asking, ends_asking_device, fault_begins_line, fault_replies}
+use Rattle.xk_serve_ask.proofs.AskedRunLemmas.{fault_reply_of, nothing_begins, out_status, reports_begun}
+use Rattle.xk_serve_ask.proofs.AskedRunLemmas.{reports_device, reports_memory, reports_refusal, run_begins}
+use Rattle.xk_serve_ask.proofs.AskedRunLemmas.{run_begins_line, run_replies, run_reply, stands_counts, stands_told}
+use Rattle.xk_serve_ask.proofs.AskedRunLemmas.{unread_alone, unread_begins_line, unread_ends, unread_ends_device}
+use Rattle.xk_serve_ask.proofs.AskedRunLemmas.{unread_replies}
 use Rattle.xk_serve_ask.proofs.asked_run.serve_asked.Goals as goal
 
 -- ---- a run
