@@ -79,7 +79,7 @@ fn add_moves(
 }
 
 /// Adds the moves from each set, until none is left or more are met than the limit says. Whether none is left. Err where memory was
-    /// refused.
+/// refused.
 fn grow(
     alloc: Global,
     graph: &Graph,
