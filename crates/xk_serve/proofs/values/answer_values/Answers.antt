@@ -1,7 +1,7 @@
 use Rattle.std.proofs.Common.{◌∙◌, refl, ap, sym}
-use Rattle.std.specs.Prelude.{unwrap_or}
+use Rattle.std.specs.Prelude.{Bool, unwrap_or}
 use Rattle.xk_answers.specs.declared.picture.Picture.TheVariants as picture
-use Rattle.xk_answers.specs.Results.{Draw, ExpectedShown, Json, OutcomesShown, RunShown, way_given}
+use Rattle.xk_answers.specs.Results.{Doing, Draw, ExpectedShown, Json, OutcomesShown, RunShown, way_given}
 use Rattle.xk_cli.specs.CommandAnswers.{have_places}
 use Rattle.xk_serve.specs.Answer.{task_of, values_doing}
 use Rattle.xk_serve.proofs.TaskLemmas.{against_list, against_picture, against_run_of, done_of_any, done_of_list, done_of_run}
@@ -9,7 +9,7 @@ use Rattle.xk_serve.proofs.values.answer_values.Goals as goal
 
 pub returns-in-Run-clause-done : goal.returns-in-Run-clause-done
 returns-in-Run-clause-done g c =
-    let shown = λ kept. Json (RunShown (way_given c.in-Run.drive) kept) in
+    let shown : Bool → Doing = λ kept. Json (RunShown (way_given c.in-Run.drive) kept) in
     let is = c.requires.doing ∙ ap values_doing c.in-Run.is ∙ ap shown (sym c.is_some.ensures) in
     done_of_any (task_of c.args.job.now) c.args.bytes.now (g.L.Source.remaining c.args.log_in.now) _ (shown c.is_some.result)
     c.as_slice-arguments.result.now c.run_shown.result is c.as_slice-arguments.ensures.value c.requires.module c.run_shown.ensures.done
@@ -36,7 +36,7 @@ returns-in-Events-clause-fault g c =
 
 pub returns-in-Outcomes-clause-done : goal.returns-in-Outcomes-clause-done
 returns-in-Outcomes-clause-done g c =
-    let shown = λ kept. Json (OutcomesShown c.in-Outcomes.sets c.in-Outcomes.limit (unwrap_or c.in-Outcomes.pick 1) kept) in
+    let shown : Bool → Doing = λ kept. Json (OutcomesShown c.in-Outcomes.sets c.in-Outcomes.limit (unwrap_or c.in-Outcomes.pick 1) kept) in
     let is = c.requires.doing ∙ ap values_doing c.in-Outcomes.is ∙ ap shown (sym c.is_some-in-Outcomes.ensures) in
     done_of_any (task_of c.args.job.now) c.args.bytes.now (g.L.Source.remaining c.args.log_in.now) _ (shown c.is_some-in-Outcomes.result)
     c.as_slice-arguments.result.now c.found_shown.result is c.as_slice-arguments.ensures.value c.requires.module
