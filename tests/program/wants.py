@@ -26,7 +26,7 @@ from tests.reference import modules, source
 
 MEGABYTE = 1_000_000
 # What the program takes before it looks at anything.
-START = 6 * MEGABYTE
+START = 7 * MEGABYTE
 LONGEST_TEXT = 1 << 20
 # The status of an answer that isn't whole, or is a no.
 NOT_WHOLE = 6
