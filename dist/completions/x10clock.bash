@@ -1,4 +1,4 @@
-# Completions of x10clock 1.2.0 for bash, which dist/manual.py writes. Bash finds them in
+# Completions of x10clock 1.3.0 for bash, which dist/manual.py writes. Bash finds them in
 # ~/.local/share/bash-completion/completions, as x10clock.
 _x10clock() {
     local word=${COMP_WORDS[COMP_CWORD]} before=${COMP_WORDS[COMP_CWORD - 1]} command='' words='' at
@@ -16,9 +16,10 @@ _x10clock() {
     done
     COMPREPLY=()
     case "$command $before" in
-        "run --order") mapfile -t COMPREPLY < <(compgen -W "first last round random ask" -- "$word"); return ;;
+        "run --order") mapfile -t COMPREPLY < <(compgen -W "first last round random greedy ask" -- "$word"); return ;;
         "run --seed") return ;;
         "run --runs") return ;;
+        "run --processors") return ;;
         "run --workers") return ;;
         "run --log") compopt -o default; return ;;
         "run --arg") return ;;
@@ -34,27 +35,34 @@ _x10clock() {
         "lanes --arg") return ;;
         "lanes --from") return ;;
         "lanes --to") return ;;
+        "page --outcome") return ;;
+        "page --limit") return ;;
         "page --arg") return ;;
         "page --from") return ;;
         "page --to") return ;;
         "where --arg") return ;;
+        "where --at") return ;;
+        "span --arg") return ;;
+        "why --arg") return ;;
     esac
     case $command in
-        '') words='check explain compile listing run outcomes races replay chart events lanes page where help -h --help -V --version' ;;
-        check) words='--module -h --help' ;;
+        '') words='check explain compile listing run outcomes races replay chart events lanes page where span why help -h --help -V --version' ;;
+        check) words='--module --json -h --help' ;;
         explain) words='--module --json -h --help' ;;
         compile) words='-h --help' ;;
         listing) words='--module -h --help' ;;
-        run) words='--module --order --seed --runs --workers --log --arg -h --help' ;;
-        outcomes) words='--module --limit --pick --log --sets --expect --arg -h --help' ;;
+        run) words='--module --order --seed --runs --processors --workers --log --arg --json -h --help' ;;
+        outcomes) words='--module --limit --pick --log --sets --expect --arg --json -h --help' ;;
         races) words='--module --arg -h --help' ;;
         replay) words='--module --arg -h --help' ;;
         chart) words='--module --arg -h --help' ;;
-        events) words='--module --arg -h --help' ;;
-        lanes) words='--module --arg --from --to --svg -h --help' ;;
-        page) words='--module --arg --from --to -h --help' ;;
-        where) words='--module --arg -h --help' ;;
-        help) words='check explain compile listing run outcomes races replay chart events lanes page where help' ;;
+        events) words='--module --arg --json -h --help' ;;
+        lanes) words='--module --arg --from --to --svg --path -h --help' ;;
+        page) words='--module --outcome --limit --arg --from --to -h --help' ;;
+        where) words='--module --arg --at -h --help' ;;
+        span) words='--module --arg -h --help' ;;
+        why) words='--module --arg -h --help' ;;
+        help) words='check explain compile listing run outcomes races replay chart events lanes page where span why help' ;;
     esac
     if [[ -z $command || $command == help || $word == -* ]]; then
         mapfile -t COMPREPLY < <(compgen -W "$words" -- "$word")

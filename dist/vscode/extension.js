@@ -25,7 +25,7 @@ function placeOf(document, line, column) {
   return new vscode.Position(Math.min(line, document.lineCount) - 1, before.join("").length);
 }
 
-// From there to the place that is said to be the end, or else to the end of the word or character that begins there.
+// From there to the end that is said; programs up to 1.2.0 say none: to that of the word or character that begins there.
 function rangeOf(document, it) {
   if (!it.line) return new vscode.Range(new vscode.Position(0, 0), new vscode.Position(0, 0));
   const start = placeOf(document, it.line, it.column);
@@ -35,36 +35,42 @@ function rangeOf(document, it) {
   return new vscode.Range(start, new vscode.Position(start.line, start.character + word.length));
 }
 
-// All that is said of a fault without a place of its own, in lines.
+// Whether a note is on another place than the fault.
+function isElsewhere(said, note) {
+  return "line" in note && (note.line !== said.line || note.column !== said.column);
+}
+
+// All that is said of a fault itself, in lines.
 function messageOf(said) {
-  const told = [`${said.name}: ${said.message}`];
-  if (said.holds) {
-    told.push(`${said.slot_name ? `\`${said.slot_name}\`` : `slot ${said.slot}`} may hold here: ${said.holds}`);
-  }
-  const notes = said.notes.filter(note => !note.line).map(note => note.text);
-  return [...told, ...notes, `usual repair: ${said.repair}`].join("\n");
+  const notes = said.notes.filter(note => !isElsewhere(said, note)).map(note => note.text);
+  return [`${said.name}: ${said.message}`, ...notes, `usual repair: ${said.repair}`].join("\n");
 }
 
 // The other places: the last stops of a walk, and notes.
 function relatedOf(document, said) {
   const stops = (said.walk || []).filter(stop => stop.line).slice(-STOPS);
   const held = stops.map(stop => ({ ...stop, text: `on a way to it, held before: ${HOLDS[stop.kind]}` }));
-  const notes = said.notes.filter(note => note.line);
+  const notes = said.notes.filter(note => isElsewhere(said, note));
   return [...held, ...notes].map(it => {
     const location = new vscode.Location(document.uri, rangeOf(document, it));
     return new vscode.DiagnosticRelatedInformation(location, it.text);
   });
 }
 
-// The diagnostics for an answer: none or one. A fault without a place is at the beginning.
-function diagnosticsOf(document, said) {
-  if (said.accepted) return [];
+// The diagnostic for a fault. One without a place is at the beginning.
+function diagnosticOf(document, said) {
   const range = rangeOf(document, said);
   const fault = new vscode.Diagnostic(range, messageOf(said), vscode.DiagnosticSeverity.Error);
   fault.source = "x10clock";
   fault.code = said.rule;
   fault.relatedInformation = relatedOf(document, said);
-  return [fault];
+  return fault;
+}
+
+// The diagnostics for an answer: none, or that of the fault and of those that are told behind it.
+function diagnosticsOf(document, said) {
+  if (said.accepted) return [];
+  return [said, ...(said.further || [])].map(fault => diagnosticOf(document, fault));
 }
 
 exports.activate = context => {

@@ -232,7 +232,7 @@ def runs_alone(held: Held, program: pathlib.Path) -> None:
 
 
 # Asks the package in the present folder.
-ASK_PACKAGE = "import sys, x10clock; print(*x10clock.run(sys.argv[1]).printed)"
+ASK_PACKAGE = "import pathlib, sys, x10clock; print(*x10clock.run(pathlib.Path(sys.argv[1])).printed)"
 
 
 def wheel(version: str) -> pathlib.Path:

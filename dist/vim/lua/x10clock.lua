@@ -35,7 +35,7 @@ local function place(lines, line, column)
   return line - 1, #lines[line]
 end
 
--- The end of the word, or of the character, that begins there.
+-- The end of the word, or of the character, that begins there: programs up to 1.2.0 don't say where that is.
 local function word_end(lines, line, byte)
   local rest = lines[line + 1]:sub(byte + 1)
   return line, byte + #(rest:match("^[%w_]+") or rest:match("^.[\128-\191]*") or "")
@@ -63,23 +63,16 @@ end
 -- All that is said of a fault, in lines.
 local function message(said)
   local told = { said.rule .. " " .. said.name .. ": " .. said.message }
-  if said.holds then
-    local slot = type(said.slot_name) == "string" and "`" .. said.slot_name .. "`" or "slot " .. said.slot
-    table.insert(told, slot .. " may hold here: " .. said.holds)
-  end
-  vim.list_extend(told, stops(said))
   for _, note in ipairs(said.notes or {}) do
     table.insert(told, at(note) .. note.text)
   end
+  vim.list_extend(told, stops(said))
   table.insert(told, "usual repair: " .. said.repair)
   return table.concat(told, "\n")
 end
 
--- The diagnostics for an answer: none or one. A fault without a place is at the beginning.
-local function diagnostics(lines, said)
-  if said.accepted then
-    return {}
-  end
+-- The diagnostic for a fault. One without a place is at the beginning.
+local function diagnostic(lines, said)
   local line, byte = place(lines, said.line or 1, said.column or 1)
   local end_line, end_byte = line, byte
   if said.end_line then
@@ -88,16 +81,26 @@ local function diagnostics(lines, said)
     end_line, end_byte = word_end(lines, line, byte)
   end
   return {
-    {
-      lnum = line,
-      col = byte,
-      end_lnum = end_line,
-      end_col = end_byte,
-      severity = vim.diagnostic.severity.ERROR,
-      source = "x10clock",
-      message = message(said),
-    },
+    lnum = line,
+    col = byte,
+    end_lnum = end_line,
+    end_col = end_byte,
+    severity = vim.diagnostic.severity.ERROR,
+    source = "x10clock",
+    message = message(said),
   }
+end
+
+-- The diagnostics for an answer: none, or that of the fault and of those that are told behind it.
+local function diagnostics(lines, said)
+  if said.accepted then
+    return {}
+  end
+  local told = { diagnostic(lines, said) }
+  for _, fault in ipairs(said.further or {}) do
+    table.insert(told, diagnostic(lines, fault))
+  end
+  return told
 end
 
 -- The text as a list for `chansend`, which puts a line feed between two of its lines.

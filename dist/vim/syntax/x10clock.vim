@@ -1,4 +1,4 @@
-" Vim syntax of the texts that x10clock reads. tests/answers/editors.py holds it against the lexer's words and signs.
+" Vim syntax of the texts that x10clock reads. tests/program/editors.py holds it against the lexer's words and signs.
 if exists("b:current_syntax")
   finish
 endif
