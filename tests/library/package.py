@@ -79,7 +79,7 @@ def runs() -> None:
     want("again", x10clock.replay(IN_STEP, run.log).printed, run.printed)
     steps = x10clock.events(IN_STEP, run.log)
     want("events", [step["printed"] for step in steps if step["event"] == "print"], [1, 2, 11, 12])
-    want("names", {step["name"] for step in steps if "clock" in step}, {"c"})
+    want("names", {step["name"] for step in steps if "clock" in step}, {"clock of 4:5"})
     want("last", x10clock.run(IN_STEP, order="last").printed, (2, 1, 12, 11))
     want("rounds", x10clock.run(IN_STEP, order="greedy", processors=1).rounds, 19)
     want("steps", x10clock.run(IN_STEP, order="random", seed=3).steps, 19)
