@@ -4,7 +4,7 @@
 #     sh bench/all.sh
 #
 # Keeps what each script prints in bench/results/, and makes the page's tables from that (bench/tables.py). Needs rustc,
-# valgrind, GNU time, lua5.4, spin and gcc, and six minutes in which the machine has nothing else to do. Where a tool
+# valgrind, GNU time, lua5.4, spin and gcc, and half an hour in which the machine has nothing else to do. Where a tool
 # isn't here, or a script fails, that is said, and the results of before stay.
 set -eu
 cd "$(dirname "$0")/.."
@@ -55,6 +55,8 @@ section lua lua5.4 bench.lua
 section instructions 'rustc valgrind' bench.instructions
 section counts valgrind bench.texts --count
 section spin 'spin gcc' bench.spin
+section models 'spin gcc' bench.spin --models
+section worlds /usr/bin/time bench.worlds
 printf '\n== tables\n'
 python3 -m bench.tables || status=1
 exit "$status"

@@ -100,6 +100,9 @@ SPIN = (
 )
 
 
+WORLDS = "Model | Outcomes | Worlds | s | MB | SPIN's states | s | With reduction | s"
+
+
 def seconds(*each: float) -> str:
     """Seconds with two digits, or with one from a second on."""
     digits = 1 if max(each) >= 0.995 else 2
@@ -237,6 +240,24 @@ def rows_of_spin(found: Results) -> Iterator[list[str]]:
         yield [name, *counts, seconds(one["seconds"], one["seconds_reduced"])]
 
 
+def counted(one: Figures, what: str, seconds_of: str) -> list[str]:
+    """A count and its seconds: those of a search that was given up aren't told."""
+    return [f"{one[what]:,.0f}", seconds(one[seconds_of])] if what in one else ["more", ""]
+
+
+def rows_of_worlds(found: Results, states: Results) -> Iterator[list[str]]:
+    """What `outcomes` keeps of each model, and what SPIN stores, which has to find as many lists."""
+    for name, one in found.items():
+        beside = states.get(name)
+        if beside and one.get("lists", 0) != beside.get("lists", one.get("lists", 0)) and "lists" in one:
+            raise Fault(f"{PAGE}: worlds: {name} has {one['lists']:,.0f} lists, and SPIN {beside['lists']:,.0f}")
+        lists = f"{one['lists']:,.0f}" if "lists" in one else "more"
+        pairs = (("states", "seconds"), ("reduced", "seconds_reduced")) if beside else ()
+        spins = [cell for what, seconds_of in pairs for cell in counted(beside or {}, what, seconds_of)]
+        memory = f"{one['megabytes']:.0f}" if "worlds" in one else ""
+        yield [name, lists, *counted(one, "worlds", "seconds"), memory, *(spins or [""] * 4)]
+
+
 def part(name: str, head: str, make: Callable[..., Iterator[list[str]]], *files: str) -> Part:
     """A table, its head, and how its rows are made of some files of results."""
 
@@ -263,6 +284,7 @@ PARTS = (
     part("explain", "Text | `check` | `explain` | with F2 at its end | with V13", rows_of_explain, "looks"),
     part("looks", "Run | `events` | `lanes` | `page` | `where` | `races`", rows_of_looks, "looks"),
     part("outcomes", "Program | Outcomes | Worlds | Seconds | MB", rows_of_outcomes, "looks"),
+    part("worlds", WORLDS, rows_of_worlds, "worlds", "models"),
     part("spin", "Program | Lists | States | With reduction | Seconds of both", rows_of_spin, "spin"),
 )
 
