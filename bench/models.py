@@ -270,7 +270,6 @@ def peterson(tries: int) -> Model:
 
 MODELS = {
     "lost update, 6": lost_update(6),
-    "lost update, 8": lost_update(8),
     "Peterson, 8 tries": peterson(8),
     "stencil with barriers, 6 x 4": stencil(6, 4, has_barriers=True),
     "stencil without, 4 x 2": stencil(4, 2, has_barriers=False),
@@ -280,8 +279,6 @@ MODELS = {
     "token ring, 6 x 3": token_ring(6, 3),
     "bank, 4": bank(4),
     "bank, 5": bank(5),
-    "bank, 6": bank(6),
     "all print at barriers, 4 x 3": barriers(4, 3),
-    "all print at barriers, 6 x 3": barriers(6, 3),
     "3 producers and consumers, 3 items": producers_and_consumers(3, 3),
 }
