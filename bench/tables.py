@@ -42,7 +42,7 @@ LOGS = (
     ("the same", "10,000,000 steps of one activity"),
     ("100 activities in step, 10,000 phases", "100 activities in step, 10,000 phases"),
     ("2 activities in step, 1,000,000 phases", "2 activities in step, 1,000,000 phases"),
-    ("10,000 clocks, one after the other, each with one phase", "10,000 clocks, one after the other"),
+    ("10,000 clocks in turn, each with one phase", "10,000 clocks, one after the other"),
 )
 WHOLE_TEXTS = (
     ("1,015 methods of seven loops and branches each", "methods"),
