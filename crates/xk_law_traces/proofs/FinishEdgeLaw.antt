@@ -40,7 +40,7 @@ use Rattle.xk_law_traces.proofs.StartEdgeLaw.{child_in, start_deed, turns_all, c
 -- ---- who stays as it is, and what governs it
 
 -- who takes no step stays as it is
-idle_stays : (m : ModuleValue) (p : List ℕ) (v h : World) (a : ℕ) (act : Activity) → turns_of a p ≡ 0 → run m p v ≡ Through h
+pub idle_stays : (m : ModuleValue) (p : List ℕ) (v h : World) (a : ℕ) (act : Activity) → turns_of a p ≡ 0 → run m p v ≡ Through h
     → slice_get v.activities a ≡ Some act
     → slice_get h.activities a ≡ Some act
 idle_stays m [] v h a act idle legal at = ap (λ (z : World). slice_get z.activities a) (sym (same_through v h legal)) ∙ at
@@ -56,7 +56,7 @@ idle_stays m (d ∷ p) v h a act idle legal at =
         rest (let n = turns_other a d p g in omega arith) (others_stay m v u d a e act takes (λ q. eqb-false d a g (sym q)) at)
 
 -- an activity in a later world, governed by the same finish
-abbrev IsThere : World → ℕ → Finish → Type 0
+abbrev pub IsThere : World → ℕ → Finish → Type 0
 IsThere w a g = (y : Activity) × (slice_get w.activities a ≡ Some y) × (y.governed ≡ g)
 
 -- it isn't a step, or each activity is still there and governed by the same finish
@@ -91,7 +91,7 @@ step_governed m w a = step_kind (KeepsGoverned w) m w a tt (λ c. tt) (λ act fo
         )
         by (inr differs) = (x, get-set_other w.activities a b next differs ∙ there, refl)
 
-governed_stays : (m : ModuleValue) (p : List ℕ) (v h : World) (b : ℕ) (x : Activity) → run m p v ≡ Through h
+pub governed_stays : (m : ModuleValue) (p : List ℕ) (v h : World) (b : ℕ) (x : Activity) → run m p v ≡ Through h
     → slice_get v.activities b ≡ Some x → IsThere h b x.governed
 governed_stays m [] v h b x legal at = (x, ap (λ (z : World). slice_get z.activities b) (sym (same_through v h legal)) ∙ at, refl)
 governed_stays m (d ∷ p) v h b x legal at =
