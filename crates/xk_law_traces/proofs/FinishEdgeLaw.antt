@@ -56,7 +56,7 @@ idle_stays m (d ∷ p) v h a act idle legal at =
         rest (let n = turns_other a d p g in omega arith) (others_stay m v u d a e act takes (λ q. eqb-false d a g (sym q)) at)
 
 -- an activity in a later world, governed by the same finish
-abbrev pub IsThere : World → ℕ → Finish → Type 0
+abbrev IsThere : World → ℕ → Finish → Type 0
 IsThere w a g = (y : Activity) × (slice_get w.activities a ≡ Some y) × (y.governed ≡ g)
 
 -- it isn't a step, or each activity is still there and governed by the same finish
