@@ -49,6 +49,8 @@ impl Registrations {
         // Room for one lies in the registrations themselves.
         ensures only_where_it_grows { OnErr result (1 < self.now.room) }
     {
+        // For `room` of `push_reserved`: no more than there is room for.
+        let _len = self.list.len();
         let mut list = SmallVec::with_capacity(*self.list.allocator(), self.list.capacity())?;
         for registration in self.list.as_slice() {
             list.push_reserved(*registration);
