@@ -17,8 +17,12 @@ mod reading;
 mod search;
 mod text;
 
-pub use all_outcomes::{Limit, outcome_sets, outcomes, outcomes_as};
+pub use all_outcomes::{Limit, explored_in, listed_in, outcome_sets, outcomes, outcomes_as};
+pub use entries::Entries;
 pub use holding::{Held, Verdict, expected_outcomes};
 pub use listing::{Outcome, Outcomes};
+pub use lone_outcome::lone_outcome;
+pub use order::Order;
 pub use reading::ListFault;
+pub use search::Explored;
 pub use text::{is_whole, outcomes_text};
