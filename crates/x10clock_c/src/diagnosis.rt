@@ -81,10 +81,7 @@ fn front_diagnosis(alloc: Global, text: &[u8], fault: &Fault) -> Result<Diagnose
     match fault {
         Fault::Front(front) => {
             let position = front_position(alloc, text, *front)?;
-            Ok(Diagnosed::Refused(placed(
-                front_told(*front),
-                position,
-            )))
+            Ok(Diagnosed::Refused(placed(front_told(*front), position)))
         }
         Fault::Text(_)
         | Fault::Refused(_)
@@ -100,21 +97,14 @@ fn front_diagnosis(alloc: Global, text: &[u8], fault: &Fault) -> Result<Diagnose
 }
 
 /// The same of one that gives this program.
-fn code_diagnosis(
-    alloc: Global,
-    text: &[u8],
-    program: Program<'_>,
-) -> Result<Diagnosed, AllocError>
+fn code_diagnosis(alloc: Global, text: &[u8], program: Program<'_>) -> Result<Diagnosed, AllocError>
     requires module { Gives form.Source text.now program.module }
     requires from { IsFrom true form.Source text.now program.from }
     ensures { IfOk result (IsDiagnosed text.now) }
 {
     let Program { module, from } = program;
     match accepted(alloc, module) {
-        Ok(verified) => Ok(Diagnosed::Accepted(placed(
-            bounds_of(&verified),
-            None,
-        ))),
+        Ok(verified) => Ok(Diagnosed::Accepted(placed(bounds_of(&verified), None))),
         Err(fault) => refused_diagnosis(alloc, text, from.origins.as_ref(), &fault),
     }
 }

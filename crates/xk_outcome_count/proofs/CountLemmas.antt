@@ -103,7 +103,7 @@ lone_exact m args o shown all = listed_exact false m args (o ∷ []) 1 (printed_
 
 -- as many as there are, are at least so many
 pub exact_least : (sets : Bool) (m : ModuleValue) (args : List ℤ) (count : ℕ) → AreAsMany sets m args count → AreAtLeast sets m args count
-exact_least sets m args count are = (let many = are.many in record { outcomes = are.outcomes; once = are.once; many = omega (arith, many); })
+exact_least sets m args count are = (let many = are.many in record { outcomes = are.outcomes; once = are.once; many = omega (arith, many) })
 
 -- ---- what is read along links
 

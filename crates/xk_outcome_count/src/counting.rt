@@ -125,14 +125,7 @@ fn count_searched(
             complete: true,
         });
     }
-    let found = listed_in(
-        alloc,
-        Order::Printed,
-        verified,
-        arguments,
-        &explored,
-        limit,
-    )?;
+    let found = listed_in(alloc, Order::Printed, verified, arguments, &explored, limit)?;
     Ok(counted(&found, read.count))
 }
 

@@ -14,7 +14,7 @@ ghost use Rattle.xk_outcomes.specs.Sets.{AreAllAs, AreDistinctAs, AreSetsAll, Ar
 
 use crate::listed::Listed;
 use crate::listing::{Outcome, Outcomes};
-use crate::lone_outcome::lone_outcome;
+use crate::lone_runs::lone_outcome;
 use crate::order::Order;
 use crate::paths::list_found;
 use crate::plain_runs::note_plain;

@@ -8,7 +8,7 @@ mod found;
 mod holding;
 mod listed;
 mod listing;
-mod lone_outcome;
+mod lone_runs;
 mod order;
 mod paths;
 mod plain_runs;
@@ -21,7 +21,7 @@ pub use all_outcomes::{Limit, explored_in, listed_in, outcome_sets, outcomes, ou
 pub use entries::Entries;
 pub use holding::{Held, Verdict, expected_outcomes};
 pub use listing::{Outcome, Outcomes};
-pub use lone_outcome::lone_outcome;
+pub use lone_runs::lone_outcome;
 pub use order::Order;
 pub use reading::ListFault;
 pub use search::Explored;
