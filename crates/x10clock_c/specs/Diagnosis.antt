@@ -5,7 +5,7 @@ use Rattle.xk_types.specs.Acceptance.{IsAccepted}
 use Rattle.xk_types.specs.Code.{ModuleValue}
 use Rattle.xk_bounds.specs.declared.refusal.Refusal.{Refusal}
 use Rattle.xk_bounds.specs.declared.refusal.Refusal.TheVariants as refusal
-use Rattle.xk_cli.specs.declared.job.Form.TheVariants as form
+use Rattle.xk_jobs.specs.declared.job.Form.TheVariants as form
 use Rattle.xk_lines.specs.declared.lines.Position.{Position}
 use Rattle.xk_lines.specs.Lines.{position_of}
 use Rattle.xk_unit_origins.specs.UnitOrigins.{UnitOrigins}

@@ -1,7 +1,7 @@
 //! The verdict on a source text, as numbers, with the line and the column of what is wrong.
 
 ghost use Rattle.std.specs.Prelude.{◌≡◌, ◌≤◌, true, length, option_map, IfOk};
-ghost use Rattle.xk_cli.specs.declared.job.Form.TheVariants as form;
+ghost use Rattle.xk_jobs.specs.declared.job.Form.TheVariants as form;
 ghost use Rattle.xk_lines.specs.Lines.{position_of};
 ghost use Rattle.xk_program.specs.Faults.{GivesNoModule};
 ghost use Rattle.xk_program.specs.Origins.{IsFrom};
@@ -11,7 +11,7 @@ ghost use Rattle.x10clock_c.specs.Diagnosis.{IsDiagnosed, RefusesCode, code_posi
 use crate::verdict::{Checked, bounds_of, front_told, refusal_told};
 use std::alloc::{AllocError, Global};
 use xk_bounds::Refusal;
-use xk_cli::Form;
+use xk_jobs::Form;
 use xk_explain::{SourceText, has_place, origin_at, shown_at};
 use xk_lines::Position;
 use xk_program::{Fault, Program, accepted, program_by};
