@@ -236,6 +236,7 @@ prints_once Races m args logged out log other kept none p q = absurd p
 prints_once (Tally seed runs) m args logged out log other kept none p q = absurd p
 prints_once (OutcomePage window limit pick) m args logged out log other kept none p q = absurd p
 prints_once (Outcomes sets limit pick written) m args logged out log other kept none p q = absurd none
+prints_once (Count sets limit) m args logged out log other kept none p q = absurd none
 prints_once (Expected sets limit) m args logged out log other kept none p q = absurd none
 prints_once (Json s) m args logged out log other kept none p q = shown_once s m args logged out log other kept none p.1 q.1
 
