@@ -9,7 +9,7 @@ from typing import Any
 
 from x10clock import faults
 from x10clock.faults import known
-from x10clock.library import Answer, Program, call, name_of, verdict
+from x10clock.library import Answer, Program, call, diagnosis, name_of, verdict
 
 
 @dataclass(frozen=True)
@@ -19,6 +19,16 @@ class Bounds:
     steps: int
     activities: int
     clocks: int
+
+
+@dataclass(frozen=True)
+class Broken:
+    """The rule that a source text breaks, as `V11`, and where: line and column are counted from 1, and None where it
+    has no place in the text."""
+
+    rule: str
+    line: int | None
+    column: int | None
 
 
 @dataclass(frozen=True)
@@ -49,6 +59,14 @@ class Outcomes:
     all: tuple[Outcome, ...]
     complete: bool
     log: bytes = b""
+
+
+@dataclass(frozen=True)
+class Count:
+    """How many outcomes a program has. Where it isn't `complete` there may be more."""
+
+    number: int
+    complete: bool
 
 
 @dataclass(frozen=True)
@@ -101,6 +119,17 @@ def check(program: Program) -> Bounds:
     return Bounds(told.steps, told.activities, told.clocks)
 
 
+def diagnose(program: Program) -> Broken | None:
+    """The rule that a source text breaks, and in which line and column; None where it is accepted. Faster than
+    `explain`, which says more."""
+    status, told = diagnosis(program)
+    if status == faults.DONE:
+        return None
+    if status != faults.PROGRAM:
+        raise faults.OutOfMemory(Answer(status, b"", b"", b""))
+    return Broken(f"{' FV'[told.family]}{told.number}", told.line or None, told.column or None)
+
+
 def explain(program: Program) -> dict[str, Any]:
     """Where and why a program is refused, or what is known of one that is accepted (docs/EXPLAIN.md, "As JSON")."""
     answer = call(_words("explain", program, (), "--json"), program)
@@ -133,6 +162,13 @@ def outcomes(
     told = _value(answer)
     found = (Outcome(number, tuple(printed)) for number, printed in enumerate(told["outcomes"], start=1))
     return Outcomes(tuple(found), told["complete"], answer.log)
+
+
+def count(program: Program, *arguments: int, limit: int | None = None, sets: bool = False) -> Count:
+    """How many outcomes there are, which aren't listed: so there may be millions of them."""
+    options = ("--count", *_option("--limit", limit), *_option("--sets", sets))
+    answer = _asked(_words("outcomes", program, arguments, *options), program)
+    return Count(int(_lines(answer)[0].split()[1]), answer.status == faults.DONE)
 
 
 def _outcome(line: str) -> Outcome:

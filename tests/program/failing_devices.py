@@ -82,7 +82,7 @@ CALLS = [
         "check", "explain", "explain --json", "compile", "listing", "run", "run --log LOG",
         "run --order last --log LOG", "run --workers 1 --log LOG",
         "run --order greedy --log LOG", "run --order random --runs 4",
-        "races", "outcomes", "outcomes --sets", "outcomes --log LOG", "outcomes --pick 2 --log LOG",
+        "races", "outcomes", "outcomes --sets", "outcomes --count", "outcomes --log LOG", "outcomes --pick 2 --log LOG",
         "check --json", "run --json", "run --json --log LOG", "outcomes --json", "outcomes --json --log LOG")),
     *(
         Call(f"{command} --module -", MODULE)
@@ -100,6 +100,7 @@ CALLS = [
     Call("why - SECOND 99", IN_STEP, LOG, status=6),
     Call("explain V9", b""),
     Call("outcomes --limit 1 --pick 2 --log LOG -", IN_STEP, status=6),
+    Call("outcomes --count --limit 1 -", IN_STEP, status=6),
     Call("outcomes --expect SECOND -", IN_STEP, OUTCOMES),
     Call("outcomes --expect SECOND -", IN_STEP, b"outcome 1 prints 7\n", status=7),
     Call("outcomes --expect SECOND -", IN_STEP, BEGINNING, status=3),

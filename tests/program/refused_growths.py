@@ -357,6 +357,9 @@ def each_search(calls: Calls) -> None:
             ["outcomes", *given(row), "--sets", "--limit", limit, "-"],
             row.read_bytes(),
         )
+        for options in ((), ("--sets",)):
+            words = ["outcomes", *given(row), "--count", *options, "--limit", limit, "-"]
+            calls.ask(f"{name}, {' '.join(['the count of outcomes', *options])}", words, row.read_bytes())
         paged = calls.ask(
             f"{name}, the page of an outcome",
             ["page", *given(row), "--outcome", "1", "--limit", limit, "-"],

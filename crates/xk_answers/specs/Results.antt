@@ -36,6 +36,9 @@ use Rattle.xk_outcomes.specs.Limits.{GoesFar, limit_of}
 use Rattle.xk_outcomes.specs.Expected.{AreExpected}
 use Rattle.xk_outcomes.specs.declared.holding.Verdict.{Verdict}
 use Rattle.xk_outcomes.specs.declared.holding.Verdict.TheVariants as verdict
+use Rattle.xk_outcome_count.specs.Counts.{AreAsMany, AreAtLeast, GoesAsFar}
+use Rattle.xk_outcome_count.specs.Text.{count_line}
+use Rattle.xk_outcome_count.specs.declared.counting.Counted.{Counted}
 use Rattle.xk_json.specs.Objects.{json_line}
 use Rattle.xk_show_json.specs.Outcomes.{held_value, outcomes_value}
 use Rattle.xk_show_json.specs.Runs.{run_value}
@@ -58,7 +61,7 @@ pub data Shown : Type 0 where
 -- what is to be done with a module; what is explained is a JSON value or not; a run is in an order, by rounds, or by workers, and has its log kept or not; some
 -- picture is drawn of one; it is told how things stand behind a log, or behind so many of its steps, which races the run in the order `first` has, or how often so many runs by chance,
 -- from this seed on, print what; of outcomes, as lists of numbers or without their order, so many are looked for, and of one, counted from 1, the log
--- is kept or not, or they are held against a list, or of one the page of its run is made; or some of this is told as one JSON value
+-- is kept or not, or they are counted, or held against a list, or of one the page of its run is made; or some of this is told as one JSON value
 pub data Doing : Type 0 where
   Check : Doing
   Explain : Bool → Doing
@@ -71,6 +74,7 @@ pub data Doing : Type 0 where
   Races : Doing
   Tally : ℕ → ℕ → Doing
   Outcomes : Bool → Option ℕ → ℕ → Bool → Doing
+  Count : Bool → Option ℕ → Doing
   Expected : Bool → Option ℕ → Doing
   OutcomePage : Window → Option ℕ → ℕ → Doing
   Json : Shown → Doing
@@ -137,6 +141,24 @@ abbrev pub IsFoundOut : ModuleValue → List ℤ → Bool → Limit → ℕ → 
 IsFoundOut m args sets limit pick keeps (done.Outcomes text whole log) =
     AreOutcomes m args sets limit pick keeps text.items whole (option_map (λ es. es.items) log)
 IsFoundOut m args sets limit pick keeps _ = ⊥
+
+-- So many outcomes a module has that is given these arguments, as lists of numbers or without their order. The answer is whole where there are no more.
+-- They are looked for up to this limit.
+pub record AreCounted (m : ModuleValue) (args : List ℤ) (sets : Bool) (limit : Limit) (text : List ℕ) (whole : Bool) (log : Option (List Entry)) : Type 0 where
+  pub taken : AreArguments m args
+  pub counted : Counted
+  pub least : AreAtLeast sets m args counted.count
+  pub exact : counted.complete ≡ true → AreAsMany sets m args counted.count
+  pub lone : counted.complete ≡ false → IsOneOfManyAs sets m args
+  pub far : counted.complete ≡ false → GoesAsFar sets m args limit counted.count
+  pub text_is : text ≡ count_line counted
+  pub whole_is : whole ≡ counted.complete
+  pub log_is : log ≡ None
+
+-- that is what it comes to
+abbrev pub IsCountedOut : ModuleValue → List ℤ → Bool → Limit → Done → Type 0
+IsCountedOut m args sets limit (done.Outcomes text whole log) = AreCounted m args sets limit text.items whole (option_map (λ es. es.items) log)
+IsCountedOut m args sets limit _ = ⊥
 
 -- how many bytes of a list are read at most
 abbrev pub longest_list : ℕ
@@ -226,6 +248,7 @@ ComesTo (Run (By n) true) m args logged (done.Ended numbers steps None (Some log
     IsAccepted m × IsReplay m args log.items numbers.items steps
 ComesTo Replay m args logged (done.Ended numbers steps None None) = IsAccepted m × Replays m args logged numbers.items steps
 ComesTo (Outcomes sets limit pick keeps) m args logged d = IsAccepted m × IsFoundOut m args sets (limit_of limit (activities_bound m)) pick keeps d
+ComesTo (Count sets limit) m args logged d = IsAccepted m × IsCountedOut m args sets (limit_of limit (activities_bound m)) d
 ComesTo (Expected sets limit) m args logged d = IsAccepted m × IsHeldOut m args sets (limit_of limit (activities_bound m)) logged d
 ComesTo (Json s) m args logged d = IsAccepted m × IsShown s m args logged d
 ComesTo _ m args logged _ = ⊥

@@ -155,6 +155,11 @@ fn outcomes_line<'a>(alloc: Global) -> Result<clap::Command<'a>, AllocError>
             "sets",
             "Tells outcomes with the same numbers, in whatever order, as one",
         ),
+        flag(
+            alloc,
+            "count",
+            "Tells how many outcomes there are, and none of them",
+        ),
         option(
             alloc,
             "FILE2",

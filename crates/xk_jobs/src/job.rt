@@ -114,6 +114,13 @@ pub enum Command<'a> {
         /// `--sets`: outcomes that differ in the order of their numbers alone are one.
         sets: bool,
     },
+    /// `outcomes --count`: print how many outcomes FILE has.
+    Count {
+        /// `--limit`, as for `outcomes`.
+        limit: Option<u64>,
+        /// `--sets`, as for `outcomes`.
+        sets: bool,
+    },
     /// `outcomes --expect`: say whether all that FILE can print is in a list.
     Expected {
         /// The list's path.
@@ -217,7 +224,8 @@ impl<'a> Command<'a> {
             | Command::Run { .. }
             | Command::Tally { .. }
             | Command::OutcomePage { .. }
-            | Command::Outcomes { .. } => None,
+            | Command::Outcomes { .. }
+            | Command::Count { .. } => None,
         }
     }
 
@@ -243,6 +251,7 @@ impl<'a> Command<'a> {
             | Command::Span { .. }
             | Command::Why { .. }
             | Command::Races { .. }
+            | Command::Count { .. }
             | Command::Expected { .. } => None,
         }
     }
@@ -269,6 +278,7 @@ impl<'a> Command<'a> {
             | Command::Why { .. }
             | Command::Races { .. }
             | Command::Outcomes { .. }
+            | Command::Count { .. }
             | Command::Expected { .. }
             | Command::Json(_) => None,
         }
@@ -297,6 +307,7 @@ impl<'a> Command<'a> {
             | Command::Replay { .. }
             | Command::Chart { .. }
             | Command::Outcomes { .. }
+            | Command::Count { .. }
             | Command::Expected { .. } => false,
         }
     }

@@ -6,6 +6,7 @@ pub mod Found
 pub mod Alikeness
 pub mod Links
 pub mod Search
+pub mod Explored
 pub mod Entries
 pub mod Rising
 pub mod Listing

@@ -33,7 +33,7 @@ use Rattle.xk_program.specs.declared.fault.Fault.{Fault}
 use Rattle.xk_program.specs.declared.fault.Fault.TheVariants as fault
 use Rattle.xk_serve.specs.Notes.{told_of}
 use Rattle.xk_serve.specs.Answer.{Answers, IsSaidBy, Reply, Task, asks_verifier, done_reply, fault_reply, reads_list, reads_log, runs}
-use Rattle.xk_answers.specs.Results.{Check, ComesTo, Compile, Doing, Draw, Expected, ExpectedShown, Explain, IsLogText, IsNoRun, IsTelling}
+use Rattle.xk_answers.specs.Results.{Check, ComesTo, Compile, Count, Doing, Draw, Expected, ExpectedShown, Explain, IsLogText, IsNoRun, IsTelling}
 use Rattle.xk_answers.specs.Results.{OutcomesShown, RunShown}
 use Rattle.xk_answers.specs.Results.{IsText, Json, Listing, OutcomePage, Outcomes, Races, Replay, Run, Tally, Where, is_of_whole, list_in}
 use Rattle.xk_program.specs.Refusals.{IsMisfit}
@@ -82,6 +82,7 @@ Prints Races m args logged out log = ⊥
 Prints (Tally seed runs) m args logged out log = ⊥
 Prints (OutcomePage window limit pick) m args logged out log = ⊥
 Prints (Outcomes sets limit pick kept) m args logged out log = IsAccepted m × AreArguments m args
+Prints (Count sets limit) m args logged out log = IsAccepted m × AreArguments m args
 Prints (Expected sets limit) m args logged out log = IsAccepted m × AreArguments m args × (stray_line (list_in logged) ≡ None)
 Prints (Json s) m args logged out log = IsAccepted m × PrintsShown s m args logged out log
 
@@ -117,6 +118,8 @@ prints (Tally seed runs) m args logged d h = absurd h
 prints (OutcomePage window limit pick) m args logged d h = absurd h
 prints (Outcomes sets limit pick kept) m args logged (done.Outcomes t whole log) h = (h.0, h.1.taken)
 prints (Outcomes sets limit pick kept) m args logged _ h = absurd h.1
+prints (Count sets limit) m args logged (done.Outcomes t whole log) h = (h.0, h.1.taken)
+prints (Count sets limit) m args logged _ h = absurd h.1
 prints (Expected sets limit) m args logged (done.Held t found) h = (h.0, h.1.0, h.1.1.may_stand)
 prints (Expected sets limit) m args logged _ h = absurd h.1
 prints (Json s) m args logged d h = (h.0, prints_shown s m args logged d h.1)
@@ -140,6 +143,7 @@ prints_accepted Races m args logged out log asks h = absurd h
 prints_accepted (Tally seed runs) m args logged out log asks h = absurd h
 prints_accepted (OutcomePage window limit pick) m args logged out log asks h = absurd h
 prints_accepted (Outcomes sets limit pick kept) m args logged out log asks h = h.0
+prints_accepted (Count sets limit) m args logged out log asks h = h.0
 prints_accepted (Expected sets limit) m args logged out log asks h = h.0
 prints_accepted (Json s) m args logged out log asks h = h.0
 
@@ -162,6 +166,7 @@ prints_taken Races m args logged out log run h = absurd h
 prints_taken (Tally seed runs) m args logged out log run h = absurd h
 prints_taken (OutcomePage window limit pick) m args logged out log run h = absurd h
 prints_taken (Outcomes sets limit pick kept) m args logged out log run h = h.1
+prints_taken (Count sets limit) m args logged out log run h = h.1
 prints_taken (Expected sets limit) m args logged out log run h = h.1
 prints_taken (Json s) m args logged out log run h = shown_taken s m args logged out log h.1
 
@@ -185,6 +190,7 @@ prints_whole Races m args logged out log reads h = absurd h
 prints_whole (Tally seed runs) m args logged out log reads h = absurd h
 prints_whole (OutcomePage window limit pick) m args logged out log reads h = absurd h
 prints_whole (Outcomes sets limit pick kept) m args logged out log reads h = absurd (false≢true reads)
+prints_whole (Count sets limit) m args logged out log reads h = absurd (false≢true reads)
 prints_whole (Expected sets limit) m args logged out log reads h = absurd (false≢true reads)
 prints_whole (Json s) m args logged out log reads h = absurd (false≢true reads)
 
@@ -230,6 +236,7 @@ prints_once Races m args logged out log other kept none p q = absurd p
 prints_once (Tally seed runs) m args logged out log other kept none p q = absurd p
 prints_once (OutcomePage window limit pick) m args logged out log other kept none p q = absurd p
 prints_once (Outcomes sets limit pick written) m args logged out log other kept none p q = absurd none
+prints_once (Count sets limit) m args logged out log other kept none p q = absurd none
 prints_once (Expected sets limit) m args logged out log other kept none p q = absurd none
 prints_once (Json s) m args logged out log other kept none p q = shown_once s m args logged out log other kept none p.1 q.1
 
@@ -256,6 +263,7 @@ said_determined Races kind file bytes said f h one = h
 said_determined (Tally seed runs) kind file bytes said f h one = h
 said_determined (OutcomePage window limit pick) kind file bytes said f h one = h
 said_determined (Outcomes sets limit pick kept) kind file bytes said f h one = h
+said_determined (Count sets limit) kind file bytes said f h one = h
 said_determined (Expected sets limit) kind file bytes said f h one = h
 said_determined (Json s) kind file bytes said f h one = h
 
@@ -312,6 +320,7 @@ telling_stands Compile kind file bytes m args logged told f reads h told_by may 
 telling_stands (Run way kept) kind file bytes m args logged told f reads h told_by may not4 = h
 telling_stands Replay kind file bytes m args logged told f reads h told_by may not4 = h
 telling_stands (Outcomes sets limit pick kept) kind file bytes m args logged told f reads h told_by may not4 = h
+telling_stands (Count sets limit) kind file bytes m args logged told f reads h told_by may not4 = h
 telling_stands (Expected sets limit) kind file bytes m args logged told f reads h told_by may not4 = h
 telling_stands (Json s) kind file bytes m args logged told f reads h told_by may not4 = h
 
@@ -330,6 +339,7 @@ telling_taken Compile kind file bytes m args logged told run h = absurd h
 telling_taken (Run way kept) kind file bytes m args logged told run h = absurd h
 telling_taken Replay kind file bytes m args logged told run h = absurd h
 telling_taken (Outcomes sets limit pick kept) kind file bytes m args logged told run h = absurd h
+telling_taken (Count sets limit) kind file bytes m args logged told run h = absurd h
 telling_taken (Expected sets limit) kind file bytes m args logged told run h = absurd h
 telling_taken (Json s) kind file bytes m args logged told run h = absurd h
 
@@ -348,6 +358,7 @@ telling_unprinted Compile kind file bytes m args logged told out log h p = h
 telling_unprinted (Run way kept) kind file bytes m args logged told out log h p = h
 telling_unprinted Replay kind file bytes m args logged told out log h p = h
 telling_unprinted (Outcomes sets limit pick kept) kind file bytes m args logged told out log h p = h
+telling_unprinted (Count sets limit) kind file bytes m args logged told out log h p = h
 telling_unprinted (Expected sets limit) kind file bytes m args logged told out log h p = h
 telling_unprinted (Json s) kind file bytes m args logged told out log h p = h
 
@@ -365,6 +376,7 @@ telling_accepted Compile kind file bytes m args logged told asks h = absurd h
 telling_accepted (Run way kept) kind file bytes m args logged told asks h = absurd h
 telling_accepted Replay kind file bytes m args logged told asks h = absurd h
 telling_accepted (Outcomes sets limit pick kept) kind file bytes m args logged told asks h = absurd h
+telling_accepted (Count sets limit) kind file bytes m args logged told asks h = absurd h
 telling_accepted (Expected sets limit) kind file bytes m args logged told asks h = absurd h
 telling_accepted (Json s) kind file bytes m args logged told asks h = absurd h
 
@@ -398,6 +410,7 @@ lists_alone (Json (RunShown way kept)) lists = absurd (false≢true lists)
 lists_alone (Json (OutcomesShown sets limit pick kept)) lists = absurd (false≢true lists)
 lists_alone (Json (ExpectedShown sets limit)) lists = (sets, limit, inr refl)
 lists_alone (Outcomes sets limit pick kept) lists = absurd (false≢true lists)
+lists_alone (Count sets limit) lists = absurd (false≢true lists)
 lists_alone (Explain json) lists = absurd (false≢true lists)
 lists_alone Check lists = absurd (false≢true lists)
 lists_alone Compile lists = absurd (false≢true lists)
@@ -498,6 +511,7 @@ determined Races one = tt
 determined (Tally seed runs) one = tt
 determined (OutcomePage window limit pick) one = absurd one
 determined (Outcomes sets limit pick kept) one = absurd one
+determined (Count sets limit) one = absurd one
 determined (Expected sets limit) one = absurd one
 determined (Json s) one = one
 
@@ -517,6 +531,7 @@ determined_status Races one = tt
 determined_status (Tally seed runs) one = tt
 determined_status (OutcomePage window limit pick) one = absurd one
 determined_status (Outcomes sets limit pick kept) one = absurd one
+determined_status (Count sets limit) one = absurd one
 determined_status (Expected sets limit) one = absurd one
 determined_status (Json s) one = shown_status s one
 

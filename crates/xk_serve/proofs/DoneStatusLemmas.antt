@@ -5,7 +5,7 @@ use Rattle.xk_jobs.specs.Tasks.{By, Greedy, In}
 use Rattle.xk_answers.specs.declared.job_result.Done.{Done}
 use Rattle.xk_answers.specs.declared.job_result.Done.TheVariants as done
 use Rattle.xk_answers.specs.Printed.{done_status, whole_status}
-use Rattle.xk_answers.specs.Results.{Check, ComesTo, Compile, Doing, Draw, Expected, ExpectedShown, Explain, Json, Listing, OutcomePage}
+use Rattle.xk_answers.specs.Results.{Check, ComesTo, Compile, Count, Doing, Draw, Expected, ExpectedShown, Explain, Json, Listing, OutcomePage}
 use Rattle.xk_answers.specs.Results.{Outcomes, OutcomesShown, Races, Replay, Run, RunShown, Tally, Where}
 use Rattle.xk_serve.specs.OneAnswer.{HasOneStatus}
 
@@ -29,6 +29,7 @@ done_zero Races m args l (done.Outcomes t w k) one h = absurd h
 done_zero (Tally seed runs) m args l (done.Outcomes t w k) one h = absurd h
 done_zero (OutcomePage window limit pick) m args l (done.Outcomes t w k) one h = absurd h
 done_zero (Outcomes sets limit pick kept) m args l (done.Outcomes t w k) one h = absurd one
+done_zero (Count sets limit) m args l (done.Outcomes t w k) one h = absurd one
 done_zero (Expected sets limit) m args l (done.Outcomes t w k) one h = absurd one
 done_zero (Json (RunShown way kept)) m args l (done.Outcomes t w k) one h = ap whole_status h.1.whole_is
 done_zero (Json (OutcomesShown sets limit pick kept)) m args l (done.Outcomes t w k) one h = absurd one
@@ -50,6 +51,7 @@ done_zero Races m args l (done.Held t found) one h = absurd h
 done_zero (Tally seed runs) m args l (done.Held t found) one h = absurd h
 done_zero (OutcomePage window limit pick) m args l (done.Held t found) one h = absurd h
 done_zero (Outcomes sets limit pick kept) m args l (done.Held t found) one h = absurd one
+done_zero (Count sets limit) m args l (done.Held t found) one h = absurd one
 done_zero (Expected sets limit) m args l (done.Held t found) one h = absurd one
 done_zero (Json (RunShown way kept)) m args l (done.Held t found) one h = absurd h.1
 done_zero (Json (OutcomesShown sets limit pick kept)) m args l (done.Held t found) one h = absurd one
@@ -73,6 +75,7 @@ done_zero Races m args l (done.Told t whole) one h = absurd h
 done_zero (Tally seed runs) m args l (done.Told t whole) one h = absurd h
 done_zero (OutcomePage window limit pick) m args l (done.Told t whole) one h = absurd h
 done_zero (Outcomes sets limit pick kept) m args l (done.Told t whole) one h = absurd h.1
+done_zero (Count sets limit) m args l (done.Told t whole) one h = absurd h.1
 done_zero (Expected sets limit) m args l (done.Told t whole) one h = absurd h.1
 done_zero (Json (RunShown way kept)) m args l (done.Told t whole) one h = absurd h.1
 done_zero (Json (OutcomesShown sets limit pick kept)) m args l (done.Told t whole) one h = absurd one

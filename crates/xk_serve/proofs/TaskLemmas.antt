@@ -10,7 +10,7 @@ use Rattle.xk_bounds.specs.declared.refusal.Refusal.TheVariants as refusal
 use Rattle.xk_answers.specs.declared.job_result.Done.{Done}
 use Rattle.xk_program.specs.declared.fault.Fault.{Fault}
 use Rattle.xk_program.specs.declared.fault.Fault.TheVariants as fault
-use Rattle.xk_answers.specs.Results.{Check, ComesTo, Compile, Doing, Draw, Expected, Explain, IsNoRun, IsTelling}
+use Rattle.xk_answers.specs.Results.{Check, ComesTo, Compile, Count, Doing, Draw, Expected, Explain, IsNoRun, IsTelling}
 use Rattle.xk_answers.specs.Results.{IsText, Json, Listing, OutcomePage, Outcomes, Races, Replay, Run, Tally, Where}
 use Rattle.xk_serve.specs.Answer.{FailsBy, Succeeds, Task, asks_verifier, reads_list, reads_log, reads_more, runs, wants_legal, wants_whole}
 use Rattle.xk_program.specs.Refusals.{IsNotRun, IsRefusal}
@@ -193,6 +193,7 @@ runs_asks Races h = refl
 runs_asks (Tally seed runs) h = refl
 runs_asks (OutcomePage window limit pick) h = refl
 runs_asks (Outcomes sets limit pick kept) h = refl
+runs_asks (Count sets limit) h = refl
 runs_asks (Expected sets limit) h = refl
 runs_asks (Json s) h = refl
 
@@ -291,6 +292,7 @@ reads_runs Races h = refl
 reads_runs (Tally seed runs) h = refl
 reads_runs (OutcomePage window limit pick) h = refl
 reads_runs (Outcomes sets limit pick kept) h = refl
+reads_runs (Count sets limit) h = refl
 reads_runs (Expected sets limit) h = refl
 reads_runs (Json s) h = refl
 
@@ -356,6 +358,7 @@ lists_runs Races h = refl
 lists_runs (Tally seed runs) h = refl
 lists_runs (OutcomePage window limit pick) h = refl
 lists_runs (Outcomes sets limit pick kept) h = refl
+lists_runs (Count sets limit) h = refl
 lists_runs (Expected sets limit) h = refl
 lists_runs (Json s) h = refl
 

@@ -16,7 +16,7 @@ use Rattle.xk_jobs.specs.declared.job.Form.TheVariants as form
 use Rattle.xk_types.specs.declared.world.Entry.{Entry}
 use Rattle.xk_answers.specs.declared.picture.Picture.{Picture}
 use Rattle.xk_answers.specs.declared.picture.Picture.TheVariants as picture
-use Rattle.xk_answers.specs.Results.{Check, Compile, Doing, Draw, Expected, Explain, IsPicture, IsTelling}
+use Rattle.xk_answers.specs.Results.{Check, Compile, Count, Doing, Draw, Expected, Explain, IsPicture, IsTelling}
 use Rattle.xk_answers.specs.Results.{Json, Listing, OutcomePage, Outcomes, Races, Replay, Run, Tally, Where}
 use Rattle.xk_program.specs.Origins.{HaveOrigins, HaveSharedNames, IsByNames, IsByOrigins}
 use Rattle.xk_answers.specs.Explanation.{HaveHints, IsListed, Tale, acceptance_told, event_values_so_far, events_so_far, image_so_far}
@@ -133,6 +133,7 @@ telling_once Compile kind file bytes m args logged a b one given h k = absurd h
 telling_once (Run way kept) kind file bytes m args logged a b one given h k = absurd h
 telling_once Replay kind file bytes m args logged a b one given h k = absurd h
 telling_once (Outcomes sets limit pick kept) kind file bytes m args logged a b one given h k = absurd h
+telling_once (Count sets limit) kind file bytes m args logged a b one given h k = absurd h
 telling_once (Expected sets limit) kind file bytes m args logged a b one given h k = absurd h
 telling_once (Json s) kind file bytes m args logged a b one given h k = absurd h
 telling_once (OutcomePage window limit pick) kind file bytes m args logged a b one given h k = absurd one

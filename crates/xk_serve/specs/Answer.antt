@@ -23,7 +23,7 @@ use Rattle.xk_serve.specs.Notes.{told_of}
 use Rattle.xk_program.specs.Programs.{Gives, IsNoModule, IsNoSource}
 use Rattle.xk_answers.specs.Explanation.{IsExplanation}
 use Rattle.xk_answers.specs.Results.{Doing, way_given, window_given, lanes_given, list_in, ComesTo, IsTelling, IsText, IsNoRun}
-use Rattle.xk_answers.specs.Results.{is_of_whole, Check, Explain, Compile, Listing, Run, Replay, Draw, Where, Races, Tally, Outcomes}
+use Rattle.xk_answers.specs.Results.{is_of_whole, Check, Count, Explain, Compile, Listing, Run, Replay, Draw, Where, Races, Tally, Outcomes}
 use Rattle.xk_answers.specs.Results.{Expected}
 use Rattle.xk_answers.specs.Results.{ExpectedShown, Json, OutcomePage, OutcomesShown, RunShown, Shown}
 use Rattle.xk_program.specs.Refusals.{IsMisfit}
@@ -106,6 +106,7 @@ doing_of (command.Why log step) = Draw (picture.Why step)
 doing_of (command.Races path) = races_by (is_some path)
 doing_of (command.Tally seed runs) = Tally seed runs
 doing_of (command.Outcomes limit pick path sets) = Outcomes sets limit (unwrap_or pick 1) (is_some path)
+doing_of (command.Count limit sets) = Count sets limit
 doing_of (command.Expected list limit sets) = Expected sets limit
 doing_of (command.Json v) = values_doing v
 

@@ -19,8 +19,8 @@ use crate::tally::tallied;
 use crate::values::answer_values;
 use std::alloc::{AllocError, Global};
 use xk_answers::{
-    Done, Finished, Picture, drawn, held, lanes_given, listing, paged, raced, replayed, searched,
-    stood, window_given,
+    Done, Finished, Picture, counted, drawn, held, lanes_given, listing, paged, raced, replayed,
+    searched, stood, window_given,
 };
 use xk_bounds::Verified;
 use xk_jobs::{Command, Drive, Job, Order};
@@ -123,6 +123,9 @@ pub(crate) fn answer<
             program.module,
             arguments,
         ),
+        Command::Count { limit, sets } => {
+            counted(alloc, sets, limit, program.module, arguments)
+        }
         Command::Expected { limit, sets, .. } => {
             held(alloc, sets, limit, program.module, arguments, log_in)
         }

@@ -101,6 +101,7 @@ fn may_note(command: &Command<'_>) -> bool
         | Command::Tally { .. }
         | Command::OutcomePage { .. }
         | Command::Outcomes { .. }
+        | Command::Count { .. }
         | Command::Expected { .. } => false,
     }
 }

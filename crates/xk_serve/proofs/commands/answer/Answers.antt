@@ -3,7 +3,7 @@ use Rattle.std.specs.Prelude.{unwrap_or}
 use Rattle.xk_answers.specs.declared.picture.Picture.TheVariants as picture
 use Rattle.std.proofs.lemmas.Bool.{false≢true}
 use Rattle.std.proofs.lemmas.Result.{err_from_is_err_and}
-use Rattle.xk_answers.specs.Results.{Check, Compile, Draw, Expected, OutcomePage, Outcomes, Races, Replay, Run, Where, way_given}
+use Rattle.xk_answers.specs.Results.{Check, Compile, Count, Draw, Expected, OutcomePage, Outcomes, Races, Replay, Run, Where, way_given}
 use Rattle.xk_jobs.specs.CommandAnswers.{explanation, shows_origins}
 use Rattle.xk_serve.specs.Answer.{doing_of, races_by, task_of}
 use Rattle.xk_serve.proofs.TaskLemmas.{against_any, against_list, against_log, against_memory, against_picture}
@@ -197,6 +197,15 @@ returns-in-Outcomes-clause-done g c =
 pub returns-in-Outcomes-clause-fault : goal.returns-in-Outcomes-clause-fault
 returns-in-Outcomes-clause-fault g c =
     against_run_of (task_of c.args.job.now) c.args.bytes.now (g.L.Source.remaining c.args.log_in.now) _ _ _ c.as_slice-arguments.result.now c.searched.result (ap doing_of c.in-Outcomes.is) c.as_slice-arguments.ensures.value refl c.in_ok-program.ensures.module c.searched.ensures.fault
+
+pub returns-in-Count-clause-done : goal.returns-in-Count-clause-done
+returns-in-Count-clause-done g c =
+    let what = Count c.in-Count.sets c.in-Count.limit in
+    done_of_any (task_of c.args.job.now) c.args.bytes.now (g.L.Source.remaining c.args.log_in.now) _ what c.as_slice-arguments.result.now c.counted.result (ap doing_of c.in-Count.is) c.as_slice-arguments.ensures.value c.in_ok-program.ensures.module c.counted.ensures.done
+
+pub returns-in-Count-clause-fault : goal.returns-in-Count-clause-fault
+returns-in-Count-clause-fault g c =
+    against_run_of (task_of c.args.job.now) c.args.bytes.now (g.L.Source.remaining c.args.log_in.now) _ _ _ c.as_slice-arguments.result.now c.counted.result (ap doing_of c.in-Count.is) c.as_slice-arguments.ensures.value refl c.in_ok-program.ensures.module c.counted.ensures.fault
 
 pub returns-in-Expected-clause-done : goal.returns-in-Expected-clause-done
 returns-in-Expected-clause-done g c =

@@ -1,5 +1,5 @@
 use Rattle.xk_outcomes.proofs.LoneOutcomeLemmas.{none_weaker}
-use Rattle.xk_outcomes.proofs.lone_outcome.lone_outcome.Goals as goal
+use Rattle.xk_outcomes.proofs.lone_runs.lone_outcome.Goals as goal
 
 pub returns-then-not-short-clause-many : goal.returns-then-not-short-clause-many
 returns-then-not-short-clause-many c short = absurd (c.is_short-short.ensures.no c.if-not-short.true short)

@@ -1,7 +1,7 @@
 use Rattle.std.proofs.Common.{◌∙◌, ap, sym}
 use Rattle.xk_outcomes.specs.Rising.{ordered}
 use Rattle.xk_outcomes.proofs.LoneOutcomeLemmas.{first_run, lone, of_these}
-use Rattle.xk_outcomes.proofs.lone_outcome.lone_run.Goals as goal
+use Rattle.xk_outcomes.proofs.lone_runs.lone_run.Goals as goal
 
 pub returns-then-not-speaks-clause-many : goal.returns-then-not-speaks-clause-many
 returns-then-not-speaks-clause-many c =

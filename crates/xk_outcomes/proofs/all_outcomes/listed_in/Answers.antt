@@ -1,34 +1,30 @@
 use Rattle.std.specs.Prelude.{max}
 use Rattle.std.proofs.Common.{◌∙◌, ◌<◌, ◌≤◌, arith, List, length, inl, inr, true≢false, sym, subst}
-use Rattle.xk_core.specs.Core.{CoreValue, opening_core}
+use Rattle.xk_core.specs.Core.{CoreValue}
 use Rattle.xk_outcomes.specs.declared.listing.Outcome.{Outcome}
-use Rattle.xk_liveness.specs.Liveness.{IsLiveness}
 use Rattle.xk_outcomes.specs.Alikeness.{live_by}
 use Rattle.xk_outcomes.specs.Links.{AreLinked}
 use Rattle.xk_outcomes.specs.Listing.{AreAllIn, AreOf, AreShownIn, HasKeptIn}
 use Rattle.xk_outcomes.specs.Numbering.{AreNumberedIn}
 use Rattle.xk_outcomes.specs.Outcomes.{AreDistinct}
 use Rattle.xk_outcomes.specs.PlainRuns.{ArePlainListedIn, plain_runs}
-use Rattle.xk_outcomes.specs.Search.{AreFound, AreAllFound}
 use Rattle.xk_outcomes.proofs.ListingLemmas.{all_shown, all_listed, all_kept}
 use Rattle.xk_outcomes.proofs.NumberingLemmas.{numbered_in, whole_within}
 use Rattle.xk_outcomes.proofs.PlainRunLemmas.{more_of_none, plain_kept}
-use Rattle.xk_outcomes.proofs.all_outcomes.searched_in.Goals.{then-explored, else-explored}
-use Rattle.xk_outcomes.proofs.all_outcomes.searched_in.Goals as goal
+use Rattle.xk_outcomes.proofs.all_outcomes.listed_in.Goals.{then-explored, else-explored}
+use Rattle.xk_outcomes.proofs.all_outcomes.listed_in.Goals as goal
 
 pub list_found-requires : goal.list_found-requires
 list_found-requires c =
-    let all = c.in_ok-explored.explored.found.all in
-    let links = c.in_ok-explored.explored.links.items in
-    let live = live_by c.in_ok-explored.explored.found.like in
-    subst (λ (s : CoreValue). AreLinked live s.module_run all links) (sym c.in_ok-explored.ensures.start) c.in_ok-explored.ensures.linked
+    let x = c.args.explored.now in
+    let is = c.requires.explored in
+    subst (λ (s : CoreValue). AreLinked (live_by x.found.like) s.module_run x.found.all x.links.items) (sym is.start) is.linked
 
 pub returns-clause-shown : goal.returns-clause-shown
 returns-clause-shown c =
     let m = c.args.verified.now in
     let args = c.args.arguments.now in
-    let begins = c.in_ok-explored.ensures.start ∙ c.in_ok-start.ensures in
-    let of = subst (λ (s : CoreValue). AreOf c.args.order s c.note_plain.new.list c.list_found.new.list) begins c.list_found.ensures.of in
+    let of = subst (λ (s : CoreValue). AreOf c.args.order s c.note_plain.new.list c.list_found.new.list) c.requires.explored.start c.list_found.ensures.of in
     subst (λ (list : List Outcome). AreShownIn c.args.order m args list) (sym c.in_ok-list.ensures)
     (all_shown c.args.order m args c.note_plain.new.list c.list_found.new.list
     (more_of_none c.args.order m args plain_runs c.new-listed.result c.note_plain.new.list c.new-listed.ensures
@@ -62,12 +58,10 @@ pub returns-clause-all : goal.returns-clause-all
 returns-clause-all c done =
     let m = c.args.verified.now in
     let args = c.args.arguments.now in
-    let all = c.in_ok-explored.explored.found.all in
-    let links = c.in_ok-explored.explored.links.items in
+    let x = c.args.explored.now in
     elim c.if-explored.branch [
       | then-explored w ↦ subst (λ (list : List Outcome). AreAllIn c.args.order m args list) (sym c.in_ok-list.ensures)
-          (all_listed c.args.order m args all links c.list_found.new.list
-          (subst (λ (s : CoreValue). AreAllFound c.args.order s all links) c.in_ok-start.ensures (c.in_ok-explored.ensures.all w.if-explored.true))
+          (all_listed c.args.order m args x.found.all x.links.items c.list_found.new.list (c.requires.explored.all w.if-explored.true)
           (c.in_ok-all.ensures.met (sym w.result-is ∙ done)))
       | else-explored w ↦ absurd (true≢false (sym done ∙ w.result-is ∙ w.if-explored.false))
     ]
@@ -78,7 +72,7 @@ returns-clause-limit c less =
       | then-explored w ↦ inr (subst (λ (list : List Outcome). c.args.limit.outcomes ≤ length list) (sym c.in_ok-list.ensures)
           (c.in_ok-all.ensures.limit (sym w.result-is ∙ less)))
       | else-explored w ↦ inl (subst (λ n. c.args.limit.entries < n) (sym c.len.ensures.count)
-          (c.in_ok-explored.ensures.limit w.if-explored.false))
+          (c.requires.explored.limit w.if-explored.false))
     ]
 
 pub returns-clause-kept : goal.returns-clause-kept
@@ -86,29 +80,24 @@ returns-clause-kept c =
     let m = c.args.verified.now in
     let args = c.args.arguments.now in
     let most = c.args.limit.outcomes in
-    let all = c.in_ok-explored.explored.found.all in
-    let links = c.in_ok-explored.explored.links.items in
-    let found = subst (λ (s : CoreValue). AreFound s all) c.in_ok-start.ensures c.in_ok-explored.ensures.found in
-    let like = c.in_ok-explored.explored.found.like in
-    let linked = subst (λ (s : CoreValue). AreLinked (live_by like) s.module_run all links) c.in_ok-start.ensures c.in_ok-explored.ensures.linked in
-    let liveness = subst (λ (s : CoreValue). IsLiveness s.module_run (live_by like)) c.in_ok-start.ensures c.in_ok-explored.ensures.liveness in
-    let kept = all_kept c.args.order like c.in_ok-explored.ensures.told m args most all links c.list_found.new.list c.in_ok-all.all found linked liveness
-    c.in_ok-explored.ensures.rest c.in_ok-explored.ensures.different c.in_ok-all.ensures.met c.in_ok-all.ensures.limit in
+    let x = c.args.explored.now in
+    let is = c.requires.explored in
+    let kept = all_kept c.args.order x.found.like is.told m args most x.found.all x.links.items c.list_found.new.list c.in_ok-all.all is.found is.linked is.liveness
+    is.rest is.different c.in_ok-all.ensures.met c.in_ok-all.ensures.limit in
     subst (HasKeptIn c.args.order m args most c.in_ok-list.list.items) (sym c.len.ensures.count)
-    (subst (λ (list : List Outcome). HasKeptIn c.args.order m args most list (length all)) (sym c.in_ok-list.ensures) kept)
+    (subst (λ (list : List Outcome). HasKeptIn c.args.order m args most list (length x.found.all)) (sym c.in_ok-list.ensures) kept)
 
 pub returns-clause-order : goal.returns-clause-order
 returns-clause-order c =
     let m = c.args.verified.now in
     let args = c.args.arguments.now in
     let limit = c.args.limit.entries in
-    let all = c.in_ok-explored.explored.found.all in
-    let links = c.in_ok-explored.explored.links.items in
+    let x = c.args.explored.now in
+    let is = c.requires.explored in
     let list = c.list_found.new.list in
     let few =
     (more_of_none c.args.order m args plain_runs c.new-listed.result c.note_plain.new.list c.new-listed.ensures c.note_plain.ensures.more).2 in
-    let found : length all ≤ limit → AreAllFound c.args.order (opening_core m args) all links = λ within. subst (λ (s : CoreValue). AreAllFound c.args.order s all links) c.in_ok-start.ensures
-    (c.in_ok-explored.ensures.all (whole_within c.in_ok-explored.explored.complete (length all) limit c.in_ok-explored.ensures.limit within)) in
     subst (AreNumberedIn c.args.order m args limit c.in_ok-list.list.items) (sym c.len.ensures.count)
-    (subst (λ (l : List Outcome). AreNumberedIn c.args.order m args limit l (length all)) (sym c.in_ok-list.ensures)
-    (numbered_in c.args.order m args all links limit (length c.note_plain.new.list) list few c.in_ok-all.ensures.order found))
+    (subst (λ (l : List Outcome). AreNumberedIn c.args.order m args limit l (length x.found.all)) (sym c.in_ok-list.ensures)
+    (numbered_in c.args.order m args x.found.all x.links.items limit (length c.note_plain.new.list) list few c.in_ok-all.ensures.order
+    (λ within. is.all (whole_within x.complete (length x.found.all) limit is.limit within))))
