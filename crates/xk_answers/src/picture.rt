@@ -9,7 +9,8 @@ ghost use Rattle.xk_jobs.specs.declared.job.Form.{Form as FormValue};
 ghost use Rattle.xk_answers.specs.Results.{Draw, IsTelling, IsText, is_of_whole, lanes_given, picture_told, shows_origins, window_given};
 ghost use Rattle.xk_answers.specs.Refusals.{AgainstModule, AgainstRun, MayStand};
 ghost use Rattle.xk_program.specs.Origins.{IsFrom};
-ghost use Rattle.xk_answers.specs.Explanation.{events_told, image_told, lanes_told, page_told, path_told, races_told, rounds_told, span_told};
+ghost use Rattle.xk_answers.specs.Explanation.{events_told, image_told, lanes_told, page_told, path_told};
+ghost use Rattle.xk_answers.specs.Explanation.{races_told, rounds_told, span_told};
 ghost use Rattle.xk_program.specs.Lines.{status_of};
 
 use crate::event_values::event_values_so_far;

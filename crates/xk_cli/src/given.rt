@@ -2,7 +2,8 @@
 
 ghost use Rattle.std.specs.Prelude.{◌≡◌, IfOk, option_map};
 ghost use Rattle.clap.specs.Words.{first_of, found_of, rows_of};
-ghost use Rattle.xk_cli.specs.CommandLine.{are_processors_alone, are_rounds_misplaced, are_runs_misplaced, arguments_in, count_in, drive_in, form_in, is_both};
+ghost use Rattle.xk_cli.specs.CommandLine.{are_processors_alone, are_rounds_misplaced, are_runs_misplaced};
+ghost use Rattle.xk_cli.specs.CommandLine.{arguments_in, count_in, drive_in, form_in, is_both};
 ghost use Rattle.xk_cli.specs.CommandLine.{is_flagged, is_list_misplaced, is_order, is_pick_alone, is_seed_alone, order_in};
 ghost use Rattle.xk_cli.specs.CommandLine.{is_json, is_json_misplaced, is_page_unclear};
 ghost use Rattle.xk_cli.specs.CommandLine.{is_run_unclear, order_named, processors_in, seed_in};

@@ -1,5 +1,5 @@
--- What is drawn of a run by rounds: a row for each round of a machine with a processor for each activity, and in each lane what its activity
--- does in that round, if it does anything. That it is drawn so is this project's own.
+-- What is drawn of a run by rounds: a row for each round of a machine with a processor for each activity, and in each lane what its
+-- activity does in that round, if it does anything. That it is drawn so is this project's own.
 use Rattle.std.specs.Prelude.{◌≡◌, ℕ, zero, suc, max, nat_eq, nat_le, Bool, List, [], ◌∷◌, ◌++◌, length, filter, find, count_by}
 use Rattle.std.specs.Prelude.{slice_index_or, Option, Some, None, codes, decimal, if◌then◌else◌}
 use Rattle.std.specs.Str.{bytes_eq}
@@ -66,8 +66,8 @@ label first last = if nat_eq first last then decimal first else decimal first ++
 abbrev pub row : ℕ → (ℕ → List ℕ) → ℕ → ℕ → List ℕ
 row width show first last = line width (label first last) (show first)
 
--- Rows from round `first` on, where the same stands in the rounds up to `last`, and so many come behind that one. Rounds one after another in
--- which the same stands have one row.
+-- Rows from round `first` on, where the same stands in the rounds up to `last`, and so many come behind that one. Rounds one after another
+-- in which the same stands have one row.
 abbrev pub rows_from : ℕ → ℕ → (ℕ → List ℕ) → ℕ → ℕ → List ℕ
 rows_from zero width show first last = row width show first last
 rows_from (suc more) width show first last =

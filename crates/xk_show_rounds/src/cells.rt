@@ -25,7 +25,7 @@ fn deed_of(
     step: Option<&Account>,
 ) -> Result<String, AllocError>
     ensures { IfOk result (λ text. string_bytes text
-        ≡ deed_of names.now (option_map (λ a. a.now) step)) }
+        ≡ deed_of names.now (option_map (λ a. a.now) step.entry)) }
 {
     match step {
         None => format!(in alloc; ""),

@@ -91,6 +91,7 @@ fn is_same(a: &[u8], b: &[u8]) -> bool
 
 /// Goes on to the next round: the stretch has it, too, where the same stands there; else its row is added, and another
 /// stretch begins.
+#[tactic(auto, using(crate::proofs::RowLemmas::same_goes_on, crate::proofs::RowLemmas::other_begins))]
 fn go_on(
     alloc: Global,
     out: &mut Vec<u8>,
@@ -190,12 +191,7 @@ fn titles(alloc: Global, grid: Grid) -> Result<Vec<u8>, AllocError>
 }
 
 /// Adds the head: ` round  main    act 1`.
-fn push_head(
-    alloc: Global,
-    out: &mut Vec<u8>,
-    width: usize,
-    grid: Grid,
-) -> Result<(), AllocError>
+fn push_head(alloc: Global, out: &mut Vec<u8>, width: usize, grid: Grid) -> Result<(), AllocError>
     ensures { OnOk result (out.new.items ≡ out.old.items ++ head width grid) }
 {
     let titles = titles(alloc, grid)?;
