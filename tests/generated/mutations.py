@@ -424,6 +424,7 @@ class Comparer:
                 ["lanes", "--svg"],
                 ["lanes", "--path"],
                 ["lanes", "--svg", "--path"],
+                ["lanes", "--rounds"],
                 ["page"],
                 ["races"],
                 ["span"],
@@ -442,6 +443,7 @@ class Comparer:
                         at=step if flags and command == "where" else None,
                         step=of,
                         has_path="--path" in flags,
+                        by_rounds="--rounds" in flags,
                     )
                 )
                 behind = (file.name, str(of)) if command == "why" else (file.name,)

@@ -77,8 +77,8 @@ STRANGE = [
     "--", "-h", "--help", "help", "-", "", "-x", "-5", "-hx", "--module=x", "--help=x", "--modul", "--Module",
     "--orders", "--=", "---", "--version", "-V", "walk", "chek", "run", "check", "--no-module", "--log", "--order",
     "--workers", "--arg", "--seed", "--runs", "--limit", "--pick", "--sets", "--expect", "--from", "--to", "--at",
-    "--svg", "--path", "--outcome", "--processors", "outcome", "V9", "\udcff", "--log=\udcfe", "ü", "--ü", "a b", "=",
-    "@step.x10",
+    "--svg", "--path", "--rounds", "--outcome", "--processors", "outcome", "V9", "\udcff", "--log=\udcfe", "ü", "--ü",
+    "a b", "=", "@step.x10",
 ]  # fmt: skip
 
 
@@ -121,6 +121,8 @@ def options(rng: random.Random, command: str, text: str) -> Iterator[list[str]]:
         yield ["--svg"]
     if command == "lanes" and rng.random() < 0.3:
         yield ["--path"]
+    if command == "lanes" and rng.random() < 0.3:
+        yield ["--rounds"]
     if command == "outcomes" and rng.random() < 0.3:
         yield ["--sets"]
     if command == "outcomes" and rng.random() < (0.05 if is_held else 0.25):

@@ -50,8 +50,8 @@ BROKEN = r"x10clock: ([FV])(\d+) \w+(?: unit (\d+))?(?: at (\d+)| over \d+)"
 # Words that are no job, or ask for help, and a word that is no text.
 ALONE = ((), ("--help",), ("run", "--help"), ("--version",), ("walk",), ("check",), ("explain", "V12"))
 PICTURES = (
-    ("chart",), ("events",), ("lanes",), ("lanes", "--svg"), ("lanes", "--path"), ("page",), ("where",),
-    ("where", "--at", "2")
+    ("chart",), ("events",), ("lanes",), ("lanes", "--svg"), ("lanes", "--path"), ("lanes", "--rounds"), ("page",),
+    ("where",), ("where", "--at", "2")
 )  # fmt: skip
 
 

@@ -92,7 +92,7 @@ CALLS = [
         Call(f"{command} - SECOND", IN_STEP, LOG)
         for command in (
             "replay", "chart", "events", "events --json", "lanes", "lanes --svg", "lanes --path", "lanes --svg --path",
-            "page", "where", "where --at 2", "races", "span")
+            "lanes --rounds", "page", "where", "where --at 2", "races", "span")
     ),
     *(Call(f"{command} --module - SECOND", MODULE, LOG) for command in ("replay", "chart")),
     Call("where --at 99 - SECOND", IN_STEP, LOG, status=6),

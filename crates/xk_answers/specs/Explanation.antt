@@ -33,6 +33,7 @@ use Rattle.xk_show_picture.specs.Picture.{is_drawn, named_picture_text, picture_
 use Rattle.xk_show_page.specs.Page.{named_page_text, page_text}
 use Rattle.xk_show_path.specs.declared.forms.PathForm.{PathForm}
 use Rattle.xk_show_path.specs.Forms.{is_path_whole, path_text}
+use Rattle.xk_show_rounds.specs.RoundLanes.{round_lanes_text}
 use Rattle.xk_races.specs.Races.{is_race_free}
 use Rattle.xk_races.specs.Text.{races_text}
 use Rattle.xk_show_races.specs.Text.{named_races_text}
@@ -220,6 +221,14 @@ path_of form text shared window m log last (Some origins) =
 abbrev pub path_told : PathForm → List ℕ → Window → ModuleValue → List Entry → World → List (List ℕ) → Option (List UnitOrigins) → Tale
 path_told form text window m log last shared origins =
     (path_of form text shared window m log last origins, is_path_whole form window m log last)
+
+-- the same by rounds: a row for each, in place of each step
+abbrev pub rounds_by : List ℕ → List (List ℕ) → ModuleValue → List Entry → World → Option (List UnitOrigins) → List ℕ
+rounds_by text shared m log last None = round_lanes_text no_text None m log last
+rounds_by text shared m log last (Some origins) = round_lanes_text (places_in text (Some origins)) (Some shared) m log last
+
+abbrev pub rounds_told : List ℕ → ModuleValue → List Entry → World → List (List ℕ) → Option (List UnitOrigins) → Tale
+rounds_told text m log last shared origins = (rounds_by text shared m log last origins, are_lanes_whole last)
 
 -- how long it had to take, and what takes longest
 abbrev pub span_told : List ℕ → ModuleValue → List ℤ → List Entry → Option (List UnitOrigins) → Tale

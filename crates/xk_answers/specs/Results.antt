@@ -49,7 +49,7 @@ use Rattle.xk_program.specs.Origins.{IsByNames, IsByOrigins}
 use Rattle.xk_hints.specs.Words.{HintValue}
 use Rattle.xk_answers.specs.Explanation.{HaveHints, IsProgramListed, Tale, acceptance_told, all_told, event_values_so_far}
 use Rattle.xk_answers.specs.Explanation.{events_so_far, image_so_far}
-use Rattle.xk_answers.specs.Explanation.{lanes_so_far, page_so_far, path_told, races_told, span_told, where_told, why_told}
+use Rattle.xk_answers.specs.Explanation.{lanes_so_far, page_so_far, path_told, races_told, rounds_told, span_told, where_told, why_told}
 
 -- what is told as one JSON value: a run in an order, by rounds, or by workers, whose log is kept or not; outcomes, of which so many are
 -- looked for, and of one the log is kept or not; or what outcomes say of a list
@@ -254,8 +254,8 @@ ComesTo (Json s) m args logged d = IsAccepted m × IsShown s m args logged d
 ComesTo _ m args logged _ = ⊥
 
 -- What is told of a run of the module that the bytes give, by their lines where they are a source text: its chart; by their names, too,
--- what others see of its steps, also as JSON values, the same with a lane for each activity, also as an image, with a critical path, or as a
--- page, its races, and what a step rests on; or how long it had to take.
+-- what others see of its steps, also as JSON values, the same with a lane for each activity, also as an image, with a critical path, by
+-- rounds, or as a page, its races, and what a step rests on; or how long it had to take.
 abbrev pub IsPicture : Picture → Form → List ℕ → List ℕ → ModuleValue → List ℤ → List Entry → World → Tale → Type 0
 IsPicture picture.Chart kind file bytes m args es last told = told ≡ all_told (chart_text m args es)
 IsPicture picture.Events kind file bytes m args es last told = IsByNames kind bytes (events_so_far bytes m args es last) told
@@ -263,6 +263,7 @@ IsPicture picture.EventValues kind file bytes m args es last told = IsByNames ki
 IsPicture (picture.Lanes window) kind file bytes m args es last told = IsByNames kind bytes (lanes_so_far bytes window m es last) told
 IsPicture (picture.Image window) kind file bytes m args es last told = IsByNames kind bytes (image_so_far bytes window m es last) told
 IsPicture (picture.Path form window) kind file bytes m args es last told = IsByNames kind bytes (path_told form bytes window m es last) told
+IsPicture picture.Rounds kind file bytes m args es last told = IsByNames kind bytes (rounds_told bytes m es last) told
 IsPicture (picture.Page window) kind file bytes m args es last told = IsByNames kind bytes (page_so_far file bytes window m es last) told
 IsPicture picture.Races kind file bytes m args es last told = IsByNames kind bytes (races_told bytes m args es) told
 IsPicture picture.Span kind file bytes m args es last told = IsByOrigins kind bytes (span_told bytes m args es) told
@@ -291,6 +292,7 @@ picture_told picture.EventValues file bytes shared m args es last origins = even
 picture_told (picture.Lanes window) file bytes shared m args es last origins = lanes_so_far bytes window m es last shared origins
 picture_told (picture.Image window) file bytes shared m args es last origins = image_so_far bytes window m es last shared origins
 picture_told (picture.Path form window) file bytes shared m args es last origins = path_told form bytes window m es last shared origins
+picture_told picture.Rounds file bytes shared m args es last origins = rounds_told bytes m es last shared origins
 picture_told (picture.Page window) file bytes shared m args es last origins = page_so_far file bytes window m es last shared origins
 picture_told picture.Races file bytes shared m args es last origins = races_told bytes m args es shared origins
 picture_told picture.Span file bytes shared m args es last origins = span_told bytes m args es origins

@@ -9,7 +9,8 @@ ghost use Rattle.xk_jobs.specs.declared.job.Form.{Form as FormValue};
 ghost use Rattle.xk_answers.specs.Results.{Draw, IsTelling, IsText, is_of_whole, lanes_given, picture_told, shows_origins, window_given};
 ghost use Rattle.xk_answers.specs.Refusals.{AgainstModule, AgainstRun, MayStand};
 ghost use Rattle.xk_program.specs.Origins.{IsFrom};
-ghost use Rattle.xk_answers.specs.Explanation.{events_told, image_told, lanes_told, page_told, path_told, races_told, span_told};
+ghost use Rattle.xk_answers.specs.Explanation.{events_told, image_told, lanes_told, page_told, path_told};
+ghost use Rattle.xk_answers.specs.Explanation.{races_told, rounds_told, span_told};
 ghost use Rattle.xk_program.specs.Lines.{status_of};
 
 use crate::event_values::event_values_so_far;
@@ -30,6 +31,7 @@ use xk_show_page::{module_page, source_page};
 use xk_show_path::{PathForm, form_of, module_path, source_path};
 use xk_show_picture::{module_picture, source_picture};
 use xk_show_races::source_races;
+use xk_show_rounds::{module_rounds, source_rounds};
 use xk_show_span::{module_span, source_span};
 use xk_types::Source;
 use xk_unit_origins::UnitOrigins;
@@ -49,6 +51,8 @@ pub enum Picture {
     Image(Window),
     /// The same in this form, with the rounds of steps and a critical path.
     Path(PathForm, Window),
+    /// The same by rounds: a row for each, in place of each step.
+    Rounds,
     /// The same as a page that goes through it step by step.
     Page(Window),
     /// Its races.
@@ -70,7 +74,7 @@ impl Picture {
             | Picture::Lanes(_)
             | Picture::Image(_)
             | Picture::Page(_) => false,
-            Picture::Path(..) | Picture::Chart | Picture::Races => true,
+            Picture::Path(..) | Picture::Rounds | Picture::Chart | Picture::Races => true,
             Picture::Span | Picture::Why(_) => true,
         }
     }
@@ -222,6 +226,7 @@ fn whole_told(
         Picture::Races => races_of(alloc, from, ended),
         Picture::Span => span_of(alloc, from, ended),
         Picture::Path(form, window) => path_of(alloc, from, ended, form, window),
+        Picture::Rounds => rounds_of(alloc, from, ended),
         Picture::Why(step) => reasons_of(alloc, from, ended, step),
         Picture::Events => unreachable!(),
         Picture::EventValues => unreachable!(),
@@ -253,6 +258,7 @@ fn so_far_told(
         Picture::Image(window) => image_so_far(alloc, from, legal, window),
         Picture::Page(window) => page_so_far(alloc, file, from, legal, window),
         Picture::Path(..) => unreachable!(),
+        Picture::Rounds => unreachable!(),
         Picture::Chart => unreachable!(),
         Picture::Races => unreachable!(),
         Picture::Span => unreachable!(),
@@ -406,6 +412,35 @@ fn path_of(
         }
         None => {
             let drawing = module_path(alloc, form, ended, window)?;
+            Ok(Tale {
+                text: drawing.text,
+                whole: drawing.whole,
+            })
+        }
+    }
+}
+
+/// The same by rounds: a row for each, in place of each step.
+fn rounds_of(
+    alloc: Global,
+    from: &Provenance<'_>,
+    ended: &Ended<'_>,
+) -> Result<Tale, AllocError>
+    ensures { IfOk result (λ tale. (tale.text.items, tale.whole)
+        ≡ rounds_told from.now.text.now ended.now.module.now ended.now.log.items
+        ended.now.core.world (map (λ x. x.now) from.now.shared.items) from.now.origins) }
+{
+    match &from.origins {
+        Some(origins) => {
+            let drawing =
+                source_rounds(alloc, from.text, origins.units(), &from.shared, ended)?;
+            Ok(Tale {
+                text: drawing.text,
+                whole: drawing.whole,
+            })
+        }
+        None => {
+            let drawing = module_rounds(alloc, ended)?;
             Ok(Tale {
                 text: drawing.text,
                 whole: drawing.whole,

@@ -244,6 +244,11 @@ fn lanes_line<'a>(alloc: Global) -> Result<clap::Command<'a>, AllocError>
             "path",
             "Draws the round of each step, and a critical path",
         ),
+        flag(
+            alloc,
+            "rounds",
+            "Draws a row for each round, in place of each step",
+        ),
     ];
     on_file(alloc, "lanes", about, Vec::from_array(alloc, options)?)
 }

@@ -21,6 +21,7 @@ shows_origins (command.Explain json) = true
 shows_origins command.Listing = true
 shows_origins (command.Events log) = true
 shows_origins (command.Lanes log from to svg path) = true
+shows_origins (command.Rounds log) = true
 shows_origins (command.Page log from to) = true
 shows_origins (command.OutcomePage pick limit from to) = true
 shows_origins (command.Where log at) = true

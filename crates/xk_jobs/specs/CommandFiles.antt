@@ -23,6 +23,7 @@ read_path (command.Replay log) = Some log.now
 read_path (command.Chart log) = Some log.now
 read_path (command.Events log) = Some log.now
 read_path (command.Lanes log from to svg path) = Some log.now
+read_path (command.Rounds log) = Some log.now
 read_path (command.Page log from to) = Some log.now
 read_path (command.Where log at) = Some log.now
 read_path (command.Span log) = Some log.now

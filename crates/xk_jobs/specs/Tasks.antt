@@ -43,6 +43,7 @@ pub data Task : Type 0 where
   Chart : List ℕ → Task
   Events : List ℕ → Task
   Lanes : List ℕ → Option ℕ → Option ℕ → Bool → Bool → Task
+  Rounds : List ℕ → Task
   Page : List ℕ → Option ℕ → Option ℕ → Task
   OutcomePage : ℕ → Option ℕ → Option ℕ → Option ℕ → Task
   Where : List ℕ → Option ℕ → Task
@@ -72,6 +73,7 @@ task_value (command.Replay log) = Replay log.now
 task_value (command.Chart log) = Chart log.now
 task_value (command.Events log) = Events log.now
 task_value (command.Lanes log from to svg path) = Lanes log.now from to svg path
+task_value (command.Rounds log) = Rounds log.now
 task_value (command.Page log from to) = Page log.now from to
 task_value (command.OutcomePage pick limit from to) = OutcomePage pick limit from to
 task_value (command.Where log at) = Where log.now at

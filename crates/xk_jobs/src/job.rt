@@ -59,6 +59,11 @@ pub enum Command<'a> {
         /// `--path`: with the round of each step, and a critical path.
         path: bool,
     },
+    /// `lanes --rounds`: draw the run of FILE that a log has by the rounds that `span` tells of.
+    Rounds {
+        /// The log's path.
+        log: &'a str,
+    },
     /// `page`: make an HTML page of the run of FILE that a log has, to go through it step by step.
     Page {
         /// The log's path.
@@ -210,6 +215,7 @@ impl<'a> Command<'a> {
             | Command::Chart { log }
             | Command::Events { log }
             | Command::Lanes { log, .. }
+            | Command::Rounds { log }
             | Command::Page { log, .. }
             | Command::Where { log, .. }
             | Command::Span { log }
@@ -245,6 +251,7 @@ impl<'a> Command<'a> {
             | Command::Chart { .. }
             | Command::Events { .. }
             | Command::Lanes { .. }
+            | Command::Rounds { .. }
             | Command::Page { .. }
             | Command::OutcomePage { .. }
             | Command::Where { .. }
@@ -271,6 +278,7 @@ impl<'a> Command<'a> {
             | Command::Chart { .. }
             | Command::Events { .. }
             | Command::Lanes { .. }
+            | Command::Rounds { .. }
             | Command::Page { .. }
             | Command::OutcomePage { .. }
             | Command::Where { .. }
@@ -293,6 +301,7 @@ impl<'a> Command<'a> {
             | Command::Listing
             | Command::Events { .. }
             | Command::Lanes { .. }
+            | Command::Rounds { .. }
             | Command::Page { .. }
             | Command::OutcomePage { .. }
             | Command::Where { .. }

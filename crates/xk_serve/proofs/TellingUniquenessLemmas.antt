@@ -20,7 +20,7 @@ use Rattle.xk_answers.specs.Results.{Check, Compile, Count, Doing, Draw, Expecte
 use Rattle.xk_answers.specs.Results.{Json, Listing, OutcomePage, Outcomes, Races, Replay, Run, Tally, Where}
 use Rattle.xk_program.specs.Origins.{HaveOrigins, HaveSharedNames, IsByNames, IsByOrigins}
 use Rattle.xk_answers.specs.Explanation.{HaveHints, IsListed, Tale, acceptance_told, event_values_so_far, events_so_far, image_so_far}
-use Rattle.xk_answers.specs.Explanation.{lanes_so_far, page_so_far, path_told, races_told, span_told, where_told}
+use Rattle.xk_answers.specs.Explanation.{lanes_so_far, page_so_far, path_told, races_told, rounds_told, span_told, where_told}
 use Rattle.xk_answers.specs.Explanation.{why_told}
 use Rattle.xk_jobs.specs.declared.job.Order.TheVariants as order
 use Rattle.xk_program.specs.Programs.{Gives}
@@ -91,6 +91,8 @@ picture_once (picture.Image window) kind file bytes m args es last a b given h k
     by_names_once kind bytes m (image_so_far bytes window m es last) a b given h k
 picture_once (picture.Path form window) kind file bytes m args es last a b given h k =
     by_names_once kind bytes m (path_told form bytes window m es last) a b given h k
+picture_once picture.Rounds kind file bytes m args es last a b given h k =
+    by_names_once kind bytes m (rounds_told bytes m es last) a b given h k
 picture_once (picture.Page window) kind file bytes m args es last a b given h k =
     by_names_once kind bytes m (page_so_far file bytes window m es last) a b given h k
 picture_once picture.Span kind file bytes m args es last a b given h k =

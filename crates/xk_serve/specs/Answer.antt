@@ -101,6 +101,7 @@ doing_of (command.Lanes log from to svg path) = Draw (lanes_given from to svg pa
 doing_of (command.Page log from to) = Draw (picture.Page (window_given from to))
 doing_of (command.OutcomePage pick limit from to) = OutcomePage (window_given from to) limit pick
 doing_of (command.Where log at) = Where at
+doing_of (command.Rounds log) = Draw picture.Rounds
 doing_of (command.Span log) = Draw picture.Span
 doing_of (command.Why log step) = Draw (picture.Why step)
 doing_of (command.Races path) = races_by (is_some path)

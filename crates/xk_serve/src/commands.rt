@@ -78,6 +78,10 @@ pub(crate) fn answer<
             let lanes = lanes_given(from, to, svg, path);
             drawn(alloc, lanes, job.file, program, arguments, log_in)
         }
+        Command::Rounds { .. } => {
+            let rounds = Picture::Rounds;
+            drawn(alloc, rounds, job.file, program, arguments, log_in)
+        }
         Command::Page { from, to, .. } => {
             let page = Picture::Page(window_given(from, to));
             drawn(alloc, page, job.file, program, arguments, log_in)

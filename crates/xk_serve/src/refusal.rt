@@ -85,6 +85,7 @@ fn may_note(command: &Command<'_>) -> bool
     match command {
         Command::Events { .. }
         | Command::Lanes { .. }
+        | Command::Rounds { .. }
         | Command::Page { .. }
         | Command::Where { .. }
         | Command::Span { .. }

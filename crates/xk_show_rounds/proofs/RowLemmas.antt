@@ -1,0 +1,50 @@
+-- Rows by a table are those by rounds; and rows go on from round to round.
+use Rattle.std.proofs.Common.{◌≡◌, ◌∙◌, ℕ, suc, Bool, true, false, cond, List, ◌++◌, Option, length, ap, sym, append_assoc}
+use Rattle.std.specs.Str.{bytes_eq}
+use Rattle.std.proofs.Math.Path.{fun_ext}
+use Rattle.xk_show_names.specs.declared.accounts.Account.{Account}
+use Rattle.xk_show_names.specs.ClockNames.{NamesValue}
+use Rattle.xk_show_lanes.specs.declared.grid.Grid.{Grid}
+use Rattle.xk_show_path.specs.Rounds.{Rounds}
+use Rattle.xk_show_events.specs.declared.steps.RunStep.{RunStep}
+use Rattle.xk_show_rounds.specs.RoundRows.{AreByRounds, head, head_and_rows, label, line, row, rows_from, rows_of, shown, shown_at, steps_in, wide}
+
+-- head and rows by a table that has, by rounds, each of these steps
+pub rows_by_rounds : (r : Rounds) (g : Grid) (n : Option NamesValue) (steps : List Account) (table : List (List Account)) (path : List RunStep)
+    (text : List ℕ) → AreByRounds r steps table → path ≡ r.path
+    → text ≡ head (wide (length path)) g ++ rows_of (length path) (wide (length path)) (shown_at g n table)
+    → text ≡ head_and_rows r g n steps
+rows_by_rounds r g n steps table path text placed along is =
+    is
+    ∙ ap (λ (p : List RunStep). head (wide (length p)) g ++ rows_of (length p) (wide (length p)) (shown_at g n table)) along
+    ∙ ap (λ show. head (wide (length r.path)) g ++ rows_of (length r.path) (wide (length r.path)) show)
+    (fun_ext (λ k. ap (shown g n) (placed k)))
+
+-- what was kept of the stretch, and stands in the next round, is told apart as that of their rounds
+alike : (show : ℕ → List ℕ) (first last next : ℕ) (held shown : List ℕ) (b : Bool) → next ≡ suc last → held ≡ show first → shown ≡ show next
+    → bytes_eq held shown ≡ b → bytes_eq (show first) (show (suc last)) ≡ b
+alike show first last next held shown b behind kept stands is =
+    ap (λ l. bytes_eq l (show (suc last))) (sym kept) ∙ ap (bytes_eq held) (sym (stands ∙ ap show behind)) ∙ is
+
+-- rows go on by whether the same stands in the next round
+go_by : (show : ℕ → List ℕ) (width first last more : ℕ) → Bool → List ℕ
+go_by show width first last more same =
+    cond same (rows_from more width show first (suc last)) (row width show first last ++ rows_from more width show (suc last) (suc last))
+
+-- where it does, the stretch has that round, too
+pub same_goes_on : (show : ℕ → List ℕ) (width first last next : ℕ) (held shown out : List ℕ) → next ≡ suc last → held ≡ show first
+    → shown ≡ show next → bytes_eq held shown ≡ true
+    → (more : ℕ) → out ++ rows_from more width show first next ≡ out ++ rows_from (suc more) width show first last
+same_goes_on show width first last next held shown out behind kept stands is more =
+    ap (λ n. out ++ rows_from more width show first n) behind
+    ∙ ap (λ b. out ++ go_by show width first last more b) (sym (alike show first last next held shown true behind kept stands is))
+
+-- where it doesn't, another stretch begins there, behind the row of this one
+pub other_begins : (show : ℕ → List ℕ) (width first last next : ℕ) (held shown out grown : List ℕ) → next ≡ suc last → held ≡ show first
+    → shown ≡ show next → bytes_eq held shown ≡ false → grown ≡ out ++ line width (label first last) held
+    → (more : ℕ) → grown ++ rows_from more width show next next ≡ out ++ rows_from (suc more) width show first last
+other_begins show width first last next held shown out grown behind kept stands is added more =
+    ap (λ n. grown ++ rows_from more width show n n) behind
+    ∙ ap (λ l. l ++ rows_from more width show (suc last) (suc last)) (added ∙ ap (λ h. out ++ line width (label first last) h) kept)
+    ∙ append_assoc out (row width show first last) (rows_from more width show (suc last) (suc last))
+    ∙ ap (λ b. out ++ go_by show width first last more b) (sym (alike show first last next held shown false behind kept stands is))
