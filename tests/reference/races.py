@@ -124,13 +124,22 @@ def step_words(program: Program, taken: Taken) -> str:
     return f"step {taken.number} act {taken.who} {place}"
 
 
-def print_words(program: Program, played: Played, past: dict[int, int]) -> str:
-    """Whether each print comes before the next one."""
+def gap(played: Played, past: dict[int, int]) -> tuple[Taken, Taken] | None:
+    """The first print that doesn't come before the next one, and that one."""
     prints = [taken for taken in played.taken if taken.step.printed is not None]
     for first, second in zip(prints, prints[1:], strict=False):
         if not past[second.number] >> first.number & 1:
-            return f"prints not in one order: {step_words(program, first)}, {step_words(program, second)}\n"
-    return IN_ORDER
+            return first, second
+    return None
+
+
+def print_words(program: Program, played: Played, past: dict[int, int]) -> str:
+    """Whether each print comes before the next one."""
+    steps = gap(played, past)
+    if steps is None:
+        return IN_ORDER
+    first, second = (step_words(program, taken) for taken in steps)
+    return f"prints not in one order: {first}, {second}\n"
 
 
 def numbered(program: Program, number: int, first: Taken, second: Taken) -> str:
