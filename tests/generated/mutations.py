@@ -426,6 +426,7 @@ class Comparer:
                 ["lanes", "--svg", "--path"],
                 ["page"],
                 ["races"],
+                ["races", "--json"],
                 ["span"],
                 ["where"],
                 ["where", f"--at={step}"],
@@ -441,6 +442,7 @@ class Comparer:
                         is_picture="--svg" in flags,
                         at=step if flags and command == "where" else None,
                         step=of,
+                        is_json="--json" in flags,
                         has_path="--path" in flags,
                     )
                 )

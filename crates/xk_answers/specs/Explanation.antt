@@ -36,6 +36,7 @@ use Rattle.xk_show_path.specs.Forms.{is_path_whole, path_text}
 use Rattle.xk_races.specs.Races.{is_race_free}
 use Rattle.xk_races.specs.Text.{races_text}
 use Rattle.xk_show_races.specs.Text.{named_races_text}
+use Rattle.xk_races_json.specs.Races.{module_races_value, source_races_value}
 use Rattle.xk_show_span.specs.Text.{span_text}
 use Rattle.xk_show_where.specs.Where.{are_steps_legal, named_where_text, where_text}
 use Rattle.xk_why.specs.Lines.{why_text}
@@ -243,13 +244,15 @@ abbrev pub why_told : List ℕ → ℕ → ModuleValue → List ℤ → List Ent
 why_told text step m args log shared origins =
     if is_told m args log step then all_told (why_of text step shared m args log origins) else untold step log
 
--- its races; of a source text by names, where its shared numbers have these, and with values
-abbrev pub races_of : List ℕ → List (List ℕ) → ModuleValue → List ℤ → List Entry → Option (List UnitOrigins) → List ℕ
-races_of text shared m args log None = races_text no_text m args log
-races_of text shared m args log (Some origins) = named_races_text (places_in text (Some origins)) shared m args log
+-- its races, as a text, or as a JSON value on a line; of a source text by names, where its shared numbers have these, and with values
+abbrev pub races_of : Bool → List ℕ → List (List ℕ) → ModuleValue → List ℤ → List Entry → Option (List UnitOrigins) → List ℕ
+races_of false text shared m args log None = races_text no_text m args log
+races_of false text shared m args log (Some origins) = named_races_text (places_in text (Some origins)) shared m args log
+races_of true text shared m args log None = json_line (module_races_value m args log)
+races_of true text shared m args log (Some origins) = json_line (source_races_value (places_in text (Some origins)) shared m args log)
 
-abbrev pub races_told : List ℕ → ModuleValue → List ℤ → List Entry → List (List ℕ) → Option (List UnitOrigins) → Tale
-races_told text m args log shared origins = (races_of text shared m args log origins, is_race_free m args log)
+abbrev pub races_told : Bool → List ℕ → ModuleValue → List ℤ → List Entry → List (List ℕ) → Option (List UnitOrigins) → Tale
+races_told json text m args log shared origins = (races_of json text shared m args log origins, is_race_free m args log)
 
 -- how things stand behind the steps of a log, as far as they can be taken; of a source text by names, where its shared numbers have these
 abbrev pub standings_of : List ℕ → List (List ℕ) → ModuleValue → List ℤ → List Entry → Option (List UnitOrigins) → List ℕ

@@ -20,7 +20,8 @@ use crate::so_far::{events_so_far, image_so_far, lanes_so_far, page_so_far};
 use std::alloc::{AllocError, Global};
 use xk_bounds::Verified;
 use xk_program::{Fault, Program, Provenance, runnable};
-use xk_races::module_races;
+use xk_races::{RaceReport, module_races};
+use xk_races_json::{module_race_values, source_race_values};
 use xk_replay::chart;
 use xk_scheduler::Ended;
 use xk_show_events::{LegalRun, module_events};
@@ -51,8 +52,8 @@ pub enum Picture {
     Path(PathForm, Window),
     /// The same as a page that goes through it step by step.
     Page(Window),
-    /// Its races.
-    Races,
+    /// Its races, also as a JSON value.
+    Races(bool),
     /// How long it had to take.
     Span,
     /// What this step of it rests on.
@@ -70,7 +71,7 @@ impl Picture {
             | Picture::Lanes(_)
             | Picture::Image(_)
             | Picture::Page(_) => false,
-            Picture::Path(..) | Picture::Chart | Picture::Races => true,
+            Picture::Path(..) | Picture::Chart | Picture::Races(_) => true,
             Picture::Span | Picture::Why(_) => true,
         }
     }
@@ -219,7 +220,7 @@ fn whole_told(
             text: chart(alloc, ended)?.into_bytes(),
             whole: true,
         }),
-        Picture::Races => races_of(alloc, from, ended),
+        Picture::Races(json) => races_of(alloc, json, from, ended),
         Picture::Span => span_of(alloc, from, ended),
         Picture::Path(form, window) => path_of(alloc, from, ended, form, window),
         Picture::Why(step) => reasons_of(alloc, from, ended, step),
@@ -254,7 +255,7 @@ fn so_far_told(
         Picture::Page(window) => page_so_far(alloc, file, from, legal, window),
         Picture::Path(..) => unreachable!(),
         Picture::Chart => unreachable!(),
-        Picture::Races => unreachable!(),
+        Picture::Races(_) => unreachable!(),
         Picture::Span => unreachable!(),
         Picture::Why(_) => unreachable!(),
     }
@@ -458,46 +459,58 @@ fn named_page_of(
     })
 }
 
-/// The races of a run that came to its end; of a source text by names, and with values.
+/// The races of a run that came to its end, as a text or as a JSON value; of a source text by names, and with values.
 pub(crate) fn races_of(
     alloc: Global,
+    json: bool,
     from: &Provenance<'_>,
     ended: &Ended<'_>,
 ) -> Result<Tale, AllocError>
     ensures { IfOk result (λ tale. (tale.text.items, tale.whole)
-        ≡ races_told from.now.text.now ended.now.module.now
+        ≡ races_told json from.now.text.now ended.now.module.now
         ended.now.core.world.arguments ended.now.log.items
         (map (λ x. x.now) from.now.shared.items) from.now.origins) }
 {
-    match &from.origins {
-        Some(origins) => named_races_of(alloc, from, origins.units(), ended),
-        None => {
-            let report = module_races(alloc, ended)?;
-            Ok(Tale {
-                text: report.text,
-                whole: report.free,
-            })
-        }
-    }
+    let report = match &from.origins {
+        Some(origins) => named_races_of(alloc, json, from, origins.units(), ended)?,
+        None => module_races_of(alloc, json, ended)?,
+    };
+    Ok(Tale {
+        text: report.text,
+        whole: report.free,
+    })
 }
 
 /// The same of a source text whose units have these origins.
 fn named_races_of(
     alloc: Global,
+    json: bool,
     from: &Provenance<'_>,
     units: &[UnitOrigins<'_>],
     ended: &Ended<'_>,
-) -> Result<Tale, AllocError>
-    ensures { IfOk result (λ tale. (tale.text.items, tale.whole)
-        ≡ races_told from.now.text.now ended.now.module.now
+) -> Result<RaceReport, AllocError>
+    ensures { IfOk result (λ report. (report.text.items, report.free)
+        ≡ races_told json from.now.text.now ended.now.module.now
         ended.now.core.world.arguments ended.now.log.items
         (map (λ x. x.now) from.now.shared.items) (Some units.now)) }
 {
-    let report = source_races(alloc, from.text, units, &from.shared, ended)?;
-    Ok(Tale {
-        text: report.text,
-        whole: report.free,
-    })
+    let shared = &from.shared;
+    if json {
+        return source_race_values(alloc, from.text, units, shared, ended);
+    }
+    source_races(alloc, from.text, units, shared, ended)
+}
+
+/// The same of a module that is given as such.
+fn module_races_of(alloc: Global, json: bool, ended: &Ended<'_>) -> Result<RaceReport, AllocError>
+    ensures { (text : List ℕ) (shared : List (List ℕ)) → IfOk result
+        (λ report. (report.text.items, report.free) ≡ races_told json text ended.now.module.now
+        ended.now.core.world.arguments ended.now.log.items shared None) }
+{
+    if json {
+        return module_race_values(alloc, ended);
+    }
+    module_races(alloc, ended)
 }
 
 /// How long a run had to take that came to its end.
