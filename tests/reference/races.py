@@ -124,22 +124,23 @@ def step_words(program: Program, taken: Taken) -> str:
     return f"step {taken.number} act {taken.who} {place}"
 
 
-def gap(played: Played, past: dict[int, int]) -> tuple[Taken, Taken] | None:
-    """The first print that doesn't come before the next one, and that one."""
+def print_words(program: Program, played: Played, past: dict[int, int]) -> str:
+    """Whether each print comes before the next one."""
     prints = [taken for taken in played.taken if taken.step.printed is not None]
     for first, second in zip(prints, prints[1:], strict=False):
         if not past[second.number] >> first.number & 1:
-            return first, second
-    return None
+            return f"prints not in one order: {step_words(program, first)}, {step_words(program, second)}\n"
+    return IN_ORDER
 
 
-def print_words(program: Program, played: Played, past: dict[int, int]) -> str:
-    """Whether each print comes before the next one."""
-    steps = gap(played, past)
-    if steps is None:
-        return IN_ORDER
-    first, second = (step_words(program, taken) for taken in steps)
-    return f"prints not in one order: {first}, {second}\n"
+def closing(program: Program, played: Played, past: dict[int, int], count: int) -> str:
+    """What is told behind so many races: how many, and of which runs that holds."""
+    if count:
+        counted = f"{count}" if count <= SHOWN else f"{SHOWN} and more"
+        return f"races {counted}\nof this run alone\n"
+    prints = print_words(program, played, past)
+    order = " in this order" if prints == IN_ORDER else ""
+    return f"races 0\n{prints}every schedule prints these numbers{order}\n"
 
 
 def numbered(program: Program, number: int, first: Taken, second: Taken) -> str:
@@ -162,11 +163,6 @@ def named(naming: Naming, number: int, first: Taken, second: Taken) -> str:
 def races(program: Program, played: Played) -> str:
     past = pasts(played)
     pairs = list(found(played, past))
-    if pairs:
-        naming = None if program.is_module else Naming(program, played)
-        told = (named(naming, *pair) if naming else numbered(program, *pair) for pair in pairs[:SHOWN])
-        count = f"{len(pairs)}" if len(pairs) <= SHOWN else f"{SHOWN} and more"
-        return "".join(told) + f"races {count}\n" + "of this run alone\n"
-    prints = print_words(program, played, past)
-    order = " in this order" if prints == IN_ORDER else ""
-    return f"races 0\n{prints}every schedule prints these numbers{order}\n"
+    naming = Naming(program, played) if pairs and not program.is_module else None
+    told = (named(naming, *pair) if naming else numbered(program, *pair) for pair in pairs[:SHOWN])
+    return "".join(told) + closing(program, played, past, len(pairs))

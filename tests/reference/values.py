@@ -97,8 +97,7 @@ def steps(program: Program, played: Played) -> tuple[str, bool]:
 
 
 def racing(program: Program, played: Played) -> tuple[str, bool]:
-    """The races of a run, each by the values of its two steps; and what it says of other runs: where it has no race,
-    whether the prints are in one order, or which two aren't."""
+    """The races of a run, each by the values of its two steps, and whether it has none; then the lines behind them."""
     past, teller = races.pasts(played), Teller(program, played)
     pairs = list(races.found(played, past))
     told = [
@@ -106,10 +105,5 @@ def racing(program: Program, played: Played) -> tuple[str, bool]:
         | teller.name("" if program.is_module else teller.naming.shared[number])
         for number, first, second in pairs[: races.SHOWN]
     ]
-    found: Members = {"every_schedule": not pairs, "more": len(pairs) > races.SHOWN, "races": told}
-    if pairs:
-        return line_of(found), False
-    gap = races.gap(played, past)
-    if gap is None:
-        return line_of(found | {"in_order": True}), True
-    return line_of(found | {"in_order": False, "prints": [teller.value(taken) for taken in gap]}), True
+    text = races.closing(program, played, past, len(pairs))
+    return line_of({"every_schedule": not pairs, "races": told, "text": text}), not pairs

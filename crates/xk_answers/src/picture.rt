@@ -9,7 +9,10 @@ ghost use Rattle.xk_jobs.specs.declared.job.Form.{Form as FormValue};
 ghost use Rattle.xk_answers.specs.Results.{Draw, IsTelling, IsText, is_of_whole, lanes_given, picture_told, shows_origins, window_given};
 ghost use Rattle.xk_answers.specs.Refusals.{AgainstModule, AgainstRun, MayStand};
 ghost use Rattle.xk_program.specs.Origins.{IsFrom};
-ghost use Rattle.xk_answers.specs.Explanation.{events_told, image_told, lanes_told, page_told, path_told, races_told, span_told};
+ghost use Rattle.xk_answers.specs.Explanation.{events_told, image_told, lanes_told, named_races, page_told, path_told, plain_races};
+ghost use Rattle.xk_answers.specs.Explanation.{races_told, span_told};
+ghost use Rattle.xk_races.specs.Races.{is_race_free};
+ghost use Rattle.xk_show_events.specs.Events.{places_of};
 ghost use Rattle.xk_program.specs.Lines.{status_of};
 
 use crate::event_values::event_values_so_far;
@@ -471,14 +474,10 @@ pub(crate) fn races_of(
         ended.now.core.world.arguments ended.now.log.items
         (map (λ x. x.now) from.now.shared.items) from.now.origins) }
 {
-    let report = match &from.origins {
-        Some(origins) => named_races_of(alloc, json, from, origins.units(), ended)?,
-        None => module_races_of(alloc, json, ended)?,
-    };
-    Ok(Tale {
-        text: report.text,
-        whole: report.free,
-    })
+    match &from.origins {
+        Some(origins) => named_races_of(alloc, json, from, origins.units(), ended),
+        None => module_races_of(alloc, json, from, ended),
+    }
 }
 
 /// The same of a source text whose units have these origins.
@@ -488,24 +487,65 @@ fn named_races_of(
     from: &Provenance<'_>,
     units: &[UnitOrigins<'_>],
     ended: &Ended<'_>,
-) -> Result<RaceReport, AllocError>
-    ensures { IfOk result (λ report. (report.text.items, report.free)
+) -> Result<Tale, AllocError>
+    ensures { IfOk result (λ tale. (tale.text.items, tale.whole)
         ≡ races_told json from.now.text.now ended.now.module.now
         ended.now.core.world.arguments ended.now.log.items
         (map (λ x. x.now) from.now.shared.items) (Some units.now)) }
 {
-    let shared = &from.shared;
-    if json {
-        return source_race_values(alloc, from.text, units, shared, ended);
-    }
-    source_races(alloc, from.text, units, shared, ended)
+    let report = source_report(alloc, json, from.text, units, &from.shared, ended)?;
+    Ok(Tale {
+        text: report.text,
+        whole: report.free,
+    })
 }
 
 /// The same of a module that is given as such.
-fn module_races_of(alloc: Global, json: bool, ended: &Ended<'_>) -> Result<RaceReport, AllocError>
-    ensures { (text : List ℕ) (shared : List (List ℕ)) → IfOk result
-        (λ report. (report.text.items, report.free) ≡ races_told json text ended.now.module.now
-        ended.now.core.world.arguments ended.now.log.items shared None) }
+fn module_races_of(
+    alloc: Global,
+    json: bool,
+    from: &Provenance<'_>,
+    ended: &Ended<'_>,
+) -> Result<Tale, AllocError>
+    ensures { IfOk result (λ tale. (tale.text.items, tale.whole)
+        ≡ races_told json from.now.text.now ended.now.module.now
+        ended.now.core.world.arguments ended.now.log.items
+        (map (λ x. x.now) from.now.shared.items) None) }
+{
+    let report = module_report(alloc, json, ended)?;
+    Ok(Tale {
+        text: report.text,
+        whole: report.free,
+    })
+}
+
+/// The races of a run of a source text's module, whose shared numbers have these names.
+fn source_report(
+    alloc: Global,
+    json: bool,
+    text: &[u8],
+    units: &[UnitOrigins<'_>],
+    shared: &[&[u8]],
+    ended: &Ended<'_>,
+) -> Result<RaceReport, AllocError>
+    ensures text { IfOk result (λ r. r.text.items ≡ named_races json
+        (places_of text.now units.now) (map (λ x. x.now) shared.now)
+        ended.now.module.now ended.now.core.world.arguments ended.now.log.items) }
+    ensures free { IfOk result (λ r. r.free ≡ is_race_free
+        ended.now.module.now ended.now.core.world.arguments ended.now.log.items) }
+{
+    if json {
+        return source_race_values(alloc, text, units, shared, ended);
+    }
+    source_races(alloc, text, units, shared, ended)
+}
+
+/// The races of a run of a module.
+fn module_report(alloc: Global, json: bool, ended: &Ended<'_>) -> Result<RaceReport, AllocError>
+    ensures text { IfOk result (λ r. r.text.items ≡ plain_races json
+        ended.now.module.now ended.now.core.world.arguments ended.now.log.items) }
+    ensures free { IfOk result (λ r. r.free ≡ is_race_free
+        ended.now.module.now ended.now.core.world.arguments ended.now.log.items) }
 {
     if json {
         return module_race_values(alloc, ended);

@@ -1,5 +1,5 @@
 -- Notes, walks and further faults are plain values.
-use Rattle.std.proofs.Common.{◌≡◌, ℕ, suc, Bool, true, false, cond, List, [], ◌∷◌, Option, Some, None, refl, arith}
+use Rattle.std.proofs.Common.{◌≡◌, ℕ, suc, Bool, true, false, cond, List, [], ◌∷◌, Option, Some, None, refl, sym, subst, arith}
 use Rattle.std.specs.Prelude.{⊤}
 use Rattle.std.specs.Option.{option_map_or}
 use Rattle.serde_json.specs.Data.{Data, boolean, string, Members, no_members, put}
@@ -11,11 +11,11 @@ use Rattle.xk_explain.specs.Notes.{NoteValue}
 use Rattle.xk_explain.specs.Explanations.{has_place, shown_at}
 use Rattle.xk_explain.specs.SourceExplanations.{origin_at}
 use Rattle.xk_json.specs.Objects.{array_of}
-use Rattle.xk_json.specs.Plain.{IsPlain, IsShallow}
+use Rattle.xk_json.specs.Plain.{IsPlain}
 use Rattle.xk_explain_json.specs.Explanations.{FindingValue, finding_value, front_groups, front_place, front_value, place_members}
 use Rattle.xk_explain_json.specs.Explanations.{note_alone, note_in, place_in, position_members, stop_alone, stop_in, stop_members, words}
 use Rattle.xk_json.proofs.ObjectLemmas.{array_plain}
-use Rattle.xk_json.proofs.PlainLemmas.{AreFlat, array_fits, number_plain, object_of_plain, text_plain, truth_plain}
+use Rattle.xk_json.proofs.PlainLemmas.{AreFlat, array_in, number_plain, object_of_plain, text_plain, truth_plain}
 
 -- ---- notes
 
@@ -30,11 +30,11 @@ note_in_plain text n =
 note_alone_plain : (n : NoteValue) → IsPlain 1 (note_alone n)
 note_alone_plain n = object_of_plain 0 (words n.text ∷ []) ((text_plain _, tt), tt)
 
-pub notes_in_plain : (text : List ℕ) (notes : List NoteValue) (d : Data) → d ≡ array_of (note_in text) notes → IsShallow d
-notes_in_plain text notes d e = array_fits 1 (note_in text) (omega arith) (note_in_plain text) notes d e
+pub notes_in_plain : (text : List ℕ) (notes : List NoteValue) (d : Data) → d ≡ array_of (note_in text) notes → IsPlain 4 d
+notes_in_plain text notes d e = subst (λ v. IsPlain 4 v) (sym e) (array_in (note_in text) (note_in_plain text) notes)
 
-pub notes_alone_plain : (notes : List NoteValue) (d : Data) → d ≡ array_of note_alone notes → IsShallow d
-notes_alone_plain notes d e = array_fits 1 note_alone (omega arith) note_alone_plain notes d e
+pub notes_alone_plain : (notes : List NoteValue) (d : Data) → d ≡ array_of note_alone notes → IsPlain 4 d
+notes_alone_plain notes d e = subst (λ v. IsPlain 4 v) (sym e) (array_in note_alone note_alone_plain notes)
 
 -- ---- walks
 
@@ -46,11 +46,11 @@ stop_in_plain text u v =
 stop_alone_plain : (v : Visit) → IsPlain 1 (stop_alone v)
 stop_alone_plain v = object_of_plain 0 (stop_members v ∷ []) ((text_plain _, (number_plain _, tt)), tt)
 
-pub walk_in_plain : (text : List ℕ) (u : UnitOrigins) (walk : List Visit) (d : Data) → d ≡ array_of (stop_in text u) walk → IsShallow d
-walk_in_plain text u walk d e = array_fits 1 (stop_in text u) (omega arith) (stop_in_plain text u) walk d e
+pub walk_in_plain : (text : List ℕ) (u : UnitOrigins) (walk : List Visit) (d : Data) → d ≡ array_of (stop_in text u) walk → IsPlain 4 d
+walk_in_plain text u walk d e = subst (λ v. IsPlain 4 v) (sym e) (array_in (stop_in text u) (stop_in_plain text u) walk)
 
-pub walk_alone_plain : (walk : List Visit) (d : Data) → d ≡ array_of stop_alone walk → IsShallow d
-walk_alone_plain walk d e = array_fits 1 stop_alone (omega arith) stop_alone_plain walk d e
+pub walk_alone_plain : (walk : List Visit) (d : Data) → d ≡ array_of stop_alone walk → IsPlain 4 d
+walk_alone_plain walk d e = subst (λ v. IsPlain 4 v) (sym e) (array_in stop_alone stop_alone_plain walk)
 
 -- ---- further faults
 
@@ -74,6 +74,6 @@ front_plain file text f notes =
       ),
     )
 
-pub further_plain : (file text : List ℕ) (fs : List FindingValue) (d : Data) → d ≡ array_of (finding_value file text) fs → IsShallow d
+pub further_plain : (file text : List ℕ) (fs : List FindingValue) (d : Data) → d ≡ array_of (finding_value file text) fs → IsPlain 4 d
 further_plain file text fs d e =
-    array_fits 3 (finding_value file text) (omega arith) (λ x. front_plain file text x.0 x.1) fs d e
+    subst (λ v. IsPlain 4 v) (sym e) (array_plain 3 (finding_value file text) (λ x. front_plain file text x.0 x.1) fs)

@@ -12,7 +12,7 @@ use Rattle.serde_json.specs.View.{items_of, members_view}
 use Rattle.serde_json.specs.declared.value.Value.{Value}
 use Rattle.serde_json.specs.Written.{has_float, items_have_float, members_have_float}
 use Rattle.xk_json.specs.Objects.{array_of}
-use Rattle.xk_json.specs.Plain.{IsPlain, ArePlain, IsShallow, AreShallow}
+use Rattle.xk_json.specs.Plain.{IsPlain, ArePlain}
 
 put_no_float : (k : List ℕ) (d : Data) (ms : Members) → has_float d ≡ false → members_have_float ms ≡ false → members_have_float (put k d ms) ≡ false
 put_no_float k d no_members p q = or_from (has_float d) false p refl
@@ -60,7 +60,7 @@ array_plain {A = A} n value each xs = record { no_float = none xs; nests = omega
 -- ---- an object that gained a member, or was left as it was
 
 pub put_in_plain : {A E : Type 0} (r : Result A E) (k : List ℕ) (d : Data) (old new : List (String Global × Value)) →
-    OnOk r (members_view new ≡ put k d (members_view old)) → OnErr r (new ≡ old) → IsShallow d → AreShallow (members_view old)
-    → AreShallow (members_view new)
-put_in_plain (Ok x) k d old new ok err p q = subst (λ ms. AreShallow ms) (sym ok) (put_plain 8 k d (members_view old) p q)
-put_in_plain (Err x) k d old new ok err p q = subst (λ ms. AreShallow (members_view ms)) (sym err) q
+    OnOk r (members_view new ≡ put k d (members_view old)) → OnErr r (new ≡ old) → IsPlain 4 d → ArePlain 4 (members_view old)
+    → ArePlain 4 (members_view new)
+put_in_plain (Ok x) k d old new ok err p q = subst (λ ms. ArePlain 4 ms) (sym ok) (put_plain 4 k d (members_view old) p q)
+put_in_plain (Err x) k d old new ok err p q = subst (λ ms. ArePlain 4 (members_view ms)) (sym err) q

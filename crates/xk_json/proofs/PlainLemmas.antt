@@ -1,15 +1,15 @@
 -- Numbers, texts, and what is made of these are plain values.
-use Rattle.std.proofs.Common.{◌≡◌, ◌<◌, ℕ, ℤ, pos, negsuc, suc, Bool, List, [], ◌∷◌, refl, subst, sym, arith}
+use Rattle.std.proofs.Common.{◌≡◌, ℕ, ℤ, pos, negsuc, suc, Bool, List, [], ◌∷◌, refl, subst, sym, arith}
 use Rattle.std.specs.Prelude.{⊤}
 use Rattle.serde_json.specs.Data.{Data, boolean, string, Members, no_members, put}
 use Rattle.xk_json.specs.Objects.{array_of, integer_value, integers_value, number_value, object_of, with_groups, with_members, Group}
-use Rattle.xk_json.specs.Plain.{IsPlain, ArePlain, IsShallow}
+use Rattle.xk_json.specs.Plain.{IsPlain, ArePlain}
 use Rattle.xk_json.proofs.ObjectLemmas.{array_plain, object_plain, plain_deeper, put_plain}
 
 pub number_plain : {d : ℕ} (n : ℕ) → IsPlain d (number_value n)
 number_plain n = record { no_float = refl; nests = omega arith }
 
-pub integer_plain : {d : ℕ} (z : ℤ) → IsPlain d (integer_value z)
+integer_plain : {d : ℕ} (z : ℤ) → IsPlain d (integer_value z)
 integer_plain (pos n) = record { no_float = refl; nests = omega arith }
 integer_plain (negsuc n) = record { no_float = refl; nests = omega arith }
 
@@ -42,16 +42,14 @@ with_groups_plain n (g ∷ gs) ms f p = with_groups_plain n gs (with_members g m
 pub object_of_plain : (n : ℕ) (gs : List Group) → AreAllFlat n gs → IsPlain (suc n) (object_of gs)
 object_of_plain n gs f = object_plain n (with_groups gs no_members) (with_groups_plain n gs no_members f (none_plain n))
 
--- a list of values that nest as deep as this, within an object
-pub array_fits : {A : Type 0} (n : ℕ) (value : A → Data) → n < 8 → ((x : A) → IsPlain n (value x)) → (xs : List A)
-    → (d : Data) → d ≡ array_of value xs → IsShallow d
-array_fits n value few each xs d e =
-    subst (λ v. IsShallow v) (sym e) (plain_deeper (suc n) 8 (array_of value xs) (omega (arith, few)) (array_plain n value each xs))
+-- a list of objects of numbers and texts
+pub array_in : {A : Type 0} (value : A → Data) → ((x : A) → IsPlain 1 (value x)) → (xs : List A) → IsPlain 4 (array_of value xs)
+array_in value each xs = plain_deeper 2 4 (array_of value xs) (omega arith) (array_plain 1 value each xs)
 
 -- a list of numbers
 pub integers_plain : (ns : List ℤ) → IsPlain 1 (integers_value ns)
 integers_plain ns = array_plain 0 integer_value (λ n. integer_plain n) ns
 
 -- and a value that is such a list
-pub integers_fit : (ns : List ℤ) (d : Data) → d ≡ integers_value ns → IsShallow d
-integers_fit ns d e = subst (λ v. IsShallow v) (sym e) (plain_deeper 1 8 (integers_value ns) (omega arith) (integers_plain ns))
+pub integers_fit : (ns : List ℤ) (d : Data) → d ≡ integers_value ns → IsPlain 4 d
+integers_fit ns d e = subst (λ v. IsPlain 4 v) (sym e) (plain_deeper 1 4 (integers_value ns) (omega arith) (integers_plain ns))

@@ -10,10 +10,3 @@ pub record IsPlain (n : ℕ) (d : Data) : Type 0 where
 pub record ArePlain (n : ℕ) (ms : Members) : Type 0 where
   pub no_float : members_have_float ms ≡ false
   pub nest : members_depth ms ≤ n
-
--- what is put into objects here nests no deeper than 8, which is less than a reader has to take
-abbrev pub IsShallow : Data → Type 0
-IsShallow d = IsPlain 8 d
-
-abbrev pub AreShallow : Members → Type 0
-AreShallow ms = ArePlain 8 ms

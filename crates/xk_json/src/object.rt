@@ -1,7 +1,7 @@
 //! JSON objects in the making.
 
 ghost use Rattle.serde_json.specs.View.{members_view};
-ghost use Rattle.xk_json.specs.Plain.{AreShallow};
+ghost use Rattle.xk_json.specs.Plain.{ArePlain};
 
 use crate::numbers::integers;
 use serde_json::{Map, Value};
@@ -11,14 +11,14 @@ use std::alloc::{AllocError, Global};
 #[derive(Drop)]
 pub struct Object {
     members: Map<String, Value>,
-    ghost plain: { AreShallow (members_view members.entries) },
+    ghost plain: { ArePlain 4 (members_view members.entries) },
 }
 
 impl Object {
     ghost use Rattle.std.specs.Prelude.{◌≡◌, IfOk, OnOk};
     ghost use Rattle.serde_json.specs.Data.{boolean, no_members, object, put, string};
     ghost use Rattle.serde_json.specs.View.{view};
-    ghost use Rattle.xk_json.specs.Plain.{IsShallow};
+    ghost use Rattle.xk_json.specs.Plain.{IsPlain};
     ghost use Rattle.xk_json.specs.Objects.{bytes_value, integer_value, integers_value, json_line, members_of, number_value, IsReadBack};
 
     /// The object with no member.
@@ -32,7 +32,7 @@ impl Object {
 
     /// Adds a member.
     pub fn put(&mut self, alloc: Global, key: &str, value: Value) -> Result<(), AllocError>
-        requires { IsShallow (view value) }
+        requires { IsPlain 4 (view value) }
         ensures { OnOk result
             (members_of self.new ≡ put key.now (view value) (members_of self.old)) }
     {

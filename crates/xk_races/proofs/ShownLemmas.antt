@@ -3,14 +3,14 @@ use Rattle.std.proofs.Common.{◌≡◌, ◌∙◌, suc, ◌<◌, min, Bool, tru
 use Rattle.std.proofs.Common.{length, take, Option, refl, sym, ap, arith}
 use Rattle.std.specs.Prelude.{nat_le, if◌then◌else◌}
 use Rattle.std.specs.List.{list_any}
-use Rattle.std.proofs.lemmas.Bool.{le-ltb, leb-true, leb-false, lt-leb, lt-ltb, ltb-false, ltb-true}
+use Rattle.std.proofs.lemmas.Bool.{leb-true, leb-false, lt-leb}
 use Rattle.std.proofs.lemmas.List.{append_assoc, append-nil, length-take, take-append-le, take-take}
 use Rattle.xk_show_events.specs.Events.{PlacesValue}
 use Rattle.xk_races.specs.declared.pairs.Race.{Race}
 use Rattle.xk_races.specs.declared.pairs.Gap.{Gap}
 use Rattle.xk_races.specs.Knowledge.{Sight}
 use Rattle.xk_races.specs.Races.{have_same_places, is_race, race, races_from, with_race, with_races_of}
-use Rattle.xk_races.specs.Text.{AreEnough, are_more, closing_text, count_line, most_shown, print_line_if_free, scope_line}
+use Rattle.xk_races.specs.Text.{AreEnough, closing_text, count_line, most_shown, print_line_if_free, scope_line}
 
 -- ---- a list of races only grows
 
@@ -61,21 +61,6 @@ pub told_first : (rs all : List Race) → AreEnough rs all → take most_shown r
 told_first rs all h =
     sym (take-take most_shown (suc most_shown) rs (omega arith)) ∙ ap (take most_shown) h
     ∙ take-take most_shown (suc most_shown) all (omega arith)
-
--- there are more of the one where there are more of the other
-pub more_alike : (rs all : List Race) → AreEnough rs all → are_more rs ≡ are_more all
-more_alike rs all h = of (are_more rs) refl
-  where
-    lengths : min (suc most_shown) (length rs) ≡ min (suc most_shown) (length all)
-    lengths = sym (length-take (suc most_shown) rs) ∙ ap length h ∙ length-take (suc most_shown) all
-
-    of : (b : Bool) → are_more rs ≡ b → are_more rs ≡ are_more all
-    of true e =
-        let many = ltb-true most_shown (length rs) e in
-        e ∙ sym (lt-ltb most_shown (length all) (omega (arith, lengths, many)))
-    of false e =
-        let few = ltb-false most_shown (length rs) e in
-        e ∙ sym (le-ltb most_shown (length all) (omega (arith, lengths, few)))
 
 count_alike : (rs all : List Race) → AreEnough rs all → count_line (length rs) ≡ count_line (length all)
 unfolding count_line

@@ -1,5 +1,5 @@
 -- What is told of the races of a run. This project's own.
-use Rattle.std.specs.Prelude.{◌≡◌, ℕ, suc, ℤ, nat_le, nat_lt, Bool, List, [], ◌∷◌, ◌++◌, length, take, flat_map, codes, decimal, if◌then◌else◌}
+use Rattle.std.specs.Prelude.{◌≡◌, ℕ, suc, ℤ, nat_le, List, [], ◌∷◌, ◌++◌, length, take, flat_map, codes, decimal, if◌then◌else◌}
 use Rattle.std.specs.Prelude.{Option, Some, None}
 use Rattle.xk_types.specs.declared.world.Entry.{Entry}
 use Rattle.xk_types.specs.Code.{ModuleValue}
@@ -33,10 +33,6 @@ print_line_if_free p (r ∷ rs) g = []
 -- so many races are shown at most, the first ones
 unfoldable pub most_shown : ℕ
 most_shown = 10000
-
--- there are more than these
-abbrev pub are_more : List Race → Bool
-are_more rs = nat_lt most_shown (length rs)
 
 -- how many races there are, or that there are more than are shown
 unfoldable pub count_line : ℕ → List ℕ

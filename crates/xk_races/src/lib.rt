@@ -14,7 +14,5 @@ mod text;
 
 pub use deeds::{Deed, Part, push_deeds};
 pub use knowledge::Scopes;
-pub use pairs::{Gap, Race};
-pub use report::{
-    FoundRaces, RaceReport, Reach, ShownRaces, found_races, module_races, reach_of, shown_races,
-};
+pub use pairs::Race;
+pub use report::{RaceReport, Reach, ShownRaces, module_races, reach_of, shown_races};

@@ -3,12 +3,12 @@
 ghost use Rattle.std.specs.Prelude.{◌≡◌, is_none, take, IfOk};
 ghost use Rattle.xk_show_events.specs.Events.{no_text};
 ghost use Rattle.xk_races.specs.Races.{gap_in, is_race_free, races_in, sights_of_run};
-ghost use Rattle.xk_races.specs.Text.{are_more, closing_text, most_shown, races_text};
+ghost use Rattle.xk_races.specs.Text.{closing_text, most_shown, races_text};
 
 use crate::deeds::deeds_of_run;
-use crate::pairs::{Gap, Race, gap_in, races_in};
+use crate::pairs::{Race, gap_in, races_in};
 use crate::sights::sights_of;
-use crate::text::{are_more, closing_text, most_shown, race_lines};
+use crate::text::{closing_text, most_shown, race_lines};
 use std::alloc::{AllocError, Global};
 use xk_scheduler::Ended;
 use xk_show_events::Places;
@@ -29,19 +29,6 @@ pub struct ShownRaces {
     pub races: Vec<Race>,
     /// How many there are, where there is none whether the prints are in one order, and of which runs that holds.
     pub closing: Vec<u8>,
-    /// Whether the run has no race.
-    pub free: bool,
-}
-
-/// The races and prints of a run, as far as they are told.
-#[derive(Drop)]
-pub struct FoundRaces {
-    /// Of all races the first 10,000, of each two places in the text and each shared number one.
-    pub races: Vec<Race>,
-    /// Whether there are more.
-    pub more: bool,
-    /// Two prints one right after the other, of which the first needn't come first; none where the prints are in one order.
-    pub gap: Option<Gap>,
     /// Whether the run has no race.
     pub free: bool,
 }
@@ -68,33 +55,6 @@ pub fn reach_of(alloc: Global, ended: &Ended<'_>) -> Result<Reach, AllocError>
     Ok(Reach {
         free: races.is_empty(),
         in_order: gap_in(&sights).is_none(),
-    })
-}
-
-/// The races and prints of a run, without any words: which are told, and the time that it takes, is said at [`shown_races`]. Err
-/// where memory was refused.
-pub fn found_races(alloc: Global, ended: &Ended<'_>) -> Result<FoundRaces, AllocError>
-    ensures races { IfOk result (λ f. f.races.items ≡ take most_shown (races_in (sights_of_run
-        ended.now.module.now ended.now.core.world.arguments ended.now.log.items))) }
-    ensures more { IfOk result (λ f. f.more ≡ are_more (races_in (sights_of_run
-        ended.now.module.now ended.now.core.world.arguments ended.now.log.items))) }
-    ensures gap { IfOk result (λ f. f.gap ≡ gap_in (sights_of_run
-        ended.now.module.now ended.now.core.world.arguments ended.now.log.items)) }
-    ensures free { IfOk result (λ f. f.free ≡ is_race_free
-        ended.now.module.now ended.now.core.world.arguments ended.now.log.items) }
-{
-    let deeds = deeds_of_run(alloc, ended)?;
-    let sights = sights_of(alloc, &deeds)?;
-    let gap = gap_in(&sights);
-    let mut races = races_in(alloc, &sights)?;
-    let free = races.is_empty();
-    let more = are_more(&races);
-    races.truncate(most_shown());
-    Ok(FoundRaces {
-        races,
-        more,
-        gap,
-        free,
     })
 }
 

@@ -1,7 +1,7 @@
 //! What is told of the races of a run.
 
 ghost use Rattle.std.specs.Prelude.{◌≡◌, ◌++◌, flat_map, length, IfOk, OnOk, string_bytes};
-ghost use Rattle.xk_races.specs.Text.{access_words, are_more, closing_text, count_line, most_shown, print_line, print_line_if_free, race_line, scope_line, step_words};
+ghost use Rattle.xk_races.specs.Text.{access_words, closing_text, count_line, most_shown, print_line, print_line_if_free, race_line, scope_line, step_words};
 
 use crate::pairs::{Gap, Race};
 use std::alloc::{AllocError, Global};
@@ -58,13 +58,6 @@ pub(crate) fn most_shown() -> usize
     ensures { result ≡ most_shown }
 {
     10_000
-}
-
-/// Whether there are more races than are shown.
-pub fn are_more(races: &[Race]) -> bool
-    ensures { result ≡ are_more races.now }
-{
-    races.len() > most_shown()
 }
 
 /// How many races there are, or that there are more than are shown.

@@ -1,6 +1,7 @@
 -- The steps of races are the same as they are kept and among all steps of a run.
-use Rattle.std.proofs.Common.{◌≡◌, ◌∙◌, ℕ, ◌+◌, ◌<◌, Bool, true, false, List, [], ◌∷◌, ◌++◌, length, take, get_or, refl, sym, ap, eq-eqb}
-use Rattle.std.specs.Prelude.{◌||◌, flat_map, nat_eq}
+use Rattle.std.proofs.Common.{◌≡◌, ◌∙◌, ℕ, ◌+◌, ◌<◌, Bool, true, false, List, [], ◌∷◌, ◌++◌, ◌||◌, length, take, get_or}
+use Rattle.std.proofs.Common.{refl, sym, ap, eq-eqb}
+use Rattle.std.specs.Prelude.{flat_map, nat_eq}
 use Rattle.std.specs.BTreeMap.{BTreeMap, get}
 use Rattle.std.specs.Ordering.{nat_cmp}
 use Rattle.std.proofs.lemmas.List.{append-nil, take_more}

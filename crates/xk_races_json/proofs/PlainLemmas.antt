@@ -1,14 +1,13 @@
--- Races and prints are plain values.
-use Rattle.std.proofs.Common.{◌≡◌, List, [], ◌∷◌, Option, arith}
+-- Races are plain values.
+use Rattle.std.proofs.Common.{◌≡◌, List, Option, subst, sym, arith}
 use Rattle.serde_json.specs.Data.{Data}
 use Rattle.xk_json.specs.Objects.{array_of}
-use Rattle.xk_json.specs.Plain.{IsPlain, IsShallow}
-use Rattle.xk_json.proofs.PlainLemmas.{array_fits, object_of_plain}
+use Rattle.xk_json.specs.Plain.{IsPlain}
+use Rattle.xk_json.proofs.ObjectLemmas.{array_plain, plain_deeper}
+use Rattle.xk_json.proofs.PlainLemmas.{object_of_plain}
 use Rattle.xk_show_events.specs.Events.{PlacesValue}
 use Rattle.xk_show_names.specs.ClockNames.{NamesValue}
-use Rattle.xk_show_json.specs.Events.{step_value}
-use Rattle.xk_show_json.proofs.EventLemmas.{event_plain, step_plain, subject_flat}
-use Rattle.xk_races.specs.declared.pairs.Gap.{Gap}
+use Rattle.xk_show_json.proofs.EventLemmas.{event_plain, subject_flat}
 use Rattle.xk_races_json.specs.declared.pairs.Pair.{Pair}
 use Rattle.xk_races_json.specs.Races.{race_value}
 
@@ -20,8 +19,7 @@ race_plain p names x =
     )
 
 pub races_fit : (p : PlacesValue) (names : Option NamesValue) (pairs : List Pair) (d : Data) → d ≡ array_of (race_value p names) pairs
-    → IsShallow d
-races_fit p names pairs d e = array_fits 2 (race_value p names) (omega arith) (race_plain p names) pairs d e
-
-pub prints_fit : (p : PlacesValue) (g : Gap) (d : Data) → d ≡ array_of (step_value p) (g.first ∷ g.second ∷ []) → IsShallow d
-prints_fit p g d e = array_fits 1 (step_value p) (omega arith) (step_plain p) (g.first ∷ g.second ∷ []) d e
+    → IsPlain 4 d
+races_fit p names pairs d e =
+    subst (λ v. IsPlain 4 v) (sym e)
+    (plain_deeper 3 4 (array_of (race_value p names) pairs) (omega arith) (array_plain 2 (race_value p names) (race_plain p names) pairs))

@@ -1,20 +1,19 @@
 -- The races of a run as a JSON value: of each the shared number, and both accesses; and what they say of other runs. This project's own.
-use Rattle.std.specs.Prelude.{ℕ, ℤ, Bool, true, false, List, [], ◌∷◌, take, flat_map, Option, Some, None, codes}
+use Rattle.std.specs.Prelude.{ℕ, ℤ, Bool, List, [], ◌∷◌, take, flat_map, Option, Some, None, codes}
 use Rattle.std.specs.Ordering.{nat_cmp}
 use Rattle.std.specs.BTreeMap.{BTreeMap, get}
 use Rattle.serde_json.specs.Data.{Data, boolean}
-use Rattle.xk_json.specs.Objects.{Group, array_of, object_of}
+use Rattle.xk_json.specs.Objects.{Group, array_of, bytes_value, object_of}
 use Rattle.xk_types.specs.declared.world.Entry.{Entry}
 use Rattle.xk_types.specs.Code.{ModuleValue}
 use Rattle.xk_show_events.specs.Events.{PlacesValue, no_text}
 use Rattle.xk_show_names.specs.declared.accounts.Account.{Account}
 use Rattle.xk_show_names.specs.Accounts.{seen_accounts}
 use Rattle.xk_show_names.specs.ClockNames.{NamesValue, names_by}
-use Rattle.xk_show_json.specs.Events.{event_value, step_value, subject_members}
+use Rattle.xk_show_json.specs.Events.{event_value, subject_members}
 use Rattle.xk_races.specs.declared.pairs.Race.{Race}
-use Rattle.xk_races.specs.declared.pairs.Gap.{Gap}
 use Rattle.xk_races.specs.Races.{gap_in, is_race_free, races_in, sights_of_run}
-use Rattle.xk_races.specs.Text.{are_more, most_shown}
+use Rattle.xk_races.specs.Text.{closing_text, most_shown}
 use Rattle.xk_show_races.specs.Text.{account_of}
 use Rattle.xk_races_json.specs.declared.pairs.Pair.{Pair}
 
@@ -43,36 +42,26 @@ race_value p names x = object_of (
     ∷ subject_members names x.first.subject
     ∷ [])
 
--- the races that are told, and whether there are more
-abbrev pub race_members : PlacesValue → Option NamesValue → List Pair → Bool → Group
-race_members p names pairs more =
-    (codes "more", boolean more) ∷ (codes "races", array_of (race_value p names) pairs) ∷ []
-
--- ---- of which runs it holds
-
--- whether the prints are in one order, and else the first two that aren't
-abbrev pub print_members : PlacesValue → Option Gap → Group
-print_members p None = (codes "in_order", boolean true) ∷ []
-print_members p (Some g) =
-    (codes "in_order", boolean false) ∷ (codes "prints", array_of (step_value p) (g.first ∷ g.second ∷ [])) ∷ []
-
--- Whether there is no race: then every schedule prints these numbers (`one_speaks_for_all` of `xk_law_races`), and it is told
--- whether in this order.
-abbrev pub scope_members : PlacesValue → Bool → Option Gap → Group
-scope_members p true g = (codes "every_schedule", boolean true) ∷ print_members p g
-scope_members p false g = (codes "every_schedule", boolean false) ∷ []
+-- the races that are told
+abbrev pub race_member : PlacesValue → Option NamesValue → List Pair → Group
+race_member p names pairs = (codes "races", array_of (race_value p names) pairs) ∷ []
 
 -- ---- the value
 
--- `{"every_schedule":true,"in_order":true,"more":false,"races":[]}`
-abbrev pub value_by : PlacesValue → Option NamesValue → List Pair → Bool → Bool → Option Gap → Data
-value_by p names pairs more free g = object_of (race_members p names pairs more ∷ scope_members p free g ∷ [])
+-- Whether there is no race: then every schedule prints these numbers (`one_speaks_for_all` of `xk_law_races`); and the lines that are told
+-- behind the races.
+abbrev pub scope_members : Bool → List ℕ → Group
+scope_members free closing = (codes "every_schedule", boolean free) ∷ (codes "text", bytes_value closing) ∷ []
+
+-- `{"every_schedule":true,"races":[],"text":"races 0\\nprints in one order\\nevery schedule prints these numbers in this order\\n"}`
+abbrev pub value_by : PlacesValue → Option NamesValue → List Pair → Bool → List ℕ → Data
+value_by p names pairs free closing = object_of (race_member p names pairs ∷ scope_members free closing ∷ [])
 
 -- what is told of the run that a log stands for
 abbrev pub races_value : PlacesValue → Option NamesValue → ModuleValue → List ℤ → List Entry → Data
 races_value p names m args log =
     value_by p names (flat_map (pair_of (seen_accounts m args log)) (take most_shown (races_in (sights_of_run m args log))))
-    (are_more (races_in (sights_of_run m args log))) (is_race_free m args log) (gap_in (sights_of_run m args log))
+    (is_race_free m args log) (closing_text p (races_in (sights_of_run m args log)) (gap_in (sights_of_run m args log)))
 
 -- of a source text's module, whose shared numbers have these names; no race is on a clock, so clocks have none here
 abbrev pub source_races_value : PlacesValue → List (List ℕ) → ModuleValue → List ℤ → List Entry → Data

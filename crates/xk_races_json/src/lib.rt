@@ -2,7 +2,6 @@
 #![tactic(auto)]
 
 mod pairs;
-mod prints;
 mod races;
 mod report;
 

@@ -4,7 +4,7 @@ ghost use Rattle.std.specs.Prelude.{◌≡◌, [], ◌∷◌, option_map, IfOk, 
 ghost use Rattle.serde_json.specs.View.{view};
 ghost use Rattle.xk_json.specs.Objects.{Gains, array_of};
 ghost use Rattle.xk_show_json.specs.Events.{event_value};
-ghost use Rattle.xk_races_json.specs.Races.{race_members, race_value};
+ghost use Rattle.xk_races_json.specs.Races.{race_member, race_value, scope_members};
 
 use crate::pairs::Pair;
 use serde_json::Value;
@@ -65,20 +65,31 @@ fn list_of(
     Ok(Value::from(values))
 }
 
-/// Adds races, and whether there are more.
+/// Adds races.
 pub(crate) fn put_races(
     alloc: Global,
     object: &mut Object,
     places: &Places<'_>,
     names: Option<&Names<'_>>,
     pairs: &[Pair],
-    more: bool,
 ) -> Result<(), AllocError>
     ensures { OnOk result (Gains
-        (race_members places.now (option_map (λ n. n.now) names.entry) pairs.now more)
+        (race_member places.now (option_map (λ n. n.now) names.entry) pairs.now)
         object.old object.new) }
 {
     let list = list_of(alloc, places, names, pairs)?;
-    object.put_truth(alloc, "more", more)?;
     object.put(alloc, "races", list)
+}
+
+/// Adds whether every schedule prints these numbers, and what is told behind the races.
+pub(crate) fn put_scope(
+    alloc: Global,
+    object: &mut Object,
+    free: bool,
+    closing: &[u8],
+) -> Result<(), AllocError>
+    ensures { OnOk result (Gains (scope_members free closing.now) object.old object.new) }
+{
+    object.put_truth(alloc, "every_schedule", free)?;
+    object.put_bytes(alloc, "text", closing)
 }

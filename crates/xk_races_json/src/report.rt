@@ -7,11 +7,10 @@ ghost use Rattle.xk_races.specs.Races.{is_race_free};
 ghost use Rattle.xk_races_json.specs.Races.{module_races_value, races_value, source_races_value};
 
 use crate::pairs::pairs_in;
-use crate::prints::put_scope;
-use crate::races::put_races;
+use crate::races::{put_races, put_scope};
 use std::alloc::{AllocError, Global};
 use xk_json::Object;
-use xk_races::{RaceReport, found_races};
+use xk_races::{RaceReport, shown_races};
 use xk_scheduler::Ended;
 use xk_show_events::Places;
 use xk_show_names::Names;
@@ -33,21 +32,21 @@ fn report_of(
     ensures free { IfOk result (λ r. r.free ≡ is_race_free
         ended.now.module.now ended.now.core.world.arguments ended.now.log.items) }
 {
-    let found = found_races(alloc, ended)?;
-    let pairs = pairs_in(alloc, &found.races, ended)?;
+    let shown = shown_races(alloc, places, ended)?;
+    let pairs = pairs_in(alloc, &shown.races, ended)?;
     let mut object = Object::new(alloc);
-    put_races(alloc, &mut object, places, names, &pairs, found.more)?;
-    put_scope(alloc, &mut object, places, found.free, found.gap)?;
+    put_races(alloc, &mut object, places, names, &pairs)?;
+    put_scope(alloc, &mut object, shown.free, &shown.closing)?;
     let text = object.line(alloc)?;
     Ok(RaceReport {
         text,
-        free: found.free,
+        free: shown.free,
     })
 }
 
 /// The races of a run of a source text's module, whose shared numbers have these names, as one JSON value on a line: a list of races, of
-/// each its two accesses as the objects that `events` has of these steps; whether there are more; and what that says of other schedules:
-/// `{"every_schedule":true,"in_order":true,"more":false,"races":[]}`. Which races these are, and the time that it takes, is said at
+/// each its two accesses as the objects that `events` has of these steps; whether every schedule prints these numbers; and the lines
+/// that are told behind the races: `{"every_schedule":true,"races":[],"text":".."}`. Which races these are, and the time that it takes, is said at
 /// `xk_races::shown_races`; the log is played once more. Err where memory was refused.
 pub fn source_race_values(
     alloc: Global,

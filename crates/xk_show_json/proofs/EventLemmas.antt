@@ -1,21 +1,27 @@
 -- What is told of a step is plain: it has no float, and no value in it has parts.
-use Rattle.std.proofs.Common.{◌≡◌, ℕ, ℤ, List, [], ◌∷◌, Option, Some, None, codes, subst, sym, arith}
+use Rattle.std.proofs.Common.{◌≡◌, refl, ℕ, ℤ, pos, negsuc, List, [], ◌∷◌, Option, Some, None, codes, subst, sym, arith}
 use Rattle.std.specs.Prelude.{option_map}
 use Rattle.xk_types.specs.declared.world.Event.{Event}
 use Rattle.xk_types.specs.declared.world.Event.TheVariants as event
 use Rattle.xk_lines.specs.declared.lines.Position.{Position}
 use Rattle.xk_show_events.specs.declared.steps.RunStep.{RunStep}
-use Rattle.xk_show_events.specs.Events.{PlacesValue, event_name, origin_of}
+use Rattle.xk_show_events.specs.Events.{PlacesValue, origin_of}
 use Rattle.xk_show_names.specs.declared.accounts.Account.{Account}
 use Rattle.xk_show_names.specs.declared.accounts.Subject.{Subject}
 use Rattle.xk_show_names.specs.declared.accounts.Subject.TheVariants as subject
 use Rattle.xk_show_names.specs.ClockNames.{NamesValue}
 use Rattle.xk_show_names.specs.Events.{clock_word, shared_word}
 use Rattle.serde_json.specs.Data.{Data}
-use Rattle.xk_json.specs.Plain.{IsPlain, IsShallow}
+use Rattle.xk_json.specs.Objects.{integer_value}
+use Rattle.xk_json.specs.Plain.{IsPlain}
 use Rattle.xk_json.proofs.ObjectLemmas.{plain_deeper}
-use Rattle.xk_json.proofs.PlainLemmas.{AreFlat, integer_plain, number_plain, object_of_plain, text_plain}
-use Rattle.xk_show_json.specs.Events.{event_value, name_member, operand_member, origin_members, step_members, step_value, subject_members, value_member}
+use Rattle.xk_json.proofs.PlainLemmas.{AreFlat, number_plain, object_of_plain, text_plain}
+use Rattle.xk_show_json.specs.Events.{event_value, name_member, operand_member, origin_members, step_members, subject_members}
+use Rattle.xk_show_json.specs.Events.{value_member}
+
+integer_plain : {d : ℕ} (z : ℤ) → IsPlain d (integer_value z)
+integer_plain (pos n) = record { no_float = refl; nests = omega arith }
+integer_plain (negsuc n) = record { no_float = refl; nests = omega arith }
 
 step_flat : (s : RunStep) → AreFlat 0 (step_members s)
 step_flat s = (number_plain _, (text_plain _, (number_plain _, (number_plain _, (number_plain _, tt)))))
@@ -39,10 +45,6 @@ operand_flat n event.Dropped = tt
 operand_flat n event.Arrived = tt
 operand_flat n event.Passed = tt
 operand_flat n event.Ended = tt
-
-pub step_plain : (p : PlacesValue) (s : RunStep) → IsPlain 1 (step_value p s)
-step_plain p s =
-    object_of_plain 0 _ (step_flat s, (origin_flat (origin_of p s.unit s.place), (operand_flat s.activities s.event, tt)))
 
 name_flat : {d : ℕ} (name : Option (List ℕ)) → AreFlat d (name_member name)
 name_flat None = tt
@@ -71,5 +73,5 @@ event_plain p names a =
     )
 
 -- within an object
-pub event_fits : (p : PlacesValue) (names : Option NamesValue) (a : Account) (d : Data) → d ≡ event_value p names a → IsShallow d
-event_fits p names a d e = subst IsShallow (sym e) (plain_deeper 1 8 (event_value p names a) (omega arith) (event_plain p names a))
+pub event_fits : (p : PlacesValue) (names : Option NamesValue) (a : Account) (d : Data) → d ≡ event_value p names a → IsPlain 4 d
+event_fits p names a d e = subst (λ v. IsPlain 4 v) (sym e) (plain_deeper 1 4 (event_value p names a) (omega arith) (event_plain p names a))

@@ -43,15 +43,6 @@ operand_member activities (event.Printed n) = (codes "printed", integer_value n)
 operand_member activities event.Spawned = (codes "started", number_value activities) ∷ []
 operand_member activities _ = []
 
--- all that is said of a step by itself
-abbrev pub step_groups : PlacesValue → RunStep → List Group
-step_groups p s =
-    step_members s ∷ origin_members (origin_of p s.unit s.place) ∷ operand_member s.activities s.event ∷ []
-
--- `{"act":1,"column":9,"event":"print","line":7,"place":5,"printed":3,"step":9,"unit":1}`
-abbrev pub step_value : PlacesValue → RunStep → Data
-step_value p s = object_of (step_groups p s)
-
 -- ---- what it was about
 
 abbrev pub name_member : Option (List ℕ) → Group
@@ -71,11 +62,20 @@ value_member key (Some i) = (key, integer_value i) ∷ []
 
 -- ---- values
 
+-- all that is told of a step
+abbrev pub event_groups : PlacesValue → Option NamesValue → Account → List Group
+event_groups p names a =
+    step_members a.step
+    ∷ origin_members (origin_of p a.step.unit a.step.place)
+    ∷ operand_member a.step.activities a.step.event
+    ∷ subject_members names a.subject
+    ∷ value_member (codes "before") a.before
+    ∷ value_member (codes "after") a.after
+    ∷ []
+
 -- `{"act":1,"after":3,"before":2,"column":9,"event":"add","line":7,"name":"total","place":5,"shared":0,"step":9,"unit":1}`
 abbrev pub event_value : PlacesValue → Option NamesValue → Account → Data
-event_value p names a = object_of (
-    step_groups p a.step
-    ++ subject_members names a.subject ∷ value_member (codes "before") a.before ∷ value_member (codes "after") a.after ∷ [])
+event_value p names a = object_of (event_groups p names a)
 
 -- the line of a step that other activities can see
 abbrev pub value_if_seen : PlacesValue → Option NamesValue → Account → List ℕ
