@@ -101,6 +101,7 @@ def first_questions(text: bytes, form: tuple[str, ...]) -> Iterator[Question]:
     yield Question(("run", *form, "--order", "random", "--runs", "3", "mine"), text)
     yield Question(("run", *form, "--order", "ask", "--log", "log", "mine"), text, ANSWERS, by_hand=True)
     yield Question(("races", *form, "mine"), text)
+    yield Question(("races", "--json", *form, "mine"), text)
     yield Question(("outcomes", *form, "--limit", "50", "--log", "log", "mine"), text)
     yield Question(("outcomes", *form, "--limit", "50", "--expect", "beside", "mine"), text, LIST)
 
@@ -112,6 +113,7 @@ def further_questions(text: bytes, form: tuple[str, ...], log: bytes) -> Iterato
     for command in ("replay", "races", "span"):
         yield Question((command, *form, "mine", "beside"), text, log)
         yield Question((command, *form, "mine", "beside"), text, log[: len(log) // 2])
+    yield Question(("races", "--json", *form, "mine", "beside"), text, log)
     yield Question(("why", *form, "mine", "beside", "2"), text, log)
 
 

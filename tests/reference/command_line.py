@@ -122,7 +122,7 @@ COMMANDS: dict[str, tuple[set[str], set[str], list[str]]] = {
     "listing": (set(), {"module"}, ["FILE"]),
     "run": ({"order", "seed", "runs", "processors", "workers", "log", "arg"}, {"module", "json"}, ["FILE"]),
     "outcomes": ({"limit", "pick", "log", "expect", "arg"}, {"module", "sets", "count", "json"}, ["FILE"]),
-    "races": ({"arg"}, {"module"}, ["FILE", "LOG" + MAYBE]),
+    "races": ({"arg"}, {"module", "json"}, ["FILE", "LOG" + MAYBE]),
     "replay": ({"arg"}, {"module"}, ["FILE", "LOG"]),
     "chart": ({"arg"}, {"module"}, ["FILE", "LOG"]),
     "events": ({"arg"}, {"module", "json"}, ["FILE", "LOG"]),

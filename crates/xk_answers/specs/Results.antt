@@ -58,7 +58,7 @@ pub data Shown : Type 0 where
   OutcomesShown : Bool → Option ℕ → ℕ → Bool → Shown
   ExpectedShown : Bool → Option ℕ → Shown
 
--- what is to be done with a module; what is explained is a JSON value or not; a run is in an order, by rounds, or by workers, and has its log kept or not; some
+-- what is to be done with a module; what is explained is a JSON value or not, and so are races; a run is in an order, by rounds, or by workers, and has its log kept or not; some
 -- picture is drawn of one; it is told how things stand behind a log, or behind so many of its steps, which races the run in the order `first` has, or how often so many runs by chance,
 -- from this seed on, print what; of outcomes, as lists of numbers or without their order, so many are looked for, and of one, counted from 1, the log
 -- is kept or not, or they are counted, or held against a list, or of one the page of its run is made; or some of this is told as one JSON value
@@ -71,7 +71,7 @@ pub data Doing : Type 0 where
   Replay : Doing
   Draw : Picture → Doing
   Where : Option ℕ → Doing
-  Races : Doing
+  Races : Bool → Doing
   Tally : ℕ → ℕ → Doing
   Outcomes : Bool → Option ℕ → ℕ → Bool → Doing
   Count : Bool → Option ℕ → Doing
@@ -265,7 +265,7 @@ IsPicture (picture.Image window) kind file bytes m args es last told = IsByNames
 IsPicture (picture.Path form window) kind file bytes m args es last told = IsByNames kind bytes (path_told form bytes window m es last) told
 IsPicture picture.Rounds kind file bytes m args es last told = IsByNames kind bytes (rounds_told bytes m es last) told
 IsPicture (picture.Page window) kind file bytes m args es last told = IsByNames kind bytes (page_so_far file bytes window m es last) told
-IsPicture picture.Races kind file bytes m args es last told = IsByNames kind bytes (races_told bytes m args es) told
+IsPicture (picture.Races json) kind file bytes m args es last told = IsByNames kind bytes (races_told json bytes m args es) told
 IsPicture picture.Span kind file bytes m args es last told = IsByOrigins kind bytes (span_told bytes m args es) told
 IsPicture (picture.Why step) kind file bytes m args es last told = IsByNames kind bytes (why_told bytes step m args es) told
 
@@ -294,7 +294,7 @@ picture_told (picture.Image window) file bytes shared m args es last origins = i
 picture_told (picture.Path form window) file bytes shared m args es last origins = path_told form bytes window m es last shared origins
 picture_told picture.Rounds file bytes shared m args es last origins = rounds_told bytes m es last shared origins
 picture_told (picture.Page window) file bytes shared m args es last origins = page_so_far file bytes window m es last shared origins
-picture_told picture.Races file bytes shared m args es last origins = races_told bytes m args es shared origins
+picture_told (picture.Races json) file bytes shared m args es last origins = races_told json bytes m args es shared origins
 picture_told picture.Span file bytes shared m args es last origins = span_told bytes m args es origins
 picture_told (picture.Why step) file bytes shared m args es last origins = why_told bytes step m args es shared origins
 
@@ -305,9 +305,9 @@ IsWhereabouts at kind bytes m args logged told =
     AreArguments m args × ((es : List Entry) × IsLogText logged es × IsByNames kind bytes (where_told bytes m args at es) told)
 
 -- the races of the run in the order `first` are told
-abbrev pub AreFirstRaces : Form → List ℕ → ModuleValue → List ℤ → Tale → Type 0
-AreFirstRaces kind bytes m args told = (numbers : List ℤ) × (steps : ℕ) × (es : List Entry) × IsLoggedRun order.First m args numbers steps es
-    × IsByNames kind bytes (races_told bytes m args es) told
+abbrev pub AreFirstRaces : Bool → Form → List ℕ → ModuleValue → List ℤ → Tale → Type 0
+AreFirstRaces json kind bytes m args told = (numbers : List ℤ) × (steps : ℕ) × (es : List Entry) × IsLoggedRun order.First m args numbers steps es
+    × IsByNames kind bytes (races_told json bytes m args es) told
 
 -- What a module can print is looked for up to this limit, and this is the log of the outcome of a number, if it is there; so many outcomes are, which
 -- are all or not.
@@ -354,7 +354,7 @@ IsTelling Listing kind file bytes m args logged told = IsProgramListed kind byte
 IsTelling (Draw picture) kind file bytes m args logged told =
     IsAccepted m × OfRun (is_of_whole picture) m args logged (λ es last. IsPicture picture kind file bytes m args es last told)
 IsTelling (Where at) kind file bytes m args logged told = IsAccepted m × IsWhereabouts at kind bytes m args logged told
-IsTelling Races kind file bytes m args logged told = IsAccepted m × AreFirstRaces kind bytes m args told
+IsTelling (Races json) kind file bytes m args logged told = IsAccepted m × AreFirstRaces json kind bytes m args told
 IsTelling (Tally seed runs) kind file bytes m args logged told = IsAccepted m × AreArguments m args × IsTallied m args seed runs told
 IsTelling (OutcomePage window limit pick) kind file bytes m args logged told =
     IsAccepted m × IsOutcomePage window (limit_of limit (activities_bound m)) pick kind file bytes m args told

@@ -154,9 +154,9 @@ outcomes_line = on_file (codes "outcomes")
     (module_flag ∷ limit_option ∷ count_option (codes "K") (codes "pick") ∷ log_option ∷ flag (codes "sets") ∷ flag (codes "count")
     ∷ option (codes "FILE2") (codes "expect") ∷ arg_option ∷ json_flag ∷ [])
 
--- prints races, maybe of the run that a log has
+-- prints races, maybe of the run that a log has, maybe as a JSON value
 abbrev pub races_line : App
-races_line = on_file (codes "races") (module_flag ∷ log_choice ∷ arg_option ∷ [])
+races_line = on_file (codes "races") (module_flag ∷ log_choice ∷ arg_option ∷ json_flag ∷ [])
 
 -- a command of this name on the run that a log has
 abbrev pub on_run : Text → App
@@ -457,6 +457,10 @@ command_on name log given =
     else (if bytes_eq name (codes "span") then Some (Span log)
     else (if bytes_eq name (codes "why") then why_on log given else None))))))
 
+-- `races` with what was given to it
+abbrev pub races_in : List Row → Task
+races_in given = told_as (is_json given) (Races (first_of (codes "LOG") given))
+
 -- the command of a name that wants a log
 abbrev pub command_by_log : Text → List Row → Option Task
 command_by_log name given = option_and_then (λ log. command_on name log given) (first_of (codes "LOG") given)
@@ -474,7 +478,7 @@ command_by name given =
     else (if bytes_eq name (codes "listing") then Some Listing
     else (if bytes_eq name (codes "outcomes") then outcomes_by given
     else (if bytes_eq name (codes "page") then page_by given
-    else (if bytes_eq name (codes "races") then Some (Races (first_of (codes "LOG") given)) else command_by_log name given))))))
+    else (if bytes_eq name (codes "races") then Some (races_in given) else command_by_log name given))))))
 
 -- what the command of a name does, with what else was given to it
 abbrev pub task_by : Text → List Row → Option Task

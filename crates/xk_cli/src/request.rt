@@ -6,8 +6,8 @@ ghost use Rattle.xk_cli.specs.declared.misfit.Misfit.{Misfit as AMisfit};
 ghost use Rattle.xk_cli.specs.CommandLine.{FitsKind, IsRefused, WithOrders, asked_by, asked_in, asked_of, check_in, command_by};
 ghost use Rattle.xk_cli.specs.CommandLine.{command_by_log, faults_in, found_task, is_misfit, job_of, lanes_by};
 ghost use Rattle.xk_cli.specs.CommandLine.{listed_of, misfits_by, misfits_in};
-ghost use Rattle.xk_cli.specs.CommandLine.{outcome_page_of, outcomes_by, outcomes_of, page_by, run_by, run_in, task_by, texts};
-ghost use Rattle.xk_cli.specs.CommandLine.{told_as, why_on};
+ghost use Rattle.xk_cli.specs.CommandLine.{outcome_page_of, outcomes_by, outcomes_of, page_by, races_in, run_by, run_in, task_by};
+ghost use Rattle.xk_cli.specs.CommandLine.{texts, told_as, why_on};
 ghost use Rattle.xk_jobs.specs.Tasks.{Events, Run, asked_value, task_value, way_value};
 
 use crate::commands::line;
@@ -207,11 +207,20 @@ fn command_by<'a>(name: &str, given: &ArgMatches<'a>) -> Option<Command<'a>>
         "listing" => Some(Command::Listing),
         "outcomes" => outcomes_by(given),
         "page" => page_by(given),
-        "races" => Some(Command::Races {
-            log: given_in(given, "LOG"),
-        }),
+        "races" => Some(races_in(given)),
         _ => command_by_log(name, given),
     }
+}
+
+/// The command `races` with what was given to it, told as JSON or not.
+fn races_in<'a>(given: &ArgMatches<'a>) -> Command<'a>
+    ensures { task_value result ≡ races_in (rows_of (found_of given.now)) }
+{
+    let log = given_in(given, "LOG");
+    if is_json(given) {
+        return Command::Json(Values::Races { log });
+    }
+    Command::Races { log }
 }
 
 /// The command `check` with what was given to it: as a JSON value it is what `explain` tells.

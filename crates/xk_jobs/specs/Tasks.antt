@@ -59,6 +59,7 @@ pub data Task : Type 0 where
 abbrev pub told_value : Values → Task
 told_value (values.Run given log) = Run (option_map way_value given) (option_map (λ s. s.now) log)
 told_value (values.Events log) = Events log.now
+told_value (values.Races log) = Races (option_map (λ s. s.now) log)
 told_value (values.Outcomes limit pick log sets) = Outcomes limit pick (option_map (λ s. s.now) log) sets
 told_value (values.Expected list limit sets) = Expected list.now limit sets
 

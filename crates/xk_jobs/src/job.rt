@@ -151,6 +151,10 @@ pub enum Values<'a> {
     Events {
         log: &'a str,
     },
+    /// `races --json`: which steps of a run of FILE race with one another, as one value.
+    Races {
+        log: Option<&'a str>,
+    },
     /// `outcomes --json`: all that FILE can print, as one value.
     Outcomes {
         limit: Option<u64>,
@@ -176,6 +180,7 @@ impl<'a> Values<'a> {
     {
         match *self {
             Values::Events { log } => Some(log),
+            Values::Races { log } => log,
             Values::Expected { list, .. } => Some(list),
             Values::Run { .. } | Values::Outcomes { .. } => None,
         }
@@ -187,7 +192,7 @@ impl<'a> Values<'a> {
     {
         match *self {
             Values::Run { log, .. } | Values::Outcomes { log, .. } => log,
-            Values::Events { .. } | Values::Expected { .. } => None,
+            Values::Events { .. } | Values::Races { .. } | Values::Expected { .. } => None,
         }
     }
 
@@ -196,7 +201,7 @@ impl<'a> Values<'a> {
         ensures { result ≡ have_places self.now }
     {
         match *self {
-            Values::Events { .. } => true,
+            Values::Events { .. } | Values::Races { .. } => true,
             Values::Run { .. } | Values::Outcomes { .. } | Values::Expected { .. } => false,
         }
     }

@@ -107,10 +107,10 @@ pub(crate) fn answer<
         Command::Races { log } => {
             let given = log.is_some();
             if given {
-                let races = Picture::Races;
+                let races = Picture::Races(false);
                 return drawn(alloc, races, job.file, program, arguments, log_in);
             }
-            raced(alloc, program, arguments)
+            raced(alloc, false, program, arguments)
         }
         Command::Tally { seed, runs } => tallied(alloc, seed, runs, program.module, arguments),
         Command::Outcomes {

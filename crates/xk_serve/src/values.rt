@@ -22,7 +22,7 @@ ghost use Rattle.xk_serve.specs.Devices.{AgainstLog, IsListReadToLimit, read_of}
 
 use crate::commands::run_by;
 use std::alloc::{AllocError, Global};
-use xk_answers::{Done, Finished, LONGEST_LIST, Picture, drawn, kept_log};
+use xk_answers::{Done, Finished, LONGEST_LIST, Picture, drawn, kept_log, raced};
 use xk_bounds::Verified;
 use xk_jobs::{Drive, Job, Order, Values};
 use xk_outcomes::{Limit, ListFault, Outcome, Verdict, expected_outcomes, is_whole, outcomes_as};
@@ -66,6 +66,14 @@ pub(crate) fn answer_values<
         Values::Events { .. } => {
             let events = Picture::EventValues;
             drawn(alloc, events, job.file, program, arguments, log_in)
+        }
+        Values::Races { log } => {
+            let given = log.is_some();
+            if given {
+                let races = Picture::Races(true);
+                return drawn(alloc, races, job.file, program, arguments, log_in);
+            }
+            raced(alloc, true, program, arguments)
         }
         Values::Outcomes {
             limit,
