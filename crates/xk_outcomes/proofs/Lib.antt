@@ -3,6 +3,7 @@ mod PrivateStepLemmas
 mod FoundLemmas
 mod AlikeLemmas
 mod RestLemmas
+mod CheckpointLemmas
 mod EntriesLemmas
 mod LookupLemmas
 mod FollowLemmas

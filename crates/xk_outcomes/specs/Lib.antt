@@ -6,6 +6,7 @@ pub mod Found
 pub mod Alikeness
 pub mod Links
 pub mod Search
+pub mod Checkpoints
 pub mod Entries
 pub mod Rising
 pub mod Listing
