@@ -2,6 +2,7 @@
 #![tactic(auto)]
 
 mod all_outcomes;
+mod checkpoint;
 mod entries;
 mod expected;
 mod found;
@@ -14,6 +15,7 @@ mod paths;
 mod plain_runs;
 mod private_steps;
 mod reading;
+mod run;
 mod search;
 mod text;
 
