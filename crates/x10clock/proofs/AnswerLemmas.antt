@@ -9,11 +9,11 @@ use Rattle.xk_program.specs.Lines.{device_line}
 use Rattle.xk_messages.specs.Lines.{memory_line}
 use Rattle.std.specs.declared.io.ErrorKind.{ErrorKind}
 use Rattle.x10clock.specs.declared.files.Which.{Which}
-use Rattle.xk_cli.specs.declared.job.Form.{Form}
-use Rattle.xk_cli.specs.CommandLine.{asked_value}
-use Rattle.xk_cli.specs.Status.{status_words}
-use Rattle.xk_cli.specs.declared.job.Request.{Request}
-use Rattle.xk_cli.specs.declared.job.Request.TheVariants as request
+use Rattle.xk_jobs.specs.declared.job.Form.{Form}
+use Rattle.xk_jobs.specs.Tasks.{asked_value}
+use Rattle.xk_jobs.specs.Status.{status_words}
+use Rattle.xk_jobs.specs.declared.job.Request.{Request}
+use Rattle.xk_jobs.specs.declared.job.Request.TheVariants as request
 use Rattle.xk_serve.specs.Answer.{Task, reads_more, task_of}
 use Rattle.xk_program.specs.Bytes.{kept}
 use Rattle.xk_serve.specs.Devices.{Answered, IfKnown, Tells, read_of}

@@ -1,10 +1,10 @@
 -- Words that were read are those that were given.
 use Rattle.std.proofs.Common.{◌≡◌, ℕ, ◌⊎◌, inl, inr, List, Option, None, Some, refl, subst}
 use Rattle.std.specs.Io.KnownBytes.{Appends}
-use Rattle.xk_cli.specs.CommandLine.{IsRefused, WithOrders, asked_value, blurs_in, crowds_in, excludes_in, faults_in}
-use Rattle.xk_cli.specs.CommandLine.{idles_in, job_of, misplaces_in, mutes_in, picks_in, strays_in}
-use Rattle.xk_cli.specs.declared.job.Request.{Request}
-use Rattle.xk_cli.specs.declared.job.Request.TheVariants as request
+use Rattle.xk_jobs.specs.Tasks.{asked_value}
+use Rattle.xk_cli.specs.CommandLine.{IsRefused, WithOrders, faults_in, job_of, misfits_in}
+use Rattle.xk_jobs.specs.declared.job.Request.{Request}
+use Rattle.xk_jobs.specs.declared.job.Request.TheVariants as request
 use Rattle.xk_cli.specs.declared.words_fault.WordsFault.{WordsFault}
 use Rattle.x10clock.specs.CommandLine.{AreNoJob, AreUnderstood, AskFor, AskForHand}
 use Rattle.x10clock.specs.Requests.{EndsIn, IsLastLine}
@@ -27,7 +27,6 @@ last_line (request.ByHand run) found given line old new e understood h ends =
 
 -- they are no job for this reason
 pub refused : (found given : List (List ℕ)) (f : WordsFault) → found ≡ given
-    → WithOrders (λ names. IsRefused (faults_in names found) (job_of names found) (excludes_in names found) (strays_in names found)
-    (misplaces_in names found) (crowds_in names found) (picks_in names found) (blurs_in names found) (idles_in names found) (mutes_in names found) f)
+    → WithOrders (λ names. IsRefused (faults_in names found) (job_of names found) (misfits_in names found) f)
     → AreNoJob given f
 refused found given f e h = subst (λ words. AreNoJob words f) e h

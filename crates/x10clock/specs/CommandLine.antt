@@ -3,9 +3,9 @@ use Rattle.std.specs.Prelude.{◌≡◌, ◌⊎◌, ℕ, List, [], Option, Some,
 use Rattle.std.specs.IoError.{error_kind}
 use Rattle.std.specs.declared.io.Error.{Error}
 use Rattle.std.specs.declared.io.ErrorKind.TheVariants as kind
-use Rattle.xk_cli.specs.CommandLine.{Asked, ByHand, IsRefused, WithOrders, asked_value, blurs_in, crowds_in, excludes_in, faults_in}
-use Rattle.xk_cli.specs.CommandLine.{idles_in, job_of, misplaces_in, mutes_in, picks_in, strays_in}
-use Rattle.xk_cli.specs.declared.job.Request.{Request}
+use Rattle.xk_jobs.specs.Tasks.{Asked, ByHand, asked_value}
+use Rattle.xk_cli.specs.CommandLine.{IsRefused, WithOrders, faults_in, job_of, misfits_in}
+use Rattle.xk_jobs.specs.declared.job.Request.{Request}
 use Rattle.xk_cli.specs.declared.words_fault.WordsFault.{WordsFault}
 use Rattle.xk_cli.specs.declared.words_fault.WordsFault.TheVariants as words
 
@@ -31,9 +31,7 @@ AskForHand given = AreUnderstood given × WithOrders (λ names. (job : Asked) ×
 
 -- they are no job, for this reason
 abbrev pub AreNoJob : List (List ℕ) → WordsFault → Type 0
-AreNoJob given f = WithOrders (λ names. IsRefused (faults_in names given) (job_of names given) (excludes_in names given)
-    (strays_in names given) (misplaces_in names given) (crowds_in names given) (picks_in names given) (blurs_in names given)
-    (idles_in names given) (mutes_in names given) f)
+AreNoJob given f = WithOrders (λ names. IsRefused (faults_in names given) (job_of names given) (misfits_in names given) f)
 
 -- What words ask for is served so; words that ask for no job are told as that, for a reason that they have; or want of memory is told.
 abbrev pub AreTold : List (List ℕ) → (Request → Type 0) → (WordsFault → Type 0) → Type 0

@@ -6,18 +6,18 @@ use Rattle.std.specs.declared.io.ErrorKind.{ErrorKind}
 use Rattle.std.specs.declared.io.ErrorKind.TheVariants as kind
 use Rattle.xk_types.specs.Device.{Rose}
 use Rattle.xk_lines.specs.Signs.{shown_signs, signs}
-use Rattle.xk_cli.specs.Status.{status_device, status_done, status_memory, status_words}
-use Rattle.xk_cli.specs.CommandLine.{asked_value}
-use Rattle.xk_cli.specs.CommandAnswers.{explanation}
-use Rattle.xk_cli.specs.CommandFiles.{read_path, written_path}
-use Rattle.xk_cli.specs.declared.job.Form.{Form}
-use Rattle.xk_cli.specs.declared.job.Form.TheVariants as form
+use Rattle.xk_jobs.specs.Status.{status_device, status_done, status_memory, status_words}
+use Rattle.xk_jobs.specs.Tasks.{asked_value}
+use Rattle.xk_jobs.specs.CommandAnswers.{explanation}
+use Rattle.xk_jobs.specs.CommandFiles.{read_path, written_path}
+use Rattle.xk_jobs.specs.declared.job.Form.{Form}
+use Rattle.xk_jobs.specs.declared.job.Form.TheVariants as form
 use Rattle.xk_rules.specs.Pages.{rule_text}
-use Rattle.xk_cli.specs.declared.job.Command.{Command}
-use Rattle.xk_cli.specs.declared.job.Command.TheVariants as command
-use Rattle.xk_cli.specs.declared.job.HandRun.{HandRun}
-use Rattle.xk_cli.specs.declared.job.Request.{Request}
-use Rattle.xk_cli.specs.declared.job.Request.TheVariants as request
+use Rattle.xk_jobs.specs.declared.job.Command.{Command}
+use Rattle.xk_jobs.specs.declared.job.Command.TheVariants as command
+use Rattle.xk_jobs.specs.declared.job.HandRun.{HandRun}
+use Rattle.xk_jobs.specs.declared.job.Request.{Request}
+use Rattle.xk_jobs.specs.declared.job.Request.TheVariants as request
 use Rattle.xk_serve.specs.Answer.{Task, reads_more, task_of}
 use Rattle.xk_program.specs.Bytes.{kept}
 use Rattle.xk_program.specs.Lines.{device_line}

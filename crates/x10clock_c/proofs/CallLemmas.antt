@@ -2,10 +2,11 @@
 use Rattle.std.proofs.Common.{◌≡◌, ◌≢◌, ◌∙◌, ℕ, List, [], Some, ap, inl, inr, subst, sym}
 use Rattle.std.specs.Prelude.{IfSome, is_some}
 use Rattle.xk_types.specs.Device.{TapeValue, fresh_tape}
-use Rattle.xk_cli.specs.CommandLine.{WithOrders, asked_value, faults_in, job_of}
-use Rattle.xk_cli.specs.Status.{status_device, status_memory}
-use Rattle.xk_cli.specs.declared.job.HandRun.{HandRun}
-use Rattle.xk_cli.specs.declared.job.Request.{Request}
+use Rattle.xk_jobs.specs.Tasks.{asked_value}
+use Rattle.xk_cli.specs.CommandLine.{WithOrders, faults_in, job_of}
+use Rattle.xk_jobs.specs.Status.{status_device, status_memory}
+use Rattle.xk_jobs.specs.declared.job.HandRun.{HandRun}
+use Rattle.xk_jobs.specs.declared.job.Request.{Request}
 use Rattle.xk_cli.specs.declared.words_fault.WordsFault.{WordsFault}
 use Rattle.xk_cli.specs.declared.words_fault.WordsFault.TheVariants as words
 use Rattle.xk_program.specs.Bytes.{kept}
@@ -117,14 +118,7 @@ words_weaker : (f : WordsFault) (P Q R S : List ℕ → ℕ → Type 0) → ((te
     → ((text : List ℕ) (status : ℕ) → Q text status → S text status) → TellsWords f P Q → TellsWords f R S
 words_weaker (words.Help text) P Q R S a b h = a _ _ h
 words_weaker (words.NotUnderstood text) P Q R S a b h = b _ _ h
-words_weaker words.OrderAndWorkers P Q R S a b h = b _ _ h
-words_weaker words.SeedAlone P Q R S a b h = b _ _ h
-words_weaker words.MisplacedRuns P Q R S a b h = b _ _ h
-words_weaker words.ProcessorsAlone P Q R S a b h = b _ _ h
-words_weaker words.MisplacedList P Q R S a b h = b _ _ h
-words_weaker words.PickAlone P Q R S a b h = b _ _ h
-words_weaker words.UnclearPage P Q R S a b h = b _ _ h
-words_weaker words.MisplacedJson P Q R S a b h = b _ _ h
+words_weaker (words.Misfit m) P Q R S a b h = b _ _ h
 words_weaker words.OutOfMemory P Q R S a b h = b _ _ h
 
 -- the reply where words were told as no job

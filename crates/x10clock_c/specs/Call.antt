@@ -1,15 +1,15 @@
 -- What a call of the library answers, on bytes in memory. This project's own.
 use Rattle.std.specs.Prelude.{◌≡◌, ◌≢◌, ℕ, ◌⊎◌, Bool, List, [], ◌++◌, codes, drop, false, length, take}
 use Rattle.std.specs.Prelude.{Option, None, Some, IsUtf8, is_some, string_bytes}
-use Rattle.xk_cli.specs.Status.{status_device, status_done, status_memory, status_words}
-use Rattle.xk_cli.specs.CommandAnswers.{explanation}
-use Rattle.xk_cli.specs.CommandLine.{IsRefused, WithOrders, asked_value, blurs_in, crowds_in, excludes_in, faults_in}
-use Rattle.xk_cli.specs.CommandLine.{idles_in, job_of, misplaces_in, mutes_in, picks_in, strays_in}
-use Rattle.xk_cli.specs.declared.job.Form.{Form}
-use Rattle.xk_cli.specs.declared.job.Form.TheVariants as form
-use Rattle.xk_cli.specs.declared.job.HandRun.{HandRun}
-use Rattle.xk_cli.specs.declared.job.Request.{Request}
-use Rattle.xk_cli.specs.declared.job.Request.TheVariants as request
+use Rattle.xk_jobs.specs.Status.{status_device, status_done, status_memory, status_words}
+use Rattle.xk_jobs.specs.CommandAnswers.{explanation}
+use Rattle.xk_jobs.specs.Tasks.{asked_value}
+use Rattle.xk_cli.specs.CommandLine.{IsRefused, WithOrders, faults_in, job_of, misfits_in}
+use Rattle.xk_jobs.specs.declared.job.Form.{Form}
+use Rattle.xk_jobs.specs.declared.job.Form.TheVariants as form
+use Rattle.xk_jobs.specs.declared.job.HandRun.{HandRun}
+use Rattle.xk_jobs.specs.declared.job.Request.{Request}
+use Rattle.xk_jobs.specs.declared.job.Request.TheVariants as request
 use Rattle.xk_cli.specs.declared.words_fault.WordsFault.{WordsFault}
 use Rattle.xk_program.specs.Bytes.{kept}
 use Rattle.xk_rules.specs.Pages.{rule_text}
@@ -70,9 +70,7 @@ AskFor given P = WithOrders (λ names. faults_in names given ≡ [])
 
 -- they are no job, for this reason
 abbrev pub AreNoJob : List (List ℕ) → WordsFault → Type 0
-AreNoJob given f = WithOrders (λ names. IsRefused (faults_in names given) (job_of names given) (excludes_in names given)
-    (strays_in names given) (misplaces_in names given) (crowds_in names given) (picks_in names given) (blurs_in names given)
-    (idles_in names given) (mutes_in names given) f)
+AreNoJob given f = WithOrders (λ names. IsRefused (faults_in names given) (job_of names given) (misfits_in names given) f)
 
 -- that reason is told: help on standard output, and all else on standard error
 abbrev pub AnswersFault : WordsFault → Reply → Type 0

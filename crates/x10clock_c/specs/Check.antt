@@ -7,7 +7,7 @@ use Rattle.xk_types.specs.RuleNames.{rule_number}
 use Rattle.xk_types.specs.declared.rules.Rule.{Rule}
 use Rattle.xk_bounds.specs.declared.refusal.Refusal.{Refusal}
 use Rattle.xk_bounds.specs.declared.refusal.Refusal.TheVariants as refusal
-use Rattle.xk_cli.specs.declared.job.Form.TheVariants as form
+use Rattle.xk_jobs.specs.declared.job.Form.TheVariants as form
 use Rattle.xk_program.specs.Faults.{GivesNoModule}
 use Rattle.xk_program.specs.Programs.{Gives}
 use Rattle.xk_program.specs.Refusals.{IsRefusal}

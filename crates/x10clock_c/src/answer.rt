@@ -1,14 +1,14 @@
 //! What a call answers, and the devices in memory that it is written to.
 
 ghost use Rattle.std.specs.Prelude.{◌≡◌, ◌≢◌, [], IfOk};
-ghost use Rattle.xk_cli.specs.Status.{status_device, status_memory};
+ghost use Rattle.xk_jobs.specs.Status.{status_device, status_memory};
 ghost use Rattle.xk_types.specs.Device.{fresh_tape};
 ghost use Rattle.x10clock_c.specs.Call.{AreShown, IsReplyOf};
 
 use crate::room::{Lengths, give};
 use std::alloc::{AllocError, Global};
 use std::marker::Model;
-use xk_cli::status;
+use xk_jobs::status;
 use xk_types::Tape;
 
 /// What a job reads and writes, in memory.
@@ -37,7 +37,7 @@ pub(crate) struct Answer {
 
 impl Model for Answer {
     ghost use Rattle.std.specs.Prelude.{◌≢◌};
-    ghost use Rattle.xk_cli.specs.Status.{status_device, status_memory};
+    ghost use Rattle.xk_jobs.specs.Status.{status_device, status_memory};
     ghost use Rattle.xk_serve.specs.Answer.{Reply};
 
     ghost Value = { Reply };

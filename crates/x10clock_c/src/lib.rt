@@ -3,7 +3,7 @@
 #![tactic(auto)]
 
 ghost use Rattle.std.specs.Prelude.{◌≡◌, ◌≢◌, ◌⊎◌};
-ghost use Rattle.xk_cli.specs.Status.{status_device, status_done, status_memory, status_program};
+ghost use Rattle.xk_jobs.specs.Status.{status_device, status_done, status_memory, status_program};
 ghost use Rattle.xk_serve.specs.Answer.{Reply};
 ghost use Rattle.x10clock_c.specs.Call.{AnswersCall, AreKept, AreShown};
 ghost use Rattle.x10clock_c.specs.Check.{AcceptsAs, RefusesAs, nothing_told};
@@ -19,7 +19,7 @@ use request::answer_to;
 use room::Lengths;
 use std::alloc::Global;
 use verdict::{Checked, NOTHING_TOLD, Verdict, verdict_on};
-use xk_cli::status;
+use xk_jobs::status;
 
 /// Does what the words ask for, as the program of that name does, on a program and an input (a log, a list or answers) in
 /// memory, and gives its status. Each word is ended by a zero, and FILE is only a name. Of standard output, standard error

@@ -3,7 +3,7 @@
 ghost use Rattle.std.specs.Prelude.{◌≡◌, option_map};
 ghost use Rattle.x10clock_c.specs.Call.{page_asked, rule_page};
 
-use xk_cli::{Form, Request};
+use xk_jobs::{Form, Request};
 use xk_rules::rule_text;
 
 /// The page that `explain` is asked for, if it is.

@@ -1,7 +1,7 @@
 //! What the words of a call ask for, and what is answered.
 
 ghost use Rattle.std.specs.Prelude.{◌≡◌, [], IfOk};
-ghost use Rattle.xk_cli.specs.Status.{status_done, status_words};
+ghost use Rattle.xk_jobs.specs.Status.{status_done, status_words};
 ghost use Rattle.xk_cli.specs.CommandLine.{texts};
 ghost use Rattle.xk_serve.specs.Answer.{task_of};
 ghost use Rattle.x10clock_c.specs.Call.{AnswersAsked, AnswersCall, AnswersFault, AnswersHand, AnswersJob};
@@ -12,7 +12,8 @@ use crate::page::rule_page;
 use crate::words::words_in;
 use std::alloc::{AllocError, Global};
 use std::str::from_utf8;
-use xk_cli::{HandRun, Job, Request, WordsFault, read_job, status};
+use xk_cli::{WordsFault, read_job};
+use xk_jobs::{HandRun, Job, Request, status};
 use xk_serve::{serve_alone, tell, tell_words};
 use xk_serve_ask::serve_asked;
 

@@ -2,13 +2,13 @@
 
 ghost use Rattle.std.specs.Prelude.{◌≡◌, IfErr, IfOk};
 ghost use Rattle.xk_types.specs.Acceptance.{IsAccepted};
-ghost use Rattle.xk_cli.specs.declared.job.Form.TheVariants as form;
+ghost use Rattle.xk_jobs.specs.declared.job.Form.TheVariants as form;
 ghost use Rattle.xk_program.specs.Programs.{Gives};
 ghost use Rattle.x10clock_c.specs.Check.{IsVerdict, StandsInText, bounds_told, fault_told, front_told, refusal_told, rule_told};
 
 use std::alloc::{AllocError, Global};
 use xk_bounds::{Refusal, Verified};
-use xk_cli::Form;
+use xk_jobs::Form;
 use xk_program::{Fault, accepted, program_by};
 use xk_tree::FrontFault;
 use xk_types::Rule;

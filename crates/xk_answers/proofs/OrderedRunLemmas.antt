@@ -15,11 +15,11 @@ use Rattle.xk_scheduler.proofs.UnloggedRunLemmas.{follows_any, run_weaker}
 use Rattle.xk_greedy.specs.Rounds.{IsByRounds}
 use Rattle.xk_greedy.proofs.OneRunLemmas.{log_by_rounds}
 pub use Rattle.xk_greedy.proofs.OneRunLemmas.{follows_rounds_once}
-use Rattle.xk_cli.specs.CommandLine.{By, Greedy, In, Way, way_value}
-use Rattle.xk_cli.specs.declared.job.Drive.{Drive}
-use Rattle.xk_cli.specs.declared.job.Drive.TheVariants as drive
-use Rattle.xk_cli.specs.declared.job.Order.TheVariants as order
-use Rattle.xk_cli.specs.declared.job.Form.{Form}
+use Rattle.xk_jobs.specs.Tasks.{By, Greedy, In, Way, way_value}
+use Rattle.xk_jobs.specs.declared.job.Drive.{Drive}
+use Rattle.xk_jobs.specs.declared.job.Drive.TheVariants as drive
+use Rattle.xk_jobs.specs.declared.job.Order.TheVariants as order
+use Rattle.xk_jobs.specs.declared.job.Form.{Form}
 use Rattle.xk_answers.specs.declared.job_result.Done.TheVariants as done
 use Rattle.xk_answers.specs.declared.picture.Picture.{Picture}
 use Rattle.xk_answers.specs.declared.picture.Picture.TheVariants as picture

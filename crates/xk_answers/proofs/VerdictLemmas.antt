@@ -2,7 +2,7 @@
 use Rattle.std.proofs.Common.{◌≡◌, ℕ, Bool, List, [], Some, Result, Ok, Err, IfOk, OnErr, sym, subst}
 use Rattle.xk_bounds.specs.declared.refusal.Refusal.{Refusal}
 use Rattle.xk_bounds.specs.declared.refusal.Refusal.TheVariants as refusal
-use Rattle.xk_cli.specs.declared.job.Form.{Form}
+use Rattle.xk_jobs.specs.declared.job.Form.{Form}
 use Rattle.xk_answers.specs.declared.explanation.Refused.{Refused}
 use Rattle.xk_program.specs.declared.fault.Fault.{Fault}
 use Rattle.xk_program.specs.declared.fault.Fault.TheVariants as fault

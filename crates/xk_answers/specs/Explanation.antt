@@ -42,8 +42,8 @@ use Rattle.xk_why.specs.Lines.{why_text}
 use Rattle.xk_why.specs.ModuleLines.{is_told, module_why_text}
 use Rattle.xk_beginnings.specs.Beginnings.{first_steps, steps_in}
 use Rattle.xk_types.specs.declared.world.Entry.{Entry}
-use Rattle.xk_cli.specs.declared.job.Form.{Form}
-use Rattle.xk_cli.specs.declared.job.Form.TheVariants as form
+use Rattle.xk_jobs.specs.declared.job.Form.{Form}
+use Rattle.xk_jobs.specs.declared.job.Form.TheVariants as form
 use Rattle.xk_program.specs.declared.fault.Fault.{Fault}
 use Rattle.xk_program.specs.declared.fault.Fault.TheVariants as fault
 use Rattle.xk_messages.specs.Lines.{accepted_line, local_line, log_end_line}

@@ -6,9 +6,9 @@ use Rattle.xk_types.specs.Code.{ModuleValue}
 use Rattle.xk_types.specs.World.{World, opening}
 use Rattle.xk_types.specs.Schedule.{Leads, all_ended}
 use Rattle.xk_types.specs.Logs.{schedule_of}
-use Rattle.xk_cli.specs.CommandLine.{By, Greedy, In, Way}
-use Rattle.xk_cli.specs.declared.job.Order.{Order}
-use Rattle.xk_cli.specs.declared.job.Order.TheVariants as order
+use Rattle.xk_jobs.specs.Tasks.{By, Greedy, In, Way}
+use Rattle.xk_jobs.specs.declared.job.Order.{Order}
+use Rattle.xk_jobs.specs.declared.job.Order.TheVariants as order
 use Rattle.xk_scheduler.specs.Choosers.{Follows, turn_of, turn_after}
 use Rattle.xk_greedy.specs.Rounds.{FollowsRounds}
 use Rattle.xk_random.specs.Chance.{chance_after, chance_answer, chance_of}

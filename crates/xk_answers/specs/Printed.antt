@@ -1,6 +1,6 @@
 -- What is printed of a result, its log and its status. This project's own.
 use Rattle.std.specs.Prelude.{ℕ, Bool, List, [], Option, Some, None, string_bytes, if◌then◌else◌, ◌++◌, codes}
-use Rattle.xk_cli.specs.Status.{status_done, status_partial, status_refuted}
+use Rattle.xk_jobs.specs.Status.{status_done, status_partial, status_refuted}
 use Rattle.xk_answers.specs.declared.job_result.Done.{Done}
 use Rattle.xk_answers.specs.declared.job_result.Done.TheVariants as done
 use Rattle.xk_outcomes.specs.declared.holding.Verdict.{Verdict}

@@ -14,7 +14,7 @@ use Rattle.xk_answers.specs.Results.{IsNoRun, is_of_whole, list_in}
 use Rattle.xk_program.specs.Refusals.{IsNotRun, IsRefusal}
 use Rattle.xk_program.specs.Faults.{GivesNoModule}
 use Rattle.xk_program.specs.Programs.{Gives}
-use Rattle.xk_cli.specs.declared.job.Form.{Form}
+use Rattle.xk_jobs.specs.declared.job.Form.{Form}
 
 -- the bytes give no module, or one that the verifier refuses; of want of memory nothing is claimed
 abbrev pub IsUnaccepted : Form → List ℕ → Fault → Type 0

@@ -9,10 +9,10 @@ use Rattle.xk_types.specs.World.{World, AreArguments}
 use Rattle.xk_types.specs.Schedule.{all_ended}
 use Rattle.xk_types.specs.Bound.{steps_bound, activities_bound, clocks_bound}
 use Rattle.xk_types.specs.Acceptance.{IsAccepted}
-use Rattle.xk_cli.specs.declared.job.Drive.{Drive}
-use Rattle.xk_cli.specs.declared.job.Form.{Form}
-use Rattle.xk_cli.specs.declared.job.Order.TheVariants as order
-use Rattle.xk_cli.specs.CommandLine.{By, Greedy, In, Way, way_value}
+use Rattle.xk_jobs.specs.declared.job.Drive.{Drive}
+use Rattle.xk_jobs.specs.declared.job.Form.{Form}
+use Rattle.xk_jobs.specs.declared.job.Order.TheVariants as order
+use Rattle.xk_jobs.specs.Tasks.{By, Greedy, In, Way, way_value}
 use Rattle.xk_module.specs.ModuleText.{module_value}
 use Rattle.xk_answers.specs.declared.job_result.Done.{Done}
 use Rattle.xk_answers.specs.declared.job_result.Done.TheVariants as done

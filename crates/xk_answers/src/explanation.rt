@@ -8,7 +8,7 @@ ghost use Rattle.xk_explain.specs.Messages.{module_rule};
 ghost use Rattle.xk_explain_bounds.specs.Notes.{accepted_notes, module_notes, refusal_notes};
 ghost use Rattle.xk_answers.specs.Explanation.{IsProgramListed, accepted_said, acceptance_said, fault_said, front_said, hint_note};
 ghost use Rattle.xk_answers.specs.Explanation.{lines_of, module_said, plain_said, refusal_said, source_said, with_hints};
-ghost use Rattle.xk_cli.specs.declared.job.Form.{Form as FormValue};
+ghost use Rattle.xk_jobs.specs.declared.job.Form.{Form as FormValue};
 ghost use Rattle.xk_program.specs.Origins.{IsFrom};
 ghost use Rattle.xk_program.specs.declared.fault.Fault.TheVariants as found;
 

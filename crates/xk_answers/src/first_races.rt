@@ -4,7 +4,7 @@ ghost use Rattle.std.specs.Prelude.{ℕ, List, true, IfOk, IfErr};
 ghost use Rattle.xk_types.specs.Acceptance.{IsAccepted};
 ghost use Rattle.xk_types.specs.World.{AreArguments};
 ghost use Rattle.xk_answers.specs.Results.{AreFirstRaces, IsTelling, IsText, Races};
-ghost use Rattle.xk_cli.specs.declared.job.Form.{Form as FormValue};
+ghost use Rattle.xk_jobs.specs.declared.job.Form.{Form as FormValue};
 ghost use Rattle.xk_program.specs.Origins.{IsFrom};
 ghost use Rattle.xk_program.specs.Refusals.{IsNotRun};
 

@@ -13,8 +13,8 @@ ghost use Rattle.xk_messages.specs.Lines.{accepted_line, ended_line, rounds_line
 
 use crate::runs::Finished;
 use std::alloc::{AllocError, Global};
-use xk_cli::status;
 use xk_io::{Device, write_all, write_numbers};
+use xk_jobs::status;
 use xk_messages::{accepted_line, ended_line, rounds_line};
 use xk_outcomes::Verdict;
 use xk_types::{Entry, Sink};

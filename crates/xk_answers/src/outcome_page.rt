@@ -2,7 +2,7 @@
 
 ghost use Rattle.std.specs.Prelude.{◌≡◌, ℕ, List, true, IfOk, IfErr, option_map, string_bytes};
 ghost use Rattle.xk_types.specs.World.{AreArguments};
-ghost use Rattle.xk_cli.specs.declared.job.Form.{Form as FormValue};
+ghost use Rattle.xk_jobs.specs.declared.job.Form.{Form as FormValue};
 ghost use Rattle.xk_answers.specs.Results.{IsOutcomePage, IsPageOf, IsPicked, IsTelling, IsText, OutcomePage, none_line, none_told};
 ghost use Rattle.xk_program.specs.Origins.{IsFrom};
 ghost use Rattle.xk_program.specs.Refusals.{IsNotRun};

@@ -6,7 +6,7 @@ ghost use Rattle.xk_types.specs.World.{AreArguments};
 ghost use Rattle.xk_answers.specs.Results.{ComesTo, Expected, IsFoundOut, IsHeldOut, Outcomes, kept_log, longest_list};
 ghost use Rattle.xk_program.specs.Refusals.{IsNotRun};
 ghost use Rattle.xk_program.specs.Bytes.{LosesAtMost};
-ghost use Rattle.xk_cli.specs.Status.{status_program};
+ghost use Rattle.xk_jobs.specs.Status.{status_program};
 ghost use Rattle.xk_answers.specs.Refusals.{AgainstExpected, AgainstList};
 ghost use Rattle.xk_program.specs.Lines.{status_of};
 

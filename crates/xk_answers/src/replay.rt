@@ -6,7 +6,7 @@ ghost use Rattle.xk_types.specs.Acceptance.{IsAccepted};
 ghost use Rattle.xk_types.specs.World.{AreArguments};
 ghost use Rattle.xk_answers.specs.Results.{ComesTo, IsLogText, Replay};
 ghost use Rattle.xk_answers.specs.Refusals.{AgainstModule, AgainstRun};
-ghost use Rattle.xk_cli.specs.Status.{status_program};
+ghost use Rattle.xk_jobs.specs.Status.{status_program};
 ghost use Rattle.xk_program.specs.Lines.{status_of};
 ghost use Rattle.xk_program.specs.declared.fault.Fault.TheVariants as fault;
 

@@ -4,7 +4,7 @@ ghost use Rattle.std.specs.Prelude.{◌≡◌, IfOk, None, Some, option_map, if�
 ghost use Rattle.xk_types.specs.World.{AreArguments, opening};
 ghost use Rattle.xk_scheduler.specs.Choosers.{Follows};
 ghost use Rattle.xk_scheduler.specs.WholeRuns.{IsLogThat, IsRunThat};
-ghost use Rattle.xk_cli.specs.CommandLine.{By, Greedy, way_value};
+ghost use Rattle.xk_jobs.specs.Tasks.{By, Greedy, way_value};
 ghost use Rattle.xk_greedy.specs.Rounds.{AreSome};
 ghost use Rattle.xk_answers.specs.OrderedRun.{IsFinished, IsUncountedBy};
 
@@ -12,9 +12,9 @@ use std::alloc::{AllocError, Global};
 use std::sync::Wait;
 use std::thread::Threads;
 use xk_bounds::Verified;
-use xk_cli::{Drive, Order, Processors, Workers};
 use xk_core::Core;
 use xk_greedy::drive_by_rounds;
+use xk_jobs::{Drive, Order, Processors, Workers};
 use xk_random::Random;
 use xk_scheduler::{Chooser, Ended, First, Last, Round, Summary, drive, drive_unlogged};
 use xk_types::Entry;

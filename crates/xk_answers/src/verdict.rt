@@ -3,8 +3,8 @@
 ghost use Rattle.std.specs.Prelude.{ℕ, ℤ, List, Some, IfOk, IfErr};
 ghost use Rattle.xk_types.specs.Code.{ModuleValue};
 ghost use Rattle.xk_tree.specs.Program.{tree_value};
-ghost use Rattle.xk_cli.specs.declared.job.Form.{Form as FormValue};
-ghost use Rattle.xk_cli.specs.declared.job.Form.TheVariants as form;
+ghost use Rattle.xk_jobs.specs.declared.job.Form.{Form as FormValue};
+ghost use Rattle.xk_jobs.specs.declared.job.Form.TheVariants as form;
 ghost use Rattle.xk_answers.specs.Results.{Explain, IsTelling, IsText};
 ghost use Rattle.xk_program.specs.Refusals.{IsRefusal};
 ghost use Rattle.xk_answers.specs.Refusals.{IsUnaccepted};
@@ -20,9 +20,9 @@ use crate::explanation::{
 use crate::job_result::Done;
 use std::alloc::{AllocError, Global};
 use xk_bounds::verify;
-use xk_cli::Form;
 use xk_codegen::compile;
 use xk_hints::hints;
+use xk_jobs::Form;
 use xk_origins::origins;
 use xk_program::{Fault, module_of, tree_of};
 use xk_tree::{FrontError, Tree};

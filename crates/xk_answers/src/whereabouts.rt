@@ -4,8 +4,8 @@ ghost use Rattle.std.specs.Prelude.{◌≡◌, ◌≢◌, ℕ, List, map, true, 
 ghost use Rattle.xk_log.specs.SomeBytes.{OfSome};
 ghost use Rattle.xk_types.specs.Acceptance.{IsAccepted};
 ghost use Rattle.xk_types.specs.World.{AreArguments};
-ghost use Rattle.xk_cli.specs.declared.job.Form.{Form as FormValue};
-ghost use Rattle.xk_cli.specs.Status.{status_program};
+ghost use Rattle.xk_jobs.specs.declared.job.Form.{Form as FormValue};
+ghost use Rattle.xk_jobs.specs.Status.{status_program};
 ghost use Rattle.xk_answers.specs.Results.{IsTelling, IsText, Where};
 ghost use Rattle.xk_answers.specs.Refusals.{AgainstReading, AgainstText};
 ghost use Rattle.xk_program.specs.Origins.{IsFrom};

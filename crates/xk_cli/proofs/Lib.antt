@@ -1,3 +1,4 @@
 mod WorkerCountLemmas
 mod NumeralLemmas
 mod CommandLineLemmas
+mod MisfitLemmas

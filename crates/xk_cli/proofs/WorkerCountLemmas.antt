@@ -3,7 +3,7 @@ use Rattle.std.proofs.Common.{◌≡◌, ℕ, ◌^◌, ◌<◌, ◌≤◌, ◌&&
 use Rattle.std.specs.Bool.{Decides}
 use Rattle.std.specs.Str.Parse.{IsNumeral, digits_value, without_leading_plus}
 use Rattle.std.proofs.lemmas.Bool.{and_parts, false_from_ne_true, leb-true}
-use Rattle.xk_cli.specs.WorkerCount.{count_within}
+use Rattle.xk_jobs.specs.WorkerCount.{count_within}
 use Rattle.xk_cli.specs.CommandLine.{workers_named}
 use Rattle.xk_cli.specs.Numbers.{is_numeral}
 use Rattle.xk_cli.proofs.NumeralLemmas.{numeral}

@@ -12,23 +12,19 @@ use Rattle.clap.specs.declared.builder.action.ArgAction.TheVariants as action
 use Rattle.clap.specs.declared.builder.value_parser.ValueParser.TheVariants as parser
 use Rattle.clap.specs.declared.error.kind.ErrorKind.{ErrorKind}
 use Rattle.clap.specs.declared.error.kind.ErrorKind.TheVariants as kind
-use Rattle.xk_cli.specs.WorkerCount.{count_within, most_workers, some_processors}
+use Rattle.xk_jobs.specs.WorkerCount.{count_within, most_workers, some_processors}
 use Rattle.xk_cli.specs.Numbers.{count_named, is_numeral, least_number, most_count, most_number, numbers_named}
-use Rattle.xk_cli.specs.Status.{status_done, status_memory, status_words}
-use Rattle.xk_cli.specs.declared.job.Command.{Command}
-use Rattle.xk_cli.specs.declared.job.Command.TheVariants as command
-use Rattle.xk_cli.specs.declared.job.Drive.{Drive}
-use Rattle.xk_cli.specs.declared.job.Drive.TheVariants as drive
-use Rattle.xk_cli.specs.declared.job.Form.{Form}
-use Rattle.xk_cli.specs.declared.job.Form.TheVariants as form
-use Rattle.xk_cli.specs.declared.job.Values.{Values}
-use Rattle.xk_cli.specs.declared.job.Values.TheVariants as values
-use Rattle.xk_cli.specs.declared.job.Order.{Order}
-use Rattle.xk_cli.specs.declared.job.Order.TheVariants as order
-use Rattle.xk_cli.specs.declared.job.Request.{Request}
-use Rattle.xk_cli.specs.declared.job.Request.TheVariants as request
+use Rattle.xk_jobs.specs.Status.{status_done, status_memory, status_words}
+use Rattle.xk_jobs.specs.Tasks.{Asked, ByHand, By, Chart, Check, Compile, Events, Expected, Explain, Greedy, In, Json, Lanes, Listing, OutcomePage, Outcomes, Page, Races, Replay, Run, Span, Tally, Task, Way, Where, Why, hand_task, task_value}
+use Rattle.xk_jobs.specs.declared.job.Command.{Command}
+use Rattle.xk_jobs.specs.declared.job.Form.{Form}
+use Rattle.xk_jobs.specs.declared.job.Form.TheVariants as form
+use Rattle.xk_jobs.specs.declared.job.Order.{Order}
+use Rattle.xk_jobs.specs.declared.job.Order.TheVariants as order
 use Rattle.xk_cli.specs.declared.request.Found.{Found}
 use Rattle.xk_cli.specs.declared.request.Found.TheVariants as found
+use Rattle.xk_cli.specs.declared.misfit.Misfit.{Misfit}
+use Rattle.xk_cli.specs.declared.misfit.Misfit.TheVariants as misfit
 use Rattle.xk_cli.specs.declared.words_fault.WordsFault.{WordsFault}
 use Rattle.xk_cli.specs.declared.words_fault.WordsFault.TheVariants as fault
 
@@ -234,94 +230,10 @@ faults_in names words = fault_of (command_line names) words
 
 -- ---- what the words ask for
 
--- who takes the steps of a run: whom an order names; by rounds whoever can, or so many of these; or so many workers
-pub data Way : Type 0 where
-  In : Order → Way
-  Greedy : Option ℕ → Way
-  By : ℕ → Way
-
-abbrev pub way_value : Drive → Way
-way_value (drive.Order o) = In o
-way_value (drive.Greedy processors) = Greedy (option_map (λ p. p.count) processors)
-way_value (drive.Workers w) = By w.count
-
--- A command without where its texts lie in memory. What is explained may be a JSON value. A run has who takes its steps, and the log's
--- path, where they were given; one by hand, whose order a person is asked for, has the log's path; a tally has the first seed, and how
--- many runs there are. Lanes have the log's path, the first step and the last, where they were given, and may be a picture and have a
--- critical path; a page has the same steps. That of an outcome has its number, how many there are at most, and the same steps. How things stand is told by the
--- log's path, and after a step, where that was given; what a step rests on has both; races have the log's path, where it was given; the
--- others on a log have its path. Outcomes have how many there are at most, which is picked, and the path of its log; numbers of them
--- may have no order. Where they are held against a list they have its path, how many there are at most, and whether numbers of them
--- have no order. Some of these may be told as JSON.
-pub data Task : Type 0 where
-  Check : Task
-  Compile : Task
-  Explain : Bool → Task
-  Listing : Task
-  Run : Option Way → Option Text → Task
-  ByHand : Option Text → Task
-  Tally : ℕ → ℕ → Task
-  Replay : Text → Task
-  Chart : Text → Task
-  Events : Text → Task
-  Lanes : Text → Option ℕ → Option ℕ → Bool → Bool → Task
-  Page : Text → Option ℕ → Option ℕ → Task
-  OutcomePage : ℕ → Option ℕ → Option ℕ → Option ℕ → Task
-  Where : Text → Option ℕ → Task
-  Span : Text → Task
-  Why : Text → ℕ → Task
-  Races : Option Text → Task
-  Outcomes : Option ℕ → Option ℕ → Option Text → Bool → Task
-  Expected : Text → Option ℕ → Bool → Task
-  Json : Task → Task
-
--- what is told as JSON, without where its texts lie in memory
-abbrev pub told_value : Values → Task
-told_value (values.Run given log) = Run (option_map way_value given) (option_map (λ s. s.now) log)
-told_value (values.Events log) = Events log.now
-told_value (values.Outcomes limit pick log sets) = Outcomes limit pick (option_map (λ s. s.now) log) sets
-told_value (values.Expected list limit sets) = Expected list.now limit sets
-
-abbrev pub task_value : Command → Task
-task_value command.Check = Check
-task_value command.Compile = Compile
-task_value (command.Explain json) = Explain json
-task_value command.Listing = Listing
-task_value (command.Run given log) = Run (option_map way_value given) (option_map (λ s. s.now) log)
-task_value (command.Tally seed runs) = Tally seed runs
-task_value (command.Replay log) = Replay log.now
-task_value (command.Chart log) = Chart log.now
-task_value (command.Events log) = Events log.now
-task_value (command.Lanes log from to svg path) = Lanes log.now from to svg path
-task_value (command.Page log from to) = Page log.now from to
-task_value (command.OutcomePage pick limit from to) = OutcomePage pick limit from to
-task_value (command.Where log at) = Where log.now at
-task_value (command.Span log) = Span log.now
-task_value (command.Why log step) = Why log.now step
-task_value (command.Races log) = Races (option_map (λ s. s.now) log)
-task_value (command.Outcomes limit pick log sets) = Outcomes limit pick (option_map (λ s. s.now) log) sets
-task_value (command.Expected list limit sets) = Expected list.now limit sets
-task_value (command.Json v) = Json (told_value v)
-
--- a run by hand, without where the path of its log lies
-abbrev pub hand_task : Option (Bor Text) → Task
-hand_task log = ByHand (option_map (λ s. s.now) log)
-
 -- one of both
 abbrev pub found_task : Found → Task
 found_task (found.Command c) = task_value c
 found_task (found.ByHand log) = hand_task log
-
--- what is asked for, without where its texts and numbers lie in memory
-pub record Asked : Type 0 where
-  pub task : Task
-  pub form : Form
-  pub file : Text
-  pub arguments : List ℤ
-
-abbrev pub asked_value : Request → Asked
-asked_value (request.Job job) = record { task = task_value job.command; form = job.form; file = job.file.now; arguments = job.arguments.items }
-asked_value (request.ByHand run) = record { task = hand_task run.log; form = run.form; file = run.file.now; arguments = run.arguments.items }
 
 -- whether the flag of a name was given: its value is `true` then
 abbrev pub is_flagged : Text → List Row → Bool
@@ -556,69 +468,24 @@ asked_in found = option_and_then (λ p. asked_by p.0 p.1) found
 unfoldable pub job_of : Names → List Text → Option Asked
 job_of names words = asked_in (subcommand_of (command_line names) words)
 
--- both an order and workers were given to the command that was found
-abbrev pub excludes_by : Option (Text × List Row) → Bool
-excludes_by found = option_map_or (λ p. is_both p.1) found false
+-- why what was given to the command of a name doesn't go together
+abbrev pub is_misfit : Text → List Row → Misfit → Bool
+is_misfit name given misfit.OrderAndWorkers = is_both given
+is_misfit name given misfit.SeedAlone = is_seed_alone given
+is_misfit name given misfit.MisplacedRuns = are_runs_misplaced given
+is_misfit name given misfit.ProcessorsAlone = are_processors_alone given
+is_misfit name given misfit.MisplacedList = is_list_misplaced given
+is_misfit name given misfit.PickAlone = is_pick_alone given
+is_misfit name given misfit.UnclearPage = is_page_unclear name given
+is_misfit name given misfit.MisplacedJson = is_json_misplaced given
 
--- the words have an order beside workers, as `clap` takes them apart
-unfoldable pub excludes_in : Names → List Text → Bool
-excludes_in names words = excludes_by (subcommand_of (command_line names) words)
+-- the same of the command that was found
+abbrev pub misfits_by : Option (Text × List Row) → Misfit → Bool
+misfits_by found m = option_map_or (λ p. is_misfit p.0 p.1 m) found false
 
--- a seed was given to the command that was found, and no order by chance
-abbrev pub strays_by : Option (Text × List Row) → Bool
-strays_by found = option_map_or (λ p. is_seed_alone p.1) found false
-
--- the words have a seed for no order by chance, as `clap` takes them apart
-unfoldable pub strays_in : Names → List Text → Bool
-strays_in names words = strays_by (subcommand_of (command_line names) words)
-
--- a number of runs was given to the command that was found, and no order by chance or a log's path
-abbrev pub misplaces_by : Option (Text × List Row) → Bool
-misplaces_by found = option_map_or (λ p. are_runs_misplaced p.1) found false
-
--- the words have a number of runs for no order by chance or beside a log's path, as `clap` takes them apart
-unfoldable pub misplaces_in : Names → List Text → Bool
-misplaces_in names words = misplaces_by (subcommand_of (command_line names) words)
-
--- a number of processors was given to the command that was found, and no order by rounds
-abbrev pub idles_by : Option (Text × List Row) → Bool
-idles_by found = option_map_or (λ p. are_processors_alone p.1) found false
-
--- the words have a number of processors for no order by rounds, as `clap` takes them apart
-unfoldable pub idles_in : Names → List Text → Bool
-idles_in names words = idles_by (subcommand_of (command_line names) words)
-
--- a list was given to the command that was found, and an outcome to pick or a log's path
-abbrev pub crowds_by : Option (Text × List Row) → Bool
-crowds_by found = option_map_or (λ p. is_list_misplaced p.1) found false
-
--- the words have a list beside an outcome to pick or a log's path, as `clap` takes them apart
-unfoldable pub crowds_in : Names → List Text → Bool
-crowds_in names words = crowds_by (subcommand_of (command_line names) words)
-
--- an outcome to pick was given to the command that was found, and no log's path
-abbrev pub picks_by : Option (Text × List Row) → Bool
-picks_by found = option_map_or (λ p. is_pick_alone p.1) found false
-
--- the words have an outcome to pick and no log's path, as `clap` takes them apart
-unfoldable pub picks_in : Names → List Text → Bool
-picks_in names words = picks_by (subcommand_of (command_line names) words)
-
--- `page` was found, and it is unclear of which run
-abbrev pub blurs_by : Option (Text × List Row) → Bool
-blurs_by found = option_map_or (λ p. is_page_unclear p.0 p.1) found false
-
--- the words have `page` so, as `clap` takes them apart
-unfoldable pub blurs_in : Names → List Text → Bool
-blurs_in names words = blurs_by (subcommand_of (command_line names) words)
-
--- `--json` was given to the command that was found, and has no place there
-abbrev pub mutes_by : Option (Text × List Row) → Bool
-mutes_by found = option_map_or (λ p. is_json_misplaced p.1) found false
-
--- the words have it so, as `clap` takes them apart
-unfoldable pub mutes_in : Names → List Text → Bool
-mutes_in names words = mutes_by (subcommand_of (command_line names) words)
+-- the words don't go together so, as `clap` takes them apart
+unfoldable pub misfits_in : Names → List Text → Misfit → Bool
+misfits_in names words m = misfits_by (subcommand_of (command_line names) words) m
 
 -- ---- why words are refused
 
@@ -626,52 +493,26 @@ mutes_in names words = mutes_by (subcommand_of (command_line names) words)
 abbrev pub FitsKind : ErrorKind → WordsFault → Type 0
 FitsKind k (fault.Help text) = (k ≡ kind.DisplayHelp) ⊎ (k ≡ kind.DisplayVersion)
 FitsKind k (fault.NotUnderstood text) = (k ≢ kind.DisplayHelp) × (k ≢ kind.DisplayVersion) × (k ≢ kind.OutOfMemory)
-FitsKind k fault.OrderAndWorkers = ⊥
-FitsKind k fault.SeedAlone = ⊥
-FitsKind k fault.MisplacedRuns = ⊥
-FitsKind k fault.ProcessorsAlone = ⊥
-FitsKind k fault.MisplacedList = ⊥
-FitsKind k fault.PickAlone = ⊥
-FitsKind k fault.UnclearPage = ⊥
-FitsKind k fault.MisplacedJson = ⊥
+FitsKind k (fault.Misfit m) = ⊥
 FitsKind k fault.OutOfMemory = ⊤
 
 -- a mistake is among the kinds: one that is no request for help or for the version
 abbrev pub HasMistake : Kinds → Type 0
 HasMistake kinds = (k : ErrorKind) × IsAmong k kinds × (k ≢ kind.DisplayHelp) × (k ≢ kind.DisplayVersion)
 
--- Help is told only where it was asked for, words are called not understood only where `clap` finds a mistake in them, or where it
--- finds nothing wrong and no job. The order and the workers are called to exclude each other only where both were given, a seed or
--- processors to stand alone only where they do, a number of runs or a list to be misplaced only where it is, an outcome to be picked
--- for no log only where that is so, a page to be of no clear run only where it is, and `--json` to be misplaced only where it is, and
+-- Help is told only where it was asked for. Words are called not understood only where `clap` finds a mistake in them, or where it
+-- finds nothing wrong and no job, and they go together. They are called not to go together only where they don't, for that reason, and
 -- nothing is wrong else.
-abbrev pub IsRefused : Kinds → Option Asked → Bool → Bool → Bool → Bool → Bool → Bool → Bool → Bool → WordsFault → Type 0
-IsRefused kinds asked both alone misplaced crowded unlogged unclear idle mute (fault.Help text) =
-    IsAmong kind.DisplayHelp kinds ⊎ IsAmong kind.DisplayVersion kinds
-IsRefused kinds asked both alone misplaced crowded unlogged unclear idle mute (fault.NotUnderstood text) =
-    HasMistake kinds
-    ⊎ ((kinds ≡ []) × (asked ≡ None) × (both ≡ false) × (alone ≡ false) × (misplaced ≡ false) × (crowded ≡ false) × (unlogged ≡ false)
-    × (unclear ≡ false) × (idle ≡ false) × (mute ≡ false))
-IsRefused kinds asked both alone misplaced crowded unlogged unclear idle mute fault.OrderAndWorkers = (kinds ≡ []) × (both ≡ true)
-IsRefused kinds asked both alone misplaced crowded unlogged unclear idle mute fault.SeedAlone = (kinds ≡ []) × (alone ≡ true)
-IsRefused kinds asked both alone misplaced crowded unlogged unclear idle mute fault.MisplacedRuns = (kinds ≡ []) × (misplaced ≡ true)
-IsRefused kinds asked both alone misplaced crowded unlogged unclear idle mute fault.ProcessorsAlone = (kinds ≡ []) × (idle ≡ true)
-IsRefused kinds asked both alone misplaced crowded unlogged unclear idle mute fault.MisplacedList = (kinds ≡ []) × (crowded ≡ true)
-IsRefused kinds asked both alone misplaced crowded unlogged unclear idle mute fault.PickAlone = (kinds ≡ []) × (unlogged ≡ true)
-IsRefused kinds asked both alone misplaced crowded unlogged unclear idle mute fault.UnclearPage = (kinds ≡ []) × (unclear ≡ true)
-IsRefused kinds asked both alone misplaced crowded unlogged unclear idle mute fault.MisplacedJson = (kinds ≡ []) × (mute ≡ true)
-IsRefused kinds asked both alone misplaced crowded unlogged unclear idle mute fault.OutOfMemory = ⊤
+abbrev pub IsRefused : Kinds → Option Asked → (Misfit → Bool) → WordsFault → Type 0
+IsRefused kinds asked misfits (fault.Help text) = IsAmong kind.DisplayHelp kinds ⊎ IsAmong kind.DisplayVersion kinds
+IsRefused kinds asked misfits (fault.NotUnderstood text) =
+    HasMistake kinds ⊎ ((kinds ≡ []) × (asked ≡ None) × ((m : Misfit) → misfits m ≡ false))
+IsRefused kinds asked misfits (fault.Misfit m) = (kinds ≡ []) × (misfits m ≡ true)
+IsRefused kinds asked misfits fault.OutOfMemory = ⊤
 
 -- the status that the program ends with
 abbrev pub status_of : WordsFault → ℕ
 status_of (fault.Help text) = status_done
 status_of (fault.NotUnderstood text) = status_words
-status_of fault.OrderAndWorkers = status_words
-status_of fault.SeedAlone = status_words
-status_of fault.MisplacedRuns = status_words
-status_of fault.ProcessorsAlone = status_words
-status_of fault.MisplacedList = status_words
-status_of fault.PickAlone = status_words
-status_of fault.UnclearPage = status_words
-status_of fault.MisplacedJson = status_words
+status_of (fault.Misfit m) = status_words
 status_of fault.OutOfMemory = status_memory

@@ -6,12 +6,13 @@ ghost use Rattle.xk_cli.specs.CommandLine.{are_processors_alone, are_runs_mispla
 ghost use Rattle.xk_cli.specs.CommandLine.{is_flagged, is_list_misplaced, is_order, is_pick_alone, is_seed_alone, order_in};
 ghost use Rattle.xk_cli.specs.CommandLine.{is_json, is_json_misplaced, is_page_unclear};
 ghost use Rattle.xk_cli.specs.CommandLine.{is_run_unclear, order_named, processors_in, seed_in};
-ghost use Rattle.xk_cli.specs.CommandLine.{way_value, workers_in, workers_named};
+ghost use Rattle.xk_jobs.specs.Tasks.{way_value};
+ghost use Rattle.xk_cli.specs.CommandLine.{workers_in, workers_named};
 
-use crate::job::{Drive, Form, Order, Processors, Workers};
 use crate::numbers::{count_named, numbers_named};
 use clap::ArgMatches;
 use std::alloc::{AllocError, Global};
+use xk_jobs::{Drive, Form, Order, Processors, Workers};
 
 /// The numbers that were given, one for each `--arg`, in their order.
 pub(crate) fn arguments_in(

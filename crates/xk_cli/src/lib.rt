@@ -3,18 +3,12 @@
 
 mod commands;
 mod given;
-mod job;
+mod misfit;
 mod numbers;
 mod options;
 mod request;
-pub mod status;
 mod words_fault;
 
-pub use job::{
-    Command, Drive, Form, HandRun, Job, MOST_WORKERS, Order, Processors, Request, Values, Workers,
-};
+pub use misfit::Misfit;
 pub use request::read_job;
-pub use words_fault::{
-    EXCLUDED_LINE, JSON_LINE, LIST_LINE, PAGE_LINE, PICK_LINE, PROCESSORS_LINE, RUNS_LINE,
-    SEED_LINE, WordsFault,
-};
+pub use words_fault::WordsFault;

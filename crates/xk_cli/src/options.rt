@@ -7,10 +7,10 @@ ghost use Rattle.xk_cli.specs.CommandLine.{flag, from_option, json_flag, limit_o
 ghost use Rattle.xk_cli.specs.CommandLine.{log_option, log_place, module_flag, option, order_option, outcome_option, place};
 ghost use Rattle.xk_cli.specs.CommandLine.{seed_option, step_place, to_option, workers_option};
 
-use crate::job::MOST_WORKERS;
 use clap::builder::ValueParser;
 use clap::{Arg, ArgAction};
 use std::alloc::Global;
+use xk_jobs::MOST_WORKERS;
 
 /// The names of the orders.
 static ORDERS: [&str; 6] = ["first", "last", "round", "random", "greedy", "ask"];

@@ -1,15 +1,13 @@
 //! What the words ask for: from what `clap` finds in them to a request, or to why they are none.
 
-ghost use Rattle.std.specs.Prelude.{◌≡◌, [], false, Some, None, IfOk, OnOk, IfErr, option_map};
+ghost use Rattle.std.specs.Prelude.{◌≡◌, [], false, Some, None, IfNone, IfOk, IfSome, OnOk, IfErr, option_map, true};
 ghost use Rattle.clap.specs.Words.{found_of, kind_of, rows_of, subcommand_rows_of};
-ghost use Rattle.xk_cli.specs.CommandLine.{FitsKind, IsRefused, WithOrders, are_processors_alone, are_runs_misplaced, asked_by, asked_in};
-ghost use Rattle.xk_cli.specs.CommandLine.{asked_of, asked_value, command_by, command_by_log, command_on, crowds_by};
-ghost use Rattle.xk_cli.specs.CommandLine.{crowds_in, excludes_by, excludes_in, faults_in, found_task, is_both};
-ghost use Rattle.xk_cli.specs.CommandLine.{blurs_by, blurs_in, idles_by, idles_in, is_page_unclear, outcome_page_of, page_by};
-ghost use Rattle.xk_cli.specs.CommandLine.{is_list_misplaced, is_pick_alone, is_seed_alone, job_of, misplaces_by, misplaces_in};
-ghost use Rattle.xk_cli.specs.CommandLine.{outcomes_by, outcomes_in, picks_by, picks_in, run_asked, run_by, run_in, strays_by, strays_in};
-ghost use Rattle.xk_cli.specs.CommandLine.{Events, Run, check_in, is_json_misplaced, mutes_by, mutes_in, outcomes_of};
-ghost use Rattle.xk_cli.specs.CommandLine.{task_by, task_value, texts, told_as, way_value, why_on};
+ghost use Rattle.xk_cli.specs.declared.misfit.Misfit.{Misfit as AMisfit};
+ghost use Rattle.xk_cli.specs.CommandLine.{FitsKind, IsRefused, WithOrders, asked_by, asked_in, asked_of, check_in, command_by};
+ghost use Rattle.xk_cli.specs.CommandLine.{command_by_log, faults_in, found_task, is_misfit, job_of, misfits_by, misfits_in};
+ghost use Rattle.xk_cli.specs.CommandLine.{outcome_page_of, outcomes_by, outcomes_of, page_by, run_by, run_in, task_by, texts};
+ghost use Rattle.xk_cli.specs.CommandLine.{told_as, why_on};
+ghost use Rattle.xk_jobs.specs.Tasks.{Events, Run, asked_value, task_value, way_value};
 
 use crate::commands::line;
 use crate::given::{
@@ -17,11 +15,12 @@ use crate::given::{
     is_both, is_flagged, is_json, is_json_misplaced, is_list_misplaced, is_order, is_page_unclear,
     is_pick_alone, is_run_unclear, is_seed_alone, seed_in,
 };
-use crate::job::{Command, Drive, Form, HandRun, Job, Request, Values};
+use crate::misfit::Misfit;
 use crate::words_fault::WordsFault;
 use clap::ArgMatches;
 use clap::error::ErrorKind;
 use std::alloc::{AllocError, Global};
+use xk_jobs::{Command, Drive, Form, HandRun, Job, Request, Values};
 
 /// What is to be done with a file.
 #[derive(Clone, Copy)]
@@ -41,13 +40,7 @@ pub fn read_job<'a>(alloc: Global, words: &'a [&'a str]) -> Result<Request<'a>, 
         faults_in names (texts words.entry.now) ≡ [])) }
     ensures refused { IfErr result (λ fault. WithOrders (λ names. IsRefused
         (faults_in names (texts words.entry.now)) (job_of names (texts words.entry.now))
-        (excludes_in names (texts words.entry.now)) (strays_in names (texts words.entry.now))
-        (misplaces_in names (texts words.entry.now))
-        (crowds_in names (texts words.entry.now))
-        (picks_in names (texts words.entry.now))
-        (blurs_in names (texts words.entry.now))
-        (idles_in names (texts words.entry.now))
-        (mutes_in names (texts words.entry.now)) fault)) }
+        (misfits_in names (texts words.entry.now)) fault)) }
 {
     let command_line = line(alloc)?;
     match command_line.try_get_matches_from(words) {
@@ -61,14 +54,7 @@ fn asked<'a>(alloc: Global, matches: &ArgMatches<'a>) -> Result<Request<'a>, Wor
     ensures job { IfOk result
         (λ asked. asked_in (subcommand_rows_of matches.now) ≡ Some (asked_value asked)) }
     ensures refused { IfErr result (IsRefused [] (asked_in (subcommand_rows_of matches.now))
-        (excludes_by (subcommand_rows_of matches.now))
-        (strays_by (subcommand_rows_of matches.now))
-        (misplaces_by (subcommand_rows_of matches.now))
-        (crowds_by (subcommand_rows_of matches.now))
-        (picks_by (subcommand_rows_of matches.now))
-        (blurs_by (subcommand_rows_of matches.now))
-        (idles_by (subcommand_rows_of matches.now))
-        (mutes_by (subcommand_rows_of matches.now))) }
+        (misfits_by (subcommand_rows_of matches.now))) }
 {
     match matches.subcommand() {
         Some((name, given)) => asked_by(alloc, name, given),
@@ -86,14 +72,7 @@ fn asked_by<'a>(
         (λ asked. asked_by name.now (rows_of (found_of given.now)) ≡ Some (asked_value asked)) }
     ensures refused { IfErr result
         (IsRefused [] (asked_by name.now (rows_of (found_of given.now)))
-        (is_both (rows_of (found_of given.now)))
-        (is_seed_alone (rows_of (found_of given.now)))
-        (are_runs_misplaced (rows_of (found_of given.now)))
-        (is_list_misplaced (rows_of (found_of given.now)))
-        (is_pick_alone (rows_of (found_of given.now)))
-        (is_page_unclear name.now (rows_of (found_of given.now)))
-        (are_processors_alone (rows_of (found_of given.now)))
-        (is_json_misplaced (rows_of (found_of given.now)))) }
+        (is_misfit name.now (rows_of (found_of given.now)))) }
 {
     match request_by(alloc, name, given)? {
         Some(request) => Ok(request),
@@ -369,48 +348,53 @@ fn found_in<'a>(given: &ArgMatches<'a>) -> Command<'a>
     }
 }
 
-/// Why a command with what was given to it is no job: an order stands beside workers, or a seed, a number of runs or of
-/// processors, a list, an outcome to pick or `--json` has no place there, or it is unclear of which run a page is to be.
+/// Why a command with what was given to it is no job.
 fn no_job(alloc: Global, name: &str, given: &ArgMatches<'_>) -> WordsFault
-    ensures { IsRefused [] None (is_both (rows_of (found_of given.now)))
-        (is_seed_alone (rows_of (found_of given.now)))
-        (are_runs_misplaced (rows_of (found_of given.now)))
-        (is_list_misplaced (rows_of (found_of given.now)))
-        (is_pick_alone (rows_of (found_of given.now)))
-        (is_page_unclear name.now (rows_of (found_of given.now)))
-        (are_processors_alone (rows_of (found_of given.now)))
-        (is_json_misplaced (rows_of (found_of given.now))) result }
+    ensures { IsRefused [] None (is_misfit name.now (rows_of (found_of given.now))) result }
+{
+    match misfit(name, given) {
+        Some(misfit) => WordsFault::Misfit(misfit),
+        None => not_a_job(alloc),
+    }
+}
+
+/// Why what was given to the command of this name doesn't go together, if it doesn't.
+#[tactic(auto, using(crate::proofs::MisfitLemmas::no_misfit))]
+fn misfit(name: &str, given: &ArgMatches<'_>) -> Option<Misfit>
+    ensures some { IfSome result (λ m. is_misfit name.now (rows_of (found_of given.now)) m ≡ true) }
+    ensures none { IfNone result
+        ((m : AMisfit) → is_misfit name.now (rows_of (found_of given.now)) m ≡ false) }
 {
     if is_both(given) {
-        return WordsFault::OrderAndWorkers;
+        return Some(Misfit::OrderAndWorkers);
     }
     if is_seed_alone(given) {
-        return WordsFault::SeedAlone;
+        return Some(Misfit::SeedAlone);
     }
     if are_runs_misplaced(given) {
-        return WordsFault::MisplacedRuns;
+        return Some(Misfit::MisplacedRuns);
     }
     if are_processors_alone(given) {
-        return WordsFault::ProcessorsAlone;
+        return Some(Misfit::ProcessorsAlone);
     }
     if is_list_misplaced(given) {
-        return WordsFault::MisplacedList;
+        return Some(Misfit::MisplacedList);
     }
     if is_pick_alone(given) {
-        return WordsFault::PickAlone;
+        return Some(Misfit::PickAlone);
     }
     if is_page_unclear(name, given) {
-        return WordsFault::UnclearPage;
+        return Some(Misfit::UnclearPage);
     }
     if is_json_misplaced(given) {
-        return WordsFault::MisplacedJson;
+        return Some(Misfit::MisplacedJson);
     }
-    not_a_job(alloc)
+    None
 }
 
 /// The fault where `clap` took the words, nothing in them excludes anything else, and they name no job. It doesn't come to that.
 fn not_a_job(alloc: Global) -> WordsFault
-    ensures { IsRefused [] None false false false false false false false false result }
+    ensures { IsRefused [] None (λ m. false) result }
 {
     match String::from_str(alloc, "error: no command on a file was given\n") {
         Ok(text) => WordsFault::NotUnderstood(text),

@@ -3,7 +3,7 @@ use Rattle.std.specs.Prelude.{ℕ, List, [], ◌++◌, flat_map, codes, decimal,
 use Rattle.xk_types.specs.declared.rules.Rule.{Rule}
 use Rattle.xk_types.specs.declared.rules.Visit.{Visit}
 use Rattle.xk_types.specs.RuleNames.{rule_number, rule_name, kind_name}
-use Rattle.xk_cli.specs.Status.{status_memory, status_program}
+use Rattle.xk_jobs.specs.Status.{status_memory, status_program}
 use Rattle.xk_tree.specs.declared.fault.FrontFault.{FrontFault}
 use Rattle.xk_tree.specs.Fault.{front_number, front_name}
 use Rattle.xk_typestate.specs.declared.fault.KindFault.{KindFault}

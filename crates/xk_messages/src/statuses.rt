@@ -5,7 +5,7 @@ ghost use Rattle.xk_module.specs.Faults.{fault_label};
 ghost use Rattle.xk_messages.specs.Lines.{label_status, refusal_status};
 
 use xk_bounds::Refusal;
-use xk_cli::status;
+use xk_jobs::status;
 use xk_module::ModuleFault;
 
 /// The status of a fault of the module text.

@@ -9,8 +9,8 @@ use Rattle.xk_tree.specs.declared.fault.FrontError.TheVariants as error
 use Rattle.xk_tree.specs.declared.tree.Tree.{Tree}
 use Rattle.xk_syntax.specs.Faults.{IsRefused, IsTextRule}
 use Rattle.xk_codegen.specs.Faults.{IsFaultOf}
-use Rattle.xk_cli.specs.declared.job.Form.{Form}
-use Rattle.xk_cli.specs.declared.job.Form.TheVariants as form
+use Rattle.xk_jobs.specs.declared.job.Form.{Form}
+use Rattle.xk_jobs.specs.declared.job.Form.TheVariants as form
 use Rattle.xk_program.specs.Faults.{GivesNoModule, of_front}
 use Rattle.xk_program.specs.Programs.{IsNoSource, IsNoText, IsSource, IsUnfit, IsUnspelled, longest_source}
 

@@ -1,8 +1,8 @@
 -- What reading to the end does to devices, and what is kept of a file. This project's own.
 use Rattle.std.specs.Prelude.{◌≡◌, ◌≤◌, ℕ, ⊤, ◌+◌, List, length, take, Option, Some, None}
 use Rattle.xk_types.specs.Device.{Rose}
-use Rattle.xk_cli.specs.declared.job.Form.{Form}
-use Rattle.xk_cli.specs.declared.job.Form.TheVariants as form
+use Rattle.xk_jobs.specs.declared.job.Form.{Form}
+use Rattle.xk_jobs.specs.declared.job.Form.TheVariants as form
 use Rattle.xk_program.specs.declared.fault.Fault.{Fault}
 use Rattle.xk_program.specs.declared.fault.Fault.TheVariants as fault
 use Rattle.xk_program.specs.Programs.{longest_module, longest_source}

@@ -1,8 +1,8 @@
 -- What stands against a job, of what the readers, the compiler or the verifier say. Want of memory is one fault, whoever met it. This
 -- project's own.
 use Rattle.std.specs.Prelude.{◌≡◌, ℕ, ⊤, List}
-use Rattle.xk_cli.specs.declared.job.Form.{Form}
-use Rattle.xk_cli.specs.declared.job.Form.TheVariants as forms
+use Rattle.xk_jobs.specs.declared.job.Form.{Form}
+use Rattle.xk_jobs.specs.declared.job.Form.TheVariants as forms
 use Rattle.xk_module.specs.declared.fault.ModuleFault.{ModuleFault}
 use Rattle.xk_module.specs.declared.fault.ModuleFault.TheVariants as text
 use Rattle.xk_tree.specs.declared.fault.FrontError.{FrontError}

@@ -1,7 +1,7 @@
 -- The line of a fault, with a line feed at its end, and its status. This project's own.
 use Rattle.std.specs.Prelude.{ℕ, List, codes}
 use Rattle.xk_messages.specs.Lines.{arguments_line, front_text, grammar_line, label_line, label_status, line, memory_line, no_outcome_line, not_enabled_line, refusal_line, refusal_status}
-use Rattle.xk_cli.specs.Status.{status_device, status_log, status_memory, status_program}
+use Rattle.xk_jobs.specs.Status.{status_device, status_log, status_memory, status_program}
 use Rattle.xk_module.specs.Faults.{fault_label}
 use Rattle.xk_program.specs.declared.fault.Fault.{Fault}
 use Rattle.xk_program.specs.declared.fault.Fault.TheVariants as fault

@@ -6,8 +6,8 @@ use Rattle.xk_tree.specs.declared.fault.FrontFault.{FrontFault}
 use Rattle.xk_names.specs.Captures.{shared_texts}
 use Rattle.xk_unit_origins.specs.UnitOrigins.{UnitOrigins}
 use Rattle.xk_origins.specs.Laws.{AreOrigins}
-use Rattle.xk_cli.specs.declared.job.Form.{Form}
-use Rattle.xk_cli.specs.declared.job.Form.TheVariants as form
+use Rattle.xk_jobs.specs.declared.job.Form.{Form}
+use Rattle.xk_jobs.specs.declared.job.Form.TheVariants as form
 use Rattle.xk_program.specs.declared.program_loader.Provenance.{Provenance}
 use Rattle.xk_program.specs.Programs.{GiveNone, Gives, IsNoSource, IsNoText, IsSource}
 

@@ -14,8 +14,8 @@ use Rattle.xk_syntax.specs.Spelling.{SpellsTree}
 use Rattle.xk_syntax.specs.Faults.{IsTextRule}
 use Rattle.xk_source_semantics.specs.Compilation.{IsCompiled}
 use Rattle.xk_codegen.specs.Faults.{IsFaultOf, IsClean, IsFalling}
-use Rattle.xk_cli.specs.declared.job.Form.{Form}
-use Rattle.xk_cli.specs.declared.job.Form.TheVariants as form
+use Rattle.xk_jobs.specs.declared.job.Form.{Form}
+use Rattle.xk_jobs.specs.declared.job.Form.TheVariants as form
 
 -- ---- module texts
 

@@ -6,7 +6,7 @@ ghost use Rattle.xk_program.specs.Bytes.{FailsRead, IsReadToLimit, LosesAtMost, 
 use crate::fault::Fault;
 use crate::program_loader::{LONGEST_MODULE, LONGEST_SOURCE};
 use std::alloc::Global;
-use xk_cli::Form;
+use xk_jobs::Form;
 use xk_types::Source;
 
 /// How many bytes one read asks for.

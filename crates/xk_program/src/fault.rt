@@ -7,7 +7,7 @@ ghost use Rattle.xk_messages.specs.Lines.{label_status, refusal_status};
 use std::alloc::{AllocError, Global};
 use thiserror::Error;
 use xk_bounds::Refusal;
-use xk_cli::status;
+use xk_jobs::status;
 use xk_log::{Log, LogFault};
 use xk_messages::{
     MEMORY_LINE, arguments_line, front_text, grammar_line, label_line, label_status, line,

@@ -7,13 +7,13 @@ ghost use Rattle.xk_program.specs.Faults.{GivesNoModule};
 ghost use Rattle.xk_program.specs.Origins.{HaveOrigins, HaveSharedNames, IsFrom};
 ghost use Rattle.xk_program.specs.Programs.{Gives, IsNoText, IsSource, IsUnfit, IsUnfitModule, IsUnspelled, longest_source};
 ghost use Rattle.xk_tree.specs.Program.{tree_value};
-ghost use Rattle.xk_cli.specs.declared.job.Form.TheVariants as form;
+ghost use Rattle.xk_jobs.specs.declared.job.Form.TheVariants as form;
 
 use crate::fault::Fault;
 use crate::shared_names::shared_names;
 use std::alloc::{AllocError, Global};
-use xk_cli::Form;
 use xk_codegen::compile;
+use xk_jobs::Form;
 use xk_module::{ModuleFault, read_module};
 use xk_origins::origins;
 use xk_syntax::parse;

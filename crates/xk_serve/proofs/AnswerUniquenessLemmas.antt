@@ -24,9 +24,9 @@ use Rattle.xk_module.proofs.TextLemmas.{one_module}
 use Rattle.xk_replay.specs.Replay.{IsLegal, IsStoppedAt, IsWhole}
 use Rattle.xk_replay.proofs.VerdictLemmas.{legal_not_stopped}
 use Rattle.xk_tree.specs.declared.fault.FrontFault.{FrontFault}
-use Rattle.xk_cli.specs.declared.job.Form.{Form}
-use Rattle.xk_cli.specs.declared.job.Form.TheVariants as form
-use Rattle.xk_cli.specs.CommandLine.{By, Greedy, In}
+use Rattle.xk_jobs.specs.declared.job.Form.{Form}
+use Rattle.xk_jobs.specs.declared.job.Form.TheVariants as form
+use Rattle.xk_jobs.specs.Tasks.{By, Greedy, In}
 use Rattle.xk_answers.specs.declared.job_result.Done.{Done}
 use Rattle.xk_answers.specs.declared.job_result.Done.TheVariants as done
 use Rattle.xk_program.specs.declared.fault.Fault.{Fault}

@@ -1,9 +1,9 @@
 -- Which command explains: what its task does then, and what it says of a fault else.
 use Rattle.std.proofs.Common.{◌≡◌, ℕ, Bool, List, [], Some, None}
-use Rattle.xk_cli.specs.CommandAnswers.{explanation}
-use Rattle.xk_cli.specs.declared.job.Command.{Command}
-use Rattle.xk_cli.specs.declared.job.Command.TheVariants as command
-use Rattle.xk_cli.specs.declared.job.Form.{Form}
+use Rattle.xk_jobs.specs.CommandAnswers.{explanation}
+use Rattle.xk_jobs.specs.declared.job.Command.{Command}
+use Rattle.xk_jobs.specs.declared.job.Command.TheVariants as command
+use Rattle.xk_jobs.specs.declared.job.Form.{Form}
 use Rattle.xk_program.specs.declared.fault.Fault.{Fault}
 use Rattle.xk_answers.specs.Results.{Explain}
 use Rattle.xk_serve.specs.Answer.{IsSaidBy, doing_of}

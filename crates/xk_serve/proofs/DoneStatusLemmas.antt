@@ -1,7 +1,7 @@
 -- What a job comes to has the status of what is done, where that is one.
 use Rattle.std.proofs.Common.{◌≡◌, ℕ, ℤ, true, false, List, None, Some, refl, ap}
 use Rattle.xk_types.specs.Code.{ModuleValue}
-use Rattle.xk_cli.specs.CommandLine.{By, Greedy, In}
+use Rattle.xk_jobs.specs.Tasks.{By, Greedy, In}
 use Rattle.xk_answers.specs.declared.job_result.Done.{Done}
 use Rattle.xk_answers.specs.declared.job_result.Done.TheVariants as done
 use Rattle.xk_answers.specs.Printed.{done_status, whole_status}

@@ -14,8 +14,8 @@ use Rattle.xk_bounds.specs.declared.refusal.Refusal.TheVariants as refusal
 use Rattle.xk_bounds.specs.Refusals.{Refuses}
 use Rattle.xk_messages.specs.Lines.{refusal_status}
 use Rattle.xk_program.specs.Lines.{fault_line}
-use Rattle.xk_cli.specs.declared.job.Form.{Form}
-use Rattle.xk_cli.specs.declared.job.Form.TheVariants as form
+use Rattle.xk_jobs.specs.declared.job.Form.{Form}
+use Rattle.xk_jobs.specs.declared.job.Form.TheVariants as form
 use Rattle.xk_program.specs.Origins.{GiveProgram, HaveTree, Program}
 use Rattle.xk_program.specs.Programs.{GiveNone, Gives}
 use Rattle.xk_program.specs.declared.fault.Fault.{Fault}

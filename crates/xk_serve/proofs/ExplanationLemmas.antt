@@ -1,7 +1,7 @@
 -- Of want of memory and of devices nothing is said on standard output.
 use Rattle.std.proofs.Common.{ℕ, Bool, List, inl, inr}
 use Rattle.xk_bounds.specs.declared.refusal.Refusal.TheVariants as refusal
-use Rattle.xk_cli.specs.declared.job.Form.{Form}
+use Rattle.xk_jobs.specs.declared.job.Form.{Form}
 use Rattle.xk_module.specs.declared.fault.ModuleFault.TheVariants as text
 use Rattle.xk_program.specs.declared.fault.Fault.{Fault}
 use Rattle.xk_program.specs.declared.fault.Fault.TheVariants as fault

@@ -3,8 +3,8 @@ use Rattle.std.proofs.Common.{ℕ, ℤ, Bool, List, Option, None, Some, false, t
 use Rattle.xk_types.specs.declared.world.Entry.{Entry}
 use Rattle.xk_types.specs.Code.{ModuleValue}
 use Rattle.xk_scheduler.proofs.UnloggedRunLemmas.{run_weaker}
-use Rattle.xk_cli.specs.CommandLine.{By}
-use Rattle.xk_cli.specs.declared.job.Order.TheVariants as order
+use Rattle.xk_jobs.specs.Tasks.{By}
+use Rattle.xk_jobs.specs.declared.job.Order.TheVariants as order
 use Rattle.xk_answers.specs.OrderedRun.{FollowsOrder, IsFinished, IsUncountedBy}
 
 -- with the log or without

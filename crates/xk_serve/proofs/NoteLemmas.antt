@@ -9,8 +9,8 @@ use Rattle.xk_types.specs.Device.{Rose}
 use Rattle.xk_io.specs.Writing.{AppendsBeginning}
 use Rattle.xk_io.proofs.DeviceLemmas.{appends_then, beginning_more, beginning_then}
 use Rattle.xk_log.specs.LogText.{ended, head_line}
-use Rattle.xk_cli.specs.declared.job.Form.{Form}
-use Rattle.xk_cli.specs.declared.job.Form.TheVariants as form
+use Rattle.xk_jobs.specs.declared.job.Form.{Form}
+use Rattle.xk_jobs.specs.declared.job.Form.TheVariants as form
 use Rattle.xk_answers.specs.Results.{Doing, Draw, lanes_given}
 use Rattle.xk_program.specs.Bytes.{FailsRead, kept}
 use Rattle.xk_program.specs.Programs.{longest_module, longest_source}

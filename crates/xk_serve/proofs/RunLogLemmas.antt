@@ -11,9 +11,9 @@ use Rattle.xk_bounds.specs.declared.refusal.Refusal.TheVariants as refusal
 use Rattle.xk_scheduler.proofs.UnloggedRunLemmas.{run_weaker}
 use Rattle.xk_replay.specs.Chart.{chart_text}
 use Rattle.xk_replay.proofs.RunLogLemmas.{run_is_log}
-use Rattle.xk_cli.specs.declared.job.Form.{Form}
-use Rattle.xk_cli.specs.declared.job.Form.TheVariants as form
-use Rattle.xk_cli.specs.CommandLine.{By, Greedy, In, Way}
+use Rattle.xk_jobs.specs.declared.job.Form.{Form}
+use Rattle.xk_jobs.specs.declared.job.Form.TheVariants as form
+use Rattle.xk_jobs.specs.Tasks.{By, Greedy, In, Way}
 use Rattle.xk_answers.specs.declared.job_result.Done.{Done}
 use Rattle.xk_answers.specs.declared.job_result.Done.TheVariants as done
 use Rattle.xk_program.specs.declared.fault.Fault.{Fault}

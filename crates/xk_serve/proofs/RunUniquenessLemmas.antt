@@ -20,8 +20,8 @@ use Rattle.xk_scheduler.specs.Choosers.{Follows, enabled_in, goes_on, turn_after
 use Rattle.xk_scheduler.specs.WholeRuns.{IsRunThat}
 use Rattle.xk_scheduler.proofs.EnabledSetLemmas.{going}
 use Rattle.xk_replay.proofs.VerdictLemmas.{leads_from}
-use Rattle.xk_cli.specs.declared.job.Order.{Order}
-use Rattle.xk_cli.specs.declared.job.Order.TheVariants as order
+use Rattle.xk_jobs.specs.declared.job.Order.{Order}
+use Rattle.xk_jobs.specs.declared.job.Order.TheVariants as order
 use Rattle.xk_answers.specs.OrderedRun.{FollowsOrder, IsGreedyRun, IsLoggedGreedyRun, IsLoggedRun, IsOrderedRun}
 use Rattle.xk_answers.proofs.OrderedRunLemmas.{follows_rounds_once}
 use Rattle.xk_replay.specs.Replay.{IsLegal}

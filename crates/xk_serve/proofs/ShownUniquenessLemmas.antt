@@ -8,7 +8,7 @@ use Rattle.xk_outcomes.specs.Expected.{stray_line}
 use Rattle.xk_log.specs.LogText.{log_text}
 use Rattle.xk_json.specs.Objects.{json_line}
 use Rattle.xk_show_json.specs.Runs.{run_value}
-use Rattle.xk_cli.specs.CommandLine.{By, Greedy, In, Way}
+use Rattle.xk_jobs.specs.Tasks.{By, Greedy, In, Way}
 use Rattle.xk_answers.specs.declared.job_result.Done.{Done}
 use Rattle.xk_answers.specs.declared.job_result.Done.TheVariants as done
 use Rattle.xk_answers.specs.OrderedRun.{IsFinished}

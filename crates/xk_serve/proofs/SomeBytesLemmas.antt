@@ -3,7 +3,7 @@ use Rattle.std.proofs.Common.{◌≡◌, ◌≢◌, ◌⊎◌, ℕ, List, [], Op
 use Rattle.std.specs.Prelude.{IfErr, IfOk}
 use Rattle.xk_log.specs.SomeBytes.{OfSome}
 use Rattle.std.specs.Io.KnownBytes.{Appends}
-use Rattle.xk_cli.specs.declared.job.Form.{Form}
+use Rattle.xk_jobs.specs.declared.job.Form.{Form}
 use Rattle.xk_answers.specs.declared.job_result.Done.{Done}
 use Rattle.xk_answers.specs.Printed.{done_status}
 use Rattle.xk_answers.specs.Results.{Check, Compile, Doing, Draw, Expected, Explain, Listing}

@@ -11,8 +11,8 @@ use Rattle.xk_origins.specs.Laws.{AreOrigins}
 use Rattle.xk_hints.specs.Words.{HintValue, hints}
 use Rattle.xk_listing.proofs.ListingLemmas.{one_listing}
 use Rattle.xk_random.proofs.RunLemmas.{tally_once}
-use Rattle.xk_cli.specs.declared.job.Form.{Form}
-use Rattle.xk_cli.specs.declared.job.Form.TheVariants as form
+use Rattle.xk_jobs.specs.declared.job.Form.{Form}
+use Rattle.xk_jobs.specs.declared.job.Form.TheVariants as form
 use Rattle.xk_types.specs.declared.world.Entry.{Entry}
 use Rattle.xk_answers.specs.declared.picture.Picture.{Picture}
 use Rattle.xk_answers.specs.declared.picture.Picture.TheVariants as picture
@@ -22,7 +22,7 @@ use Rattle.xk_program.specs.Origins.{HaveOrigins, HaveSharedNames, IsByNames, Is
 use Rattle.xk_answers.specs.Explanation.{HaveHints, IsListed, Tale, acceptance_told, event_values_so_far, events_so_far, image_so_far}
 use Rattle.xk_answers.specs.Explanation.{lanes_so_far, page_so_far, path_told, races_told, span_told, where_told}
 use Rattle.xk_answers.specs.Explanation.{why_told}
-use Rattle.xk_cli.specs.declared.job.Order.TheVariants as order
+use Rattle.xk_jobs.specs.declared.job.Order.TheVariants as order
 use Rattle.xk_program.specs.Programs.{Gives}
 use Rattle.xk_types.specs.World.{World}
 use Rattle.xk_serve.specs.OneAnswer.{HasOneStatus}

@@ -3,13 +3,13 @@ use Rattle.std.specs.Prelude.{◌≡◌, ℕ, ⊤, ◌⊎◌, ℤ, ◌||◌, Boo
 use Rattle.xk_types.specs.Code.{ModuleValue}
 use Rattle.xk_types.specs.World.{AreArguments}
 use Rattle.xk_types.specs.Acceptance.{IsAccepted}
-use Rattle.xk_cli.specs.declared.job.Command.{Command}
-use Rattle.xk_cli.specs.declared.job.Command.TheVariants as command
-use Rattle.xk_cli.specs.declared.job.Values.{Values}
-use Rattle.xk_cli.specs.declared.job.Values.TheVariants as values
-use Rattle.xk_cli.specs.declared.job.Form.{Form}
-use Rattle.xk_cli.specs.declared.job.Form.TheVariants as form
-use Rattle.xk_cli.specs.declared.job.Job.{Job}
+use Rattle.xk_jobs.specs.declared.job.Command.{Command}
+use Rattle.xk_jobs.specs.declared.job.Command.TheVariants as command
+use Rattle.xk_jobs.specs.declared.job.Values.{Values}
+use Rattle.xk_jobs.specs.declared.job.Values.TheVariants as values
+use Rattle.xk_jobs.specs.declared.job.Form.{Form}
+use Rattle.xk_jobs.specs.declared.job.Form.TheVariants as form
+use Rattle.xk_jobs.specs.declared.job.Job.{Job}
 use Rattle.xk_bounds.specs.Refusals.{Refuses}
 use Rattle.xk_bounds.specs.declared.refusal.Refusal.TheVariants as refusal
 use Rattle.xk_answers.specs.declared.job_result.Done.{Done}

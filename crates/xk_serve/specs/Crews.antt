@@ -4,8 +4,8 @@ use Rattle.std.specs.Borrow.{Bor}
 use Rattle.std.specs.declared.alloc.AllocError.{AllocError}
 use Rattle.xk_types.specs.Code.{ModuleValue}
 use Rattle.xk_types.specs.World.{AreArguments}
-use Rattle.xk_cli.specs.CommandLine.{way_value}
-use Rattle.xk_cli.specs.declared.job.Drive.{Drive}
+use Rattle.xk_jobs.specs.Tasks.{way_value}
+use Rattle.xk_jobs.specs.declared.job.Drive.{Drive}
 use Rattle.xk_answers.specs.declared.runs.Finished.{Finished}
 use Rattle.xk_answers.specs.OrderedRun.{IsFinished}
 

@@ -4,10 +4,10 @@ use Rattle.std.specs.Prelude.{Option, Some, Result, IfErr, IfOk, IfSome}
 use Rattle.std.specs.Io.KnownBytes.{Appends}
 use Rattle.xk_types.specs.Device.{Rose}
 use Rattle.xk_log.specs.SomeBytes.{OfSome}
-use Rattle.xk_cli.specs.Status.{status_device, status_done, status_memory, status_words}
+use Rattle.xk_jobs.specs.Status.{status_device, status_done, status_memory, status_words}
 use Rattle.xk_cli.specs.declared.words_fault.WordsFault.{WordsFault}
 use Rattle.xk_cli.specs.declared.words_fault.WordsFault.TheVariants as words
-use Rattle.xk_cli.specs.declared.job.Form.{Form}
+use Rattle.xk_jobs.specs.declared.job.Form.{Form}
 use Rattle.xk_answers.specs.declared.job_result.Done.{Done}
 use Rattle.xk_program.specs.declared.fault.Fault.{Fault}
 use Rattle.xk_program.specs.declared.fault.Fault.TheVariants as fault
@@ -19,7 +19,7 @@ use Rattle.xk_answers.specs.Results.{Doing, longest_list}
 use Rattle.xk_program.specs.Bytes.{LosesAtMost, kept}
 use Rattle.xk_program.specs.Lines.{device_line, fault_line, status_of}
 use Rattle.xk_answers.specs.Printed.{done_log, done_text}
-use Rattle.xk_serve.specs.Lines.{excluded_line, json_line, list_line, page_line, pick_line, processors_line, runs_line, seed_line}
+use Rattle.xk_cli.specs.Misfits.{line_of}
 use Rattle.xk_messages.specs.Lines.{memory_line}
 
 -- all that is printed of it went to standard output, and its log to the log's device
@@ -163,12 +163,5 @@ ErrBegins t bytes logged old new = (f : Fault) × IsTold t bytes logged f × App
 abbrev pub TellsWords : WordsFault → (List ℕ → ℕ → Type 0) → (List ℕ → ℕ → Type 0) → Type 0
 TellsWords (words.Help text) On_out On_err = On_out (string_bytes text) status_done
 TellsWords (words.NotUnderstood text) On_out On_err = On_err (string_bytes text) status_words
-TellsWords words.OrderAndWorkers On_out On_err = On_err excluded_line status_words
-TellsWords words.SeedAlone On_out On_err = On_err seed_line status_words
-TellsWords words.MisplacedRuns On_out On_err = On_err runs_line status_words
-TellsWords words.ProcessorsAlone On_out On_err = On_err processors_line status_words
-TellsWords words.MisplacedList On_out On_err = On_err list_line status_words
-TellsWords words.PickAlone On_out On_err = On_err pick_line status_words
-TellsWords words.UnclearPage On_out On_err = On_err page_line status_words
-TellsWords words.MisplacedJson On_out On_err = On_err json_line status_words
+TellsWords (words.Misfit m) On_out On_err = On_err (line_of m) status_words
 TellsWords words.OutOfMemory On_out On_err = On_err memory_line status_memory

@@ -1,4 +1,3 @@
-pub mod Lines
 pub mod Notes
 pub mod Answer
 pub mod Devices

@@ -7,9 +7,9 @@ use Rattle.xk_tree.specs.Tree.{TreeValue}
 use Rattle.xk_tree.specs.declared.fault.FrontFault.{FrontFault}
 use Rattle.xk_codegen.specs.Faults.{AreRecursive}
 use Rattle.xk_typestate.specs.declared.fault.KindFault.{KindFault}
-use Rattle.xk_cli.specs.CommandLine.{By, Greedy, In, Way}
+use Rattle.xk_jobs.specs.Tasks.{By, Greedy, In, Way}
 use Rattle.xk_io.specs.Lines.{number_lines}
-use Rattle.xk_cli.specs.Status.{status_done}
+use Rattle.xk_jobs.specs.Status.{status_done}
 use Rattle.xk_replay.specs.Chart.{chart_text}
 use Rattle.xk_answers.specs.declared.job_result.Done.{Done}
 use Rattle.xk_answers.specs.declared.job_result.Done.TheVariants as done

@@ -8,9 +8,9 @@ ghost use Rattle.xk_types.specs.World.{AreArguments};
 ghost use Rattle.xk_serve.specs.Answer.{Succeeds, reads_more, task_of};
 ghost use Rattle.xk_serve.specs.Crews.{IsCrew, IsDriven};
 ghost use Rattle.xk_program.specs.Origins.{IsFrom};
-ghost use Rattle.xk_cli.specs.CommandAnswers.{explanation};
-ghost use Rattle.xk_cli.specs.declared.job.Form.{Form as FormValue};
-ghost use Rattle.xk_cli.specs.Status.{status_program};
+ghost use Rattle.xk_jobs.specs.CommandAnswers.{explanation};
+ghost use Rattle.xk_jobs.specs.declared.job.Form.{Form as FormValue};
+ghost use Rattle.xk_jobs.specs.Status.{status_program};
 ghost use Rattle.xk_program.specs.Lines.{status_of};
 ghost use Rattle.xk_serve.specs.Devices.{AgainstLog, IsListReadToLimit, read_of};
 ghost use Rattle.xk_program.specs.declared.fault.Fault.TheVariants.{OutOfMemory};
@@ -23,7 +23,7 @@ use xk_answers::{
     stood, window_given,
 };
 use xk_bounds::Verified;
-use xk_cli::{Command, Drive, Job, Order};
+use xk_jobs::{Command, Drive, Job, Order};
 use xk_module::write_module;
 use xk_program::{Fault, Program, accepted, program_by, runnable};
 use xk_types::{Module, Source};

@@ -6,7 +6,7 @@ ghost use Rattle.xk_types.specs.Device.{Rose};
 ghost use Rattle.xk_types.specs.World.{AreArguments};
 ghost use Rattle.xk_serve.specs.Crews.{IsCrew, IsDriven};
 ghost use Rattle.xk_io.specs.Writing.{AppendsBeginning};
-ghost use Rattle.xk_cli.specs.Status.{status_device, status_done, status_memory, status_partial, status_program, status_refuted};
+ghost use Rattle.xk_jobs.specs.Status.{status_device, status_done, status_memory, status_partial, status_program, status_refuted};
 ghost use Rattle.xk_log.specs.SomeBytes.{OfSome};
 ghost use Rattle.xk_serve.specs.Answer.{IsSaidOf, Succeeds, reads_more, task_of};
 ghost use Rattle.xk_answers.specs.Printed.{done_status};
@@ -25,11 +25,9 @@ use std::sync::Wait;
 use std::thread::Threads;
 use xk_answers::{Done, Finished, Refused, explained, run_as, unsaid};
 use xk_bounds::Verified;
-use xk_cli::{
-    Drive, EXCLUDED_LINE, JSON_LINE, Job, LIST_LINE, PAGE_LINE, PICK_LINE, PROCESSORS_LINE,
-    RUNS_LINE, SEED_LINE, WordsFault, status,
-};
+use xk_cli::WordsFault;
 use xk_io::{Device, write_all};
+use xk_jobs::{Drive, Job, status};
 use xk_log::write_entries;
 use xk_messages::MEMORY_LINE;
 use xk_program::{DEVICE_LINE, Fault, read_program};
@@ -338,14 +336,7 @@ pub fn tell_words<O: Sink, E: Sink>(fault: &WordsFault, out: &mut O, err: &mut E
     match fault {
         WordsFault::Help(text) => tell(text.as_str(), status::DONE, out),
         WordsFault::NotUnderstood(text) => tell(text.as_str(), status::WORDS, err),
-        WordsFault::OrderAndWorkers => tell(EXCLUDED_LINE, status::WORDS, err),
-        WordsFault::SeedAlone => tell(SEED_LINE, status::WORDS, err),
-        WordsFault::MisplacedRuns => tell(RUNS_LINE, status::WORDS, err),
-        WordsFault::ProcessorsAlone => tell(PROCESSORS_LINE, status::WORDS, err),
-        WordsFault::MisplacedList => tell(LIST_LINE, status::WORDS, err),
-        WordsFault::PickAlone => tell(PICK_LINE, status::WORDS, err),
-        WordsFault::UnclearPage => tell(PAGE_LINE, status::WORDS, err),
-        WordsFault::MisplacedJson => tell(JSON_LINE, status::WORDS, err),
+        WordsFault::Misfit(misfit) => tell(misfit.line(), status::WORDS, err),
         WordsFault::OutOfMemory => tell(MEMORY_LINE, status::MEMORY, err),
     }
 }

@@ -9,9 +9,9 @@ ghost use Rattle.xk_serve.specs.OneAnswer.{ComesToOne, ExplainFaults, HasOneStat
 ghost use Rattle.xk_program.specs.Programs.{Gives};
 ghost use Rattle.xk_program.specs.declared.fault.Fault.{Fault};
 ghost use Rattle.xk_types.specs.Code.{ModuleValue};
-ghost use Rattle.xk_cli.specs.declared.job.Form.TheVariants as form;
-ghost use Rattle.xk_cli.specs.CommandLine.{Way};
-ghost use Rattle.xk_cli.specs.Status.{status_done, status_memory};
+ghost use Rattle.xk_jobs.specs.declared.job.Form.TheVariants as form;
+ghost use Rattle.xk_jobs.specs.Tasks.{Way};
+ghost use Rattle.xk_jobs.specs.Status.{status_done, status_memory};
 
 /// To a job on a module text there is one answer, want of memory aside: the same status, and the same bytes on every device. Left
 /// open are: which walk is told of a refusal of kinds, one of the shortest, and so what `explain` writes to standard output of it;

@@ -4,7 +4,7 @@ ghost use Rattle.std.specs.Prelude.{◌≡◌, ◌≢◌, ◌⊎◌, false, [], 
 ghost use Rattle.std.specs.Io.KnownBytes.{Appends};
 ghost use Rattle.xk_types.specs.Device.{Rose};
 ghost use Rattle.xk_types.specs.World.{AreArguments};
-ghost use Rattle.xk_cli.specs.Status.{status_device, status_memory, status_program};
+ghost use Rattle.xk_jobs.specs.Status.{status_device, status_memory, status_program};
 ghost use Rattle.xk_program.specs.Bytes.{IsReadToLimit};
 ghost use Rattle.xk_program.specs.Lines.{device_line};
 ghost use Rattle.xk_messages.specs.Lines.{memory_line};
@@ -16,7 +16,7 @@ use crate::devices::{outcome, print, refuse, report};
 use crate::lone_runs::run_alone;
 use std::alloc::Global;
 use xk_bounds::Verified;
-use xk_cli::{Drive, Job};
+use xk_jobs::{Drive, Job};
 use xk_program::Fault;
 use xk_types::{Sink, Source};
 

@@ -8,8 +8,8 @@ ghost use Rattle.xk_serve.specs.Notes.{may_note, note_of};
 use crate::devices::tell;
 use std::alloc::Global;
 use xk_answers::{Refused, unsaid};
-use xk_cli::{Command, Values, status};
 use xk_io::write_all;
+use xk_jobs::{Command, Values, status};
 use xk_program::Fault;
 use xk_types::Sink;
 

@@ -3,7 +3,7 @@
 ghost use Rattle.std.specs.Prelude.{ℕ, List, IfOk, IfErr};
 ghost use Rattle.xk_program.specs.Refusals.{IsNotRun};
 ghost use Rattle.xk_answers.specs.Results.{IsTelling, IsText, Tally};
-ghost use Rattle.xk_cli.specs.declared.job.Form.{Form as FormValue};
+ghost use Rattle.xk_jobs.specs.declared.job.Form.{Form as FormValue};
 
 use std::alloc::Global;
 use xk_answers::Done;

@@ -12,7 +12,7 @@ use Rattle.xk_io.specs.Writing.{AppendsBeginning}
 use Rattle.xk_io.proofs.DeviceLemmas.{appends_then}
 use Rattle.xk_io.specs.Lines.{number_lines}
 use Rattle.xk_log.specs.LogText.{log_text}
-use Rattle.xk_cli.specs.declared.job.Form.{Form}
+use Rattle.xk_jobs.specs.declared.job.Form.{Form}
 use Rattle.xk_messages.specs.Lines.{label_line, label_status, memory_line, refusal_line, refusal_status}
 use Rattle.xk_bounds.specs.declared.refusal.Refusal.{Refusal}
 use Rattle.xk_bounds.specs.declared.refusal.Refusal.TheVariants as refusal

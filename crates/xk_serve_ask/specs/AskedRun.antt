@@ -6,7 +6,7 @@ use Rattle.xk_types.specs.Acceptance.{IsAccepted}
 use Rattle.xk_types.specs.Code.{ModuleValue}
 use Rattle.xk_types.specs.Device.{Rose}
 use Rattle.xk_types.specs.World.{AreArguments}
-use Rattle.xk_cli.specs.declared.job.Form.{Form}
+use Rattle.xk_jobs.specs.declared.job.Form.{Form}
 use Rattle.xk_io.specs.Lines.{number_lines}
 use Rattle.xk_log.specs.LogText.{log_text}
 use Rattle.xk_messages.specs.Lines.{ended_line}

@@ -4,7 +4,7 @@ use std::alloc::Global;
 use std::fmt::Display;
 use std::test::Fail;
 use xk_bounds::{BoundFault, KindFault, Refusal, ShapeFault};
-use xk_cli::WordsFault;
+use xk_cli::{Misfit, WordsFault};
 use xk_io::Device;
 use xk_log::LogFault;
 use xk_module::ModuleFault;
@@ -124,9 +124,15 @@ fn faults_of_words_are_told(rt: HostRuntime) -> Result<(), Fail> {
     assert!(rt; says(alloc, &help, "help"));
     let mistake = WordsFault::NotUnderstood(String::from_str(alloc, "mistake")?);
     assert!(rt; says(alloc, &mistake, "mistake"));
-    assert!(rt; says(alloc, &WordsFault::OrderAndWorkers, EXCLUDED_TEXT));
-    assert!(rt; says(alloc, &WordsFault::SeedAlone, SEED_TEXT));
-    assert!(rt; says(alloc, &WordsFault::MisplacedRuns, RUNS_TEXT));
+    assert!(rt;
+        says(
+            alloc,
+            &WordsFault::Misfit(Misfit::OrderAndWorkers),
+            EXCLUDED_TEXT
+        )
+    );
+    assert!(rt; says(alloc, &WordsFault::Misfit(Misfit::SeedAlone), SEED_TEXT));
+    assert!(rt; says(alloc, &WordsFault::Misfit(Misfit::MisplacedRuns), RUNS_TEXT));
     assert!(rt; says(alloc, &WordsFault::OutOfMemory, MEMORY_TEXT));
     Ok(())
 }

@@ -6,7 +6,7 @@ use std::io::Write;
 use std::sync::Wait;
 use std::test::Fail;
 use std::thread::Threads;
-use xk_cli::{Command, Form, Job};
+use xk_jobs::{Command, Form, Job};
 use xk_serve::serve;
 use xk_types::{Counted, Tape};
 

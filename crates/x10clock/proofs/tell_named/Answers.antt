@@ -1,5 +1,5 @@
 use Rattle.std.proofs.Common.{◌∙◌, List, ℕ, inl, subst}
-use Rattle.xk_cli.specs.Status.{status_device}
+use Rattle.xk_jobs.specs.Status.{status_device}
 use Rattle.xk_serve.specs.Devices.{Tells}
 use Rattle.x10clock.proofs.tell_named.Goals as goal
 

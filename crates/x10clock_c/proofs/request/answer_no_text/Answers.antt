@@ -1,5 +1,5 @@
 use Rattle.std.proofs.lemmas.Result.{IfOk-weaker}
-use Rattle.xk_cli.specs.Status.{status_words}
+use Rattle.xk_jobs.specs.Status.{status_words}
 use Rattle.x10clock_c.specs.Call.{no_text_line}
 use Rattle.x10clock_c.proofs.CallLemmas.{line_err}
 use Rattle.x10clock_c.proofs.request.answer_no_text.Goals as goal

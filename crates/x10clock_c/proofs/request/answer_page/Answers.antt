@@ -1,5 +1,5 @@
 use Rattle.std.proofs.lemmas.Result.{IfOk-weaker}
-use Rattle.xk_cli.specs.Status.{status_done}
+use Rattle.xk_jobs.specs.Status.{status_done}
 use Rattle.x10clock_c.proofs.CallLemmas.{line_out}
 use Rattle.x10clock_c.proofs.request.answer_page.Goals as goal
 

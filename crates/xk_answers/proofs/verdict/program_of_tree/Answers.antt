@@ -1,6 +1,6 @@
 use Rattle.std.proofs.Common.{Some, inr, refl}
 use Rattle.std.proofs.lemmas.Result.{IfOk-weaker}
-use Rattle.xk_cli.specs.declared.job.Form.TheVariants as form
+use Rattle.xk_jobs.specs.declared.job.Form.TheVariants as form
 use Rattle.xk_tree.specs.Program.{tree_value}
 use Rattle.xk_program.specs.declared.fault.Fault.TheVariants as found
 use Rattle.xk_answers.specs.Explanation.{IsExplanation}

@@ -6,14 +6,12 @@ use Rattle.clap.specs.Words.{Row, Text, found_of, rows_of, subcommand_rows}
 use Rattle.clap.specs.declared.parser.matches.SubCommand.{SubCommand}
 use Rattle.clap.specs.declared.parser.matches.ArgMatches.TheViews.{out-SubCommand, out-ArgMatches}
 use Rattle.xk_cli.specs.declared.words_fault.WordsFault.{WordsFault}
-use Rattle.xk_cli.specs.CommandLine.{IsRefused, asked_in, blurs_by, crowds_by, excludes_by, idles_by, misplaces_by, mutes_by, picks_by, strays_by}
+use Rattle.xk_cli.specs.CommandLine.{IsRefused, asked_in, misfits_by}
 use Rattle.xk_cli.proofs.request.asked.Goals as goal
 
 -- what was found is refused with this fault
 abbrev IsRefusedBy : WordsFault → Option (Text × List Row) → Type 0
-IsRefusedBy fault found =
-    IsRefused [] (asked_in found) (excludes_by found) (strays_by found) (misplaces_by found) (crowds_by found) (picks_by found)
-    (blurs_by found) (idles_by found) (mutes_by found) fault
+IsRefusedBy fault found = IsRefused [] (asked_in found) (misfits_by found) fault
 
 -- the name of a subcommand that was found
 abbrev name_found : {Z : Type 0} → Option (Box SubCommand Z) → Option Text

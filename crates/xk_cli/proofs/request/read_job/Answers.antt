@@ -5,28 +5,23 @@ use Rattle.clap.specs.declared.error.kind.ErrorKind.{ErrorKind}
 use Rattle.clap.specs.declared.error.kind.ErrorKind.TheVariants as kind
 use Rattle.xk_cli.specs.declared.words_fault.WordsFault.{WordsFault}
 use Rattle.xk_cli.specs.declared.words_fault.WordsFault.TheVariants as fault
-use Rattle.xk_cli.specs.CommandLine.{Asked, FitsKind, IsRefused, Names, asked_in, blurs_by, blurs_in, command_line, crowds_by, crowds_in, excludes_by, excludes_in, faults_in, idles_by, idles_in, job_of, misplaces_by, misplaces_in, mutes_by, mutes_in, picks_by, picks_in, strays_by, strays_in, texts}
+use Rattle.xk_jobs.specs.Tasks.{Asked}
+use Rattle.xk_cli.specs.CommandLine.{FitsKind, IsRefused, Names, asked_in, command_line, faults_in, job_of, misfits_by, misfits_in, texts}
+use Rattle.xk_cli.specs.declared.misfit.Misfit.{Misfit}
 use Rattle.xk_cli.proofs.CommandLineLemmas.{some_names}
 use Rattle.xk_cli.proofs.request.read_job.Goals as goal
 
 -- a fault that fits the kind of an error fits what may be the kind
-refused_by : (kinds : Kinds) (asked : Option Asked) (both alone misplaced crowded unlogged unclear idle mute : Bool) (k : ErrorKind) (f : WordsFault)
-    → (k ≡ kind.OutOfMemory) ⊎ IsAmong k kinds → FitsKind k f → IsRefused kinds asked both alone misplaced crowded unlogged unclear idle mute f
-refused_by kinds asked both alone misplaced crowded unlogged unclear idle mute k (fault.Help text) (inl e) (inl h) = cc
-refused_by kinds asked both alone misplaced crowded unlogged unclear idle mute k (fault.Help text) (inl e) (inr h) = cc
-refused_by kinds asked both alone misplaced crowded unlogged unclear idle mute k (fault.Help text) (inr among) (inl h) = inl (rw h at among)
-refused_by kinds asked both alone misplaced crowded unlogged unclear idle mute k (fault.Help text) (inr among) (inr h) = inr (rw h at among)
-refused_by kinds asked both alone misplaced crowded unlogged unclear idle mute k (fault.NotUnderstood text) (inl e) fits = absurd (fits.2 e)
-refused_by kinds asked both alone misplaced crowded unlogged unclear idle mute k (fault.NotUnderstood text) (inr among) fits = inl (k, among, fits.0, fits.1)
-refused_by kinds asked both alone misplaced crowded unlogged unclear idle mute k fault.OrderAndWorkers has fits = absurd fits
-refused_by kinds asked both alone misplaced crowded unlogged unclear idle mute k fault.SeedAlone has fits = absurd fits
-refused_by kinds asked both alone misplaced crowded unlogged unclear idle mute k fault.MisplacedRuns has fits = absurd fits
-refused_by kinds asked both alone misplaced crowded unlogged unclear idle mute k fault.ProcessorsAlone has fits = absurd fits
-refused_by kinds asked both alone misplaced crowded unlogged unclear idle mute k fault.MisplacedList has fits = absurd fits
-refused_by kinds asked both alone misplaced crowded unlogged unclear idle mute k fault.PickAlone has fits = absurd fits
-refused_by kinds asked both alone misplaced crowded unlogged unclear idle mute k fault.UnclearPage has fits = absurd fits
-refused_by kinds asked both alone misplaced crowded unlogged unclear idle mute k fault.MisplacedJson has fits = absurd fits
-refused_by kinds asked both alone misplaced crowded unlogged unclear idle mute k fault.OutOfMemory has fits = tt
+refused_by : (kinds : Kinds) (asked : Option Asked) (misfits : Misfit → Bool) (k : ErrorKind) (f : WordsFault)
+    → (k ≡ kind.OutOfMemory) ⊎ IsAmong k kinds → FitsKind k f → IsRefused kinds asked misfits f
+refused_by kinds asked misfits k (fault.Help text) (inl e) (inl h) = cc
+refused_by kinds asked misfits k (fault.Help text) (inl e) (inr h) = cc
+refused_by kinds asked misfits k (fault.Help text) (inr among) (inl h) = inl (rw h at among)
+refused_by kinds asked misfits k (fault.Help text) (inr among) (inr h) = inr (rw h at among)
+refused_by kinds asked misfits k (fault.NotUnderstood text) (inl e) fits = absurd (fits.2 e)
+refused_by kinds asked misfits k (fault.NotUnderstood text) (inr among) fits = inl (k, among, fits.0, fits.1)
+refused_by kinds asked misfits k (fault.Misfit m) has fits = absurd fits
+refused_by kinds asked misfits k fault.OutOfMemory has fits = tt
 
 simple : (names : Names) → is_simple (command_line names) ≡ true
 simple names = refl
@@ -47,15 +42,11 @@ faults_are names a words e = ap (λ b. fault_of b words) e
 -- why what a parse by the command line found is no job, as why the words ask for none
 refusal_is : (names : Names) (a : App) (words : List Text) (found : Option (Text × List _)) (f : WordsFault)
     → a ≡ command_line names → found ≡ subcommand_of a words
-    → IsRefused (faults_in names words) (asked_in found) (excludes_by found) (strays_by found) (misplaces_by found) (crowds_by found)
-    (picks_by found) (blurs_by found) (idles_by found) (mutes_by found) f
-    → IsRefused (faults_in names words) (job_of names words) (excludes_in names words) (strays_in names words) (misplaces_in names words)
-    (crowds_in names words) (picks_in names words) (blurs_in names words) (idles_in names words) (mutes_in names words) f
-unfolding job_of excludes_in strays_in misplaces_in crowds_in picks_in blurs_in idles_in mutes_in
+    → IsRefused (faults_in names words) (asked_in found) (misfits_by found) f
+    → IsRefused (faults_in names words) (job_of names words) (misfits_in names words) f
+unfolding job_of misfits_in
 refusal_is names a words found f e h refused =
-    subst (λ s. IsRefused (faults_in names words) (asked_in s) (excludes_by s) (strays_by s) (misplaces_by s) (crowds_by s) (picks_by s)
-    (blurs_by s) (idles_by s) (mutes_by s) f)
-    (h ∙ ap (λ b. subcommand_of b words) e) refused
+    subst (λ s. IsRefused (faults_in names words) (asked_in s) (misfits_by s) f) (h ∙ ap (λ b. subcommand_of b words) e) refused
 
 pub returns-in-Ok-clause-job : goal.returns-in-Ok-clause-job
 returns-in-Ok-clause-job c =
@@ -103,11 +94,8 @@ returns-in-Err-clause-refused c =
     let e = faults_are line.0 (app_of c.in_ok-command_line.command_line) (texts c.args.words.now) line.2 in (
       line.0,
       line.1,
-      refused_by (faults_in line.0 (texts c.args.words.now)) (job_of line.0 (texts c.args.words.now)) (excludes_in line.0 (texts c.args.words.now)) (strays_in line.0 (texts c.args.words.now))
-          (misplaces_in line.0 (texts c.args.words.now)) (crowds_in line.0 (texts c.args.words.now))
-          (picks_in line.0 (texts c.args.words.now)) (blurs_in line.0 (texts c.args.words.now))
-          (idles_in line.0 (texts c.args.words.now)) (mutes_in line.0 (texts c.args.words.now)) _ c.words_fault.result
-          (rw e at (c.in-Err.ensures.kinds (ap is_simple_and_free line.2 ∙ free line.0))) c.words_fault.ensures,
+      refused_by (faults_in line.0 (texts c.args.words.now)) (job_of line.0 (texts c.args.words.now)) (misfits_in line.0 (texts c.args.words.now)) _
+          c.words_fault.result (rw e at (c.in-Err.ensures.kinds (ap is_simple_and_free line.2 ∙ free line.0))) c.words_fault.ensures,
     )
 
 pub returns-in_err-command_line-clause-refused : goal.returns-in_err-command_line-clause-refused

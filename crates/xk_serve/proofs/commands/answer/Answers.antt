@@ -4,7 +4,7 @@ use Rattle.xk_answers.specs.declared.picture.Picture.TheVariants as picture
 use Rattle.std.proofs.lemmas.Bool.{false≢true}
 use Rattle.std.proofs.lemmas.Result.{err_from_is_err_and}
 use Rattle.xk_answers.specs.Results.{Check, Compile, Draw, Expected, OutcomePage, Outcomes, Races, Replay, Run, Where, way_given}
-use Rattle.xk_cli.specs.CommandAnswers.{explanation, shows_origins}
+use Rattle.xk_jobs.specs.CommandAnswers.{explanation, shows_origins}
 use Rattle.xk_serve.specs.Answer.{doing_of, races_by, task_of}
 use Rattle.xk_serve.proofs.TaskLemmas.{against_any, against_list, against_log, against_memory, against_picture}
 use Rattle.xk_serve.proofs.TaskLemmas.{against_refused, against_run_of, against_text, done_of_any, done_of_list}

@@ -1,6 +1,6 @@
 use Rattle.std.proofs.Common.{◌∙◌, ap, subst}
 use Rattle.std.specs.Prelude.{option_map}
-use Rattle.xk_cli.specs.CommandLine.{way_value}
+use Rattle.xk_jobs.specs.Tasks.{way_value}
 use Rattle.xk_answers.specs.OrderedRun.{IsFinished}
 use Rattle.xk_answers.specs.Results.{way_given}
 use Rattle.xk_answers.proofs.OrderedRunLemmas.{finished_run, way_taken}

@@ -2,7 +2,7 @@ use Rattle.std.proofs.Common.{◌∙◌, refl, ap, sym}
 use Rattle.std.specs.Prelude.{Bool, unwrap_or}
 use Rattle.xk_answers.specs.declared.picture.Picture.TheVariants as picture
 use Rattle.xk_answers.specs.Results.{Doing, Draw, ExpectedShown, Json, OutcomesShown, RunShown, way_given}
-use Rattle.xk_cli.specs.CommandAnswers.{have_places}
+use Rattle.xk_jobs.specs.CommandAnswers.{have_places}
 use Rattle.xk_serve.specs.Answer.{task_of, values_doing}
 use Rattle.xk_serve.proofs.TaskLemmas.{against_list, against_picture, against_run_of, done_of_any, done_of_list, done_of_run}
 use Rattle.xk_serve.proofs.values.answer_values.Goals as goal

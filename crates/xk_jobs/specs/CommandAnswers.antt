@@ -1,9 +1,9 @@
 -- What the answer to a command has beside what it comes to. This project's own.
 use Rattle.std.specs.Prelude.{Bool, true, false, Option, Some, None}
-use Rattle.xk_cli.specs.declared.job.Command.{Command}
-use Rattle.xk_cli.specs.declared.job.Command.TheVariants as command
-use Rattle.xk_cli.specs.declared.job.Values.{Values}
-use Rattle.xk_cli.specs.declared.job.Values.TheVariants as values
+use Rattle.xk_jobs.specs.declared.job.Command.{Command}
+use Rattle.xk_jobs.specs.declared.job.Command.TheVariants as command
+use Rattle.xk_jobs.specs.declared.job.Values.{Values}
+use Rattle.xk_jobs.specs.declared.job.Values.TheVariants as values
 
 -- of `explain`, whether it is as a JSON value
 abbrev pub explanation : Command → Option Bool

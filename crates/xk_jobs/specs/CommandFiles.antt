@@ -1,9 +1,9 @@
 -- Which files a command has beside FILE. This project's own.
 use Rattle.std.specs.Prelude.{List, ℕ, Option, Some, None, option_map}
-use Rattle.xk_cli.specs.declared.job.Command.{Command}
-use Rattle.xk_cli.specs.declared.job.Command.TheVariants as command
-use Rattle.xk_cli.specs.declared.job.Values.{Values}
-use Rattle.xk_cli.specs.declared.job.Values.TheVariants as values
+use Rattle.xk_jobs.specs.declared.job.Command.{Command}
+use Rattle.xk_jobs.specs.declared.job.Command.TheVariants as command
+use Rattle.xk_jobs.specs.declared.job.Values.{Values}
+use Rattle.xk_jobs.specs.declared.job.Values.TheVariants as values
 
 -- the same of what is told as JSON: what is read
 abbrev pub values_read : Values → Option (List ℕ)

@@ -1,7 +1,7 @@
 //! What the words ask for.
 
 ghost use Rattle.std.specs.Prelude.{◌≡◌, ◌≤◌, option_map};
-ghost use Rattle.xk_cli.specs.WorkerCount.{count_within, most_workers, some_processors};
+ghost use Rattle.xk_jobs.specs.WorkerCount.{count_within, most_workers, some_processors};
 
 /// What is to be done with FILE.
 #[derive(Clone, Copy, Debug, PartialEq, Eq)]
@@ -155,8 +155,8 @@ pub enum Values<'a> {
 }
 
 impl<'a> Values<'a> {
-    ghost use Rattle.xk_cli.specs.CommandAnswers.{have_places};
-    ghost use Rattle.xk_cli.specs.CommandFiles.{values_read, values_written};
+    ghost use Rattle.xk_jobs.specs.CommandAnswers.{have_places};
+    ghost use Rattle.xk_jobs.specs.CommandFiles.{values_read, values_written};
 
     /// The path of the log or the list of outcomes that is read, if one is.
     fn read_path(&self) -> Option<&'a str>
@@ -191,8 +191,8 @@ impl<'a> Values<'a> {
 }
 
 impl<'a> Command<'a> {
-    ghost use Rattle.xk_cli.specs.CommandAnswers.{explanation, shows_origins};
-    ghost use Rattle.xk_cli.specs.CommandFiles.{read_path, written_path};
+    ghost use Rattle.xk_jobs.specs.CommandAnswers.{explanation, shows_origins};
+    ghost use Rattle.xk_jobs.specs.CommandFiles.{read_path, written_path};
 
     /// The path of the log or the list of outcomes that is read beside FILE, if one is.
     pub fn read_path(&self) -> Option<&'a str>

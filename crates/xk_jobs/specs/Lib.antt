@@ -1,0 +1,5 @@
+pub mod WorkerCount
+pub mod CommandAnswers
+pub mod CommandFiles
+pub mod Tasks
+pub mod Status
