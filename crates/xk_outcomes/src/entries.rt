@@ -39,6 +39,7 @@ pub struct Edge {
 }
 
 /// Steps from one that was found to another.
+#[derive(Drop)]
 struct Way {
     // where they begin
     from: usize,
@@ -220,11 +221,9 @@ impl<'m> Entries<'m> {
     fn checkpoint(&self, number: usize) -> &Checkpoint<'m>
         ensures { IsCheckpoint self.now.all result.now }
     {
+        let last = self.checkpoints.len() - 1;
         let place = self.nearest.get(number).copied().unwrap_or(0);
-        match self.checkpoints.get(place) {
-            Some(checkpoint) => checkpoint,
-            None => &self.checkpoints[0],
-        }
+        &self.checkpoints[place.min(last)]
     }
 
     /// A copy of what a checkpoint keeps, if it is the one of a number, or else of the first one.
