@@ -12,16 +12,11 @@ use Rattle.xk_show_names.specs.declared.accounts.Subject.TheVariants as subject
 use Rattle.xk_show_names.specs.ClockNames.{NamesValue}
 use Rattle.xk_show_names.specs.Events.{clock_word, shared_word}
 use Rattle.serde_json.specs.Data.{Data}
-use Rattle.xk_json.specs.Objects.{integer_value}
 use Rattle.xk_json.specs.Plain.{IsPlain}
 use Rattle.xk_json.proofs.ObjectLemmas.{plain_deeper}
 use Rattle.xk_json.proofs.PlainLemmas.{AreFlat, number_plain, object_of_plain, text_plain}
 use Rattle.xk_show_json.specs.Events.{event_value, name_member, operand_member, origin_members, step_members, subject_members}
 use Rattle.xk_show_json.specs.Events.{value_member}
-
-integer_plain : {d : ℕ} (z : ℤ) → IsPlain d (integer_value z)
-integer_plain (pos n) = record { no_float = refl; nests = omega arith }
-integer_plain (negsuc n) = record { no_float = refl; nests = omega arith }
 
 step_flat : (s : RunStep) → AreFlat 0 (step_members s)
 step_flat s = (number_plain _, (text_plain _, (number_plain _, (number_plain _, (number_plain _, tt)))))
@@ -31,7 +26,8 @@ origin_flat None = tt
 origin_flat (Some p) = (number_plain _, (number_plain _, tt))
 
 operand_flat : (n : ℕ) (e : Event) → AreFlat 0 (operand_member n e)
-operand_flat n (event.Printed i) = (integer_plain i, tt)
+operand_flat n (event.Printed (pos i)) = (record { no_float = refl; nests = omega arith }, tt)
+operand_flat n (event.Printed (negsuc i)) = (record { no_float = refl; nests = omega arith }, tt)
 operand_flat n event.Spawned = (number_plain _, tt)
 operand_flat n event.Local = tt
 operand_flat n event.Made = tt
@@ -57,7 +53,8 @@ subject_flat names (subject.Shared s) = (number_plain _, name_flat (option_map (
 
 value_flat : (key : List ℕ) (value : Option ℤ) → AreFlat 0 (value_member key value)
 value_flat key None = tt
-value_flat key (Some i) = (integer_plain i, tt)
+value_flat key (Some (pos i)) = (record { no_float = refl; nests = omega arith }, tt)
+value_flat key (Some (negsuc i)) = (record { no_float = refl; nests = omega arith }, tt)
 
 pub event_plain : (p : PlacesValue) (names : Option NamesValue) (a : Account) → IsPlain 1 (event_value p names a)
 event_plain p names a =
