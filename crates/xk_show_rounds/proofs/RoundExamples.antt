@@ -22,7 +22,8 @@ entry a n some = record { act = a; steps = n; at_least_one = some }
 abbrev in_step : ModuleValue
 in_step = module_with (
     main_with 2
-    (instr.Make 0 ∷ instr.Spawn 1 (0 ∷ []) ∷ instr.Lit 1 (pos 1) ∷ instr.Lit 1 (pos 1) ∷ instr.Lit 1 (pos 1) ∷ instr.Advance ∷ instr.Ret ∷ [])
+    (instr.Make 0 ∷ instr.Spawn 1 (0 ∷ []) ∷ instr.Lit 1 (pos 1) ∷ instr.Lit 1 (pos 1) ∷ instr.Lit 1 (pos 1)
+    ∷ instr.Advance ∷ instr.Ret ∷ [])
     ∷ body_with (param.Clock ∷ []) 2 (instr.Advance ∷ instr.Lit 1 (pos 2) ∷ instr.Print 1 ∷ instr.Ret ∷ [])
     ∷ [])
 

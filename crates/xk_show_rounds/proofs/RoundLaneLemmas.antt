@@ -11,8 +11,8 @@ use Rattle.xk_show_picture.specs.Picture.{columns}
 use Rattle.xk_show_path.specs.Rounds.{Rounds}
 use Rattle.xk_show_rounds.specs.RoundLanes.{accounts_of, round_lanes_by, round_lanes_in}
 
-pub lanes_are : (r run : Rounds) (p : PlacesValue) (n known : Option NamesValue) (g : Grid) (m : ModuleValue) (log : List Entry) (last : World)
-    (text : List ℕ)
+pub lanes_are : (r run : Rounds) (p : PlacesValue) (n known : Option NamesValue) (g : Grid) (m : ModuleValue) (log : List Entry)
+    (last : World) (text : List ℕ)
     → r ≡ run → n ≡ known → g ≡ columns p n whole_run m log last → text ≡ round_lanes_in r g n (accounts_of m last.arguments log) last
     → text ≡ round_lanes_by run p known m log last
 lanes_are r run p n known g m log last text rounded named columned is =

@@ -1,6 +1,6 @@
 -- What is drawn of a run by rounds: a row for each round of a machine with a processor for each activity, and in each lane what its
 -- activity does in that round, if it does anything. That it is drawn so is this project's own.
-use Rattle.std.specs.Prelude.{◌≡◌, ℕ, zero, suc, max, nat_eq, nat_le, Bool, List, [], ◌∷◌, ◌++◌, length, filter, find, count_by}
+use Rattle.std.specs.Prelude.{◌≡◌, ℕ, zero, suc, ◌-◌, max, nat_eq, nat_le, Bool, List, [], ◌∷◌, ◌++◌, length, filter, find, count_by}
 use Rattle.std.specs.Prelude.{slice_index_or, Option, Some, None, codes, decimal, if◌then◌else◌}
 use Rattle.std.specs.Str.{bytes_eq}
 use Rattle.xk_types.specs.Schedule.{is_local}
@@ -74,10 +74,9 @@ rows_from (suc more) width show first last =
     if bytes_eq (show first) (show (suc last)) then rows_from more width show first (suc last)
     else row width show first last ++ rows_from more width show (suc last) (suc last)
 
--- of so many rounds, counted from 1
+-- of so many rounds, counted from 1; a run has one at least
 abbrev pub rows_of : ℕ → ℕ → (ℕ → List ℕ) → List ℕ
-rows_of zero width show = []
-rows_of (suc more) width show = rows_from more width show 1 1
+rows_of rounds width show = rows_from (rounds - 1) width show 1 1
 
 -- ---- head and rows
 

@@ -1,6 +1,6 @@
 //! Head and rows. Rounds one after another in which the same stands have one row.
 
-ghost use Rattle.std.specs.Prelude.{◌≡◌, ◌≤◌, ℕ, suc, ◌-◌, ◌++◌, IfOk, OnOk, string_bytes};
+ghost use Rattle.std.specs.Prelude.{◌≡◌, ℕ, suc, ◌-◌, ◌++◌, IfOk, OnOk, string_bytes};
 ghost use Rattle.std.specs.Str.{bytes_eq};
 ghost use Rattle.xk_show_events.specs.Worlds.{each_below};
 ghost use Rattle.xk_show_lanes.specs.Fields.{at_left};
@@ -133,7 +133,6 @@ fn go_through(
     requires shown { stretch.old.shown.items ≡ shown_at sheet.now.grid sheet.now.names.now
         sheet.now.table.now stretch.old.first }
     requires last { stretch.old.last ≡ 1 }
-    requires some { 1 ≤ rounds }
     ensures shown { OnOk result (stretch.new.shown.items ≡ shown_at sheet.now.grid
         sheet.now.names.now sheet.now.table.now stretch.new.first) }
     ensures rows { OnOk result (out.new.items ++ row sheet.now.width
@@ -149,6 +148,7 @@ fn go_through(
 }
 
 /// Adds the rows of so many rounds.
+#[tactic(auto, using(crate::proofs::RowLemmas::rows_end))]
 fn push_rows(
     alloc: Global,
     out: &mut Vec<u8>,
@@ -158,9 +158,6 @@ fn push_rows(
     ensures { OnOk result (out.new.items ≡ out.old.items ++ rows_of rounds sheet.now.width
         (shown_at sheet.now.grid sheet.now.names.now sheet.now.table.now)) }
 {
-    if rounds == 0 {
-        return Ok(());
-    }
     let mut stretch = Stretch {
         first: 1,
         last: 1,

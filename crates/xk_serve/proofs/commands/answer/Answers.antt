@@ -124,8 +124,8 @@ returns-in-OutcomePage-clause-fault g c =
 pub returns-in-Rounds-clause-done : goal.returns-in-Rounds-clause-done
 returns-in-Rounds-clause-done g c =
     done_of_run (task_of c.args.job.now) c.args.bytes.now (g.L.Source.remaining c.args.log_in.now) _
-    (Draw picture.Rounds) c.as_slice-arguments.result.now c.drawn-in-Rounds.result (ap doing_of c.in-Rounds.is) c.as_slice-arguments.ensures.value
-    refl
+    (Draw picture.Rounds) c.as_slice-arguments.result.now c.drawn-in-Rounds.result (ap doing_of c.in-Rounds.is)
+    c.as_slice-arguments.ensures.value refl
     c.in_ok-program.ensures.module (c.drawn-in-Rounds.ensures.done c.args.job.now.form c.args.bytes.now
     (c.in_ok-program.ensures.from.0, λ _. c.in_ok-program.ensures.from.1 (c.shows_origins.ensures ∙ ap shows_origins c.in-Rounds.is)))
 
