@@ -4,3 +4,4 @@ pub mod RoundLemmas
 pub mod GreedyLemmas
 pub mod OneRunLemmas
 pub mod SpanLemmas
+pub mod ProcessorLemmas
