@@ -1,14 +1,13 @@
 //! Those that were found, of most of which only how they were found is kept: from which, and by whose step.
 
-ghost use Rattle.std.specs.Prelude.{◌≡◌, ◌<◌, ◌⊎◌, true, false, length, slice_get, IfNone, IfOk, IfSome, OnErr, Some, List};
+ghost use Rattle.std.specs.Prelude.{◌≡◌, ◌<◌, ◌⊎◌, true, false, length, slice_get, slice_set, IfNone, IfOk, IfSome, OnErr, Some, List};
 ghost use Rattle.std.specs.Bool.{Decides};
 ghost use Rattle.xk_types.specs.Bound.{steps_bound};
 ghost use Rattle.xk_types.specs.Schedule.{all_ended};
 ghost use Rattle.xk_readings.specs.declared.edge.Edge.{Edge as Link};
 ghost use Rattle.xk_readings.specs.Graphs.{graph};
 ghost use Rattle.xk_readings.specs.Readings.{IsLongest};
-ghost use Rattle.xk_liveness.specs.Liveness.{AreAlikeWhereLive, IsLiveness};
-ghost use Rattle.xk_live_slots.specs.LiveSlots.{live_of};
+ghost use Rattle.xk_liveness.specs.Liveness.{IsLiveness};
 ghost use Rattle.xk_outcomes.specs.Alikeness.{live_by};
 ghost use Rattle.xk_outcomes.specs.Checkpoints.{IsCheckpoint};
 ghost use Rattle.xk_outcomes.specs.Entries.{first_entry};
@@ -25,7 +24,7 @@ use crate::run::Run;
 use std::alloc::{AllocError, Global};
 use std::marker::Model;
 use xk_core::Core;
-use xk_digests::{Digests, digest_of};
+use xk_digests::{Digests, are_alike, digest_of};
 use xk_live_slots::LiveSlots;
 use xk_types::Act;
 
@@ -102,14 +101,6 @@ pub fn are_same(a: &[i64], b: &[i64]) -> bool
     a == b
 }
 
-/// Whether the worlds of two cores are alike where slots are live.
-fn are_alike(live: &LiveSlots<'_>, core: &Core<'_>, other: &Core<'_>) -> Result<bool, AllocError>
-    ensures { IfOk result (λ same. Decides same
-        (AreAlikeWhereLive (live_of live.now) core.now.world other.now.world)) }
-{
-    Err(AllocError)
-}
-
 /// Whether the two are in worlds that are alike where slots are live, and nothing that was printed by then tells them apart.
 fn is_same(
     alloc: Global,
@@ -131,6 +122,15 @@ fn is_same(
         return Ok(false);
     }
     are_alike(live, &new.core, &x.core)
+}
+
+/// Another place stands at a number, if one does.
+fn replace(places: &mut Vec<usize>, number: usize, place: usize)
+    ensures { places.new.items ≡ slice_set places.old.items number place }
+{
+    if let Some(old) = places.get_mut(number) {
+        *old = place;
+    }
 }
 
 impl<'m> Entries<'m> {
@@ -380,12 +380,11 @@ impl<'m> Entries<'m> {
         }
         let place = self.checkpoints.len();
         match self.checkpoints.push(Checkpoint { number, found: x }) {
-            Ok(()) => {}
-            Err(_) => return Err(AllocError),
+            Ok(()) => {
+                replace(&mut self.nearest, number, place);
+                Ok(())
+            }
+            Err(_) => Err(AllocError),
         }
-        if let Some(nearest) = self.nearest.get_mut(number) {
-            *nearest = place;
-        }
-        Ok(())
     }
 }

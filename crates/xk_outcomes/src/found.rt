@@ -42,13 +42,6 @@ pub(crate) fn private_act(core: &Core<'_>) -> Option<Act>
     None
 }
 
-/// The same core.
-fn copy_of<'m>(core: &Core<'m>) -> Result<Core<'m>, AllocError>
-    ensures { IfOk result (λ c. c ≡ core.now) }
-{
-    Err(AllocError)
-}
-
 impl<'m> Found<'m> {
     /// Before any step.
     pub(crate) fn open(alloc: Global, start: &Core<'m>) -> Result<Found<'m>, AllocError>
@@ -67,7 +60,7 @@ impl<'m> Found<'m> {
         ensures { IfOk result (λ x. x ≡ self.now) }
     {
         let printed = self.printed.to_vec(alloc)?;
-        let core = copy_of(&self.core)?;
+        let core = self.core.copy()?;
         Ok(Found { core, printed })
     }
 

@@ -41,9 +41,11 @@ impl<'m> Run<'m> {
         ensures leads { OnOk result
             (LeadsOn self.old.schedule.items self.old.to self.new.schedule.items self.new.to) }
     {
-        if self.to.step(act)? {
-            self.schedule.push(act.0)?;
+        let taken = self.to.step(act)?;
+        if !taken {
+            return Ok(());
         }
+        self.schedule.push(act.0)?;
         Ok(())
     }
 
