@@ -14,8 +14,8 @@ use crate::commands::line;
 use crate::given::{
     are_processors_alone, are_rounds_misplaced, are_runs_misplaced, arguments_in, count_in,
     drive_in, form_in, given_in, is_both, is_count_misplaced, is_flagged, is_json,
-    is_json_misplaced, is_list_misplaced, is_order, is_page_unclear,
-    is_pick_alone, is_run_unclear, is_seed_alone, seed_in,
+    is_json_misplaced, is_list_misplaced, is_order, is_page_unclear, is_pick_alone, is_run_unclear,
+    is_seed_alone, seed_in,
 };
 use crate::misfit::Misfit;
 use crate::words_fault::WordsFault;
