@@ -1,5 +1,5 @@
 -- From what is listed, and from what is read along links, to how many outcomes there are.
-use Rattle.std.proofs.Common.{◌≡◌, ◌∙◌, ℕ, ℤ, zero, suc, ◌<◌, ◌≤◌, ◌⊎◌, inl, inr, Bool, true, false, List, [], ◌∷◌, length}
+use Rattle.std.proofs.Common.{◌≡◌, ◌∙◌, ℕ, ℤ, zero, suc, ◌<◌, ◌≤◌, ◌⊎◌, inl, inr, Bool, true, false, List, [], ◌∷◌, ◌++◌, length}
 use Rattle.std.proofs.Common.{Some, refl, sym, ap, subst, arith, slice_get}
 use Rattle.std.specs.Prelude.{map, option_map}
 use Rattle.std.proofs.lemmas.List.{length-map}
@@ -13,7 +13,6 @@ use Rattle.xk_readings.specs.Counts.{AreAsMany as AreReadAsMany, AreAtLeast as A
 use Rattle.xk_readings.specs.Graphs.{graph}
 use Rattle.xk_readings.specs.Readings.{Reads}
 use Rattle.xk_readings.specs.Sets.{AreDifferent, Has}
-use Rattle.xk_readings.proofs.SetLemmas.{has_place}
 use Rattle.xk_outcomes.specs.declared.listing.Outcome.{Outcome}
 use Rattle.xk_outcomes.specs.declared.order.Order.TheVariants as order
 use Rattle.xk_outcomes.specs.Found.{FoundValue, first_found, through}
@@ -21,7 +20,7 @@ use Rattle.xk_outcomes.specs.Links.{ends}
 use Rattle.xk_outcomes.specs.Listing.{AreAllIn, AreShownIn, ArePlayed}
 use Rattle.xk_outcomes.specs.Outcomes.{IsOutcome}
 use Rattle.xk_outcomes.specs.Search.{AreAllFound}
-use Rattle.xk_outcomes.specs.Sets.{AreAllAs, AreDistinctAs, AreShownAs}
+use Rattle.xk_outcomes.specs.Sets.{AreAllAs, AreDistinctAs, AreShownAs, HaveSameNumbers}
 use Rattle.xk_outcomes.proofs.FollowLemmas.{read_to}
 use Rattle.xk_outcomes.proofs.FoundLemmas.{first_is_found, found_through}
 use Rattle.xk_outcomes.proofs.ListingLemmas.{printed_shown}
@@ -105,18 +104,41 @@ lone_exact m args o shown all = listed_exact false m args (o ∷ []) 1 (printed_
 pub exact_least : (sets : Bool) (m : ModuleValue) (args : List ℤ) (count : ℕ) → AreAsMany sets m args count → AreAtLeast sets m args count
 exact_least sets m args count are = (let many = are.many in record { outcomes = are.outcomes; once = are.once; many = omega (arith, many) })
 
+-- none are at least none
+pub none_least : (sets : Bool) (m : ModuleValue) (args : List ℤ) → AreAtLeast sets m args 0
+none_least sets m args = record {
+  outcomes = [];
+  once = record {
+    printed = λ k x there. absurd (none-some x there);
+    once = λ i j x y hi hj same. absurd (none-some x hi);
+  };
+  many = omega arith;
+}
+
+-- as many as are listed, or as so many others, are at least so many
+pub least_of : (sets : Bool) (m : ModuleValue) (args : List ℤ) (list : List Outcome) (count read : ℕ) → AreShownAs sets m args list
+    → AreDistinctAs sets list → AreAtLeast sets m args read → (count ≡ length list) ⊎ (count ≡ read) → AreAtLeast sets m args count
+least_of sets m args list count read shown distinct least (inl many) = listed_least sets m args list count shown distinct many
+least_of sets m args list count read shown distinct least (inr same) = subst (AreAtLeast sets m args) (sym same) least
+
 -- ---- what is read along links
 
+-- what is at a place is among them
+there_has : (xs : List (List ℤ)) (k : ℕ) (x : List ℤ) → slice_get xs k ≡ Some x → Has xs x
+there_has [] k x h = absurd (none-some x h)
+there_has (z ∷ xs) zero x h = inl (sym (same_Some z x h))
+there_has (z ∷ xs) (suc k) x h = inr (there_has xs k x h)
+
 -- where different ones are, each is at one place
-different_at : {X : Type 0} (xs : List X) → AreDifferent xs → (i j : ℕ) (x : X) → slice_get xs i ≡ Some x → slice_get xs j ≡ Some x → i ≡ j
+different_at : (xs : List (List ℤ)) → AreDifferent xs → (i j : ℕ) (x : List ℤ) → slice_get xs i ≡ Some x → slice_get xs j ≡ Some x → i ≡ j
 different_at [] are i j x hi hj = absurd (none-some x hi)
 different_at (z ∷ xs) are zero zero x hi hj = refl
-different_at (z ∷ xs) are zero (suc j) x hi hj = absurd (are.0 (has_place xs j z (hj ∙ sym hi)))
-different_at (z ∷ xs) are (suc i) zero x hi hj = absurd (are.0 (has_place xs i z (hi ∙ sym hj)))
+different_at (z ∷ xs) are zero (suc j) x hi hj = absurd (are.0 (there_has xs j z (hj ∙ sym hi)))
+different_at (z ∷ xs) are (suc i) zero x hi hj = absurd (are.0 (there_has xs i z (hi ∙ sym hj)))
 different_at (z ∷ xs) are (suc i) (suc j) x hi hj = ap suc (different_at xs are.1 i j x hi hj)
 
 -- what is among them is at a place
-place_of : {X : Type 0} (xs : List X) (x : X) → Has xs x → (k : ℕ) × (y : X) × (slice_get xs k ≡ Some y) × (x ≡ y)
+place_of : (xs : List (List ℤ)) (x : List ℤ) → Has xs x → (k : ℕ) × (y : List ℤ) × (slice_get xs k ≡ Some y) × (x ≡ y)
 place_of [] x h = absurd h
 place_of (z ∷ xs) x (inl same) = (0, z, refl, same)
 place_of (z ∷ xs) x (inr later) = let p = place_of xs x later in (suc p.0, p.1, p.2, p.3)
@@ -142,7 +164,7 @@ module _ (m : ModuleValue) (args : List ℤ) (all : List FoundValue) (links : Li
   read_once : (lists : List (List ℤ)) → AreReadOnce (graph links (ends all)) lists → ArePrintedOnce false m args lists
   read_once lists read = record {
     printed = λ k x there.
-        let r = read.read x (has_place lists k x there) in
+        let r = read.read x (there_has lists k x there) in
         let o = read_printed r.0 r.1 x r.2 in
         (o.0, x, o.1, refl);
     once = λ i j x y hi hj same.

@@ -12,7 +12,7 @@ use Rattle.xk_outcomes.specs.Search.{AreAllFound, AreAtRest, AreDifferent, AreFo
 -- It is found from this start, told apart in this order and linked: each at rest, and no two of them the same. If nothing is left to look at, whatever
 -- a run prints stands along links; else more are kept than the limit says.
 pub record IsExplored (order : Order) (start : CoreValue) (limit : ℕ) (x : Explored) : Type 0 where
-  pub start : x.found.start ≡ start
+  pub begun : x.found.start ≡ start
   pub told : x.found.like.order ≡ order
   pub begins : slice_get x.found.all 0 ≡ Some (first_found start)
   pub found : AreFound start x.found.all
@@ -21,4 +21,4 @@ pub record IsExplored (order : Order) (start : CoreValue) (limit : ℕ) (x : Exp
   pub rest : AreAtRest x.found.all
   pub different : AreDifferent x.found.like x.found.all
   pub all : x.complete ≡ true → AreAllFound order start x.found.all x.links.items
-  pub limit : x.complete ≡ false → limit < length x.found.all
+  pub beyond : x.complete ≡ false → limit < length x.found.all

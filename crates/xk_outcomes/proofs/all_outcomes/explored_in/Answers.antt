@@ -7,7 +7,7 @@ pub returns : goal.returns
 returns c =
     let is = c.in_ok-explored.ensures in
     subst (λ (s : CoreValue). IsExplored c.args.order s c.args.limit c.in_ok-explored.explored) c.in_ok-start.ensures (record {
-      start = is.start;
+      begun = is.start;
       told = is.told;
       begins = is.begins;
       found = is.found;
@@ -16,5 +16,5 @@ returns c =
       rest = is.rest;
       different = is.different;
       all = is.all;
-      limit = is.limit;
+      beyond = is.limit;
     })

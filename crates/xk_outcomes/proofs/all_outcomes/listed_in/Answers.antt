@@ -18,13 +18,13 @@ pub list_found-requires : goal.list_found-requires
 list_found-requires c =
     let x = c.args.explored.now in
     let is = c.requires.explored in
-    subst (λ (s : CoreValue). AreLinked (live_by x.found.like) s.module_run x.found.all x.links.items) (sym is.start) is.linked
+    subst (λ (s : CoreValue). AreLinked (live_by x.found.like) s.module_run x.found.all x.links.items) (sym is.begun) is.linked
 
 pub returns-clause-shown : goal.returns-clause-shown
 returns-clause-shown c =
     let m = c.args.verified.now in
     let args = c.args.arguments.now in
-    let of = subst (λ (s : CoreValue). AreOf c.args.order s c.note_plain.new.list c.list_found.new.list) c.requires.explored.start c.list_found.ensures.of in
+    let of = subst (λ (s : CoreValue). AreOf c.args.order s c.note_plain.new.list c.list_found.new.list) c.requires.explored.begun c.list_found.ensures.of in
     subst (λ (list : List Outcome). AreShownIn c.args.order m args list) (sym c.in_ok-list.ensures)
     (all_shown c.args.order m args c.note_plain.new.list c.list_found.new.list
     (more_of_none c.args.order m args plain_runs c.new-listed.result c.note_plain.new.list c.new-listed.ensures
@@ -72,7 +72,7 @@ returns-clause-limit c less =
       | then-explored w ↦ inr (subst (λ (list : List Outcome). c.args.limit.outcomes ≤ length list) (sym c.in_ok-list.ensures)
           (c.in_ok-all.ensures.limit (sym w.result-is ∙ less)))
       | else-explored w ↦ inl (subst (λ n. c.args.limit.entries < n) (sym c.len.ensures.count)
-          (c.requires.explored.limit w.if-explored.false))
+          (c.requires.explored.beyond w.if-explored.false))
     ]
 
 pub returns-clause-kept : goal.returns-clause-kept
@@ -100,4 +100,4 @@ returns-clause-order c =
     subst (AreNumberedIn c.args.order m args limit c.in_ok-list.list.items) (sym c.len.ensures.count)
     (subst (λ (l : List Outcome). AreNumberedIn c.args.order m args limit l (length x.found.all)) (sym c.in_ok-list.ensures)
     (numbered_in c.args.order m args x.found.all x.links.items limit (length c.note_plain.new.list) list few c.in_ok-all.ensures.order
-    (λ within. is.all (whole_within x.complete (length x.found.all) limit is.limit within))))
+    (λ within. is.all (whole_within x.complete (length x.found.all) limit is.beyond within))))
