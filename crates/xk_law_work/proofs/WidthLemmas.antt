@@ -55,7 +55,10 @@ module _ (times : List ℕ) (n : ℕ) where
 
   -- a round is as wide
   pub as_wide : (ds : List Deed) → number_at (widths_of times ds) n ≡ length (picked 0 ds)
-  as_wide ds = widths_more 0 [] ds
+  as_wide ds =
+      let none : number_at [] n ≡ 0 = get_or_past [] n 0 (omega arith) in
+      let sum : number_at [] n + length (picked 0 ds) ≡ length (picked 0 ds) = omega (arith, none) in
+      widths_more 0 [] ds ∙ sum
 
   -- each of them is such a step
   abbrev IsPicked : ℕ → List Deed → ℕ → Type 0
