@@ -1,9 +1,9 @@
 -- How many rounds widths take, and rounds of these widths.
-use Rattle.std.proofs.Common.{◌≡◌, ◌∙◌, ℕ, zero, suc, ◌+◌, ◌/◌, ◌%◌, ◌<◌, ◌≤◌, List, [], ◌∷◌, length, map, min, refl, sym, ap, subst, arith}
+use Rattle.std.proofs.Common.{◌≡◌, ◌∙◌, ℕ, zero, suc, ◌+◌, ◌<◌, ◌≤◌, List, [], ◌∷◌, length, refl, sym, ap, arith}
 use Rattle.std.proofs.lemmas.List.{get_or_past}
 use Rattle.xk_races.specs.Lists.{number_at}
 use Rattle.xk_span_summary.specs.Shares.{level_rounds, rounds_from, share}
-use Rattle.xk_law_rounds.specs.Processors.{dealt_rounds, rounds_for}
+use Rattle.xk_law_rounds.specs.Processors.{dealt_rounds}
 use Rattle.xk_law_work.proofs.ShareLemmas.{share_is, share_least}
 
 no_share : (p : ℕ) → 0 < p → share p 0 ≡ 0

@@ -1,5 +1,5 @@
 -- As many steps are told to be in a round as come in it; so, where one run has no race, in each.
-use Rattle.std.proofs.Common.{◌≡◌, ◌∙◌, ℕ, ℤ, suc, ◌+◌, ◌≤◌, true, List, length, map, Option, Some, None, refl, sym, ap, subst, arith}
+use Rattle.std.proofs.Common.{◌≡◌, ◌∙◌, ℕ, ℤ, ◌+◌, ◌≤◌, true, List, map, Option, Some, None, refl, sym, ap, subst, arith}
 use Rattle.std.specs.Prelude.{option_map, pred, slice_get, take}
 use Rattle.std.proofs.lemmas.List.{length-map}
 use Rattle.xk_types.specs.declared.world.Entry.{Entry}
@@ -8,7 +8,7 @@ use Rattle.xk_types.specs.Code.{ModuleValue, IsWithinLimits}
 use Rattle.xk_types.specs.World.{World, AreArguments, opening}
 use Rattle.xk_types.specs.Schedule.{Through, run}
 use Rattle.xk_types.specs.Logs.{schedule_of}
-use Rattle.xk_law_traces.specs.Edges.{StepName, IsTaken, turns_of}
+use Rattle.xk_law_traces.specs.Edges.{StepName, turns_of}
 use Rattle.xk_law_traces.specs.OneRun.{IsWholeRun}
 use Rattle.xk_law_traces.proofs.SwapLemmas.{get_map}
 use Rattle.xk_races.specs.declared.deeds.Deed.{Deed}
