@@ -5,3 +5,4 @@ pub mod GreedyLemmas
 pub mod OneRunLemmas
 pub mod SpanLemmas
 pub mod ProcessorLemmas
+pub mod ExistenceLemmas

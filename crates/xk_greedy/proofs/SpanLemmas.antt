@@ -17,7 +17,7 @@ use Rattle.xk_greedy.proofs.GreedyLemmas.{greedy}
 use Rattle.xk_greedy.proofs.OneRunLemmas.{steps_of_entries}
 
 -- rounds lead from the one world to the other
-rounds_lead : (p : Option ℕ) (m : ModuleValue) (w z : World) (rounds : List (List ℕ)) → AreRoundsBy p m w rounds z
+pub rounds_lead : (p : Option ℕ) (m : ModuleValue) (w z : World) (rounds : List (List ℕ)) → AreRoundsBy p m w rounds z
     → run m (steps_in rounds) w ≡ Through z
 rounds_lead p m w z [] h = ap Through h
 rounds_lead p m w z (r ∷ rs) h = run_then m r (steps_in rs) w h.0 h.1.leads ∙ rounds_lead p m h.0 z rs h.2

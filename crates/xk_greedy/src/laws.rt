@@ -6,7 +6,7 @@ ghost use Rattle.xk_law_rounds.specs.Processors.{AreBusy};
 ghost use Rattle.xk_law_rounds.specs.Rounds.{AreGreedy, IsSpan};
 ghost use Rattle.xk_law_traces.specs.OneRun.{IsWholeRun};
 ghost use Rattle.xk_law_traces.specs.RaceFreedom.{HasNoRace};
-ghost use Rattle.xk_greedy.specs.Rounds.{AreRoundsBy, IsByRounds};
+ghost use Rattle.xk_greedy.specs.Rounds.{AreRoundsBy, AreSome, IsByRounds};
 ghost use Rattle.xk_types.specs.declared.world.Entry.{Entry};
 ghost use Rattle.xk_types.specs.Acceptance.{IsAccepted};
 ghost use Rattle.xk_types.specs.Code.{IsWithinLimits, ModuleValue};
@@ -76,4 +76,13 @@ pub fn rounds_on_processors()
         → IsWholeRun m args s y → HasNoRace m (opening m args) s → IsSpan m (opening m args) s n
         → IsByRounds (Some p) m args log z count → all_ended z ≡ true
         → count ≤ (length s - n) / p + n }
+{}
+
+/// Each accepted module has a run by rounds to the end with these arguments, on however many processors. The call does nothing; its
+/// contract is the law.
+pub fn rounds_exist()
+    ensures { (processors : Option ℕ) (m : ModuleValue) (args : List ℤ)
+        → IsWithinLimits m → IsAccepted m → AreArguments m args → AreSome processors
+        → (z : World) × (rounds : List (List ℕ))
+        × AreRoundsBy processors m (opening m args) rounds z × (all_ended z ≡ true) }
 {}

@@ -1,9 +1,9 @@
 -- How many rounds widths take, and rounds of these widths.
-use Rattle.std.proofs.Common.{◌≡◌, ◌∙◌, ℕ, zero, suc, ◌+◌, ◌/◌, ◌%◌, ◌<◌, ◌≤◌, List, [], ◌∷◌, length, map, min, refl, sym, ap, subst, arith}
+use Rattle.std.proofs.Common.{◌≡◌, ◌∙◌, ℕ, zero, suc, ◌+◌, ◌<◌, ◌≤◌, List, [], ◌∷◌, length, refl, sym, ap, arith}
 use Rattle.std.proofs.lemmas.List.{get_or_past}
 use Rattle.xk_races.specs.Lists.{number_at}
 use Rattle.xk_span_summary.specs.Shares.{level_rounds, rounds_from, share}
-use Rattle.xk_law_rounds.specs.Processors.{dealt_rounds, rounds_for}
+use Rattle.xk_law_rounds.specs.Processors.{dealt_rounds}
 use Rattle.xk_law_work.proofs.ShareLemmas.{share_is, share_least}
 
 no_share : (p : ℕ) → 0 < p → share p 0 ≡ 0
@@ -48,7 +48,10 @@ size_past (r ∷ rs) (suc k) le = size_past rs k (omega (arith, le))
 pub level_is : (p : ℕ) → 0 < p → (widths : List ℕ) (rounds : List (List ℕ)) → number_at widths 0 ≡ 0
     → ((k : ℕ) → number_at widths (suc k) ≡ number_at (sizes rounds) k) → level_rounds p widths ≡ dealt_rounds p rounds
 level_is p some widths rounds first later =
-    same_rounds p some widths (0 ∷ sizes rounds) 0 same ∙ ap (λ k. rounds_from p k (sizes rounds)) (no_share p some) ∙ sum_of p 0 rounds
+    let none = no_share p some in
+    let start : 0 + share p 0 ≡ 0 = omega (arith, none) in
+    let sum : 0 + dealt_rounds p rounds ≡ dealt_rounds p rounds = omega arith in
+    same_rounds p some widths (0 ∷ sizes rounds) 0 same ∙ ap (λ k. rounds_from p k (sizes rounds)) start ∙ sum_of p 0 rounds ∙ sum
   where
     same : (k : ℕ) → number_at widths k ≡ number_at (0 ∷ sizes rounds) k
     same zero = first

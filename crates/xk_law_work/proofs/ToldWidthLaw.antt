@@ -1,5 +1,5 @@
 -- As many steps are told to be in a round as come in it; so, where one run has no race, in each.
-use Rattle.std.proofs.Common.{◌≡◌, ◌∙◌, ℕ, ℤ, suc, ◌+◌, ◌≤◌, true, List, length, map, Option, Some, None, refl, sym, ap, subst, arith}
+use Rattle.std.proofs.Common.{◌≡◌, ◌∙◌, ℕ, ℤ, ◌+◌, ◌≤◌, true, List, map, Option, Some, None, refl, sym, ap, subst, arith}
 use Rattle.std.specs.Prelude.{option_map, pred, slice_get, take}
 use Rattle.std.proofs.lemmas.List.{length-map}
 use Rattle.xk_types.specs.declared.world.Entry.{Entry}
@@ -8,7 +8,7 @@ use Rattle.xk_types.specs.Code.{ModuleValue, IsWithinLimits}
 use Rattle.xk_types.specs.World.{World, AreArguments, opening}
 use Rattle.xk_types.specs.Schedule.{Through, run}
 use Rattle.xk_types.specs.Logs.{schedule_of}
-use Rattle.xk_law_traces.specs.Edges.{StepName, IsTaken, turns_of}
+use Rattle.xk_law_traces.specs.Edges.{StepName, turns_of}
 use Rattle.xk_law_traces.specs.OneRun.{IsWholeRun}
 use Rattle.xk_law_traces.proofs.SwapLemmas.{get_map}
 use Rattle.xk_races.specs.declared.deeds.Deed.{Deed}
@@ -107,10 +107,13 @@ module _ (m : ModuleValue) (args : List ℤ) (limits : IsWithinLimits m) (ok : I
           let r = told_all m args limits ok taken log z legal y here.taken in
           let told = subst (λ x. IsInRound m w s x (number_at times r.0)) r.4
           (round_for_all m args log z r.0 r.1 limits ok taken legal r.2 r.3) in
-          let a = all_picked times n 0 es r.0 r.1 r.2 (ap is_step r.3) (one_round m w s y (number_at times r.0) n told here) in
+          let own : 0 + r.0 ≡ r.0 = omega arith in
+          let a = all_picked times n 0 es r.0 r.1 r.2 (ap is_step r.3)
+          (ap (number_at times) own ∙ one_round m w s y (number_at times r.0) n told here) in
           (
             a.0,
-            get_map name_at (picked times n 0 es) a.0 ∙ ap (option_map name_at) a.1 ∙ ap (λ o. Some (name_if_any o)) r.2 ∙ ap Some r.4,
+            get_map name_at (picked times n 0 es) a.0 ∙ ap (option_map name_at) (a.1 ∙ ap Some own)
+                ∙ ap (λ o. Some (name_if_any o)) r.2 ∙ ap Some r.4,
           )
 
       once : (a b : ℕ) (y : StepName) → slice_get (map name_at (picked times n 0 es)) a ≡ Some y
@@ -176,7 +179,8 @@ pub widest_for_all : (m : ModuleValue) (args : List ℤ) (log other : List Entry
     → IsWholeRun m args (schedule_of other) y
     → told_widest m args other ≡ told_widest m args log
 widest_for_all m args log other z y limits ok taken one free two =
-    let same = λ n. widths_for_all m args log other z y n limits ok taken one free two in
+    let same : (n : ℕ) → number_at (told_widths m args other) n ≡ number_at (told_widths m args log) n =
+    λ n. widths_for_all m args log other z y n limits ok taken one free two in
     let a = greatest_same (told_widths m args other) (told_widths m args log) same in
     let b = greatest_same (told_widths m args log) (told_widths m args other) (λ n. sym (same n)) in
     omega (arith, a, b)

@@ -1,5 +1,5 @@
 -- Which of the deeds that are told are steps of a round, and that as many are counted for it.
-use Rattle.std.proofs.Common.{◌≡◌, ◌∙◌, ℕ, zero, suc, ◌+◌, ◌<◌, ◌≤◌, ◌⊎◌, inl, inr, Bool, true, false, cond, List, [], ◌∷◌, length}
+use Rattle.std.proofs.Common.{◌≡◌, ◌∙◌, ℕ, zero, suc, ◌+◌, ◌≤◌, ◌⊎◌, inl, inr, Bool, true, false, cond, List, [], ◌∷◌, length}
 use Rattle.std.proofs.Common.{Some, refl, sym, ap, arith, eqb-true, eq-eqb, ne_eqb}
 use Rattle.std.specs.Prelude.{nat_eq, nat_lt, slice_get, if◌then◌else◌}
 use Rattle.std.proofs.lemmas.Bool.{cases_eq, ltb-false, ltb-true}
@@ -55,7 +55,10 @@ module _ (times : List ℕ) (n : ℕ) where
 
   -- a round is as wide
   pub as_wide : (ds : List Deed) → number_at (widths_of times ds) n ≡ length (picked 0 ds)
-  as_wide ds = widths_more 0 [] ds
+  as_wide ds =
+      let none : number_at [] n ≡ 0 = get_or_past [] n 0 (omega arith) in
+      let sum : number_at [] n + length (picked 0 ds) ≡ length (picked 0 ds) = omega (arith, none) in
+      widths_more 0 [] ds ∙ sum
 
   -- each of them is such a step
   abbrev IsPicked : ℕ → List Deed → ℕ → Type 0
