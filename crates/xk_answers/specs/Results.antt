@@ -30,12 +30,12 @@ use Rattle.xk_outcomes.specs.Sets.{AreAllAs, AreDistinctAs, AreShownAs}
 use Rattle.xk_outcomes.specs.declared.listing.Outcome.{Outcome}
 use Rattle.xk_outcomes.specs.LoneOutcomes.{IsOneOfManyAs}
 use Rattle.xk_outcomes.specs.PlainRuns.{ArePlainListedAs}
-use Rattle.xk_outcomes.specs.Text.{completeness, outcomes_text}
+use Rattle.xk_outcome_lists.specs.Text.{completeness, outcomes_text}
 use Rattle.xk_outcomes.specs.declared.all_outcomes.Limit.{Limit}
 use Rattle.xk_outcomes.specs.Limits.{GoesFar, limit_of}
-use Rattle.xk_outcomes.specs.Expected.{AreExpected}
-use Rattle.xk_outcomes.specs.declared.holding.Verdict.{Verdict}
-use Rattle.xk_outcomes.specs.declared.holding.Verdict.TheVariants as verdict
+use Rattle.xk_outcome_lists.specs.Expected.{AreExpected}
+use Rattle.xk_outcome_lists.specs.declared.holding.Verdict.{Verdict}
+use Rattle.xk_outcome_lists.specs.declared.holding.Verdict.TheVariants as verdict
 use Rattle.xk_outcome_count.specs.Counts.{AreAsMany, AreAtLeast, GoesAsFar}
 use Rattle.xk_outcome_count.specs.Text.{count_line}
 use Rattle.xk_outcome_count.specs.declared.counting.Counted.{Counted}

@@ -86,9 +86,11 @@ impl Picture {
 
 /// What is told, and whether that is a whole answer.
 #[derive(Drop)]
-pub(crate) struct Tale {
-    pub(crate) text: Vec<u8>,
-    pub(crate) whole: bool,
+pub struct Tale {
+    /// Its text.
+    pub text: Vec<u8>,
+    /// Whether that is a whole answer.
+    pub whole: bool,
 }
 
 /// The steps from one to another, each of which may be left out.
@@ -425,19 +427,14 @@ fn path_of(
 }
 
 /// The same by rounds: a row for each, in place of each step.
-fn rounds_of(
-    alloc: Global,
-    from: &Provenance<'_>,
-    ended: &Ended<'_>,
-) -> Result<Tale, AllocError>
+fn rounds_of(alloc: Global, from: &Provenance<'_>, ended: &Ended<'_>) -> Result<Tale, AllocError>
     ensures { IfOk result (λ tale. (tale.text.items, tale.whole)
         ≡ rounds_told from.now.text.now ended.now.module.now ended.now.log.items
         ended.now.core.world (map (λ x. x.now) from.now.shared.items) from.now.origins) }
 {
     match &from.origins {
         Some(origins) => {
-            let drawing =
-                source_rounds(alloc, from.text, origins.units(), &from.shared, ended)?;
+            let drawing = source_rounds(alloc, from.text, origins.units(), &from.shared, ended)?;
             Ok(Tale {
                 text: drawing.text,
                 whole: drawing.whole,

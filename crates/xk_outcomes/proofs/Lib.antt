@@ -15,6 +15,3 @@ mod PathLemmas
 mod NumberingLemmas
 pub mod PlainRunLemmas
 pub mod LoneOutcomeLemmas
-mod ExpectedLemmas
-mod HoldingLemmas
-mod TextLemmas

@@ -15,6 +15,3 @@ pub mod Listed
 pub mod PlainRuns
 pub mod LoneOutcomes
 pub mod Numbering
-pub mod Text
-pub mod Expected
-pub mod Texts

@@ -16,7 +16,7 @@ use Rattle.xk_answers.specs.declared.job_result.Done.{Done}
 use Rattle.xk_answers.specs.declared.picture.Picture.TheVariants as picture
 use Rattle.xk_program.specs.declared.fault.Fault.{Fault}
 use Rattle.xk_program.specs.declared.fault.Fault.TheVariants as fault
-use Rattle.xk_outcomes.specs.Expected.{stray_line}
+use Rattle.xk_outcome_lists.specs.Expected.{stray_line}
 use Rattle.xk_answers.specs.Printed.{done_log, done_text, done_status}
 use Rattle.xk_program.specs.Lines.{status_of}
 use Rattle.xk_serve.specs.Notes.{told_of}

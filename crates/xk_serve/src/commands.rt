@@ -19,12 +19,12 @@ use crate::tally::tallied;
 use crate::values::answer_values;
 use std::alloc::{AllocError, Global};
 use xk_answers::{
-    Done, Finished, Picture, counted, drawn, held, lanes_given, listing, paged, raced, replayed,
-    searched, stood, window_given,
+    Done, Finished, Picture, drawn, lanes_given, listing, raced, replayed, stood, window_given,
 };
 use xk_bounds::Verified;
 use xk_jobs::{Command, Drive, Job, Order};
 use xk_module::write_module;
+use xk_outcome_answers::{counted, held, paged, searched};
 use xk_program::{Fault, Program, accepted, program_by, runnable};
 use xk_types::{Module, Source};
 
@@ -127,9 +127,7 @@ pub(crate) fn answer<
             program.module,
             arguments,
         ),
-        Command::Count { limit, sets } => {
-            counted(alloc, sets, limit, program.module, arguments)
-        }
+        Command::Count { limit, sets } => { counted(alloc, sets, limit, program.module, arguments) }
         Command::Expected { limit, sets, .. } => {
             held(alloc, sets, limit, program.module, arguments, log_in)
         }
