@@ -17,7 +17,7 @@ unfolding serde_json_on_literals digits utf8_lossy utf8_valid_len is_utf8 chars
 free_text = refl
 
 -- one who reads what another one writes
-read_first : Account
+abbrev read_first : Account
 read_first = record {
   step = record { number = 4; act = 0; unit = 0; place = 3; clocks = 0; activities = 2; event = event.Got };
   subject = subject.Shared 1;
@@ -25,7 +25,7 @@ read_first = record {
   after = Some (pos 5);
 }
 
-written_then : Account
+abbrev written_then : Account
 written_then = record {
   step = record { number = 6; act = 1; unit = 1; place = 0; clocks = 0; activities = 2; event = event.Put };
   subject = subject.Shared 1;

@@ -35,12 +35,15 @@ kept_pair map r = both (get nat_cmp map r.first.number) (get nat_cmp map r.secon
 -- ---- a race
 
 -- which shared number two steps raced for, and both, as `events` tells of them
-abbrev pub race_value : PlacesValue → Option NamesValue → Pair → Data
-race_value p names x = object_of (
+abbrev pub race_groups : PlacesValue → Option NamesValue → Pair → List Group
+race_groups p names x =
     ((codes "first", event_value p names x.first) ∷ [])
     ∷ ((codes "second", event_value p names x.second) ∷ [])
     ∷ subject_members names x.first.subject
-    ∷ [])
+    ∷ []
+
+abbrev pub race_value : PlacesValue → Option NamesValue → Pair → Data
+race_value p names x = object_of (race_groups p names x)
 
 -- the races that are told
 abbrev pub race_member : PlacesValue → Option NamesValue → List Pair → Group

@@ -30,10 +30,13 @@ fn push_both(
         None => Ok(()),
         Some(first) => match second {
             None => Ok(()),
-            Some(second) => pairs.push(Pair {
-                first: *first,
-                second: *second,
-            }),
+            Some(second) => {
+                pairs.push(Pair {
+                    first: *first,
+                    second: *second,
+                })?;
+                Ok(())
+            }
         },
     }
 }

@@ -15,7 +15,7 @@ use Rattle.serde_json.specs.Data.{Data}
 use Rattle.xk_json.specs.Plain.{IsPlain}
 use Rattle.xk_json.proofs.ObjectLemmas.{plain_deeper}
 use Rattle.xk_json.proofs.PlainLemmas.{AreFlat, number_plain, object_of_plain, text_plain}
-use Rattle.xk_show_json.specs.Events.{event_value, name_member, operand_member, origin_members, step_members, subject_members}
+use Rattle.xk_show_json.specs.Events.{event_groups, event_value, name_member, operand_member, origin_members, step_members, subject_members}
 use Rattle.xk_show_json.specs.Events.{value_member}
 
 step_flat : (s : RunStep) → AreFlat 0 (step_members s)
@@ -42,14 +42,14 @@ operand_flat n event.Arrived = tt
 operand_flat n event.Passed = tt
 operand_flat n event.Ended = tt
 
-name_flat : {d : ℕ} (name : Option (List ℕ)) → AreFlat d (name_member name)
-name_flat None = tt
-name_flat (Some name) = (text_plain _, tt)
+name_flat : (d : ℕ) (name : Option (List ℕ)) → AreFlat d (name_member name)
+name_flat d None = tt
+name_flat d (Some name) = (text_plain _, tt)
 
-pub subject_flat : {d : ℕ} (names : Option NamesValue) (s : Subject) → AreFlat d (subject_members names s)
-subject_flat names subject.Nothing = tt
-subject_flat names (subject.Clock c) = (number_plain _, name_flat (option_map (λ n. clock_word n c) names))
-subject_flat names (subject.Shared s) = (number_plain _, name_flat (option_map (λ n. shared_word n s) names))
+pub subject_flat : (d : ℕ) (names : Option NamesValue) (s : Subject) → AreFlat d (subject_members names s)
+subject_flat d names subject.Nothing = tt
+subject_flat d names (subject.Clock c) = (number_plain _, name_flat d (option_map (λ n. clock_word n c) names))
+subject_flat d names (subject.Shared s) = (number_plain _, name_flat d (option_map (λ n. shared_word n s) names))
 
 value_flat : (key : List ℕ) (value : Option ℤ) → AreFlat 0 (value_member key value)
 value_flat key None = tt
@@ -58,13 +58,13 @@ value_flat key (Some (negsuc i)) = (record { no_float = refl; nests = omega arit
 
 pub event_plain : (p : PlacesValue) (names : Option NamesValue) (a : Account) → IsPlain 1 (event_value p names a)
 event_plain p names a =
-    object_of_plain 0 _ (
+    object_of_plain 0 (event_groups p names a) (
       step_flat a.step,
       (
         origin_flat (origin_of p a.step.unit a.step.place),
         (
           operand_flat a.step.activities a.step.event,
-          (subject_flat names a.subject, (value_flat (codes "before") a.before, (value_flat (codes "after") a.after, tt))),
+          (subject_flat 0 names a.subject, (value_flat (codes "before") a.before, (value_flat (codes "after") a.after, tt))),
         ),
       ),
     )
