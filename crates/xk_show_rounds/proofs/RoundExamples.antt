@@ -36,5 +36,5 @@ in_step_last = (_, refl)
 
 -- activity 1 stands idle from its arrival on, until main arrives, too
 in_step_rounds : round_lanes_text no_text None in_step log in_step_last.0 ≡ codes "   round  main     act 1\n       1  make 0\n       2  async 1\n       3  .        arrive\n  4 to 5  .\n       6  arrive\n       7  pass     pass\n       8  end      .\n       9           print 2\n      10           end\n"
-unfolding at_left at_right whole_line line event_words digits in_step_last
+unfolding at_left at_right whole_line line event_words digits round_lanes_text in_step_last
 in_step_rounds = refl

@@ -21,33 +21,33 @@ rows_by_rounds r g n steps table path text placed along is =
     (fun_ext (λ k. ap (shown g n) (placed k)))
 
 -- what was kept of the stretch, and stands in the next round, is told apart as that of their rounds
-alike : (show : ℕ → List ℕ) (first last next : ℕ) (held shown : List ℕ) (b : Bool) → next ≡ suc last → held ≡ show first → shown ≡ show next
-    → bytes_eq held shown ≡ b → bytes_eq (show first) (show (suc last)) ≡ b
-alike show first last next held shown b behind kept stands is =
+alike : (show : ℕ → List ℕ) (first last next : ℕ) (held there : List ℕ) (b : Bool) → next ≡ suc last → held ≡ show first → there ≡ show next
+    → bytes_eq held there ≡ b → bytes_eq (show first) (show (suc last)) ≡ b
+alike show first last next held there b behind kept stands is =
     ap (λ l. bytes_eq l (show (suc last))) (sym kept) ∙ ap (bytes_eq held) (sym (stands ∙ ap show behind)) ∙ is
 
 -- rows go on by whether the same stands in the next round
-go_by : (show : ℕ → List ℕ) (width first last more : ℕ) → Bool → List ℕ
+abbrev go_by : (show : ℕ → List ℕ) (width first last more : ℕ) → Bool → List ℕ
 go_by show width first last more same =
     cond same (rows_from more width show first (suc last)) (row width show first last ++ rows_from more width show (suc last) (suc last))
 
 -- where it does, the stretch has that round, too
-pub same_goes_on : (show : ℕ → List ℕ) (width first last next : ℕ) (held shown out : List ℕ) → next ≡ suc last → held ≡ show first
-    → shown ≡ show next → bytes_eq held shown ≡ true
+pub same_goes_on : (show : ℕ → List ℕ) (width first last next : ℕ) (held there out : List ℕ) → next ≡ suc last → held ≡ show first
+    → there ≡ show next → bytes_eq held there ≡ true
     → (more : ℕ) → out ++ rows_from more width show first next ≡ out ++ rows_from (suc more) width show first last
-same_goes_on show width first last next held shown out behind kept stands is more =
+same_goes_on show width first last next held there out behind kept stands is more =
     ap (λ n. out ++ rows_from more width show first n) behind
-    ∙ ap (λ b. out ++ go_by show width first last more b) (sym (alike show first last next held shown true behind kept stands is))
+    ∙ ap (λ b. out ++ go_by show width first last more b) (sym (alike show first last next held there true behind kept stands is))
 
 -- where it doesn't, another stretch begins there, behind the row of this one
-pub other_begins : (show : ℕ → List ℕ) (width first last next : ℕ) (held shown out grown : List ℕ) → next ≡ suc last → held ≡ show first
-    → shown ≡ show next → bytes_eq held shown ≡ false → grown ≡ out ++ line width (label first last) held
+pub other_begins : (show : ℕ → List ℕ) (width first last next : ℕ) (held there out grown : List ℕ) → next ≡ suc last → held ≡ show first
+    → there ≡ show next → bytes_eq held there ≡ false → grown ≡ out ++ line width (label first last) held
     → (more : ℕ) → grown ++ rows_from more width show next next ≡ out ++ rows_from (suc more) width show first last
-other_begins show width first last next held shown out grown behind kept stands is added more =
+other_begins show width first last next held there out grown behind kept stands is added more =
     ap (λ n. grown ++ rows_from more width show n n) behind
     ∙ ap (λ l. l ++ rows_from more width show (suc last) (suc last)) (added ∙ ap (λ h. out ++ line width (label first last) h) kept)
     ∙ append_assoc out (row width show first last) (rows_from more width show (suc last) (suc last))
-    ∙ ap (λ b. out ++ go_by show width first last more b) (sym (alike show first last next held shown false behind kept stands is))
+    ∙ ap (λ b. out ++ go_by show width first last more b) (sym (alike show first last next held there false behind kept stands is))
 
 -- from a round to the next one
 pub rows_next : (show : ℕ → List ℕ) (width rounds last next old_first old_last new_first : ℕ) (out grown all : List ℕ)

@@ -3,7 +3,7 @@ use Rattle.std.proofs.Common.{◌≡◌, ◌∙◌, ℕ, ◌+◌, ◌-◌, ◌<�
 use Rattle.std.proofs.Common.{length, take, replicate, get_or, set, eq-eqb, ne_eqb, sym, ap, subst, append-nil}
 use Rattle.std.specs.Prelude.{nat_eq, filter}
 use Rattle.std.proofs.lemmas.Bool.{cases_eq}
-use Rattle.std.proofs.lemmas.List.{filter_more}
+use Rattle.std.proofs.lemmas.List.Elements.{filter_more}
 use Rattle.xk_show_names.specs.declared.accounts.Account.{Account}
 use Rattle.xk_races.specs.Lists.{with_at}
 use Rattle.xk_races.proofs.RowLemmas.{padded, with_at_other, with_at_same}

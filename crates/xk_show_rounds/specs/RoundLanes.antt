@@ -27,6 +27,6 @@ round_lanes_by r p n m log last = round_lanes_in r (columns p n whole_run m log 
 
 -- The lanes by rounds of the run that a log stands for, which ends in this world, with the rounds that `span` tells of it; by names, where
 -- those of the shared numbers are known.
-abbrev pub round_lanes_text : PlacesValue → Option (List (List ℕ)) → ModuleValue → List Entry → World → List ℕ
+unfoldable pub round_lanes_text : PlacesValue → Option (List (List ℕ)) → ModuleValue → List Entry → World → List ℕ
 round_lanes_text p shared m log last =
     round_lanes_by (rounds_of_run m last.arguments log) p (names_for p shared whole_run m log last) m log last

@@ -69,7 +69,6 @@ fn round_lanes_in(
 }
 
 /// The lanes of a run by rounds. They are whole where each activity has one.
-#[tactic(auto, using(crate::proofs::RoundLaneLemmas::lanes_are))]
 fn round_lanes(
     alloc: Global,
     places: &Places<'_>,

@@ -1,4 +1,4 @@
-use Rattle.std.proofs.Common.{◌≡◌, ◌×◌, ◌-◌, ◌++◌, ℕ, List}
+use Rattle.std.proofs.Common.{◌≡◌, ◌-◌, ◌++◌, ℕ, List}
 use Rattle.xk_show_rounds.specs.RoundRows.{rows_from, shown_at}
 use Rattle.xk_show_rounds.proofs.rows.go_through.Given as goal
 
