@@ -1,11 +1,10 @@
 -- There is a run by rounds to the end.
-use Rattle.std.proofs.Common.{◌≡◌, ◌∙◌, ℕ, ℤ, zero, suc, ◌+◌, ◌<◌, ◌≤◌, Bool, true, false, List, [], ◌∷◌, length, Option, refl, ap, arith}
-use Rattle.xk_types.specs.declared.world.Event.{Event}
+use Rattle.std.proofs.Common.{◌≡◌, ◌∙◌, ℕ, ℤ, zero, suc, ◌+◌, ◌<◌, Bool, true, false, List, [], ◌∷◌, length, Option, refl, ap, arith}
 use Rattle.xk_types.specs.Acceptance.{IsAccepted}
 use Rattle.xk_types.specs.Bound.{steps_bound}
 use Rattle.xk_types.specs.Code.{IsWithinLimits, ModuleValue}
 use Rattle.xk_types.specs.Schedule.{Through, all_ended, run, run_on}
-use Rattle.xk_types.specs.Step.{Stepped, step}
+use Rattle.xk_types.specs.Step.{step}
 use Rattle.xk_types.specs.World.{AreArguments, World, opening}
 use Rattle.xk_collections.specs.NumberSets.{IsRising}
 use Rattle.xk_law_schedules.proofs.ReachabilityLemmas.{opening_reached}

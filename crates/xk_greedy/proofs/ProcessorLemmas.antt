@@ -5,14 +5,13 @@ use Rattle.std.proofs.lemmas.Bool.{cases_eq}
 use Rattle.xk_types.specs.declared.world.Entry.{Entry}
 use Rattle.xk_types.specs.Acceptance.{IsAccepted}
 use Rattle.xk_types.specs.Code.{IsWithinLimits, ModuleValue}
-use Rattle.xk_types.specs.Logs.{schedule_of}
 use Rattle.xk_types.specs.Schedule.{all_ended, is_enabled}
 use Rattle.xk_types.specs.World.{AreArguments, World, opening}
 use Rattle.xk_law_traces.specs.Edges.{turns_of}
 use Rattle.xk_law_traces.specs.OneRun.{IsWholeRun}
 use Rattle.xk_law_traces.specs.RaceFreedom.{HasNoRace}
-use Rattle.xk_law_rounds.specs.Rounds.{AreRounds, IsSpan, steps_in}
-use Rattle.xk_law_rounds.specs.Processors.{AreBusy, AreWithin}
+use Rattle.xk_law_rounds.specs.Rounds.{IsSpan, steps_in}
+use Rattle.xk_law_rounds.specs.Processors.{AreBusy}
 use Rattle.xk_law_rounds.proofs.BusyLaw.{at_most_all, rounds_of, span_at_least, within_of, work_at_least}
 use Rattle.xk_scheduler.specs.Choosers.{enabled_in}
 use Rattle.xk_scheduler.proofs.LocalRunLemmas.{enabled_within}

@@ -1,5 +1,5 @@
--- Where no race is told of a run, there is a run on p processors with as many rounds as are told, if there is a greedy one without a limit.
-use Rattle.std.proofs.Common.{◌≡◌, ◌∙◌, ℕ, ℤ, zero, suc, ◌<◌, ◌≤◌, ◌⊎◌, inl, inr, true, List, [], ◌∷◌, ◌++◌, length, Some, refl}
+-- Where no race is told of a run, there is a run on p processors with as many rounds as are told.
+use Rattle.std.proofs.Common.{◌≡◌, ◌∙◌, ℕ, ℤ, zero, suc, ◌<◌, ◌≤◌, ◌⊎◌, inl, inr, true, List, [], ◌∷◌, ◌++◌, length, None, Some, refl}
 use Rattle.std.proofs.Common.{sym, ap, subst, arith}
 use Rattle.std.specs.Prelude.{slice_get}
 use Rattle.std.proofs.lemmas.Bool.{cases_lt}
@@ -22,6 +22,9 @@ use Rattle.xk_law_rounds.proofs.GreedyWidthLaw.{greedy_widths, within_rounds}
 use Rattle.xk_law_rounds.proofs.SpanLaw.{rounds_of}
 use Rattle.xk_law_rounds.proofs.WidthLaw.{one_width, same_widths}
 use Rattle.xk_law_work.proofs.LevelLemmas.{level_is, size_past, sizes}
+use Rattle.xk_greedy.proofs.ExistenceLemmas.{rounds_exist}
+use Rattle.xk_greedy.proofs.GreedyLemmas.{greedy}
+use Rattle.xk_greedy.proofs.SpanLemmas.{rounds_lead}
 use Rattle.xk_law_work.specs.Told.{told_widths}
 use Rattle.xk_law_work.proofs.ToldWidthLaw.{width_is_told}
 
@@ -80,19 +83,21 @@ module _ (m : ModuleValue) (args : List ℤ) (log : List Entry) (z y : World) (r
   as_told : (p : ℕ) → 0 < p → level_rounds p (told_widths m args log) ≡ dealt_rounds p rounds
   as_told p some = level_is p some (told_widths m args log) rounds none_first later
 
-pub level_for_all : (m : ModuleValue) (args : List ℤ) (log : List Entry) (z y : World) (p : ℕ) (rounds : List (List ℕ))
+pub level_for_all : (m : ModuleValue) (args : List ℤ) (log : List Entry) (z : World) (p : ℕ)
     → IsWithinLimits m → IsAccepted m → AreArguments m args → 0 < p
     → IsWholeRun m args (schedule_of log) z → is_race_free m args log ≡ true
-    → AreGreedy m (opening m args) rounds y → IsWholeRun m args (steps_in rounds) y
-    → (others : List (List ℕ)) × AreRounds m (opening m args) others y × AreWithin p others
-    × IsWholeRun m args (steps_in others) y
-    × (length others ≡ level_rounds p (told_widths m args log))
-level_for_all m args log z y p rounds limits ok taken some one free all other =
-    let d = rounds_dealt m args y p rounds limits ok taken some (rounds_of m (opening m args) y rounds all) other in
+    → (y : World) × (rounds : List (List ℕ)) × AreRounds m (opening m args) rounds y × AreWithin p rounds
+    × IsWholeRun m args (steps_in rounds) y × (length rounds ≡ level_rounds p (told_widths m args log))
+level_for_all m args log z p limits ok taken some one free =
+    let g = rounds_exist None m args limits ok taken tt in
+    let all = greedy m (opening m args) g.0 g.1 g.2 in
+    let other : IsWholeRun m args (steps_in g.1) g.0 = record { legal = rounds_lead None m (opening m args) g.0 g.1 g.2; ended = g.3 } in
+    let d = rounds_dealt m args g.0 p g.1 limits ok taken some (rounds_of m (opening m args) g.0 g.1 all) other in
     (
+      g.0,
       d.0,
       d.1,
       d.2,
-      subst (λ s. IsWholeRun m args s y) (sym d.3) other,
-      d.4 ∙ sym (as_told m args log z y rounds limits ok taken one free all other p some),
+      subst (λ s. IsWholeRun m args s g.0) (sym d.3) other,
+      d.4 ∙ sym (as_told m args log z g.0 g.1 limits ok taken one free all other p some),
     )

@@ -91,8 +91,8 @@ pub fn widths_for_all()
 
 /// Where no race is told of a run, each run to the end by rounds of at most p steps has at least as many rounds as are told for p
 /// processors; and a greedy one on p, none of which is idle while somebody could take a step, has no more than the span that is told and
-/// a p-th of the further work. If there is a greedy run to the end without a limit, there is one by rounds of at most p steps with exactly
-/// the second number of rounds that is told. The call does nothing; its contract is the law.
+/// a p-th of the further work. There is one by rounds of at most p steps with exactly the second number of rounds that is told. The call
+/// does nothing; its contract is the law.
 pub fn processors_for_all()
     ensures least { (m : ModuleValue) (args : List ℤ) (log : List Entry) (z y : World) (p : ℕ)
         (rounds : List (List ℕ)) → IsWithinLimits m → IsAccepted m → AreArguments m args → 0 < p
@@ -105,11 +105,10 @@ pub fn processors_for_all()
         → IsWholeRun m args (schedule_of log) z → is_race_free m args log ≡ true
         → AreBusy p m (opening m args) rounds y → IsWholeRun m args (steps_in rounds) y
         → length rounds ≤ (told_work m args log - told_span m args log) / p + told_span m args log }
-    ensures level { (m : ModuleValue) (args : List ℤ) (log : List Entry) (z y : World) (p : ℕ)
-        (rounds : List (List ℕ)) → IsWithinLimits m → IsAccepted m → AreArguments m args → 0 < p
+    ensures level { (m : ModuleValue) (args : List ℤ) (log : List Entry) (z : World) (p : ℕ)
+        → IsWithinLimits m → IsAccepted m → AreArguments m args → 0 < p
         → IsWholeRun m args (schedule_of log) z → is_race_free m args log ≡ true
-        → AreGreedy m (opening m args) rounds y → IsWholeRun m args (steps_in rounds) y
-        → (others : List (List ℕ)) × AreRounds m (opening m args) others y × AreWithin p others
-        × IsWholeRun m args (steps_in others) y
-        × (length others ≡ level_rounds p (told_widths m args log)) }
+        → (y : World) × (rounds : List (List ℕ)) × AreRounds m (opening m args) rounds y
+        × AreWithin p rounds × IsWholeRun m args (steps_in rounds) y
+        × (length rounds ≡ level_rounds p (told_widths m args log)) }
 {}
