@@ -322,7 +322,8 @@ fn outcome_page_of<'a>(given: &ArgMatches<'a>) -> Option<Command<'a>>
 }
 
 /// The command `outcomes` with what was given to it: outcomes are held against a list, counted, or printed. None where a
-/// list was given, and an outcome to pick or a log's path; or an outcome to pick, and no log's path; or a count was asked for, and one of these, or JSON.
+/// list was given, and an outcome to pick or a log's path; or an outcome to pick, and no log's path; or where a count was
+/// asked for, and one of these was given, or it is to be told as JSON.
 fn outcomes_by<'a>(given: &ArgMatches<'a>) -> Option<Command<'a>>
     ensures { option_map task_value result ≡ outcomes_by (rows_of (found_of given.now)) }
 {

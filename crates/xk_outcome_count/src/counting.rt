@@ -28,9 +28,9 @@ pub struct Counted {
     pub complete: bool,
 }
 
-/// Counts the lists of numbers that the runs of a module print by which all have ended, in whichever order its activities take their steps; or,
-/// where sets are counted, such lists without their order. The answer says whether there are no more; there may be where a limit was met. Err where
-/// memory was refused.
+/// Counts the lists of numbers that the runs of a module print by which all have ended, in whichever order its activities
+/// take their steps; or, where sets are counted, such lists without their order. The answer says whether there are no more;
+/// there may be where a limit was met. Err where memory was refused.
 pub fn count_outcomes(
     alloc: Global,
     sets: bool,
@@ -72,7 +72,7 @@ fn count_sets(
         → GoesAsFar true verified.now arguments.now limit r.count) }
 {
     let found = outcome_sets(alloc, verified, arguments, limit)?;
-    Ok(counted(&found, 0))
+    Ok(count_of(&found, 0))
 }
 
 /// The same of lists of numbers.
@@ -126,10 +126,11 @@ fn count_searched(
         });
     }
     let found = listed_in(alloc, Order::Printed, verified, arguments, &explored, limit)?;
-    Ok(counted(&found, read.count))
+    Ok(count_of(&found, read.count))
 }
 
-/// How many lists of numbers can be read along links. There may be more where one may stand on more sets of worlds than the limit says.
+/// How many lists of numbers can be read along links. There may be more where one may stand on more sets of worlds than
+/// the limit says.
 fn count_readings(
     alloc: Global,
     explored: &Explored<'_>,
@@ -152,7 +153,7 @@ fn count_readings(
 }
 
 /// As many as are listed; or as were read, where the list isn't complete and these are more.
-fn counted(found: &Outcomes, read: u128) -> Counted
+fn count_of(found: &Outcomes, read: u128) -> Counted
     ensures complete { result.complete ≡ found.now.complete }
     ensures whole { found.now.complete ≡ true → result.count ≡ length found.now.list.items }
     ensures either { (result.count ≡ length found.now.list.items) ⊎ (result.count ≡ read) }

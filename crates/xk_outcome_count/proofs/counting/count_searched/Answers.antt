@@ -21,16 +21,16 @@ count_readings-requires-clause-linked c =
     let is = c.in_ok-explored.ensures in
     subst (λ (s : CoreValue). AreLinked (live_by x.found.like) s.module_run x.found.all x.links.items) (sym is.begun) is.linked
 
-pub returns-then-explored-clause-least : goal.returns-then-explored-clause-least
-returns-then-explored-clause-least c =
+pub returns-then-read-clause-least : goal.returns-then-read-clause-least
+returns-then-read-clause-least c =
     let m = c.args.verified.now in
     let args = c.args.arguments.now in
     let x = c.in_ok-explored.explored in
     let played = subst (λ (s : CoreValue). ArePlayed s x.found.all x.links.items) c.in_ok-explored.ensures.begun c.count_readings.ensures.played in
     read_least m args x.found.all x.links.items played c.in_ok-read.read.count c.in_ok-read.ensures.least
 
-pub returns-then-explored-clause-exact : goal.returns-then-explored-clause-exact
-returns-then-explored-clause-exact c done =
+pub returns-then-read-clause-exact : goal.returns-then-read-clause-exact
+returns-then-read-clause-exact c done =
     let m = c.args.verified.now in
     let args = c.args.arguments.now in
     let x = c.in_ok-explored.explored in
@@ -47,22 +47,22 @@ returns-clause-least c =
     let read = read_least m args x.found.all x.links.items played c.in_ok-read.read.count c.in_ok-read.ensures.least in
     let is = c.in_ok-found.ensures in
     let list = c.in_ok-found.found.list.items in
-    least_of false m args list c.counted.result.count c.in_ok-read.read.count (printed_shown m args list is.shown) is.distinct read c.counted.ensures.either
+    least_of false m args list c.count_of.result.count c.in_ok-read.read.count (printed_shown m args list is.shown) is.distinct read c.count_of.ensures.either
 
 pub returns-clause-exact : goal.returns-clause-exact
 returns-clause-exact c done =
     let m = c.args.verified.now in
     let args = c.args.arguments.now in
-    let whole = sym c.counted.ensures.complete ∙ done in
+    let whole = sym c.count_of.ensures.complete ∙ done in
     let is = c.in_ok-found.ensures in
     let list = c.in_ok-found.found.list.items in
-    listed_exact false m args list c.counted.result.count (printed_shown m args list is.shown) is.distinct (is.all whole) (c.counted.ensures.whole whole)
+    listed_exact false m args list c.count_of.result.count (printed_shown m args list is.shown) is.distinct (is.all whole) (c.count_of.ensures.whole whole)
 
 pub returns-clause-far : goal.returns-clause-far
 returns-clause-far c less =
     let m = c.args.verified.now in
     let args = c.args.arguments.now in
-    let cut = sym c.counted.ensures.complete ∙ less in
+    let cut = sym c.count_of.ensures.complete ∙ less in
     let found = c.in_ok-found.found in
     let list = found.list.items in
     let is = c.in_ok-found.ensures in
@@ -77,5 +77,5 @@ returns-clause-far c less =
         met = λ h. is.limit cut;
         few = is.most;
       };
-      many = c.counted.ensures.least;
+      many = c.count_of.ensures.least;
     }
